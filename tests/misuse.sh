@@ -1,5 +1,5 @@
 #!/bin/sh
-# Seats that are misused: put with a seat that was ended, ended twice, copied, or let go. Each misuse is written into a scratch copy of `shard_queue`, and
+# Permits that are misused: put with a permit that was ended, ended twice, copied, or let go. Each misuse is written into a scratch copy of `shard_queue`, and
 # the compiler must refuse it, at that file and with the answer that stands beside it. The same calls, used well, must be proved there: so a refusal is due to
 # the misuse and to nothing else. The checkout stays as it is.
 #
@@ -47,73 +47,73 @@ proved() {
     fi
 }
 
-# The calls of one kind of lane: $1 is the lane, $2 the producer's seat, $3 what is left of it, $4 the call that puts, $5 the condition on the seat; $6 and $7 are the
-# modules of the lane and of its seats, $8 that of the condition.
+# The calls of one kind of lane: $1 is the lane, $2 the producer's permit, $3 what is left of it, $4 the call that puts, $5 the condition on the permit; $6 and $7 are the
+# modules of the lane and of its permits, $8 that of the condition.
 judge() {
     uses="use crate::$6::$1;
 use crate::$7::{$3, $2};
 use std::sync::Wait;
 
-type Seat = $2<u32>;
-type Answer = Result<$3<u32>, Seat>;"
+type Permit = $2<u32>;
+type Answer = Result<$3<u32>, Permit>;"
 
     proved "$1, used well" << RT
 ghost use Rattle.shard_queue.specs.$8.{$5};
 
 $uses
 
-pub fn well_used<R: Wait>(rt: &R, lane: &$1<u32>, mut seat: Seat) -> Answer
-    requires { $5 lane.now seat }
+pub fn well_used<R: Wait>(rt: &R, lane: &$1<u32>, mut permit: Permit) -> Answer
+    requires { $5 lane.now permit }
 {
-    let _ = lane.$4(rt, &mut seat, 1);
-    lane.end_as(rt, seat)
+    let _ = lane.$4(rt, &mut permit, 1);
+    lane.end_as(rt, permit)
 }
 RT
 
-    refused "$1, put after the end" '[borrow-e0382]: borrow of moved value: `seat`' << RT
+    refused "$1, put after the end" '[borrow-e0382]: borrow of moved value: `permit`' << RT
 $uses
 
-pub fn misuse<R: Wait>(rt: &R, lane: &$1<u32>, mut seat: Seat) -> Answer {
-    let answer = lane.end_as(rt, seat);
-    let _ = lane.$4(rt, &mut seat, 1);
+pub fn misuse<R: Wait>(rt: &R, lane: &$1<u32>, mut permit: Permit) -> Answer {
+    let answer = lane.end_as(rt, permit);
+    let _ = lane.$4(rt, &mut permit, 1);
     answer
 }
 RT
 
-    refused "$1, ended twice" '[borrow-e0382]: use of moved value: `seat`' << RT
+    refused "$1, ended twice" '[borrow-e0382]: use of moved value: `permit`' << RT
 $uses
 
-pub fn misuse<R: Wait>(rt: &R, lane: &$1<u32>, seat: Seat) -> (Answer, Answer) {
-    let first = lane.end_as(rt, seat);
-    let second = lane.end_as(rt, seat);
+pub fn misuse<R: Wait>(rt: &R, lane: &$1<u32>, permit: Permit) -> (Answer, Answer) {
+    let first = lane.end_as(rt, permit);
+    let second = lane.end_as(rt, permit);
     (first, second)
 }
 RT
 
-    refused "$1, a copy of a seat" '[borrow-e0382]: use of moved value: `seat`' << RT
+    refused "$1, a copy of a permit" '[borrow-e0382]: use of moved value: `permit`' << RT
 $uses
 
-pub fn misuse(seat: Seat) -> (Seat, Seat) {
-    let copy = seat;
-    (copy, seat)
+pub fn misuse(permit: Permit) -> (Permit, Permit) {
+    let copy = permit;
+    (copy, permit)
 }
 RT
 
-    refused "$1, a copy from behind a reference" '[move-out-of-place]: cannot move out of `*seat` which is behind a shared reference' << RT
+    refused "$1, a copy from behind a reference" '[move-out-of-place]: cannot move out of `*permit` which is behind a shared reference' << RT
 $uses
 
-pub fn misuse(seat: &Seat) -> Seat {
-    *seat
+pub fn misuse(permit: &Permit) -> Permit {
+    *permit
 }
 RT
 
-    refused "$1, a seat that is let go" '[linear-value-let-go]: `_seat` is let go where its block ends' << RT
+    refused "$1, a permit that is let go" '[linear-value-let-go]: `_permit` is let go where its block ends' << RT
 $uses
 
-pub fn misuse(_seat: Seat) {}
+pub fn misuse(_permit: Permit) {}
 RT
 
-    refused "$1, an ended seat that is let go" '[linear-value-let-go]: `_ended` is let go where its block ends' << RT
+    refused "$1, an ended permit that is let go" '[linear-value-let-go]: `_ended` is let go where its block ends' << RT
 $uses
 
 pub fn misuse(_ended: $3<u32>) {}
@@ -123,8 +123,8 @@ RT
 wanted=${1:-ShardQueue ReplyChannel}
 for lane in $wanted; do
     case $lane in
-    ShardQueue) judge ShardQueue ProducerSeat Ended put_as IsProducer queue queue Seats ;;
-    ReplyChannel) judge ReplyChannel SenderSeat SenderEnded send_as IsSender ends reply Reply ;;
+    ShardQueue) judge ShardQueue ProducerPermit Ended put_as IsProducer queue queue Permits ;;
+    ReplyChannel) judge ReplyChannel SenderPermit SenderEnded send_as IsSender ends reply Reply ;;
     *) echo "no such lane: $lane" >&2; exit 2 ;;
     esac
 done

@@ -8,19 +8,19 @@ use Rattle.delivery_token.specs.declared.log.Noted.{Noted}
 use Rattle.shard_queue.specs.declared.lane.Entry.{Entry}
 use Rattle.shard_queue.specs.declared.lane.Entry.TheVariants.{Item, End}
 use Rattle.shard_queue.specs.declared.queue.ShardQueue.{ShardQueue}
-use Rattle.shard_queue.specs.declared.reply.SenderSeat.{SenderSeat}
+use Rattle.shard_queue.specs.declared.reply.SenderPermit.{SenderPermit}
 use Rattle.shard_queue.specs.Reply.{said_on, sent_on}
-use Rattle.shard_queue.specs.Seats.{IsConsumer, got}
+use Rattle.shard_queue.specs.Permits.{IsConsumer, got}
 use Rattle.lane_work.specs.Answering.{HaveClosed, WereAnswered, is_nobodys, is_ours, none}
 use Rattle.lane_work.specs.inner.Answering.{HaveAnswered}
 use Rattle.lane_work.specs.Ends.{ends_in}
-use Rattle.lane_work.specs.Seats.{AreSenders, AreSendersEnded}
+use Rattle.lane_work.specs.Permits.{AreSenders, AreSendersEnded}
 use Rattle.lane_work.specs.Consuming.{IsConsumed}
 use Rattle.lane_work.specs.declared.consumer.Consumed.{Consumed}
 use Rattle.lane_work.specs.declared.consumer.Depot.{Depot}
 use Rattle.lane_work.specs.declared.consumer.Stall.{Stall}
 use Rattle.lane_work.proofs.AnswerLaws.{answers_close, torn_next}
-use Rattle.lane_work.proofs.SeatLaws.{ends_next}
+use Rattle.lane_work.proofs.PermitLaws.{ends_next}
 use Rattle.clerks.specs.Keeping.{IsOnLane, counted}
 use Rattle.clerks.specs.inner.Keeping.{IsAnswering, Keeps}
 
@@ -31,14 +31,14 @@ inside a (Some x) = x
 pub one_inside : {A : Type 0} (o : Option A) (a b : A) → o ≡ Some a → o ≡ Some b → a ≡ b
 one_inside o a b is also = ap (inside a) (sym is ∙ also)
 
-unsent_at : (ss : List (SenderSeat Noted)) → All (λ s. sent_on s ≡ []) ss → (p : ℕ) → slice_index_or (map sent_on ss) p [] ≡ []
+unsent_at : (ss : List (SenderPermit Noted)) → All (λ s. sent_on s ≡ []) ss → (p : ℕ) → slice_index_or (map sent_on ss) p [] ≡ []
 unsent_at [] so p = refl
 unsent_at (s ∷ ss) so zero = All-head (λ s. sent_on s ≡ []) s ss so
 unsent_at (s ∷ ss) so (suc p) = unsent_at ss (All-tail (λ s. sent_on s ≡ []) s ss so) p
 
 -- before its first turn
 pub keeps_new : (lanes : Option (List (ShardQueue Job))) (depot : Option Depot) (stall : Stall) → ((ls : List (ShardQueue Job)) → lanes ≡ Some ls → IsOnLane ls stall)
-    → ((d : Depot) → depot ≡ Some d → AreSenders d.channels.items stall.shard stall.senders.items) → got stall.seat ≡ [] → All (λ s. sent_on s ≡ []) stall.senders.items
+    → ((d : Depot) → depot ≡ Some d → AreSenders d.channels.items stall.shard stall.senders.items) → got stall.permit ≡ [] → All (λ s. sent_on s ≡ []) stall.senders.items
     → Keeps lanes depot stall 0 Bool.false
 keeps_new lanes depot stall on senders fresh unsent =
     record {
@@ -54,11 +54,11 @@ keeps_new lanes depot stall on senders fresh unsent =
 -- after a turn, however it went
 pub keeps_next : (lanes : Option (List (ShardQueue Job))) (depot : Option Depot) (ls : List (ShardQueue Job)) (d : Depot) (old new : Stall) (lane : ShardQueue Job) (ends count : ℕ) (torn more : Bool)
     → lanes ≡ Some ls → depot ≡ Some d → slice_get ls old.shard ≡ Some lane → Keeps lanes depot old ends torn
-    → new.shard ≡ old.shard → IsConsumer lane new.seat → AreSenders d.channels.items old.shard new.senders.items
-    → HaveAnswered (length d.mailboxes.items) (length d.channels.items) old.shard (got new.seat) [] (map sent_on new.senders.items)
-    → more ≡ list_any (is_nobodys (length d.mailboxes.items) (length d.channels.items)) (got new.seat) → count ≡ counted (ends_in (got new.seat))
+    → new.shard ≡ old.shard → IsConsumer lane new.permit → AreSenders d.channels.items old.shard new.senders.items
+    → HaveAnswered (length d.mailboxes.items) (length d.channels.items) old.shard (got new.permit) [] (map sent_on new.senders.items)
+    → more ≡ list_any (is_nobodys (length d.mailboxes.items) (length d.channels.items)) (got new.permit) → count ≡ counted (ends_in (got new.permit))
     → Keeps lanes depot new count more
-keeps_next lanes depot ls d old new lane ends count torn more ls_is d_is here so shard seat senders answered torn_is ends_is =
+keeps_next lanes depot ls d old new lane ends count torn more ls_is d_is here so shard permit senders answered torn_is ends_is =
     record {
       on_lane = λ others is. subst (λ l. IsOnLane l new) (one_inside lanes ls others ls_is is) on;
       answering = λ other is. subst (λ x. IsAnswering x new more) (one_inside depot d other d_is is) answering;
@@ -67,13 +67,13 @@ keeps_next lanes depot ls d old new lane ends count torn more ls_is d_is here so
       on : IsOnLane ls new
       on = record {
         there = subst (λ n. n < length ls) (sym shard) (so.on_lane ls ls_is).there;
-        seat = λ other is. subst (λ q. IsConsumer q new.seat) (one_inside (slice_get ls old.shard) lane other here (subst (λ n. slice_get ls n ≡ Some other) shard is)) seat;
+        permit = λ other is. subst (λ q. IsConsumer q new.permit) (one_inside (slice_get ls old.shard) lane other here (subst (λ n. slice_get ls n ≡ Some other) shard is)) permit;
       }
 
       answering : IsAnswering d new more
       answering = record {
         senders = subst (λ n. AreSenders d.channels.items n new.senders.items) (sym shard) senders;
-        answered = subst (λ n. HaveAnswered (length d.mailboxes.items) (length d.channels.items) n (got new.seat) [] (map sent_on new.senders.items)) (sym shard) answered;
+        answered = subst (λ n. HaveAnswered (length d.mailboxes.items) (length d.channels.items) n (got new.permit) [] (map sent_on new.senders.items)) (sym shard) answered;
         torn = torn_is;
       }
 
@@ -94,16 +94,16 @@ lane_at ls i n lane same under is = slice_get-get_or ls n lane under ∙ ap (λ 
 
 -- what a clerk leaves, when its senders have ended
 pub leaves : (lane : ShardQueue Job) (ls : List (ShardQueue Job)) (d : Depot) (stall : Stall) (torn : Bool) (c : Consumed) → IsOnLane ls stall → IsAnswering d stall torn
-    → slice_get ls stall.shard ≡ Some lane → c.seat ≡ stall.seat → c.kept ≡ Bool.false → c.torn ≡ torn → AreSendersEnded d.channels.items stall.shard c.senders.items
+    → slice_get ls stall.shard ≡ Some lane → c.permit ≡ stall.permit → c.kept ≡ Bool.false → c.torn ≡ torn → AreSendersEnded d.channels.items stall.shard c.senders.items
     → HaveClosed stall.shard (map sent_on stall.senders.items) (map said_on c.senders.items) → IsConsumed lane d stall.shard [] c
-leaves lane ls d stall torn c on so here seat kept is_torn ended closed =
+leaves lane ls d stall torn c on so here permit kept is_torn ended closed =
     record {
-      seat = subst (λ s. IsConsumer lane s) (sym seat) (on.seat lane here);
+      permit = subst (λ s. IsConsumer lane s) (sym permit) (on.permit lane here);
       senders = ended;
       kept = λ keeps. no_kept c.kept kept keeps;
-      torn = is_torn ∙ so.torn ∙ ap (λ s. list_any (is_nobodys (length d.mailboxes.items) (length d.channels.items)) (got s)) (sym seat);
-      said = subst (λ s. Said (got s)) (sym seat)
-          (answers_close (length d.mailboxes.items) stall.shard (got stall.seat) d.channels.items stall.senders.items [] (map said_on c.senders.items) so.senders closed so.answered);
+      torn = is_torn ∙ so.torn ∙ ap (λ s. list_any (is_nobodys (length d.mailboxes.items) (length d.channels.items)) (got s)) (sym permit);
+      said = subst (λ s. Said (got s)) (sym permit)
+          (answers_close (length d.mailboxes.items) stall.shard (got stall.permit) d.channels.items stall.senders.items [] (map said_on c.senders.items) so.senders closed so.answered);
     } where
       no_kept : {P : Type 0} (b : Bool) → b ≡ Bool.false → b ≡ Bool.true → P
       no_kept b e f = cc (e, f)

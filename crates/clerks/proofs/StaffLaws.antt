@@ -4,8 +4,8 @@ use Rattle.std.proofs.lemmas.Bool.Decides.{eqb_tells}
 use Rattle.std.proofs.lemmas.List.Elements.{All-append}
 use Rattle.delivery_token.specs.declared.Job.{Job}
 use Rattle.shard_queue.specs.declared.queue.ShardQueue.{ShardQueue}
-use Rattle.lane_seats.specs.rows.Rows.{AreConsumers}
-use Rattle.lane_seats.specs.rows.SenderRows.{AreSenderEndedHands}
+use Rattle.lane_permits.specs.rows.Rows.{AreConsumers}
+use Rattle.lane_permits.specs.rows.SenderRows.{AreSenderEndedHands}
 use Rattle.lane_work.specs.declared.consumer.Consumed.{Consumed}
 use Rattle.lane_work.specs.declared.consumer.Depot.{Depot}
 use Rattle.house_floor.specs.Crew.{AllAt}
@@ -58,12 +58,12 @@ past_all (x ∷ xs) (suc n) is = past_all xs n (omega (arith, is))
 
 -- what all clerks left, said of their parts
 module _ (lanes : List (ShardQueue Job)) (depot : Depot) where
-  pub consumers_of : (n : ℕ) (cs : List Consumed) → AllAt (IsService lanes depot) n cs → n + length cs ≡ length lanes → AreConsumers (drop n lanes) (map (λ c. c.seat) cs)
+  pub consumers_of : (n : ℕ) (cs : List Consumed) → AllAt (IsService lanes depot) n cs → n + length cs ≡ length lanes → AreConsumers (drop n lanes) (map (λ c. c.permit) cs)
   consumers_of n [] all count = subst (λ qs. AreConsumers qs []) (sym (past_all lanes n (omega (arith, count)))) tt
   consumers_of n (c ∷ cs) all count =
       let lane = some_at lanes n (omega (arith, count)) in
-      subst (λ qs. AreConsumers qs (c.seat ∷ map (λ d. d.seat) cs)) (sym (from_here lanes n lane.0 lane.1))
-      ((all.0.each lane.0 lane.1).seat, consumers_of (suc n) cs all.1 (omega (arith, count)))
+      subst (λ qs. AreConsumers qs (c.permit ∷ map (λ d. d.permit) cs)) (sym (from_here lanes n lane.0 lane.1))
+      ((all.0.each lane.0 lane.1).permit, consumers_of (suc n) cs all.1 (omega (arith, count)))
 
   pub sender_hands_of : (n : ℕ) (cs : List Consumed) → AllAt (IsService lanes depot) n cs → n + length cs ≡ length lanes → AreSenderEndedHands depot.channels.items n (map (λ c. c.senders.items) cs)
   sender_hands_of n [] all count = tt

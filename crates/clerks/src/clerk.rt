@@ -1,16 +1,16 @@
-//! A clerk: a shard's consumer whose type says of which hall its seats are, so that this is known
+//! A clerk: a shard's consumer whose type says of which hall its permits are, so that this is known
 //! again after it was under a lock. Whose thread makes its steps does not matter here.
 
 ghost use Rattle.std.specs.Prelude.{◌≡◌, ◌<◌, ◌≤◌, ◌++◌, ◌∷◌, [], All, List, Option, None, Some, length, slice_get, vec_len, vec_capacity, true, false};
 ghost use Rattle.delivery_token.specs.declared.Job.{Job};
 ghost use Rattle.shard_queue.specs.declared.queue.ShardQueue.{ShardQueue};
 ghost use Rattle.shard_queue.specs.Reply.{sent_on};
-ghost use Rattle.shard_queue.specs.Seats.{WasEmpty, capacity_of, got, producers_of, take_seen};
+ghost use Rattle.shard_queue.specs.Permits.{WasEmpty, capacity_of, got, producers_of, take_seen};
 ghost use Rattle.shard_queue.specs.Shared.{IsStartOf};
 ghost use Rattle.lane_work.specs.declared.consumer.Depot.{Depot};
 ghost use Rattle.lane_work.specs.Consuming.{IsConsumed};
 ghost use Rattle.lane_work.specs.Ends.{ends_in};
-ghost use Rattle.lane_work.specs.Seats.{AreSenders};
+ghost use Rattle.lane_work.specs.Permits.{AreSenders};
 ghost use Rattle.clerks.specs.Keeping.{IsOnLane, counted};
 
 use crate::turn::{Turn, take_turn};
@@ -22,7 +22,7 @@ use std::alloc::Global;
 use std::marker::{Brand, Model, PhantomData};
 use std::sync::Wait;
 
-/// Which lanes and which depot the seats of clerks are of. Whoever calls a function over a hall picks
+/// Which lanes and which depot the permits of clerks are of. Whoever calls a function over a hall picks
 /// them, by the name `Brand`.
 pub trait Hall {
     ghost lanes: { Option (List (ShardQueue Job)) };
@@ -52,10 +52,10 @@ impl<H: Hall> Model for Clerk<H> {
 
     ghost Value = { Clerk };
 
-    ghost use Rattle.shard_queue.specs.Seats.{got, take_seen};
+    ghost use Rattle.shard_queue.specs.Permits.{got, take_seen};
     ghost use Rattle.clerks.specs.inner.Keeping.{Keeps};
 
-    ghost view = { λ c. record { shard = c.stall.shard; took = got c.stall.seat; seen = take_seen c.stall.seat; ends = c.ends } };
+    ghost view = { λ c. record { shard = c.stall.shard; took = got c.stall.permit; seen = take_seen c.stall.permit; ends = c.ends } };
 
     ghost invariant = { λ c. Keeps H.lanes H.depot c.stall c.ends c.torn };
 }
@@ -65,8 +65,8 @@ impl<H: Hall> Clerk<H> {
     pub fn new(stall: Stall) -> Clerk<H>
         requires lane { (lanes : List (ShardQueue Job)) → H.lanes ≡ Some lanes → IsOnLane lanes stall }
         requires senders { (depot : Depot) → H.depot ≡ Some depot → AreSenders depot.channels.items stall.shard stall.senders.items }
-        requires fresh { (got stall.seat ≡ []) × All (λ s. sent_on s ≡ []) stall.senders.items }
-        ensures { result ≡ record { shard = stall.shard; took = []; seen = take_seen stall.seat; ends = 0 } }
+        requires fresh { (got stall.permit ≡ []) × All (λ s. sent_on s ≡ []) stall.senders.items }
+        ensures { result ≡ record { shard = stall.shard; took = []; seen = take_seen stall.permit; ends = 0 } }
     {
         Clerk {
             stall,
@@ -144,7 +144,7 @@ impl<H: Hall> Clerk<H> {
         unreachable!()
     }
 
-    /// Ends its seat on each reply channel, and leaves what a consumer leaves that has kept no copy.
+    /// Ends its permit on each reply channel, and leaves what a consumer leaves that has kept no copy.
     /// `room`, which is empty, has room for all channels. Where a channel is full it tries again until
     /// there is room.
     pub fn into_consumed<R: Wait, G: Gate>(
@@ -159,7 +159,7 @@ impl<H: Hall> Clerk<H> {
         requires room { (room.items ≡ []) × (length depot.now.channels.items ≤ vec_capacity room) }
         ensures consumed { (lanes : List (ShardQueue Job)) → H.lanes ≡ Some lanes → (lane : ShardQueue Job) → slice_get lanes self.shard ≡ Some lane
             → IsConsumed lane depot.now self.shard [] result }
-        ensures took { (got result.seat ≡ self.took) × (take_seen result.seat ≡ self.seen) }
+        ensures took { (got result.permit ≡ self.took) × (take_seen result.permit ≡ self.seen) }
         ensures none { (result.copies.items ≡ []) × (result.kept ≡ false) }
         ensures count { vec_len result.senders ≡ length depot.now.channels.items }
     {
@@ -171,13 +171,13 @@ impl<H: Hall> Clerk<H> {
         } = self;
         let Stall {
             shard,
-            seat,
+            permit,
             senders,
             bell: _,
         } = stall;
         let senders = end_senders(rt, pace, &depot.channels, shard, senders, room);
         Consumed {
-            seat,
+            permit,
             senders,
             copies: Vec::new(alloc),
             kept: false,
@@ -188,7 +188,7 @@ impl<H: Hall> Clerk<H> {
     /// Its stall, as far as it has worked there.
     pub fn into_stall(self) -> Stall
         ensures shard { result.shard ≡ self.shard }
-        ensures took { (got result.seat ≡ self.took) × (take_seen result.seat ≡ self.seen) }
+        ensures took { (got result.permit ≡ self.took) × (take_seen result.permit ≡ self.seen) }
         ensures lane { (lanes : List (ShardQueue Job)) → H.lanes ≡ Some lanes → IsOnLane lanes result }
         ensures senders { (depot : Depot) → H.depot ≡ Some depot → AreSenders depot.channels.items self.shard result.senders.items }
     {

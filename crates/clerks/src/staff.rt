@@ -4,9 +4,9 @@
 ghost use Rattle.std.specs.Prelude.{◌≡◌, ◌≤◌, ◌<◌, ℕ, [], All, IfOk, Some, true, false, length, map, vec_len, vec_capacity};
 ghost use Rattle.delivery_token.specs.declared.Job.{Job};
 ghost use Rattle.lane_work.specs.declared.consumer.Depot.{Depot};
-ghost use Rattle.lane_seats.specs.Rooms.{AreRooms};
-ghost use Rattle.lane_seats.specs.rows.Rows.{AreConsumers};
-ghost use Rattle.lane_seats.specs.rows.SenderRows.{AreSenderEndedHands};
+ghost use Rattle.lane_permits.specs.Rooms.{AreRooms};
+ghost use Rattle.lane_permits.specs.rows.Rows.{AreConsumers};
+ghost use Rattle.lane_permits.specs.rows.SenderRows.{AreSenderEndedHands};
 ghost use Rattle.house_floor.specs.Crew.{AllAt, IsStand};
 ghost use Rattle.clerks.specs.Staff.{IsService};
 
@@ -121,7 +121,7 @@ fn dismiss<H: Hall, R: Wait, G: Gate>(
     (shard, consumed)
 }
 
-/// Clears each lane a last time, and ends each clerk's seat on each reply channel: what all of them
+/// Clears each lane a last time, and ends each clerk's permit on each reply channel: what all of them
 /// leave. No copy was kept. `consumed`, which is empty, has room for all.
 pub fn dismiss_all<H: Hall, R: Wait, G: Gate>(
     rt: &R,
@@ -138,7 +138,7 @@ pub fn dismiss_all<H: Hall, R: Wait, G: Gate>(
     requires consumed { (consumed.items ≡ []) × (length floor.now.office.lanes.items ≤ vec_capacity consumed) }
     ensures count { vec_len result.consumed ≡ length floor.now.office.lanes.items }
     ensures services { result.in_order ≡ true → AllAt (IsService floor.now.office.lanes.items floor.now.depot) 0 result.consumed.items }
-    ensures seats { result.in_order ≡ true → AreConsumers floor.now.office.lanes.items (map (λ c. c.seat) result.consumed.items) }
+    ensures permits { result.in_order ≡ true → AreConsumers floor.now.office.lanes.items (map (λ c. c.permit) result.consumed.items) }
     ensures hands { result.in_order ≡ true → AreSenderEndedHands floor.now.depot.channels.items 0 (map (λ c. c.senders.items) result.consumed.items) }
     ensures senders { All (λ c. vec_len c.senders ≡ length floor.now.depot.channels.items) result.consumed.items }
     ensures none { All (λ c. (c.copies.items ≡ []) × (c.kept ≡ false)) result.consumed.items }

@@ -3,9 +3,9 @@
 
 ghost use Rattle.std.specs.Prelude.{◌≡◌, [], length, map};
 ghost use Rattle.shard_queue.specs.Reply.{sent_on};
-ghost use Rattle.shard_queue.specs.Seats.{IsConsumer, got};
+ghost use Rattle.shard_queue.specs.Permits.{IsConsumer, got};
 ghost use Rattle.lane_work.specs.inner.Answering.{HaveAnswered};
-ghost use Rattle.lane_work.specs.Seats.{AreSenders};
+ghost use Rattle.lane_work.specs.Permits.{AreSenders};
 ghost use Rattle.clerks.specs.inner.Turns.{Turned};
 
 use delivery_token::Job;
@@ -33,19 +33,19 @@ pub(crate) fn take_turn<R: Wait, G: Gate>(
     lane: &ShardQueue<Job>,
     stall: &mut Stall,
 ) -> Turn
-    requires seat { IsConsumer lane.now stall.old.seat }
+    requires permit { IsConsumer lane.now stall.old.permit }
     requires senders { AreSenders depot.now.channels.items stall.old.shard stall.old.senders.items }
     requires answered { HaveAnswered (length depot.now.mailboxes.items) (length depot.now.channels.items) stall.old.shard
-        (got stall.old.seat) [] (map sent_on stall.old.senders.items) }
+        (got stall.old.permit) [] (map sent_on stall.old.senders.items) }
     ensures shard { stall.new.shard ≡ stall.old.shard }
-    ensures seat { IsConsumer lane.now stall.new.seat }
+    ensures permit { IsConsumer lane.now stall.new.permit }
     ensures senders { AreSenders depot.now.channels.items stall.old.shard stall.new.senders.items }
     ensures answered { HaveAnswered (length depot.now.mailboxes.items) (length depot.now.channels.items) stall.old.shard
-        (got stall.new.seat) [] (map sent_on stall.new.senders.items) }
-    ensures turned { Turned (length depot.now.mailboxes.items) (length depot.now.channels.items) lane.now stall.old.seat result stall.new.seat }
+        (got stall.new.permit) [] (map sent_on stall.new.senders.items) }
+    ensures turned { Turned (length depot.now.mailboxes.items) (length depot.now.channels.items) lane.now stall.old.permit result stall.new.permit }
 {
     pace.pass();
-    match lane.take_as(rt, &mut stall.seat) {
+    match lane.take_as(rt, &mut stall.permit) {
         Taken::Item(producer, job) => {
             let shard = stall.shard;
             let senders = &mut stall.senders;

@@ -10,12 +10,12 @@ use Rattle.mailbox.specs.Mailbox.{Mailbox}
 use Rattle.world.specs.World.{Config, World, Session, Selected, pending}
 use Rattle.delivery_core.specs.declared.client.Client.{Client}
 use Rattle.delivery_core.specs.DeliveryCore.{DeliveryCore, behind, behind_in, window_at}
-use Rattle.delivery_core.specs.Seated.{client_at, cursors_of, AreSeated}
+use Rattle.delivery_core.specs.Attached.{client_at, cursors_of, AreAttached}
 use Rattle.delivery_core.specs.Stands.{StandsFor, StandsForBox, StandsForClient}
 use Rattle.delivery_core.specs.inner.Clients.{answer_of}
 use Rattle.delivery_core.proofs.Looks.{window_get}
 use Rattle.delivery_core.proofs.Mailed.{mailbox_within, session_at}
-use Rattle.delivery_core.proofs.SeatedLaws.{place_within}
+use Rattle.delivery_core.proofs.AttachedLaws.{place_within}
 
 pub behind_here : (old : DeliveryCore) (n m : ℕ) (c : Client) (b : Mailbox) → m < length old.boxes → client_at old.clients n ≡ Some c → m ≡ c.mailbox → b ≡ get_or old.boxes m b → behind old n ≡ total b.window - c.handle.at
 behind_here old n m c b within e same there =
@@ -24,7 +24,7 @@ behind_here old n m c b within e same there =
 
 -- what was shown is no longer behind
 pub feed_less : (old : DeliveryCore) (n p m : ℕ) (c : Client) (b b2 : Mailbox) (handle2 : CursorHandle) (vacant : Option Client) (limit : ℕ) (r : Result ℕ FeedFault) (q : Result ℕ MailFault)
-    → AreSeated (cursors_of old.boxes) old.clients → client_at old.clients n ≡ Some c → p ≡ n → m ≡ c.mailbox → b ≡ get_or old.boxes m b → q ≡ answer_of r
+    → AreAttached (cursors_of old.boxes) old.clients → client_at old.clients n ≡ Some c → p ≡ n → m ≡ c.mailbox → b ≡ get_or old.boxes m b → q ≡ answer_of r
     → IfOk r (λ j. j ≡ min limit (total b.window - c.handle.at)) → IfOk r (λ j. handle2 ≡ record c.handle { at = c.handle.at + j }) → b2 ≡ record b { cursors = b2.cursors }
     → IfOk q (λ j. (j ≡ min limit (behind old n)) × (behind (record old { boxes = set old.boxes m b2; clients = set (set old.clients p vacant) p (Some (record { mailbox = c.mailbox; handle = handle2 })) }) n + j ≡ behind old n))
 feed_less old n p m c b b2 handle2 vacant limit r q S e place same there tells count is rest =
@@ -39,15 +39,15 @@ feed_less old n p m c b b2 handle2 vacant limit r q S e place same there tells c
     within : m < length old.boxes
     within = mailbox_within old.boxes old.clients n m c S e same
 
-    seated : client_at (set (set old.clients p vacant) p (Some (record { mailbox = c.mailbox; handle = handle2 }))) n ≡ Some (record { mailbox = c.mailbox; handle = handle2 })
-    seated = ap (client_at (set (set old.clients p vacant) p (Some (record { mailbox = c.mailbox; handle = handle2 })))) (sym place)
+    attached : client_at (set (set old.clients p vacant) p (Some (record { mailbox = c.mailbox; handle = handle2 }))) n ≡ Some (record { mailbox = c.mailbox; handle = handle2 })
+    attached = ap (client_at (set (set old.clients p vacant) p (Some (record { mailbox = c.mailbox; handle = handle2 })))) (sym place)
         ∙ get_or-set_same (set old.clients p vacant) p _ None (omega (arith, place_within old.clients n c e, place, length-set old.clients p vacant))
 
     was : behind old n ≡ total b.window - c.handle.at
     was = behind_here old n m c b within e same there
 
     now : behind new n ≡ total b2.window - handle2.at
-    now = behind_here new n m next b2 (omega (arith, within, length-set old.boxes m b2)) seated same (sym (get_or-set_same old.boxes m b2 b2 within))
+    now = behind_here new n m next b2 (omega (arith, within, length-set old.boxes m b2)) attached same (sym (get_or-set_same old.boxes m b2 b2 within))
 
     long : total b2.window ≡ total b.window
     long = ap (λ (z : Mailbox). total z.window) rest
@@ -75,7 +75,7 @@ pub up_to_date : (k : Config) (w : World) (old : DeliveryCore) (n m : ℕ) (c : 
 up_to_date k w old n m c b S e same there all = go (session_at k w old n c S e)
   where
     within : m < length old.boxes
-    within = mailbox_within old.boxes old.clients n m c S.seated e same
+    within = mailbox_within old.boxes old.clients n m c S.attached e same
 
     go : (s : Session) × (w.session n ≡ Some s) × StandsForClient c s → Selected w n (λ s. ((w.box s.mailbox).base ≤ s.cursor) × (pending (w.box s.mailbox) s ≡ []))
     go (s, is, one) =

@@ -17,7 +17,7 @@ use Rattle.world.proofs.Base.{part_both}
 use Rattle.world.proofs.Kept.{BoxOk}
 use Rattle.delivery_core.specs.declared.client.Client.{Client}
 use Rattle.delivery_core.specs.DeliveryCore.{DeliveryCore}
-use Rattle.delivery_core.specs.Seated.{AreSeated, client_at, cursors_of}
+use Rattle.delivery_core.specs.Attached.{AreAttached, client_at, cursors_of}
 use Rattle.delivery_core.specs.Stands.{StandsFor, StandsForBox, text_of, accepted_text}
 use Rattle.delivery_core.specs.Clients.{Reads, Alters, Makes, Refuses, read_of, flags_of, text_with}
 use Rattle.delivery_core.proofs.MailBoxes.{Told, box_still, flagged_part, no_stranger, row_after, same_rows, seen_part, taken, text_told, turned_away}
@@ -54,7 +54,7 @@ read_tells k b b2 x mark_seen uid S ok logs texts =
         (text_told k x b2.messages uid m ok texts e)
 
 -- a call's tests of its handle
-told : {T : Type 0} (r : Result T MailFault) (old : DeliveryCore) (n m : ℕ) (c : Client) (b : Mailbox) (cs : List Change) → AreSeated (cursors_of old.boxes) old.clients → client_at old.clients n ≡ Some c → m ≡ c.mailbox → b ≡ get_or old.boxes m b
+told : {T : Type 0} (r : Result T MailFault) (old : DeliveryCore) (n m : ℕ) (c : Client) (b : Mailbox) (cs : List Change) → AreAttached (cursors_of old.boxes) old.clients → client_at old.clients n ≡ Some c → m ≡ c.mailbox → b ≡ get_or old.boxes m b
     → (r ≡ Err Stranger) ↔ IsStranger b c.handle → (r ≡ Err Lapped) ↔ IsLapped b c.handle → (r ≡ Err Spent) ↔ (IsCurrent b c.handle × IsTooMany b cs) → Told r b c.handle cs
 told r old n m c b cs S e same there strange lapses spends = record {
   known = known_at old.boxes old.clients n c b S e (there ∙ ap (λ (i : ℕ). get_or old.boxes i b) same);
@@ -64,7 +64,7 @@ told r old n m c b cs S e same there strange lapses spends = record {
 }
 
 -- where a client stands no call answers that it is a stranger
-pub not_strange : {T : Type 0} (r : Result T MailFault) (boxes : List Mailbox) (clients : List (Option Client)) (n m : ℕ) (c : Client) (b : Mailbox) → AreSeated (cursors_of boxes) clients → client_at clients n ≡ Some c → m ≡ c.mailbox → b ≡ get_or boxes m b
+pub not_strange : {T : Type 0} (r : Result T MailFault) (boxes : List Mailbox) (clients : List (Option Client)) (n m : ℕ) (c : Client) (b : Mailbox) → AreAttached (cursors_of boxes) clients → client_at clients n ≡ Some c → m ≡ c.mailbox → b ≡ get_or boxes m b
     → (r ≡ Err Stranger) ↔ IsStranger b c.handle → (r ≡ Err Stranger) ↔ (client_at clients n ≡ None)
 not_strange r boxes clients n m c b S e same there strange = (
   λ f. absurd (no_stranger r b c.handle (known_at boxes clients n c b S e (there ∙ ap (λ (i : ℕ). get_or boxes i b) same)) strange f),
@@ -88,7 +88,7 @@ read_follows k w old n m c b b2 uid mark_seen r S e same there strange lapses sp
     ))
   where
     tests : Told r b c.handle (seen_logged mark_seen (rows b) uid)
-    tests = told r old n m c b (seen_logged mark_seen (rows b) uid) S.seated e same there strange lapses spends
+    tests = told r old n m c b (seen_logged mark_seen (rows b) uid) S.attached e same there strange lapses spends
 
     tells : (q : Result (Option read.Row) MailFault) (x : Box) (s : Session) → StandsForBox k b x → c.handle.at ≡ s.cursor → BoxOk k x → Told q b c.handle (seen_logged mark_seen (rows b) uid) → OnOk q (MailLogs b b2 (seen_logged mark_seen (rows b) uid))
         → OnOk q (b2.messages ≡ seen_after mark_seen uid b.messages) → IfOk q (λ row. row ≡ option_map (row_read mark_seen uid (rows b)) (message_with uid b2.messages)) → Reads mark_seen uid q x s
@@ -121,7 +121,7 @@ store_follows k w old n m c b b2 uid op r S e same there strange lapses spends m
     ))
   where
     tests : Told r b c.handle (flags_logged (rows b) uid op)
-    tests = told r old n m c b (flags_logged (rows b) uid op) S.seated e same there strange lapses spends
+    tests = told r old n m c b (flags_logged (rows b) uid op) S.attached e same there strange lapses spends
 
     tells : (q : Result (Option Flags) MailFault) (x : Box) (s : Session) → StandsForBox k b x → c.handle.at ≡ s.cursor → Told q b c.handle (flags_logged (rows b) uid op) → OnOk q (MailLogs b b2 (flags_logged (rows b) uid op))
         → IfOk q (λ flags. flags ≡ option_map (λ (x : Message). x.flags) (message_with uid b2.messages)) → Alters uid op q x s
@@ -135,7 +135,7 @@ store_follows k w old n m c b b2 uid op r S e same there strange lapses spends m
 
 logs_done : {T : Type 0} (old : DeliveryCore) (n m : ℕ) (c : Client) (b b2 : Mailbox) (logged : List Row → List Change) (event : Event) (r : Result T MailFault)
     → ((k : Config) (w v : World) → Selected w n (λ s. MailStep k w n s false [] (logged (rows_of (w.box s.mailbox).log)) v) → Step k w event v)
-    → AreSeated (cursors_of old.boxes) old.clients → client_at old.clients n ≡ Some c → m ≡ c.mailbox → b ≡ get_or old.boxes m b
+    → AreAttached (cursors_of old.boxes) old.clients → client_at old.clients n ≡ Some c → m ≡ c.mailbox → b ≡ get_or old.boxes m b
     → (r ≡ Err Stranger) ↔ IsStranger b c.handle → (r ≡ Err Lapped) ↔ IsLapped b c.handle → (r ≡ Err Spent) ↔ (IsCurrent b c.handle × IsTooMany b (logged (rows b)))
     → OnErr r (b2 ≡ b) → OnOk r (MailLogs b b2 (logged (rows b))) → OnOk r (Moves b.cursors b.window b2.window (logged (rows b))) → OnOk r (IsPart (map text_of b2.messages) (map text_of b.messages))
     → b2 ≡ record b { messages = b2.messages; window = b2.window } → OnOk r ((k : Config) → Makes k old n (λ x s. []) (λ x. logged (rows_of x.log)) (record old { boxes = set old.boxes m b2 }))
@@ -151,7 +151,7 @@ logs_done old n m c b b2 logged event (Ok t) as_step S e same there strange laps
 logs_done old n m c b b2 logged event (Err f) as_step S e same there strange lapses spends err logs moves texts rest = tt
 
 pub read_done : (old : DeliveryCore) (n m : ℕ) (c : Client) (b b2 : Mailbox) (uid : ℕ) (mark_seen : Bool) (r : Result (Option read.Row) MailFault)
-    → AreSeated (cursors_of old.boxes) old.clients → client_at old.clients n ≡ Some c → m ≡ c.mailbox → b ≡ get_or old.boxes m b
+    → AreAttached (cursors_of old.boxes) old.clients → client_at old.clients n ≡ Some c → m ≡ c.mailbox → b ≡ get_or old.boxes m b
     → (r ≡ Err Stranger) ↔ IsStranger b c.handle → (r ≡ Err Lapped) ↔ IsLapped b c.handle → (r ≡ Err Spent) ↔ (IsCurrent b c.handle × IsTooMany b (seen_logged mark_seen (rows b) uid))
     → OnErr r (b2 ≡ b) → OnOk r (MailLogs b b2 (seen_logged mark_seen (rows b) uid)) → OnOk r (Moves b.cursors b.window b2.window (seen_logged mark_seen (rows b) uid)) → OnOk r (b2.messages ≡ seen_after mark_seen uid b.messages)
     → b2 ≡ record b { messages = b2.messages; window = b2.window } → OnOk r ((k : Config) → Makes k old n (λ x s. []) (λ x. seen_logged mark_seen (rows_of x.log) uid) (record old { boxes = set old.boxes m b2 }))
@@ -160,7 +160,7 @@ read_done old n m c b b2 uid mark_seen r S e same there strange lapses spends er
     strange lapses spends err logs moves (ok_map _ _ r (seen_part mark_seen uid b.messages b2.messages) messages) rest
 
 pub store_done : (old : DeliveryCore) (n m : ℕ) (c : Client) (b b2 : Mailbox) (uid : ℕ) (op : FlagOp) (r : Result (Option Flags) MailFault)
-    → AreSeated (cursors_of old.boxes) old.clients → client_at old.clients n ≡ Some c → m ≡ c.mailbox → b ≡ get_or old.boxes m b
+    → AreAttached (cursors_of old.boxes) old.clients → client_at old.clients n ≡ Some c → m ≡ c.mailbox → b ≡ get_or old.boxes m b
     → (r ≡ Err Stranger) ↔ IsStranger b c.handle → (r ≡ Err Lapped) ↔ IsLapped b c.handle → (r ≡ Err Spent) ↔ (IsCurrent b c.handle × IsTooMany b (flags_logged (rows b) uid op))
     → OnErr r (b2 ≡ b) → OnOk r (MailLogs b b2 (flags_logged (rows b) uid op)) → OnOk r (Moves b.cursors b.window b2.window (flags_logged (rows b) uid op)) → OnOk r (b2.messages ≡ flagged uid op b.messages)
     → b2 ≡ record b { messages = b2.messages; window = b2.window } → OnOk r ((k : Config) → Makes k old n (λ x s. []) (λ x. flags_logged (rows_of x.log) uid op) (record old { boxes = set old.boxes m b2 }))

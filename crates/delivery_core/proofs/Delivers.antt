@@ -11,9 +11,9 @@ use Rattle.world.proofs.Known.{HandKnown, known_always}
 use Rattle.delivery_core.specs.DeliveryCore.{DeliveryCore}
 use Rattle.delivery_core.specs.Stands.{EachAt, StandsFor, StandsForBox}
 use Rattle.delivery_core.specs.inner.Boxes.{BoxDelivers, stores, has_no_uid, has_no_space, has_no_memory}
-use Rattle.delivery_core.specs.Seated.{cursors_of}
+use Rattle.delivery_core.specs.Attached.{cursors_of}
 use Rattle.delivery_core.proofs.Follow.{each_here, each_set, next_same, reached_step}
-use Rattle.delivery_core.proofs.SeatedLaws.{cursors_same}
+use Rattle.delivery_core.proofs.AttachedLaws.{cursors_same}
 
 -- the copy in a hand is for a mailbox that is there
 pub job_within : (k : Config) (w : World) (old : DeliveryCore) (s : ℕ) (c : Job) → StandsFor k old w → s < length old.hands → Taken c ≡ get_or old.hands s (Taken c) → c.mailbox < length old.boxes
@@ -41,7 +41,7 @@ stands k w v old new s c verdict b S hands boxes lanes replies heard next client
   lanes = rw (lanes, vl) S.lanes;
   sessions = ap length clients ∙ S.sessions;
   clients = rw (clients, vs) S.clients;
-  seated = rw (boxes, clients, cursors) S.seated;
+  attached = rw (boxes, clients, cursors) S.attached;
   opened = rw (boxes, cursors, vo) S.opened;
   hands = rw hands hand_at;
   replies = rw (replies, vr) S.replies;

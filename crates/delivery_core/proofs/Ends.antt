@@ -36,7 +36,7 @@ end_follows k w old new p s l l2 S ins inp there live room ends lanes hands repl
         mailboxes = ap length boxes ∙ S.mailboxes;
         sessions = ap length clients ∙ S.sessions;
         clients = rw clients S.clients;
-        seated = rw (boxes, clients) S.seated;
+        attached = rw (boxes, clients) S.attached;
         opened = rw boxes S.opened;
         lanes = rw lanes (each_set (λ a b. StandsForLane k.seats k.depth a b) old.lanes w.lane s l2 (put (w.lane s) (End p)) S.lanes (lane_end k.seats k.depth p l l2 (w.lane s) was ends));
         hands = rw hands S.hands;

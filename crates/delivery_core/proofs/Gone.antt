@@ -18,12 +18,12 @@ use Rattle.world.specs.Law.{IsPart}
 use Rattle.world.proofs.Base.{part_self}
 use Rattle.delivery_core.specs.declared.client.Client.{Client}
 use Rattle.delivery_core.specs.DeliveryCore.{DeliveryCore}
-use Rattle.delivery_core.specs.Seated.{AreSeated, client_at, cursors_at, cursors_of}
+use Rattle.delivery_core.specs.Attached.{AreAttached, client_at, cursors_at, cursors_of}
 use Rattle.delivery_core.specs.Stands.{EachAt, StandsFor, StandsForBox, StandsForClient, StandsForPlace, text_of}
 use Rattle.delivery_core.specs.Clients.{Leaves, Opens}
 use Rattle.delivery_core.proofs.Boxes as boxed
 use Rattle.delivery_core.proofs.Follow.{each_here, each_set, get_or-any, reached_step}
-use Rattle.delivery_core.proofs.SeatedLaws.{SameElsewhere, HasSlot, cursors_get, cursors_set, length_cursors, own_slot, seated_after, vacant_slot}
+use Rattle.delivery_core.proofs.AttachedLaws.{SameElsewhere, HasSlot, cursors_get, cursors_set, length_cursors, own_slot, attached_after, vacant_slot}
 use Rattle.delivery_core.proofs.MailBoxes.{Becomes, box_keeps, box_logs, remaining_part, same_rows}
 use Rattle.delivery_core.proofs.Mailed.{known_at, mailbox_within, opened_at, opened_same, opened_set, session_at, stands_after}
 
@@ -33,12 +33,12 @@ cursors_there : (boxes : List Mailbox) (m : ℕ) (b : Mailbox) → m < length bo
 cursors_there boxes m b l there = cursors_get boxes m b l ∙ ap (λ (z : Mailbox). z.cursors) (sym there)
 
 -- a client is gone from its place, and its cursor from its slot
-pub leave_seated : (boxes : List Mailbox) (clients : List (Option Client)) (n p m : ℕ) (c : Client) (b b2 : Mailbox) (vacant : Option Client) → AreSeated (cursors_of boxes) clients → client_at clients n ≡ Some c → p ≡ n → m ≡ c.mailbox → b ≡ get_or boxes m b → vacant ≡ None
-    → Updates b.cursors b2.cursors c.handle.slot None → AreSeated (cursors_of (set boxes m b2)) (set clients p vacant)
-leave_seated boxes clients n p m c b b2 vacant S e place same there empty closed =
-    subst (λ (i : ℕ). AreSeated (cursors_of (set boxes m b2)) (set clients i vacant)) (sym place)
-    (subst (λ (all : List CursorSet). AreSeated all (set clients n vacant)) (sym (cursors_set boxes m b2))
-    (seated_after (cursors_of boxes) clients n m c.handle.slot b2.cursors vacant S (omega (arith, within, length_cursors boxes))
+pub leave_attached : (boxes : List Mailbox) (clients : List (Option Client)) (n p m : ℕ) (c : Client) (b b2 : Mailbox) (vacant : Option Client) → AreAttached (cursors_of boxes) clients → client_at clients n ≡ Some c → p ≡ n → m ≡ c.mailbox → b ≡ get_or boxes m b → vacant ≡ None
+    → Updates b.cursors b2.cursors c.handle.slot None → AreAttached (cursors_of (set boxes m b2)) (set clients p vacant)
+leave_attached boxes clients n p m c b b2 vacant S e place same there empty closed =
+    subst (λ (i : ℕ). AreAttached (cursors_of (set boxes m b2)) (set clients i vacant)) (sym place)
+    (subst (λ (all : List CursorSet). AreAttached all (set clients n vacant)) (sym (cursors_set boxes m b2))
+    (attached_after (cursors_of boxes) clients n m c.handle.slot b2.cursors vacant S (omega (arith, within, length_cursors boxes))
     (subst (λ (s : CursorSet). SameElsewhere s b2.cursors c.handle.slot) (sym (cursors_there boxes m b within there)) (record { number = closed.number; others = closed.others }))
     (λ j d other f one. own_slot (cursors_of boxes) clients n c S e j d other f (one ∙ same))
     (λ d f. absurd (nobody d (sym empty ∙ f)))))
@@ -71,10 +71,10 @@ pub leave_follows : (k : Config) (w : World) (old : DeliveryCore) (n p m : ℕ) 
 leave_follows k w old n p m c b b2 vacant removing count S e place same there empty spends logs moves messages closed next rest counted = go (session_at k w old n c S e)
   where
     within : m < length old.boxes
-    within = mailbox_within old.boxes old.clients n m c S.seated e same
+    within = mailbox_within old.boxes old.clients n m c S.attached e same
 
     some : IsSome (held b.cursors c.handle)
-    some = known_at old.boxes old.clients n c b S.seated e (there ∙ ap (λ (i : ℕ). get_or old.boxes i b) same)
+    some = known_at old.boxes old.clients n c b S.attached e (there ∙ ap (λ (i : ℕ). get_or old.boxes i b) same)
 
     go : (s : Session) × (w.session n ≡ Some s) × StandsForClient c s
         → (v : World) × Step k w (Leave n removing) v × StandsFor k (record old { boxes = set old.boxes m b2; clients = set old.clients p vacant }) v × Selected w n (λ s. Leaves removing (Ok count) (w.box s.mailbox) s)
@@ -104,7 +104,7 @@ leave_follows k w old n p m c b b2 vacant removing count S e place same there em
                   (subst (λ (j : ℕ). EachAt (λ i x. StandsForPlace x (set_at w.session n None i)) (set old.clients j vacant)) (sym place)
                   (each_set (λ x z. StandsForPlace x z) old.clients w.session n vacant None S.clients (subst (λ (o : Option Client). StandsForPlace o None) (sym empty) tt)))
                   (opened_same old.boxes w.opened m b b2 S.opened within there next)
-                  (leave_seated old.boxes old.clients n p m c b b2 vacant S.seated e place same there empty closed),
+                  (leave_attached old.boxes old.clients n p m c b b2 vacant S.attached e place same there empty closed),
               (s, is, counted ∙ ap (λ (rs : List Row). length (removals_if removing rs)) (same_rows k b (w.box s.mailbox) here)),
             )
 
@@ -128,7 +128,7 @@ pub leave_refused : (k : Config) (w : World) (old : DeliveryCore) (n m : ℕ) (c
 leave_refused k w old n m c b e removing S client same there back is spends = go (session_at k w old n c S client)
   where
     within : m < length old.boxes
-    within = mailbox_within old.boxes old.clients n m c S.seated client same
+    within = mailbox_within old.boxes old.clients n m c S.attached client same
 
     pair : (d : CursorHandle × MailFault) → d.0 ≡ c.handle → d.1 ≡ Spent → (let r : Result ℕ (CursorHandle × MailFault) = Err d in r ≡ Err (c.handle, Spent))
     pair d a f = ap₂ (λ (z : CursorHandle) (g : MailFault). let r : Result ℕ (CursorHandle × MailFault) = Err (z, g) in r) a f
@@ -172,12 +172,12 @@ no_session (Some s) h = absurd h
 session_none : (k : Config) (w : World) (old : DeliveryCore) (n : ℕ) → StandsFor k old w → n < length old.clients → client_at old.clients n ≡ None → w.session n ≡ None
 session_none k w old n S l none = no_session (w.session n) (subst (λ (o : Option Client). StandsForPlace o (w.session n)) none (S.clients n None l))
 
-pub enter_seated : (boxes : List Mailbox) (clients : List (Option Client)) (n p m i : ℕ) (b b2 : Mailbox) (handle : CursorHandle) (o : Open) → AreSeated (cursors_of boxes) clients → p ≡ n → i ≡ m → i < length boxes → b ≡ get_or boxes i b
-    → Updates b.cursors b2.cursors handle.slot (Some o) → in_slot b.cursors handle.slot ≡ None → IsSome (held b2.cursors handle) → AreSeated (cursors_of (set boxes i b2)) (set clients p (Some (record { mailbox = m; handle = handle })))
-enter_seated boxes clients n p m i b b2 handle o S place same within there opened vacant known =
-    subst (λ (j : ℕ). AreSeated (cursors_of (set boxes i b2)) (set clients j (Some (record { mailbox = m; handle = handle })))) (sym place)
-    (subst (λ (all : List CursorSet). AreSeated all (set clients n (Some (record { mailbox = m; handle = handle })))) (sym (cursors_set boxes i b2))
-    (seated_after (cursors_of boxes) clients n i handle.slot b2.cursors (Some (record { mailbox = m; handle = handle })) S (omega (arith, within, length_cursors boxes))
+pub enter_attached : (boxes : List Mailbox) (clients : List (Option Client)) (n p m i : ℕ) (b b2 : Mailbox) (handle : CursorHandle) (o : Open) → AreAttached (cursors_of boxes) clients → p ≡ n → i ≡ m → i < length boxes → b ≡ get_or boxes i b
+    → Updates b.cursors b2.cursors handle.slot (Some o) → in_slot b.cursors handle.slot ≡ None → IsSome (held b2.cursors handle) → AreAttached (cursors_of (set boxes i b2)) (set clients p (Some (record { mailbox = m; handle = handle })))
+enter_attached boxes clients n p m i b b2 handle o S place same within there opened vacant known =
+    subst (λ (j : ℕ). AreAttached (cursors_of (set boxes i b2)) (set clients j (Some (record { mailbox = m; handle = handle })))) (sym place)
+    (subst (λ (all : List CursorSet). AreAttached all (set clients n (Some (record { mailbox = m; handle = handle })))) (sym (cursors_set boxes i b2))
+    (attached_after (cursors_of boxes) clients n i handle.slot b2.cursors (Some (record { mailbox = m; handle = handle })) S (omega (arith, within, length_cursors boxes))
     (subst (λ (s : CursorSet). SameElsewhere s b2.cursors handle.slot) (sym was) (record { number = opened.number; others = opened.others }))
     (λ j d other f one. vacant_slot (cursors_of boxes) clients i handle.slot S (ap (λ (s : CursorSet). in_slot s handle.slot) was ∙ vacant) j d f one)
     (λ d f. subst (HasSlot i handle.slot b2.cursors) (same_client _ d f) (record { mailbox_is = sym same; slot_is = refl; known = known }))))
@@ -205,7 +205,7 @@ enter_follows k w old n p m i b b2 handle o opening S l none place same within t
           (subst (λ (j : ℕ). EachAt (λ q x. StandsForPlace x (set_at w.session n (Some s) q)) (set old.clients j (Some (record { mailbox = m; handle = handle })))) (sym place)
           (each_set (λ x z. StandsForPlace x z) old.clients w.session n (Some (record { mailbox = m; handle = handle })) (Some s) S.clients (record { mailbox = refl; cursor = omega (arith, at, here.log.window.long) })))
           (subst (λ (j : ℕ). EachAt (λ q s. s.next ≡ set_at w.opened j (w.opened m + 1) q) (cursors_of (set old.boxes i b2))) same (opened_set old.boxes w.opened i (w.opened m + 1) b2 S.opened (omega (arith, next, was))))
-          (enter_seated old.boxes old.clients n p m i b b2 handle o S.seated place same within there opened vacant known),
+          (enter_attached old.boxes old.clients n p m i b b2 handle o S.attached place same within there opened vacant known),
       (count ∙ boxed.same_rows k b (w.box m) here, uidnext ∙ boxed.same_uid k b (w.box m) here),
     )
   where

@@ -1,5 +1,5 @@
 pub mod Follow
-pub mod SeatedLaws
+pub mod AttachedLaws
 pub mod MailBoxes
 pub mod Mailed
 pub mod Calls

@@ -22,11 +22,11 @@ use Rattle.world.proofs.Always.{kept_always}
 use Rattle.world.proofs.Mails.{range_rising}
 use Rattle.delivery_core.specs.declared.client.Client.{Client}
 use Rattle.delivery_core.specs.DeliveryCore.{DeliveryCore, pending_for, pending_in, shown_to, view_in, view_of, window_at}
-use Rattle.delivery_core.specs.Seated.{AreSeated, client_at, cursors_at, cursors_of}
+use Rattle.delivery_core.specs.Attached.{AreAttached, client_at, cursors_at, cursors_of}
 use Rattle.delivery_core.specs.Stands.{StandsFor, StandsForBox, StandsForClient, text_of, accepted_text}
 use Rattle.delivery_core.specs.Clients.{IsStatus, Sees, text_with}
 use Rattle.delivery_core.proofs.Boxes as boxed
-use Rattle.delivery_core.proofs.SeatedLaws.{Matches, cursors_get, held_shown, matches, place_within, some_of}
+use Rattle.delivery_core.proofs.AttachedLaws.{Matches, cursors_get, held_shown, matches, place_within, some_of}
 use Rattle.delivery_core.proofs.MailBoxes.{numbers_of, text_accepted, text_at}
 use Rattle.delivery_core.proofs.Mailed.{known_at, mailbox_within, session_at}
 
@@ -36,7 +36,7 @@ view_is : (x : Option Open) (view : List ℕ) → option_map (λ (o : Open). o.v
 view_is None view e = cc
 view_is (Some o) view e = cc
 
-pub view_shown : (old : DeliveryCore) (n m : ℕ) (c : Client) (b : Mailbox) (view : List ℕ) → AreSeated (cursors_of old.boxes) old.clients → client_at old.clients n ≡ Some c → m ≡ c.mailbox → b ≡ get_or old.boxes m b
+pub view_shown : (old : DeliveryCore) (n m : ℕ) (c : Client) (b : Mailbox) (view : List ℕ) → AreAttached (cursors_of old.boxes) old.clients → client_at old.clients n ≡ Some c → m ≡ c.mailbox → b ≡ get_or old.boxes m b
     → option_map (λ (o : Open). o.view) (held b.cursors c.handle) ≡ Some view → view ≡ view_of old n
 view_shown old n m c b view S e same there e2 =
     view_is (held b.cursors c.handle) view e2
@@ -53,7 +53,7 @@ pub view_log : (k : Config) (w : World) (old : DeliveryCore) (n m : ℕ) (c : Cl
 view_log k w old n m c b view S e same there has = go (session_at k w old n c S e) (found (held b.cursors c.handle) view has)
   where
     within : m < length old.boxes
-    within = mailbox_within old.boxes old.clients n m c S.seated e same
+    within = mailbox_within old.boxes old.clients n m c S.attached e same
 
     go : (s : Session) × (w.session n ≡ Some s) × StandsForClient c s → (o : Open) × (held b.cursors c.handle ≡ Some o) × (o.view ≡ view) → Selected w n (λ s. view ≡ view_at (w.box s.mailbox).log s.cursor)
     go (s, is, one) (o, open_is, shown) = (
@@ -78,7 +78,7 @@ window_get (x ∷ xs) zero d l = refl
 window_get (x ∷ xs) (suc i) d l = window_get xs i d (omega arith)
 
 -- what is pending for a client, as its mailbox has it
-pub pending_here : (old : DeliveryCore) (n m : ℕ) (c : Client) (b : Mailbox) → AreSeated (cursors_of old.boxes) old.clients → client_at old.clients n ≡ Some c → m ≡ c.mailbox → b ≡ get_or old.boxes m b → pending_for old n ≡ changes_from c.handle.at b.window
+pub pending_here : (old : DeliveryCore) (n m : ℕ) (c : Client) (b : Mailbox) → AreAttached (cursors_of old.boxes) old.clients → client_at old.clients n ≡ Some c → m ≡ c.mailbox → b ≡ get_or old.boxes m b → pending_for old n ≡ changes_from c.handle.at b.window
 pending_here old n m c b S e same there =
     ap (pending_in old) e ∙ ap (λ (j : ℕ). changes_from c.handle.at (window_at old.boxes j)) (sym same)
     ∙ ap (changes_from c.handle.at) (window_get old.boxes m b (mailbox_within old.boxes old.clients n m c S e same) ∙ ap (λ (z : Mailbox). z.window) (sym there))
@@ -89,7 +89,7 @@ view_here boxes clients old n m c b o within e same there has =
     ap (shown_to old) e ∙ ap (λ (s : CursorSet). view_in (held s c.handle)) (ap (cursors_at (cursors_of old.boxes)) (sym same) ∙ cursors_get old.boxes m b within ∙ ap (λ (z : Mailbox). z.cursors) (sym there)) ∙ ap view_in has
 
 -- a session was shown these changes, and its client put back
-pub saw : (old : DeliveryCore) (n p m : ℕ) (c : Client) (b b2 : Mailbox) (handle2 : CursorHandle) (vacant : Option Client) (cs : List Change) (before after : List ℕ) → AreSeated (cursors_of old.boxes) old.clients → client_at old.clients n ≡ Some c → p ≡ n → m ≡ c.mailbox → b ≡ get_or old.boxes m b
+pub saw : (old : DeliveryCore) (n p m : ℕ) (c : Client) (b b2 : Mailbox) (handle2 : CursorHandle) (vacant : Option Client) (cs : List Change) (before after : List ℕ) → AreAttached (cursors_of old.boxes) old.clients → client_at old.clients n ≡ Some c → p ≡ n → m ≡ c.mailbox → b ≡ get_or old.boxes m b
     → Updates b.cursors b2.cursors c.handle.slot (option_map (after_showing cs) (held b.cursors c.handle)) → handle2 ≡ record c.handle { at = c.handle.at + length cs } → IfSome (held b.cursors c.handle) (λ (o : Open). after ≡ before ++ lines o.view cs)
     → Sees old (record old { boxes = set old.boxes m b2; clients = set (set old.clients p vacant) p (Some (record { mailbox = c.mailbox; handle = handle2 })) }) n cs before after
 saw old n p m c b b2 handle2 vacant cs before after S e place same there moved is written = go (some_of (held b.cursors c.handle) (known_at old.boxes old.clients n c b S e (there ∙ ap (λ (i : ℕ). get_or old.boxes i b) same)))
@@ -103,8 +103,8 @@ saw old n p m c b b2 handle2 vacant cs before after S e place same there moved i
     within : m < length old.boxes
     within = mailbox_within old.boxes old.clients n m c S e same
 
-    seated : client_at (set (set old.clients p vacant) p (Some (record { mailbox = c.mailbox; handle = handle2 }))) n ≡ Some (record { mailbox = c.mailbox; handle = handle2 })
-    seated = ap (client_at (set (set old.clients p vacant) p (Some (record { mailbox = c.mailbox; handle = handle2 })))) (sym place)
+    attached : client_at (set (set old.clients p vacant) p (Some (record { mailbox = c.mailbox; handle = handle2 }))) n ≡ Some (record { mailbox = c.mailbox; handle = handle2 })
+    attached = ap (client_at (set (set old.clients p vacant) p (Some (record { mailbox = c.mailbox; handle = handle2 })))) (sym place)
         ∙ get_or-set_same (set old.clients p vacant) p _ None (omega (arith, place_within old.clients n c e, place, length-set old.clients p vacant))
 
     go : (o : Open) × (held b.cursors c.handle ≡ Some o)
@@ -113,7 +113,7 @@ saw old n p m c b b2 handle2 vacant cs before after S e place same there moved i
         let was : view_of old n ≡ o.view = view_here old.boxes old.clients old n m c b o within e same there has in
         let u : Updates b.cursors b2.cursors c.handle.slot (Some (after_showing cs o)) = subst (λ (x : Option Open). Updates b.cursors b2.cursors c.handle.slot (option_map (after_showing cs) x)) has moved in
         let holds : held b2.cursors handle2 ≡ Some (after_showing cs o) = ap (held b2.cursors) is ∙ held_shown b.cursors b2.cursors c.handle o cs has u in
-        let now : view_of new n ≡ replay o.view cs = view_here new.boxes new.clients new n m next b2 (after_showing cs o) (omega (arith, within, length-set old.boxes m b2)) seated same (sym (get_or-set_same old.boxes m b2 b2 within)) holds in
+        let now : view_of new n ≡ replay o.view cs = view_here new.boxes new.clients new n m next b2 (after_showing cs o) (omega (arith, within, length-set old.boxes m b2)) attached same (sym (get_or-set_same old.boxes m b2 b2 within)) holds in
         let wrote : after ≡ before ++ lines o.view cs = subst (λ (x : Option Open). IfSome x (λ (y : Open). after ≡ before ++ lines y.view cs)) has written in
         record {
           text = wrote ∙ ap (λ (v : List ℕ). before ++ lines v cs) (sym was);
@@ -133,11 +133,11 @@ same_view old boxes n same = go (client_at old.clients n)
 -- a client's view is what its session was shown of the log
 pub view_seen : (k : Config) (w : World) (old : DeliveryCore) (n : ℕ) (c : Client) (b : Mailbox) → StandsFor k old w → client_at old.clients n ≡ Some c → b ≡ get_or old.boxes c.mailbox b
     → Selected w n (λ s. view_of old n ≡ view_at (w.box s.mailbox).log s.cursor)
-view_seen k w old n c b S e there = go (some_of (held b.cursors c.handle) (known_at old.boxes old.clients n c b S.seated e there))
+view_seen k w old n c b S e there = go (some_of (held b.cursors c.handle) (known_at old.boxes old.clients n c b S.attached e there))
   where
     go : (o : Open) × (held b.cursors c.handle ≡ Some o) → Selected w n (λ s. view_of old n ≡ view_at (w.box s.mailbox).log s.cursor)
     go (o, has) = view_log k w old n c.mailbox c b (view_of old n) S e refl there
-        (ap (option_map (λ (x : Open). x.view)) has ∙ ap (λ (v : List ℕ). Some v) (sym (view_here old.boxes old.clients old n c.mailbox c b o (mailbox_within old.boxes old.clients n c.mailbox c S.seated e refl) e refl there has)))
+        (ap (option_map (λ (x : Open). x.view)) has ∙ ap (λ (v : List ℕ). Some v) (sym (view_here old.boxes old.clients old n c.mailbox c b o (mailbox_within old.boxes old.clients n c.mailbox c S.attached e refl) e refl there has)))
 
 -- and what is pending for it is what its session has before it
 pub pending_seen : (k : Config) (w : World) (old : DeliveryCore) (n : ℕ) (c : Client) (b : Mailbox) → StandsFor k old w → client_at old.clients n ≡ Some c → b ≡ get_or old.boxes c.mailbox b
@@ -145,7 +145,7 @@ pub pending_seen : (k : Config) (w : World) (old : DeliveryCore) (n : ℕ) (c : 
 pending_seen k w old n c b S e there = go (session_at k w old n c S e)
   where
     within : c.mailbox < length old.boxes
-    within = mailbox_within old.boxes old.clients n c.mailbox c S.seated e refl
+    within = mailbox_within old.boxes old.clients n c.mailbox c S.attached e refl
 
     go : (s : Session) × (w.session n ≡ Some s) × StandsForClient c s → Selected w n (λ s. (w.box s.mailbox).base ≤ s.cursor → pending_for old n ≡ pending (w.box s.mailbox) s)
     go (s, is, one) = (
@@ -153,7 +153,7 @@ pending_seen k w old n c b S e there = go (session_at k w old n c S e)
       is,
       λ low.
           let here : StandsForBox k b (w.box s.mailbox) = subst (λ (i : ℕ). StandsForBox k b (w.box i)) one.mailbox (subst (λ (x : Mailbox). StandsForBox k x (w.box c.mailbox)) (sym there) (S.boxes c.mailbox b within)) in
-          pending_here old n c.mailbox c b S.seated e refl there ∙ changes_from-log b.window (w.box s.mailbox).log c.handle.at here.log.window (omega (arith, low, here.base, one.cursor))
+          pending_here old n c.mailbox c b S.attached e refl there ∙ changes_from-log b.window (w.box s.mailbox).log c.handle.at here.log.window (omega (arith, low, here.base, one.cursor))
           ∙ ap (λ (i : ℕ). drop i (w.box s.mailbox).log) one.cursor,
     )
 

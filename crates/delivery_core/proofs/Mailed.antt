@@ -12,10 +12,10 @@ use Rattle.world.proofs.Always.{kept_always}
 use Rattle.delivery_core.specs.declared.client.Client.{Client}
 use Rattle.delivery_core.specs.Clients.{Done, Makes}
 use Rattle.delivery_core.specs.DeliveryCore.{DeliveryCore}
-use Rattle.delivery_core.specs.Seated.{AreSeated, client_at, cursors_at, cursors_of}
+use Rattle.delivery_core.specs.Attached.{AreAttached, client_at, cursors_at, cursors_of}
 use Rattle.delivery_core.specs.Stands.{EachAt, Reached, StandsFor, StandsForBox, StandsForClient, StandsForPlace}
 use Rattle.delivery_core.proofs.Follow.{each_here, each_set, next_same, reached_step, get_or-any, set_back}
-use Rattle.delivery_core.proofs.SeatedLaws.{SameElsewhere, HasSlot, held_shown, some_of, cursors_get, cursors_same, cursors_set, length_cursors, own_slot, place_within, seated_after}
+use Rattle.delivery_core.proofs.AttachedLaws.{SameElsewhere, HasSlot, held_shown, some_of, cursors_get, cursors_same, cursors_set, length_cursors, own_slot, place_within, attached_after}
 
 -- ---- the client and its session
 
@@ -27,16 +27,16 @@ pub session_at : (k : Config) (w : World) (old : DeliveryCore) (n : ℕ) (c : Cl
 session_at k w old n c S e = session_of c (w.session n) (subst (λ (o : Option Client). StandsForPlace o (w.session n)) e (S.clients n None (place_within old.clients n c e)))
 
 pub there_at : (k : Config) (w : World) (old : DeliveryCore) (n : ℕ) (c : Client) → StandsFor k old w → client_at old.clients n ≡ Some c → c.mailbox < length old.boxes
-there_at k w old n c S e = omega (arith, S.seated.there n c e, length_cursors old.boxes)
+there_at k w old n c S e = omega (arith, S.attached.there n c e, length_cursors old.boxes)
 
 -- ---- what stands after mailboxes and clients changed
 
 pub stands_after : (k : Config) (w v : World) (old : DeliveryCore) (boxes : List Mailbox) (clients : List (Option Client)) → StandsFor k old w → Reached k v
     → length boxes ≡ length old.boxes → length clients ≡ length old.clients
     → v.lane ≡ w.lane → v.hand ≡ w.hand → v.replies ≡ w.replies → v.heard ≡ w.heard
-    → EachAt (λ m b. StandsForBox k b (v.box m)) boxes → EachAt (λ n c. StandsForPlace c (v.session n)) clients → EachAt (λ m s. s.next ≡ v.opened m) (cursors_of boxes) → AreSeated (cursors_of boxes) clients
+    → EachAt (λ m b. StandsForBox k b (v.box m)) boxes → EachAt (λ n c. StandsForPlace c (v.session n)) clients → EachAt (λ m s. s.next ≡ v.opened m) (cursors_of boxes) → AreAttached (cursors_of boxes) clients
     → StandsFor k (record old { boxes = boxes; clients = clients }) v
-stands_after k w v old boxes clients S reached many places lane hand replies heard box_at client_each opened seated = record {
+stands_after k w v old boxes clients S reached many places lane hand replies heard box_at client_each opened attached = record {
   reached = reached;
   shards = S.shards;
   in_hands = S.in_hands;
@@ -53,7 +53,7 @@ stands_after k w v old boxes clients S reached many places lane hand replies hea
   next = next_same w v old.next (λ t p. ap (λ f. (f t).sent p) lane) (λ p. ap (λ f. f p) heard) S.next;
   clients = client_each;
   opened = opened;
-  seated = seated;
+  attached = attached;
 }
 
 -- one mailbox gives its next cursor this serial
@@ -73,7 +73,7 @@ opened_same boxes f i b b2 each l there same = subst (EachAt (λ m s. s.next ≡
 -- ---- a call of a client
 
 -- what a mailbox leaves of its cursors, where the client of a handle did something
-pub record SeatMoves (old new : CursorSet) (handle moved : CursorHandle) : Type 0 where
+pub record CursorMoves (old new : CursorSet) (handle moved : CursorHandle) : Type 0 where
   pub elsewhere : SameElsewhere old new handle.slot
   pub slot : moved.slot ≡ handle.slot
   pub known : IsSome (held new moved)
@@ -87,12 +87,12 @@ pub data BoxMails (k : Config) (x : Box) (s : Session) (allocates : Bool) (shown
   box_no_memory : allocates ≡ true → x.base ≤ s.cursor → length x.log + length changes ≤ most_changes → StandsForBox k new x → handle.at ≡ s.cursor → BoxMails k x s allocates shown changes new handle
 
 -- the clients' cursors after it
-pub seated_mailed : (boxes : List Mailbox) (clients : List (Option Client)) (n : ℕ) (c : Client) (b b2 : Mailbox) (handle2 : CursorHandle) → AreSeated (cursors_of boxes) clients → client_at clients n ≡ Some c → b ≡ get_or boxes c.mailbox b
-    → SeatMoves b.cursors b2.cursors c.handle handle2
-    → AreSeated (cursors_of (set boxes c.mailbox b2)) (set clients n (Some (record { mailbox = c.mailbox; handle = handle2 })))
-seated_mailed boxes clients n c b b2 handle2 S e there moves =
-    subst (λ (all : List CursorSet). AreSeated all (set clients n (Some (record { mailbox = c.mailbox; handle = handle2 })))) (sym (cursors_set boxes c.mailbox b2))
-    (seated_after (cursors_of boxes) clients n c.mailbox c.handle.slot b2.cursors (Some (record { mailbox = c.mailbox; handle = handle2 })) S (S.there n c e)
+pub attached_mailed : (boxes : List Mailbox) (clients : List (Option Client)) (n : ℕ) (c : Client) (b b2 : Mailbox) (handle2 : CursorHandle) → AreAttached (cursors_of boxes) clients → client_at clients n ≡ Some c → b ≡ get_or boxes c.mailbox b
+    → CursorMoves b.cursors b2.cursors c.handle handle2
+    → AreAttached (cursors_of (set boxes c.mailbox b2)) (set clients n (Some (record { mailbox = c.mailbox; handle = handle2 })))
+attached_mailed boxes clients n c b b2 handle2 S e there moves =
+    subst (λ (all : List CursorSet). AreAttached all (set clients n (Some (record { mailbox = c.mailbox; handle = handle2 })))) (sym (cursors_set boxes c.mailbox b2))
+    (attached_after (cursors_of boxes) clients n c.mailbox c.handle.slot b2.cursors (Some (record { mailbox = c.mailbox; handle = handle2 })) S (S.there n c e)
     (subst (λ (s : CursorSet). SameElsewhere s b2.cursors c.handle.slot) (sym was) moves.elsewhere)
     (own_slot (cursors_of boxes) clients n c S e)
     (λ d same. has d same))
@@ -108,7 +108,7 @@ seated_mailed boxes clients n c b b2 handle2 S e there moves =
 
 pub mails_follow : (k : Config) (w : World) (old : DeliveryCore) (n : ℕ) (c : Client) (b b2 : Mailbox) (handle2 : CursorHandle) (allocates : Bool) (shown : Box → Session → List Change) (changes : Box → List Change)
     (P : Box → Session → Type 0) (R : World → Type 0) → ((v : World) → R v → Reached k v) → ((v : World) → Selected w n (λ s. MailStep k w n s allocates (shown (w.box s.mailbox) s) (changes (w.box s.mailbox)) v) → R v)
-    → StandsFor k old w → client_at old.clients n ≡ Some c → b ≡ get_or old.boxes c.mailbox b → SeatMoves b.cursors b2.cursors c.handle handle2
+    → StandsFor k old w → client_at old.clients n ≡ Some c → b ≡ get_or old.boxes c.mailbox b → CursorMoves b.cursors b2.cursors c.handle handle2
     → ((x : Box) (s : Session) → StandsForBox k b x → c.handle.at ≡ s.cursor → BoxOk k x → IsShown x.log s → BoxMails k x s allocates (shown x s) (changes x) b2 handle2 × P x s)
     → (v : World) × R v × StandsFor k (record old { boxes = set old.boxes c.mailbox b2; clients = set old.clients n (Some (record { mailbox = c.mailbox; handle = handle2 })) }) v
     × Selected w n (λ s. P (w.box s.mailbox) s)
@@ -120,8 +120,8 @@ mails_follow k w old n c b b2 handle2 allocates shown changes P R reach as_step 
     next : Client
     next = record { mailbox = c.mailbox; handle = handle2 }
 
-    seated : AreSeated (cursors_of (set old.boxes c.mailbox b2)) (set old.clients n (Some (record { mailbox = c.mailbox; handle = handle2 })))
-    seated = seated_mailed old.boxes old.clients n c b b2 handle2 S.seated e there moves
+    attached : AreAttached (cursors_of (set old.boxes c.mailbox b2)) (set old.clients n (Some (record { mailbox = c.mailbox; handle = handle2 })))
+    attached = attached_mailed old.boxes old.clients n c b b2 handle2 S.attached e there moves
 
     kept : Kept k w
     kept = kept_always k S.reached.0 w S.reached.1
@@ -152,7 +152,7 @@ mails_follow k w old n c b b2 handle2 allocates shown changes P R reach as_step 
               (each_here (λ m x. StandsForBox k x (w.box m)) old.boxes c.mailbox b2 S.boxes (subst (λ (m : ℕ). StandsForBox k b2 (w.box m)) (sym same.mailbox) box))
               (each_here (λ m x. StandsForPlace x (w.session m)) old.clients n (Some (record { mailbox = c.mailbox; handle = handle2 })) S.clients
               (subst (λ (o : Option Session). StandsForPlace (Some (record { mailbox = c.mailbox; handle = handle2 })) o) (sym is) (record { mailbox = same.mailbox; cursor = at })))
-              opened seated,
+              opened attached,
           (s, is, p),
         )
 
@@ -171,7 +171,7 @@ mails_follow k w old n c b b2 handle2 allocates shown changes P R reach as_step 
                   (each_set (λ x z. StandsForBox k x z) old.boxes w.box c.mailbox b2 y S.boxes box))
                   (each_set (λ x z. StandsForPlace x z) old.clients w.session n (Some (record { mailbox = c.mailbox; handle = handle2 })) (Some (shows s (shown (w.box s.mailbox) s))) S.clients
                   (record { mailbox = same.mailbox; cursor = at }))
-                  opened seated,
+                  opened attached,
               (s, is, p),
             )
 
@@ -197,15 +197,15 @@ set_again (x ∷ xs) zero a b = refl
 set_again (x ∷ xs) (suc i) a b = ap (λ ys. x ∷ ys) (set_again xs i a b)
 
 -- a client's mailbox knows it
-pub known_at : (boxes : List Mailbox) (clients : List (Option Client)) (n : ℕ) (c : Client) (b : Mailbox) → AreSeated (cursors_of boxes) clients → client_at clients n ≡ Some c → b ≡ get_or boxes c.mailbox b → IsSome (held b.cursors c.handle)
+pub known_at : (boxes : List Mailbox) (clients : List (Option Client)) (n : ℕ) (c : Client) (b : Mailbox) → AreAttached (cursors_of boxes) clients → client_at clients n ≡ Some c → b ≡ get_or boxes c.mailbox b → IsSome (held b.cursors c.handle)
 known_at boxes clients n c b S e there = subst (λ (s : CursorSet). IsSome (held s c.handle))
     (cursors_get boxes c.mailbox b (omega (arith, S.there n c e, length_cursors boxes)) ∙ ap (λ (m : Mailbox). m.cursors) (sym there)) (S.known n c e)
 
-pub mailbox_within : (boxes : List Mailbox) (clients : List (Option Client)) (n m : ℕ) (c : Client) → AreSeated (cursors_of boxes) clients → client_at clients n ≡ Some c → m ≡ c.mailbox → m < length boxes
+pub mailbox_within : (boxes : List Mailbox) (clients : List (Option Client)) (n m : ℕ) (c : Client) → AreAttached (cursors_of boxes) clients → client_at clients n ≡ Some c → m ≡ c.mailbox → m < length boxes
 mailbox_within boxes clients n m c S e same = omega (arith, S.there n c e, length_cursors boxes)
 
-seat_stays : (old new : CursorSet) (handle : CursorHandle) → new ≡ old → IsSome (held old handle) → SeatMoves old new handle handle
-seat_stays old new handle same some = record {
+cursor_stays : (old new : CursorSet) (handle : CursorHandle) → new ≡ old → IsSome (held old handle) → CursorMoves old new handle handle
+cursor_stays old new handle same some = record {
   elsewhere = record { number = ap (λ (s : CursorSet). s.number) same; others = λ slot other. ap (λ (s : CursorSet). in_slot s slot) same };
   slot = refl;
   known = subst (λ (s : CursorSet). IsSome (held s handle)) (sym same) some;
@@ -221,7 +221,7 @@ pub still_follow : (k : Config) (w : World) (old : DeliveryCore) (n m : ℕ) (c 
 still_follow k w old n m c b b2 allocates changes P R reach as_step S e same there kept does =
     subst (λ (i : ℕ). (v : World) × R v × StandsFor k (record old { boxes = set old.boxes i b2 }) v × Selected w n (λ s. P (w.box s.mailbox) s)) (sym same)
     (subst (λ (cs : List (Option Client)). (v : World) × R v × StandsFor k (record old { boxes = set old.boxes c.mailbox b2; clients = cs }) v × Selected w n (λ s. P (w.box s.mailbox) s)) (client_back old.clients n c e)
-    (mails_follow k w old n c b b2 c.handle allocates (λ x s. []) changes P R reach as_step S e here (seat_stays b.cursors b2.cursors c.handle kept (known_at old.boxes old.clients n c b S.seated e here)) does))
+    (mails_follow k w old n c b b2 c.handle allocates (λ x s. []) changes P R reach as_step S e here (cursor_stays b.cursors b2.cursors c.handle kept (known_at old.boxes old.clients n c b S.attached e here)) does))
   where
     here : b ≡ get_or old.boxes c.mailbox b
     here = there ∙ ap (λ (i : ℕ). get_or old.boxes i b) same
@@ -230,7 +230,7 @@ still_follow k w old n m c b b2 allocates changes P R reach as_step S e same the
 pub moved_follow : (k : Config) (w : World) (old : DeliveryCore) (n p m : ℕ) (c : Client) (b b2 : Mailbox) (handle2 : CursorHandle) (vacant : Option Client) (allocates : Bool) (shown : Box → Session → List Change) (changes : Box → List Change)
     (P : Box → Session → Type 0) (R : World → Type 0) → ((v : World) → R v → Reached k v)
     → ((v : World) → Selected w n (λ s. MailStep k w n s allocates (shown (w.box s.mailbox) s) (changes (w.box s.mailbox)) v) → R v)
-    → StandsFor k old w → client_at old.clients n ≡ Some c → p ≡ n → m ≡ c.mailbox → b ≡ get_or old.boxes m b → SeatMoves b.cursors b2.cursors c.handle handle2
+    → StandsFor k old w → client_at old.clients n ≡ Some c → p ≡ n → m ≡ c.mailbox → b ≡ get_or old.boxes m b → CursorMoves b.cursors b2.cursors c.handle handle2
     → ((x : Box) (s : Session) → StandsForBox k b x → c.handle.at ≡ s.cursor → BoxOk k x → IsShown x.log s → BoxMails k x s allocates (shown x s) (changes x) b2 handle2 × P x s)
     → (v : World) × R v × StandsFor k (record old { boxes = set old.boxes m b2; clients = set (set old.clients p vacant) p (Some (record { mailbox = c.mailbox; handle = handle2 })) }) v
     × Selected w n (λ s. P (w.box s.mailbox) s)
@@ -288,7 +288,7 @@ still_done k old n m c b b2 changes event as_step e same there kept does w S =
 
 pub moved_done : (k : Config) (old : DeliveryCore) (n p m : ℕ) (c : Client) (b b2 : Mailbox) (handle2 : CursorHandle) (vacant : Option Client) (shown : Box → Session → List Change) (changes : Box → List Change) (event : Event)
     → ((w v : World) → Selected w n (λ s. MailStep k w n s false (shown (w.box s.mailbox) s) (changes (w.box s.mailbox)) v) → Step k w event v)
-    → client_at old.clients n ≡ Some c → p ≡ n → m ≡ c.mailbox → b ≡ get_or old.boxes m b → SeatMoves b.cursors b2.cursors c.handle handle2
+    → client_at old.clients n ≡ Some c → p ≡ n → m ≡ c.mailbox → b ≡ get_or old.boxes m b → CursorMoves b.cursors b2.cursors c.handle handle2
     → ((x : Box) (s : Session) → StandsForBox k b x → c.handle.at ≡ s.cursor → BoxOk k x → IsShown x.log s → BoxMails k x s false (shown x s) (changes x) b2 handle2 × HasRoom changes x s)
     → Makes k old n shown changes (record old { boxes = set old.boxes m b2; clients = set (set old.clients p vacant) p (Some (record { mailbox = c.mailbox; handle = handle2 })) })
 moved_done k old n p m c b b2 handle2 vacant shown changes event as_step e place same there moves does w S =
@@ -296,14 +296,14 @@ moved_done k old n p m c b b2 handle2 vacant shown changes event as_step e place
     (r.0, r.2, done_in k w n event shown changes r.0 r.1 r.3)
 
 -- the clients' cursors after these
-pub still_seated : (boxes : List Mailbox) (clients : List (Option Client)) (n m : ℕ) (c : Client) (b b2 : Mailbox) → AreSeated (cursors_of boxes) clients → client_at clients n ≡ Some c → m ≡ c.mailbox → b ≡ get_or boxes m b → b2.cursors ≡ b.cursors
-    → AreSeated (cursors_of (set boxes m b2)) clients
-still_seated boxes clients n m c b b2 S e same there kept =
-    subst (λ (all : List CursorSet). AreSeated all clients) (sym (cursors_same boxes m b b2 (mailbox_within boxes clients n m c S e same) there kept)) S
+pub still_attached : (boxes : List Mailbox) (clients : List (Option Client)) (n m : ℕ) (c : Client) (b b2 : Mailbox) → AreAttached (cursors_of boxes) clients → client_at clients n ≡ Some c → m ≡ c.mailbox → b ≡ get_or boxes m b → b2.cursors ≡ b.cursors
+    → AreAttached (cursors_of (set boxes m b2)) clients
+still_attached boxes clients n m c b b2 S e same there kept =
+    subst (λ (all : List CursorSet). AreAttached all clients) (sym (cursors_same boxes m b b2 (mailbox_within boxes clients n m c S e same) there kept)) S
 
 -- a handle whose client was shown these changes
-pub seat_moves : (old new : CursorSet) (handle moved : CursorHandle) (cs : List Change) → IsSome (held old handle) → Updates old new handle.slot (option_map (after_showing cs) (held old handle)) → moved ≡ record handle { at = handle.at + length cs } → new.next ≡ old.next → SeatMoves old new handle moved
-seat_moves old new handle moved cs some u is next =
+pub cursor_moves : (old new : CursorSet) (handle moved : CursorHandle) (cs : List Change) → IsSome (held old handle) → Updates old new handle.slot (option_map (after_showing cs) (held old handle)) → moved ≡ record handle { at = handle.at + length cs } → new.next ≡ old.next → CursorMoves old new handle moved
+cursor_moves old new handle moved cs some u is next =
     let o : (x : Open) × (held old handle ≡ Some x) = some_of (held old handle) some in
     let v : Updates old new handle.slot (Some (after_showing cs o.0)) = subst (λ (x : Option Open). Updates old new handle.slot (option_map (after_showing cs) x)) o.1 u in
     record {
@@ -314,17 +314,17 @@ seat_moves old new handle moved cs some u is next =
     }
 
 -- or was refused
-pub seat_same : (old new : CursorSet) (handle moved : CursorHandle) → IsSome (held old handle) → new ≡ old → moved ≡ handle → SeatMoves old new handle moved
-seat_same old new handle moved some same is = subst (SeatMoves old new handle) (sym is) (seat_stays old new handle same some)
+pub cursor_same : (old new : CursorSet) (handle moved : CursorHandle) → IsSome (held old handle) → new ≡ old → moved ≡ handle → CursorMoves old new handle moved
+cursor_same old new handle moved some same is = subst (CursorMoves old new handle) (sym is) (cursor_stays old new handle same some)
 
--- a call that moves the client's cursor leaves it seated
-pub moved_seated : (boxes : List Mailbox) (clients : List (Option Client)) (n p m : ℕ) (c : Client) (b b2 : Mailbox) (handle2 : CursorHandle) (vacant : Option Client) → AreSeated (cursors_of boxes) clients → client_at clients n ≡ Some c → p ≡ n → m ≡ c.mailbox → b ≡ get_or boxes m b
-    → SeatMoves b.cursors b2.cursors c.handle handle2 → AreSeated (cursors_of (set boxes m b2)) (set (set clients p vacant) p (Some (record { mailbox = c.mailbox; handle = handle2 })))
-moved_seated boxes clients n p m c b b2 handle2 vacant S e place same there moves =
-    subst (λ (i : ℕ). AreSeated (cursors_of (set boxes i b2)) (set (set clients p vacant) p (Some next))) (sym same)
-    (subst (λ (cs : List (Option Client)). AreSeated (cursors_of (set boxes c.mailbox b2)) cs)
+-- a call that moves the client's cursor leaves it attached
+pub moved_attached : (boxes : List Mailbox) (clients : List (Option Client)) (n p m : ℕ) (c : Client) (b b2 : Mailbox) (handle2 : CursorHandle) (vacant : Option Client) → AreAttached (cursors_of boxes) clients → client_at clients n ≡ Some c → p ≡ n → m ≡ c.mailbox → b ≡ get_or boxes m b
+    → CursorMoves b.cursors b2.cursors c.handle handle2 → AreAttached (cursors_of (set boxes m b2)) (set (set clients p vacant) p (Some (record { mailbox = c.mailbox; handle = handle2 })))
+moved_attached boxes clients n p m c b b2 handle2 vacant S e place same there moves =
+    subst (λ (i : ℕ). AreAttached (cursors_of (set boxes i b2)) (set (set clients p vacant) p (Some next))) (sym same)
+    (subst (λ (cs : List (Option Client)). AreAttached (cursors_of (set boxes c.mailbox b2)) cs)
     (ap (λ (i : ℕ). set clients i (Some next)) (sym place) ∙ sym (set_again clients p vacant (Some next)))
-    (seated_mailed boxes clients n c b b2 handle2 S e (there ∙ ap (λ (i : ℕ). get_or boxes i b) same) moves))
+    (attached_mailed boxes clients n c b b2 handle2 S e (there ∙ ap (λ (i : ℕ). get_or boxes i b) same) moves))
   where
     next : Client
     next = record { mailbox = c.mailbox; handle = handle2 }
@@ -336,7 +336,7 @@ put_back clients n p c vacant handle2 e place same =
     ∙ ap (λ (z : CursorHandle). set clients n (Some (record { mailbox = c.mailbox; handle = z }))) same ∙ client_back clients n c e
 
 -- where neither the mailbox nor the handle changed, nothing did
-pub nothing_moved : (old : DeliveryCore) (n p m : ℕ) (c : Client) (b b2 : Mailbox) (handle2 : CursorHandle) (vacant : Option Client) → AreSeated (cursors_of old.boxes) old.clients → client_at old.clients n ≡ Some c → p ≡ n → m ≡ c.mailbox → b ≡ get_or old.boxes m b → b2 ≡ b → handle2 ≡ c.handle
+pub nothing_moved : (old : DeliveryCore) (n p m : ℕ) (c : Client) (b b2 : Mailbox) (handle2 : CursorHandle) (vacant : Option Client) → AreAttached (cursors_of old.boxes) old.clients → client_at old.clients n ≡ Some c → p ≡ n → m ≡ c.mailbox → b ≡ get_or old.boxes m b → b2 ≡ b → handle2 ≡ c.handle
     → record old { boxes = set old.boxes m b2; clients = set (set old.clients p vacant) p (Some (record { mailbox = c.mailbox; handle = handle2 })) } ≡ old
 nothing_moved old n p m c b b2 handle2 vacant S e place same there still kept =
     ap (λ (bs : List Mailbox). let h : DeliveryCore = record old { boxes = bs; clients = set (set old.clients p vacant) p (Some (record { mailbox = c.mailbox; handle = handle2 })) } in h)

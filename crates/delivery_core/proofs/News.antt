@@ -3,7 +3,7 @@ use Rattle.std.proofs.Common.{◌≡◌, ℕ, zero, suc, ◌<◌, ◌≤◌, get
 use Rattle.std.specs.Prelude.{replicate}
 use Rattle.cursor_set.specs.Cursors.{CursorSet}
 use Rattle.delivery_core.specs.declared.client.Client.{Client}
-use Rattle.delivery_core.specs.Seated.{AreSeated, client_at, cursors_of}
+use Rattle.delivery_core.specs.Attached.{AreAttached, client_at, cursors_of}
 use Rattle.std.proofs.lemmas.List.Elements.{All-replicate}
 use Rattle.std.proofs.lemmas.List.{length-replicate}
 use Rattle.shard_queue.specs.Lane.{empty_lane}
@@ -27,8 +27,8 @@ no_client : (sessions n : ℕ) (c : Client) → client_at (replicate sessions No
 no_client sessions n c e = let none : Some c ≡ None = sym e ∙ client_none sessions n in cc
 
 -- where there is no client, each has its cursor
-pub seated_none : (all : List CursorSet) (sessions : ℕ) → AreSeated all (replicate sessions None)
-seated_none all sessions = record {
+pub attached_none : (all : List CursorSet) (sessions : ℕ) → AreAttached all (replicate sessions None)
+attached_none all sessions = record {
   there = λ n c e. absurd (no_client sessions n c e);
   known = λ n c e. absurd (no_client sessions n c e);
   apart = λ m n c d e f other same. absurd (no_client sessions m c e);
@@ -59,7 +59,7 @@ new_stands k h seats shards mailboxes depth most sessions ks kh km kd a1 a2 b1 b
   sessions = ap length g ∙ (length-replicate sessions None ∙ sym kn);
   opened = λ m d l. next_none h.boxes m d l (λ i b lt. let one : IsNewBox i k.uidvalidity k.first_uid k.messages k.ring most _ = e2 i b lt in ap (λ s. s.next) one.clients);
   clients = rw g (λ n d l. All-replicate (λ (c : Option Client). StandsForPlace c None) sessions None tt n d l);
-  seated = rw g (seated_none (cursors_of h.boxes) sessions);
+  attached = rw g (attached_none (cursors_of h.boxes) sessions);
   lanes = λ i d l. new_stands_for _ k.seats k.depth seats (sym ks) (a2 i d l ∙ ap (λ n. new_lane n seats) (sym kd));
   hands = b2;
   replies = λ i d l. new_stands_for _ k.shards reply_room shards (sym kh) (c2 i d l);

@@ -155,7 +155,7 @@ put_follows k w old new s c l l2 book0 book1 S ins there inp least box shard fir
         mailboxes = ap length boxes ∙ S.mailboxes;
         sessions = ap length clients ∙ S.sessions;
         clients = rw clients S.clients;
-        seated = rw (boxes, clients) S.seated;
+        attached = rw (boxes, clients) S.attached;
         opened = rw boxes S.opened;
         lanes = rw lanes (each_set (λ a b. StandsForLane k.seats k.depth a b) old.lanes w.lane s l2 (put (w.lane s) (Item p c)) S.lanes (lane_put k.seats k.depth p c l l2 (w.lane s) was put_it));
         hands = rw hands S.hands;
@@ -209,7 +209,7 @@ refused_follows k w old new s c why l l2 book0 book1 book2 book3 S ins there inp
         mailboxes = ap length boxes ∙ S.mailboxes;
         sessions = ap length clients ∙ S.sessions;
         clients = rw clients S.clients;
-        seated = rw (boxes, clients) S.seated;
+        attached = rw (boxes, clients) S.attached;
         opened = rw boxes S.opened;
         lanes = rw lanes (rw (← (sym (ap (set old.lanes s) same ∙ set_back old.lanes s l ins there))) S.lanes);
         hands = rw hands S.hands;

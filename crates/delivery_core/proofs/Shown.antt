@@ -21,14 +21,14 @@ use Rattle.world.proofs.Base.{part_self}
 use Rattle.world.proofs.Kept.{BoxOk}
 use Rattle.delivery_core.specs.declared.client.Client.{Client}
 use Rattle.delivery_core.specs.DeliveryCore.{DeliveryCore, pending_for}
-use Rattle.delivery_core.specs.Seated.{AreSeated, client_at, cursors_of}
+use Rattle.delivery_core.specs.Attached.{AreAttached, client_at, cursors_of}
 use Rattle.delivery_core.specs.Stands.{StandsFor, StandsForBox, text_of}
 use Rattle.delivery_core.specs.Clients.{Expunges, Feeds, Makes, Refuses, Sees}
 use Rattle.delivery_core.specs.inner.Clients.{answer_of}
 use Rattle.delivery_core.proofs.MailBoxes.{Becomes, Told, box_call, box_logs, remaining_part, same_rows, taken, turned_away}
 use Rattle.delivery_core.proofs.Looks.{pending_here, saw}
 use Rattle.delivery_core.proofs.Follow.{reached_step}
-use Rattle.delivery_core.proofs.Mailed.{BoxMails, SeatMoves, known_at, moved_done, moved_follow, seat_moves, seat_same, with_memory}
+use Rattle.delivery_core.proofs.Mailed.{BoxMails, CursorMoves, known_at, moved_done, moved_follow, cursor_moves, cursor_same, with_memory}
 
 take_self : {A : Type 0} (l : ℕ) (xs : List A) → take (length (take l xs)) xs ≡ take l xs
 take_self zero [] = refl
@@ -72,16 +72,16 @@ fed_length w at n limit low count = omega (arith, length-take n (changes_from at
 
 pub feed_moves : (b b2 : Mailbox) (handle handle2 : CursorHandle) (limit : ℕ) (before after : List ℕ) (r : Result ℕ FeedFault) → IsSome (held b.cursors handle) → (r ≡ Err lapse.Lapped) ↔ IsLapped b handle
     → OnErr r ((b2 ≡ b) × (handle2 ≡ handle) × (after ≡ before)) → IfOk r (λ n. n ≡ min limit (total b.window - handle.at)) → IfOk r (λ n. handle2 ≡ record handle { at = handle.at + n })
-    → IfOk r (λ n. Updates b.cursors b2.cursors handle.slot (option_map (after_showing (next_changes b.window handle.at n)) (held b.cursors handle))) → b2.cursors.next ≡ b.cursors.next → SeatMoves b.cursors b2.cursors handle handle2
+    → IfOk r (λ n. Updates b.cursors b2.cursors handle.slot (option_map (after_showing (next_changes b.window handle.at n)) (held b.cursors handle))) → b2.cursors.next ≡ b.cursors.next → CursorMoves b.cursors b2.cursors handle handle2
 feed_moves b b2 handle handle2 limit before after (Ok n) some lapses err count is moved next =
-    seat_moves b.cursors b2.cursors handle handle2 (next_changes b.window handle.at n) some moved (is ∙ ap (λ (j : ℕ). let z : CursorHandle = record { number = handle.number; slot = handle.slot; serial = handle.serial; at = handle.at + j } in z) (sym (fed_length b.window handle.at n limit low count))) next
+    cursor_moves b.cursors b2.cursors handle handle2 (next_changes b.window handle.at n) some moved (is ∙ ap (λ (j : ℕ). let z : CursorHandle = record { number = handle.number; slot = handle.slot; serial = handle.serial; at = handle.at + j } in z) (sym (fed_length b.window handle.at n limit low count))) next
   where
     no_err : Ok n ≡ Err lapse.Lapped → ⊥
     no_err e = cc
 
     low : b.window.base ≤ handle.at
     low = elim (cases_lt handle.at b.window.base) [ inl under ↦ absurd (no_err (lapses.1 (some, under))) | inr over ↦ over ]
-feed_moves b b2 handle handle2 limit before after (Err f) some lapses err count is moved next = seat_same b.cursors b2.cursors handle handle2 some (ap (λ (z : Mailbox). z.cursors) err.0) err.1
+feed_moves b b2 handle handle2 limit before after (Err f) some lapses err count is moved next = cursor_same b.cursors b2.cursors handle handle2 some (ap (λ (z : Mailbox). z.cursors) err.0) err.1
 
 -- a mailbox that logged nothing
 becomes_same : (k : Config) (b b2 : Mailbox) (x : Box) → StandsForBox k b x → BoxOk k x → KeepsLog b b2 → b2 ≡ record b { cursors = b2.cursors } → Becomes k x [] b2
@@ -129,15 +129,15 @@ feed_follows k w old n p m c b b2 handle2 vacant limit before after r q S e plac
     (λ x s box at ok shown_is. feed_box k b b2 x s c.handle handle2 limit before after true r (λ f. refl) box at ok (feed_told k b x c.handle r box ok some strange lapses) err count shown is keeps_log rest))
   where
     some : IsSome (held b.cursors c.handle)
-    some = known_at old.boxes old.clients n c b S.seated e (there ∙ ap (λ (i : ℕ). get_or old.boxes i b) same)
+    some = known_at old.boxes old.clients n c b S.attached e (there ∙ ap (λ (i : ℕ). get_or old.boxes i b) same)
 
 -- ---- Expunge
 
 pub expunge_moves : (b b2 : Mailbox) (handle handle2 : CursorHandle) (before after : List ℕ) (r : Result ℕ MailFault) → IsSome (held b.cursors handle) → (r ≡ Err Lapped) ↔ IsLapped b handle
     → OnErr r ((b2 ≡ b) × (handle2 ≡ handle) × (after ≡ before)) → OnOk r (handle2 ≡ record handle { at = total b.window }) → OnOk r (handle.at ≤ total b.window)
-    → OnOk r (Updates b.cursors b2.cursors handle.slot (option_map (after_showing (changes_from handle.at b.window)) (held b.cursors handle))) → b2.cursors.next ≡ b.cursors.next → SeatMoves b.cursors b2.cursors handle handle2
+    → OnOk r (Updates b.cursors b2.cursors handle.slot (option_map (after_showing (changes_from handle.at b.window)) (held b.cursors handle))) → b2.cursors.next ≡ b.cursors.next → CursorMoves b.cursors b2.cursors handle handle2
 expunge_moves b b2 handle handle2 before after (Ok n) some lapses err is within moved next =
-    seat_moves b.cursors b2.cursors handle handle2 (changes_from handle.at b.window) some moved (is ∙ ap (λ (j : ℕ). let z : CursorHandle = record { number = handle.number; slot = handle.slot; serial = handle.serial; at = j } in z) whole) next
+    cursor_moves b.cursors b2.cursors handle handle2 (changes_from handle.at b.window) some moved (is ∙ ap (λ (j : ℕ). let z : CursorHandle = record { number = handle.number; slot = handle.slot; serial = handle.serial; at = j } in z) whole) next
   where
     no_err : Ok n ≡ Err Lapped → ⊥
     no_err e = cc
@@ -147,7 +147,7 @@ expunge_moves b b2 handle handle2 before after (Ok n) some lapses err is within 
 
     whole : total b.window ≡ handle.at + length (changes_from handle.at b.window)
     whole = omega (arith, length-drop (handle.at - b.window.base) b.window.changes, low, within)
-expunge_moves b b2 handle handle2 before after (Err f) some lapses err is within moved next = seat_same b.cursors b2.cursors handle handle2 some (ap (λ (z : Mailbox). z.cursors) err.0) err.1
+expunge_moves b b2 handle handle2 before after (Err f) some lapses err is within moved next = cursor_same b.cursors b2.cursors handle handle2 some (ap (λ (z : Mailbox). z.cursors) err.0) err.1
 
 expunge_box : (k : Config) (b b2 : Mailbox) (x : Box) (s : Session) (handle handle2 : CursorHandle) (test : ℕ → Bool) (before after : List ℕ) (cursors : CursorSet) (allocates : Bool) (r : Result ℕ MailFault) → (r ≡ Err NoMemory → allocates ≡ true) → StandsForBox k b x → handle.at ≡ s.cursor → IsShown x.log s → Told r b handle (removals test (rows b))
     → OnErr r ((b2 ≡ b) × (handle2 ≡ handle) × (after ≡ before)) → OnOk r ((log : List Change) → Stands b log → after ≡ before ++ lines (view_at log handle.at) (drop handle.at log))
@@ -186,7 +186,7 @@ expunge_follows k w old n p m c b b2 handle2 vacant test before after cursors r 
     (λ x s box at ok past. expunge_box k b b2 x s c.handle handle2 test before after cursors true r (λ f. refl) box at past (record { known = some; stranger = strange; lapsed = lapses; spent = spends }) err shown is logs moves messages rest count)
   where
     some : IsSome (held b.cursors c.handle)
-    some = known_at old.boxes old.clients n c b S.seated e (there ∙ ap (λ (i : ℕ). get_or old.boxes i b) same)
+    some = known_at old.boxes old.clients n c b S.attached e (there ∙ ap (λ (i : ℕ). get_or old.boxes i b) same)
 
 -- ---- refusals
 
@@ -212,7 +212,7 @@ fed_low b handle j some lapses = elim (cases_lt handle.at b.window.base) [ inl u
     no_err h = cc
 
 pub feed_saw : (old : DeliveryCore) (n p m : ℕ) (c : Client) (b b2 : Mailbox) (handle2 : CursorHandle) (vacant : Option Client) (limit : ℕ) (before after : List ℕ) (r : Result ℕ FeedFault) (q : Result ℕ MailFault)
-    → AreSeated (cursors_of old.boxes) old.clients → client_at old.clients n ≡ Some c → p ≡ n → m ≡ c.mailbox → b ≡ get_or old.boxes m b → q ≡ answer_of r → (r ≡ Err lapse.Lapped) ↔ IsLapped b c.handle
+    → AreAttached (cursors_of old.boxes) old.clients → client_at old.clients n ≡ Some c → p ≡ n → m ≡ c.mailbox → b ≡ get_or old.boxes m b → q ≡ answer_of r → (r ≡ Err lapse.Lapped) ↔ IsLapped b c.handle
     → IfOk r (λ j. j ≡ min limit (total b.window - c.handle.at)) → IfOk r (λ j. handle2 ≡ record c.handle { at = c.handle.at + j })
     → IfOk r (λ j. Updates b.cursors b2.cursors c.handle.slot (option_map (after_showing (next_changes b.window c.handle.at j)) (held b.cursors c.handle)))
     → IfOk r (λ j. IfSome (held b.cursors c.handle) (λ (o : Open). after ≡ before ++ lines o.view (next_changes b.window c.handle.at j)))
@@ -237,7 +237,7 @@ feed_saw old n p m c b b2 handle2 vacant limit before after r q S e place same t
     go (Err lapse.NoMemory) lapses count is moved written = tt
 
 pub feed_count : (old : DeliveryCore) (n m : ℕ) (c : Client) (b : Mailbox) (limit : ℕ) (r : Result ℕ FeedFault) (q : Result ℕ MailFault)
-    → AreSeated (cursors_of old.boxes) old.clients → client_at old.clients n ≡ Some c → m ≡ c.mailbox → b ≡ get_or old.boxes m b → q ≡ answer_of r → (r ≡ Err lapse.Lapped) ↔ IsLapped b c.handle
+    → AreAttached (cursors_of old.boxes) old.clients → client_at old.clients n ≡ Some c → m ≡ c.mailbox → b ≡ get_or old.boxes m b → q ≡ answer_of r → (r ≡ Err lapse.Lapped) ↔ IsLapped b c.handle
     → IfOk r (λ j. j ≡ min limit (total b.window - c.handle.at)) → IfOk q (λ j. (j ≤ limit) × (length (take j (pending_for old n)) ≡ j))
 feed_count old n m c b limit r q S e same there tells lapses count = subst (λ (z : Result ℕ MailFault). IfOk z (λ (j : ℕ). (j ≤ limit) × (length (take j (pending_for old n)) ≡ j))) (sym tells) (go r lapses count)
   where
@@ -251,7 +251,7 @@ feed_count old n m c b limit r q S e same there tells lapses count = subst (λ (
     go (Err lapse.NoMemory) lapses count = tt
 
 pub expunge_saw : (old : DeliveryCore) (n p m : ℕ) (c : Client) (b b2 : Mailbox) (handle2 : CursorHandle) (vacant : Option Client) (before after : List ℕ) (r : Result ℕ MailFault)
-    → AreSeated (cursors_of old.boxes) old.clients → client_at old.clients n ≡ Some c → p ≡ n → m ≡ c.mailbox → b ≡ get_or old.boxes m b → (r ≡ Err Lapped) ↔ IsLapped b c.handle
+    → AreAttached (cursors_of old.boxes) old.clients → client_at old.clients n ≡ Some c → p ≡ n → m ≡ c.mailbox → b ≡ get_or old.boxes m b → (r ≡ Err Lapped) ↔ IsLapped b c.handle
     → OnOk r (handle2 ≡ record c.handle { at = total b.window }) → OnOk r (c.handle.at ≤ total b.window)
     → OnOk r (Updates b.cursors b2.cursors c.handle.slot (option_map (after_showing (changes_from c.handle.at b.window)) (held b.cursors c.handle)))
     → OnOk r (IfSome (held b.cursors c.handle) (λ (o : Open). after ≡ before ++ lines o.view (changes_from c.handle.at b.window)))
@@ -283,7 +283,7 @@ back_memory (Err lapse.Lapped) e = cc
 back_memory (Err lapse.NoMemory) e = refl
 
 pub feed_memory : (old : DeliveryCore) (n m : ℕ) (c : Client) (b : Mailbox) (limit : ℕ) (r : Result ℕ FeedFault) (q : Result ℕ MailFault)
-    → AreSeated (cursors_of old.boxes) old.clients → client_at old.clients n ≡ Some c → m ≡ c.mailbox → b ≡ get_or old.boxes m b → q ≡ answer_of r → (r ≡ Err lapse.Lapped) ↔ IsLapped b c.handle
+    → AreAttached (cursors_of old.boxes) old.clients → client_at old.clients n ≡ Some c → m ≡ c.mailbox → b ≡ get_or old.boxes m b → q ≡ answer_of r → (r ≡ Err lapse.Lapped) ↔ IsLapped b c.handle
     → (r ≡ Err lapse.NoMemory → 0 < min limit (total b.window - c.handle.at)) → q ≡ Err NoMemory → 0 < length (take limit (pending_for old n))
 feed_memory old n m c b limit r q S e same there tells lapses memory refused = go (cases_lt c.handle.at b.window.base)
   where
@@ -300,7 +300,7 @@ feed_memory old n m c b limit r q S e same there tells lapses memory refused = g
         omega (arith, all, length-take limit (changes_from c.handle.at b.window), length-drop (c.handle.at - b.window.base) b.window.changes, memory is, over)
 
 pub expunge_memory : (old : DeliveryCore) (n m : ℕ) (c : Client) (b : Mailbox) (r : Result ℕ MailFault)
-    → AreSeated (cursors_of old.boxes) old.clients → client_at old.clients n ≡ Some c → m ≡ c.mailbox → b ≡ get_or old.boxes m b → (r ≡ Err Lapped) ↔ IsLapped b c.handle
+    → AreAttached (cursors_of old.boxes) old.clients → client_at old.clients n ≡ Some c → m ≡ c.mailbox → b ≡ get_or old.boxes m b → (r ≡ Err Lapped) ↔ IsLapped b c.handle
     → (r ≡ Err NoMemory → c.handle.at < total b.window) → r ≡ Err NoMemory → 0 < length (pending_for old n)
 expunge_memory old n m c b r S e same there lapses memory refused = go (cases_lt c.handle.at b.window.base)
   where
@@ -320,7 +320,7 @@ by_answer P (Err lapse.Lapped) q tells h = subst (λ (z : Result ℕ MailFault).
 by_answer P (Err lapse.NoMemory) q tells h = subst (λ (z : Result ℕ MailFault). OnOk z P) (sym tells) tt
 
 pub feed_done : (old : DeliveryCore) (n p m : ℕ) (c : Client) (b b2 : Mailbox) (handle2 : CursorHandle) (vacant : Option Client) (limit : ℕ) (before after : List ℕ) (r : Result ℕ FeedFault)
-    → AreSeated (cursors_of old.boxes) old.clients → client_at old.clients n ≡ Some c → p ≡ n → m ≡ c.mailbox → b ≡ get_or old.boxes m b
+    → AreAttached (cursors_of old.boxes) old.clients → client_at old.clients n ≡ Some c → p ≡ n → m ≡ c.mailbox → b ≡ get_or old.boxes m b
     → (r ≡ Err lapse.Stranger) ↔ IsStranger b c.handle → (r ≡ Err lapse.Lapped) ↔ IsLapped b c.handle → OnErr r ((b2 ≡ b) × (handle2 ≡ c.handle) × (after ≡ before)) → IfOk r (λ j. j ≡ min limit (total b.window - c.handle.at))
     → IfOk r (λ j. (log : List Change) → Stands b log → after ≡ before ++ lines (view_at log c.handle.at) (next_of log c.handle.at j))
     → IfOk r (λ j. handle2 ≡ record c.handle { at = c.handle.at + j }) → KeepsLog b b2 → b2 ≡ record b { cursors = b2.cursors }
@@ -339,7 +339,7 @@ feed_done old n p m c b b2 handle2 vacant limit before after (Ok j) S e place sa
 feed_done old n p m c b b2 handle2 vacant limit before after (Err f) S e place same there strange lapses err count shown is keeps_log rest moved next = tt
 
 pub expunge_done : (old : DeliveryCore) (n p m : ℕ) (c : Client) (b b2 : Mailbox) (handle2 : CursorHandle) (vacant : Option Client) (test : ℕ → Bool) (before after : List ℕ) (cursors : CursorSet) (r : Result ℕ MailFault)
-    → AreSeated (cursors_of old.boxes) old.clients → client_at old.clients n ≡ Some c → p ≡ n → m ≡ c.mailbox → b ≡ get_or old.boxes m b
+    → AreAttached (cursors_of old.boxes) old.clients → client_at old.clients n ≡ Some c → p ≡ n → m ≡ c.mailbox → b ≡ get_or old.boxes m b
     → (r ≡ Err Stranger) ↔ IsStranger b c.handle → (r ≡ Err Lapped) ↔ IsLapped b c.handle → (r ≡ Err Spent) ↔ (IsCurrent b c.handle × IsTooMany b (removals test (rows b)))
     → OnErr r ((b2 ≡ b) × (handle2 ≡ c.handle) × (after ≡ before)) → OnOk r ((log : List Change) → Stands b log → after ≡ before ++ lines (view_at log c.handle.at) (drop c.handle.at log))
     → OnOk r (handle2 ≡ record c.handle { at = total b.window }) → OnOk r (c.handle.at ≤ total b.window)

@@ -69,7 +69,7 @@ take_follows k w old new s l l2 t hand S ins inh is there front held lanes hands
         mailboxes = ap length boxes ∙ S.mailboxes;
         sessions = ap length clients ∙ S.sessions;
         clients = rw clients S.clients;
-        seated = rw (boxes, clients) S.seated;
+        attached = rw (boxes, clients) S.attached;
         opened = rw boxes S.opened;
         lanes = rw lanes (each_set (λ a b. StandsForLane k.seats k.depth a b) old.lanes w.lane s l2 (took (w.lane s) e l2.waiting) S.lanes
             (record { capacity = sym (ap (λ x. x.capacity) front) ∙ was.capacity; producers = sym (ap (λ x. length x.live) front) ∙ was.producers; waiting = refl; live = subst (λ xs. EachAt (λ p live. has_end ((w.lane s).sent p) ≡ not live) xs) (ap (λ x. x.live) front) was.live }));
@@ -122,7 +122,7 @@ answer_follows k w old new s r l l2 S inh is inp there room puts hands replies l
         mailboxes = ap length boxes ∙ S.mailboxes;
         sessions = ap length clients ∙ S.sessions;
         clients = rw clients S.clients;
-        seated = rw (boxes, clients) S.seated;
+        attached = rw (boxes, clients) S.attached;
         opened = rw boxes S.opened;
         lanes = rw lanes S.lanes;
         hands = rw hands (each_set (λ a b. a ≡ b) old.hands w.hand s Empty Empty S.hands refl);
@@ -173,7 +173,7 @@ hear_follows k w old new p s r l l2 book0 book1 book2 book3 S inp inh there fron
         mailboxes = ap length boxes ∙ S.mailboxes;
         sessions = ap length clients ∙ S.sessions;
         clients = rw clients S.clients;
-        seated = rw (boxes, clients) S.seated;
+        attached = rw (boxes, clients) S.attached;
         opened = rw boxes S.opened;
         lanes = rw lanes S.lanes;
         hands = rw hands S.hands;

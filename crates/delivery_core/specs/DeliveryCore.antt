@@ -13,7 +13,7 @@ use Rattle.change_ring.specs.declared.change.Change.{Change}
 use Rattle.change_ring.specs.Window.{Window, changes_from, total}
 use Rattle.cursor_set.specs.Cursors.{Open}
 use Rattle.delivery_core.specs.declared.client.Client.{Client}
-use Rattle.delivery_core.specs.Seated.{client_at, cursor_of, cursors_of}
+use Rattle.delivery_core.specs.Attached.{client_at, cursor_of, cursors_of}
 
 pub record DeliveryCore : Type 0 where
   pub lanes : List (PlainLane Job)

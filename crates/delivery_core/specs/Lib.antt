@@ -1,4 +1,4 @@
-pub mod Seated
+pub mod Attached
 pub mod DeliveryCore
 pub mod Stands
 pub mod Changes

@@ -10,7 +10,7 @@ use Rattle.mailbox.specs.Stands.{Stands}
 use Rattle.world.specs.World.{Config, World, Box, Session, Event, Step, Steps, IsWorld, EntryBelow, reply_room}
 use Rattle.world.specs.Law.{IsPart, pairs}
 use Rattle.delivery_core.specs.declared.client.Client.{Client}
-use Rattle.delivery_core.specs.Seated.{AreSeated, cursors_of}
+use Rattle.delivery_core.specs.Attached.{AreAttached, cursors_of}
 use Rattle.delivery_core.specs.DeliveryCore.{DeliveryCore}
 
 -- P holds of each position and the element there
@@ -84,7 +84,7 @@ pub record StandsFor (k : Config) (h : DeliveryCore) (w : World) : Type 0 where
   -- each mailbox gives its next cursor the serial that is due
   pub opened : EachAt (λ m s. s.next ≡ w.opened m) (cursors_of h.boxes)
   -- and each client has its cursor
-  pub seated : AreSeated (cursors_of h.boxes) h.clients
+  pub attached : AreAttached (cursors_of h.boxes) h.clients
 
 -- From each world that the old one stood for, these events lead to one that the new one stands for.
 abbrev pub Follows : Config → DeliveryCore → List Event → DeliveryCore → Type 0

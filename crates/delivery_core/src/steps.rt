@@ -8,7 +8,7 @@ ghost use Rattle.delivery_core.specs.Changes.{CannotEnd, Ends, Hears, SameCounts
 ghost use Rattle.delivery_token.specs.Log.{heard_at_once};
 ghost use Rattle.delivery_core.specs.DeliveryCore.{has_ended, is_ended, lane_of};
 ghost use Rattle.delivery_core.specs.Load.{load};
-ghost use Rattle.delivery_core.specs.Seated.{cursors_of};
+ghost use Rattle.delivery_core.specs.Attached.{cursors_of};
 ghost use Rattle.delivery_core.specs.Puts.{IsNextKey};
 ghost use Rattle.delivery_core.specs.inner.Puts.{LanePuts};
 ghost use Rattle.delivery_token.specs.Keys.{AtLeast, past};
@@ -70,7 +70,7 @@ impl Model for DeliveryCore {
     ghost use Rattle.std.specs.Prelude.{◌≡◌, length};
     ghost use Rattle.delivery_core.specs.DeliveryCore.{DeliveryCore};
     ghost use Rattle.delivery_core.specs.inner.DeliveryCore.{AreKept};
-    ghost use Rattle.delivery_core.specs.Seated.{AreSeated, cursors_of};
+    ghost use Rattle.delivery_core.specs.Attached.{AreAttached, cursors_of};
 
     ghost Value = { DeliveryCore };
 
@@ -85,7 +85,7 @@ impl Model for DeliveryCore {
     } };
 
     ghost invariant = { λ p. (length p.hands.items ≡ length p.lanes.items) × (length p.heard.items ≡ length p.replies.items)
-        × (length p.next.items ≡ length p.replies.items) × AreSeated (cursors_of p.boxes.items) p.clients.items × AreKept p.boxes.items };
+        × (length p.next.items ≡ length p.replies.items) × AreAttached (cursors_of p.boxes.items) p.clients.items × AreKept p.boxes.items };
 }
 
 // Whether a seat may put no more into this lane.

@@ -1,4 +1,4 @@
-//! What the tests of lanes between threads share: how a seat is handed to a thread, how many items each thread puts, and whether they
+//! What the tests of lanes between threads share: how a permit is handed to a thread, how many items each thread puts, and whether they
 //! come in their order.
 
 ghost use Rattle.std.specs.Prelude.{◌≡◌};
@@ -9,7 +9,7 @@ use std::mem::ManuallyDrop;
 /// What each thread puts before its end.
 pub(crate) const ITEMS: u32 = 50;
 
-/// A seat for a closure to hold or a thread to return. Whoever gets it takes it out.
+/// A permit for a closure to hold or a thread to return. Whoever gets it takes it out.
 pub(crate) fn packed<T>(value: T) -> ManuallyDrop<T>
     ensures { manually_drop_value result ≡ value }
 {

@@ -2,10 +2,10 @@
 
 ghost use Rattle.std.specs.Prelude.{◌≡◌, ◌+◌, ◌≤◌, [], All, vec_len, vec_capacity};
 ghost use Rattle.std.specs.Mem.{manually_drop_value};
-ghost use Rattle.shard_queue.specs.Seats.{IsProducer, IsEnded, IsConsumer};
+ghost use Rattle.shard_queue.specs.Permits.{IsProducer, IsEnded, IsConsumer};
 
 use crate::parcels::{ITEMS, are_all, is_next, packed};
-use shard_queue::{ConsumerSeat, Ended, Full, NotAll, ProducerSeat, ShardQueue, Taken};
+use shard_queue::{ConsumerPermit, Ended, Full, NotAll, ProducerPermit, ShardQueue, Taken};
 use std::alloc::Global;
 use std::mem::ManuallyDrop;
 use std::process::Abort;
@@ -14,24 +14,24 @@ use std::test::Fail;
 use std::thread;
 
 // Puts the numbers from 0, each where there is room.
-fn put_all(rt: &impl Wait, queue: &ShardQueue<u32>, seat: &mut ProducerSeat<u32>)
-    requires { IsProducer queue.now seat.old }
-    ensures { IsProducer queue.now seat.new }
+fn put_all(rt: &impl Wait, queue: &ShardQueue<u32>, permit: &mut ProducerPermit<u32>)
+    requires { IsProducer queue.now permit.old }
+    ensures { IsProducer queue.now permit.new }
 {
     for item in 0..ITEMS {
-        let _ = queue.put_as(rt, seat, item);
+        let _ = queue.put_as(rt, permit, item);
     }
 }
 
-// Ends the seat, as soon as there is room.
-fn end(rt: &impl Wait, queue: &ShardQueue<u32>, mut seat: ProducerSeat<u32>) -> Ended<u32>
-    requires { IsProducer queue.now seat }
+// Ends the permit, as soon as there is room.
+fn end(rt: &impl Wait, queue: &ShardQueue<u32>, mut permit: ProducerPermit<u32>) -> Ended<u32>
+    requires { IsProducer queue.now permit }
     ensures { IsEnded queue.now result }
 {
     for _ in rt.forever() {
-        match queue.end_as(rt, seat) {
+        match queue.end_as(rt, permit) {
             Ok(ended) => return ended,
-            Err(back) => seat = back,
+            Err(back) => permit = back,
         }
         thread::yield_now();
     }
@@ -41,30 +41,30 @@ fn end(rt: &impl Wait, queue: &ShardQueue<u32>, mut seat: ProducerSeat<u32>) -> 
 fn work(
     rt: &impl Wait,
     queue: &ShardQueue<u32>,
-    parcel: ManuallyDrop<ProducerSeat<u32>>,
+    parcel: ManuallyDrop<ProducerPermit<u32>>,
 ) -> ManuallyDrop<Ended<u32>>
     requires { IsProducer queue.now (manually_drop_value parcel) }
     ensures { IsEnded queue.now (manually_drop_value result) }
 {
-    let mut seat = ManuallyDrop::into_inner(parcel);
-    put_all(rt, queue, &mut seat);
-    packed(end(rt, queue, seat))
+    let mut permit = ManuallyDrop::into_inner(parcel);
+    put_all(rt, queue, &mut permit);
+    packed(end(rt, queue, permit))
 }
 
 fn pack_all(
     queue: &ShardQueue<u32>,
-    mut seats: Vec<ProducerSeat<u32>>,
-    mut parcels: Vec<ManuallyDrop<ProducerSeat<u32>>>,
-) -> Vec<ManuallyDrop<ProducerSeat<u32>>>
-    requires seats { All (IsProducer queue.now) seats.items }
-    requires room { (vec_len seats ≤ vec_capacity parcels) × (parcels.items ≡ []) }
-    ensures seats { All (λ s. IsProducer queue.now (manually_drop_value s)) result.items }
-    ensures len { vec_len result ≡ vec_len seats }
+    mut permits: Vec<ProducerPermit<u32>>,
+    mut parcels: Vec<ManuallyDrop<ProducerPermit<u32>>>,
+) -> Vec<ManuallyDrop<ProducerPermit<u32>>>
+    requires permits { All (IsProducer queue.now) permits.items }
+    requires room { (vec_len permits ≤ vec_capacity parcels) × (parcels.items ≡ []) }
+    ensures permits { All (λ s. IsProducer queue.now (manually_drop_value s)) result.items }
+    ensures len { vec_len result ≡ vec_len permits }
 {
-    while let Some(seat) = seats.pop() {
-        parcels.push_reserved(packed(seat));
+    while let Some(permit) = permits.pop() {
+        parcels.push_reserved(packed(permit));
     }
-    seats.destroy_empty();
+    permits.destroy_empty();
     parcels
 }
 
@@ -87,16 +87,16 @@ fn unpack_all(
 fn take_all(
     rt: &impl Wait,
     queue: &ShardQueue<u32>,
-    seat: &mut ConsumerSeat<u32>,
+    permit: &mut ConsumerPermit<u32>,
     next: &mut [u32],
     entries: u32,
 ) -> bool
-    requires { IsConsumer queue.now seat.old }
-    ensures { IsConsumer queue.now seat.new }
+    requires { IsConsumer queue.now permit.old }
+    ensures { IsConsumer queue.now permit.new }
 {
     let mut in_order = true;
     for _ in 0..entries {
-        let is_right = match queue.take_as(rt, seat) {
+        let is_right = match queue.take_as(rt, permit) {
             Taken::Item(p, item) => is_next(next, p, item),
             Taken::End(p) => is_next(next, p, ITEMS),
             Taken::Empty => false,
@@ -106,32 +106,32 @@ fn take_all(
     in_order
 }
 
-// The last of the seats.
-fn last_seat(
+// The last of the permits.
+fn last_permit(
     rt: &impl Abort,
     queue: &ShardQueue<u32>,
-    seats: &mut Vec<ProducerSeat<u32>>,
-) -> ProducerSeat<u32>
-    requires { All (IsProducer queue.now) seats.old.items }
-    ensures seat { IsProducer queue.now result }
-    ensures others { All (IsProducer queue.now) seats.new.items }
-    ensures len { vec_len seats.old ≡ vec_len seats.new + 1 }
-    ensures capacity { vec_capacity seats.new ≡ vec_capacity seats.old }
+    permits: &mut Vec<ProducerPermit<u32>>,
+) -> ProducerPermit<u32>
+    requires { All (IsProducer queue.now) permits.old.items }
+    ensures permit { IsProducer queue.now result }
+    ensures others { All (IsProducer queue.now) permits.new.items }
+    ensures len { vec_len permits.old ≡ vec_len permits.new + 1 }
+    ensures capacity { vec_capacity permits.new ≡ vec_capacity permits.old }
 {
-    seats.pop().expect(rt, "a seat")
+    permits.pop().expect(rt, "a permit")
 }
 
 // The item, where it had no room.
 fn put(
     rt: &impl Wait,
     queue: &ShardQueue<u32>,
-    seat: &mut ProducerSeat<u32>,
+    permit: &mut ProducerPermit<u32>,
     item: u32,
 ) -> Option<u32>
-    requires { IsProducer queue.now seat.old }
-    ensures { IsProducer queue.now seat.new }
+    requires { IsProducer queue.now permit.old }
+    ensures { IsProducer queue.now permit.new }
 {
-    match queue.put_as(rt, seat, item) {
+    match queue.put_as(rt, permit, item) {
         Ok(()) => None,
         Err(Full(back)) => Some(back),
     }
@@ -141,29 +141,29 @@ fn put(
 fn taken(
     rt: &impl Wait,
     queue: &ShardQueue<u32>,
-    seat: &mut ConsumerSeat<u32>,
+    permit: &mut ConsumerPermit<u32>,
 ) -> Option<(u8, Option<u32>)>
-    requires { IsConsumer queue.now seat.old }
-    ensures { IsConsumer queue.now seat.new }
+    requires { IsConsumer queue.now permit.old }
+    ensures { IsConsumer queue.now permit.new }
 {
-    match queue.take_as(rt, seat) {
+    match queue.take_as(rt, permit) {
         Taken::Item(p, item) => Some((p, Some(item))),
         Taken::End(p) => Some((p, None)),
         Taken::Empty => None,
     }
 }
 
-// The seat, whose end has no room.
+// The permit, whose end has no room.
 fn handed_back<R: Wait + Abort>(
     rt: &R,
     queue: &ShardQueue<u32>,
-    seat: ProducerSeat<u32>,
-) -> ProducerSeat<u32>
-    requires { IsProducer queue.now seat }
+    permit: ProducerPermit<u32>,
+) -> ProducerPermit<u32>
+    requires { IsProducer queue.now permit }
     ensures { IsProducer queue.now result }
 {
-    match queue.end_as(rt, seat) {
-        Err(seat) => seat,
+    match queue.end_as(rt, permit) {
+        Err(permit) => permit,
         Ok(ended) => {
             packed(ended);
             panic!(rt; "there was room")
@@ -171,15 +171,19 @@ fn handed_back<R: Wait + Abort>(
     }
 }
 
-// What is left of the seat, whose end has room.
-fn at_end<R: Wait + Abort>(rt: &R, queue: &ShardQueue<u32>, seat: ProducerSeat<u32>) -> Ended<u32>
-    requires { IsProducer queue.now seat }
+// What is left of the permit, whose end has room.
+fn at_end<R: Wait + Abort>(
+    rt: &R,
+    queue: &ShardQueue<u32>,
+    permit: ProducerPermit<u32>,
+) -> Ended<u32>
+    requires { IsProducer queue.now permit }
     ensures { IsEnded queue.now result }
 {
-    match queue.end_as(rt, seat) {
+    match queue.end_as(rt, permit) {
         Ok(ended) => ended,
-        Err(seat) => {
-            packed(seat);
+        Err(permit) => {
+            packed(permit);
             panic!(rt; "there was no room")
         }
     }
@@ -190,13 +194,13 @@ fn not_yet(
     rt: &impl Abort,
     queue: ShardQueue<u32>,
     ended: Vec<Ended<u32>>,
-    seat: ConsumerSeat<u32>,
+    permit: ConsumerPermit<u32>,
 ) -> NotAll<u32>
-    requires seat { IsConsumer queue seat }
+    requires permit { IsConsumer queue permit }
     requires ended { All (IsEnded queue) ended.items }
-    ensures { (result.queue ≡ queue) × (result.ended ≡ ended) × (result.seat ≡ seat) }
+    ensures { (result.queue ≡ queue) × (result.ended ≡ ended) × (result.permit ≡ permit) }
 {
-    match queue.close(ended, seat) {
+    match queue.close(ended, permit) {
         Err(all) => all,
         Ok(_) => panic!(rt; "it was closed"),
     }
@@ -207,15 +211,21 @@ fn closes(
     alloc: Global,
     queue: ShardQueue<u32>,
     ended: Vec<Ended<u32>>,
-    seat: ConsumerSeat<u32>,
+    permit: ConsumerPermit<u32>,
 ) -> bool
-    requires seat { IsConsumer queue seat }
+    requires permit { IsConsumer queue permit }
     requires ended { All (IsEnded queue) ended.items }
 {
-    match queue.close(ended, seat) {
+    match queue.close(ended, permit) {
         Ok(_) => true,
-        Err(NotAll { queue, ended, seat }) => {
-            queue.abandon(Vec::new(alloc), ended, seat);
+        Err(
+            NotAll {
+                queue,
+                ended,
+                permit,
+            },
+        ) => {
+            queue.abandon(Vec::new(alloc), ended, permit);
             false
         }
     }
@@ -225,11 +235,11 @@ fn closes(
 fn a_full_queue_hands_back(rt: HostRuntime) {
     let alloc = rt.alloc();
     let mut ended = Vec::with_capacity(alloc, 1).expect(&rt, "memory");
-    let (queue, mut seats, mut consumer) = ShardQueue::<u32>::new(alloc, 2, 2).expect(
+    let (queue, mut permits, mut consumer) = ShardQueue::<u32>::new(alloc, 2, 2).expect(
         &rt, "memory",
     );
-    let mut second = last_seat(&rt, &queue, &mut seats);
-    let mut first = last_seat(&rt, &queue, &mut seats);
+    let mut second = last_permit(&rt, &queue, &mut permits);
+    let mut first = last_permit(&rt, &queue, &mut permits);
     let numbers = [first.number(), second.number()];
     let one = put(&rt, &queue, &mut first, 7);
     let two = put(&rt, &queue, &mut second, 8);
@@ -243,8 +253,8 @@ fn a_full_queue_hands_back(rt: HostRuntime) {
     let end_taken = taken(&rt, &queue, &mut consumer);
     let none_taken = taken(&rt, &queue, &mut consumer);
     ended.push_reserved(first);
-    seats.push_reserved(second);
-    queue.abandon(seats, ended, consumer);
+    permits.push_reserved(second);
+    queue.abandon(permits, ended, consumer);
     assert_eq!(rt; (numbers, back, over), ([0, 1], 0, 0));
     assert_eq!(rt; [one, two, three], [None, None, Some(9)]);
     assert_eq!(rt;
@@ -262,27 +272,27 @@ fn a_full_queue_hands_back(rt: HostRuntime) {
 fn a_queue_is_closed_after_all_ends(rt: HostRuntime) {
     let alloc = rt.alloc();
     let mut ended = Vec::with_capacity(alloc, 2).expect(&rt, "memory");
-    let (queue, mut seats, mut consumer) = ShardQueue::<u32>::new(alloc, 2, 2).expect(
+    let (queue, mut permits, mut consumer) = ShardQueue::<u32>::new(alloc, 2, 2).expect(
         &rt, "memory",
     );
-    let second = last_seat(&rt, &queue, &mut seats);
-    let first = last_seat(&rt, &queue, &mut seats);
-    seats.destroy_empty();
+    let second = last_permit(&rt, &queue, &mut permits);
+    let first = last_permit(&rt, &queue, &mut permits);
+    permits.destroy_empty();
     ended.push_reserved(at_end(&rt, &queue, first));
     let first_end = taken(&rt, &queue, &mut consumer);
     let NotAll {
         queue,
         mut ended,
-        seat,
+        permit,
     } = not_yet(&rt, queue, ended, consumer);
     ended.push_reserved(at_end(&rt, &queue, second));
     let NotAll {
         queue,
         ended,
-        mut seat,
-    } = not_yet(&rt, queue, ended, seat);
-    let second_end = taken(&rt, &queue, &mut seat);
-    let closed = closes(alloc, queue, ended, seat);
+        mut permit,
+    } = not_yet(&rt, queue, ended, permit);
+    let second_end = taken(&rt, &queue, &mut permit);
+    let closed = closes(alloc, queue, ended, permit);
     assert_eq!(rt; (first_end, second_end), (Some((0, None)), Some((1, None))));
     assert!(rt; closed);
 }
@@ -292,16 +302,18 @@ fn sixteen_threads_share_a_queue(rt: HostRuntime) -> Result<(), Fail> {
     let alloc = rt.alloc();
     let parcels = Vec::with_capacity(alloc, 16)?;
     let room = Vec::with_capacity(alloc, 16).expect(&rt, "memory");
-    let (queue, seats, mut seat) = ShardQueue::<u32>::new(alloc, 1024, 16).expect(&rt, "memory");
-    let parcels = pack_all(&queue, seats, parcels);
+    let (queue, permits, mut permit) = ShardQueue::<u32>::new(alloc, 1024, 16).expect(
+        &rt, "memory",
+    );
+    let parcels = pack_all(&queue, permits, parcels);
     let parcels = thread::map_vec(&rt, parcels, &|parcel| work(&rt, &queue, parcel)).expect(
         &rt, "memory",
     );
     let ended = unpack_all(&queue, parcels, room);
     let mut next = [0; 16];
-    let in_order = take_all(&rt, &queue, &mut seat, &mut next, 816);
-    let none_taken = taken(&rt, &queue, &mut seat);
-    let closed = closes(alloc, queue, ended, seat);
+    let in_order = take_all(&rt, &queue, &mut permit, &mut next, 816);
+    let none_taken = taken(&rt, &queue, &mut permit);
+    let closed = closes(alloc, queue, ended, permit);
     assert!(rt; in_order, "in order");
     assert!(rt; are_all(&next), "all of them");
     assert_eq!(rt; none_taken, None);

@@ -5,7 +5,9 @@ ghost use Rattle.std.specs.Mem.{manually_drop_value};
 ghost use Rattle.shard_queue.specs.Reply.{IsSender, IsSenderEnded, IsReceiver};
 
 use crate::parcels::{ITEMS, are_all, is_next, packed};
-use shard_queue::{Entry, Full, ReceiverSeat, ReplyChannel, ReplyNotAll, SenderEnded, SenderSeat};
+use shard_queue::{
+    Entry, Full, ReceiverPermit, ReplyChannel, ReplyNotAll, SenderEnded, SenderPermit,
+};
 use std::alloc::Global;
 use std::mem::ManuallyDrop;
 use std::process::Abort;
@@ -14,24 +16,28 @@ use std::test::Fail;
 use std::thread;
 
 // Puts the numbers from 0, each where there is room.
-fn send_all(rt: &impl Wait, channel: &ReplyChannel<u32>, seat: &mut SenderSeat<u32>)
-    requires { IsSender channel.now seat.old }
-    ensures { IsSender channel.now seat.new }
+fn send_all(rt: &impl Wait, channel: &ReplyChannel<u32>, permit: &mut SenderPermit<u32>)
+    requires { IsSender channel.now permit.old }
+    ensures { IsSender channel.now permit.new }
 {
     for item in 0..ITEMS {
-        let _ = channel.send_as(rt, seat, item);
+        let _ = channel.send_as(rt, permit, item);
     }
 }
 
-// Ends the seat, as soon as there is room.
-fn end(rt: &impl Wait, channel: &ReplyChannel<u32>, mut seat: SenderSeat<u32>) -> SenderEnded<u32>
-    requires { IsSender channel.now seat }
+// Ends the permit, as soon as there is room.
+fn end(
+    rt: &impl Wait,
+    channel: &ReplyChannel<u32>,
+    mut permit: SenderPermit<u32>,
+) -> SenderEnded<u32>
+    requires { IsSender channel.now permit }
     ensures { IsSenderEnded channel.now result }
 {
     for _ in rt.forever() {
-        match channel.end_as(rt, seat) {
+        match channel.end_as(rt, permit) {
             Ok(ended) => return ended,
-            Err(back) => seat = back,
+            Err(back) => permit = back,
         }
         thread::yield_now();
     }
@@ -41,30 +47,30 @@ fn end(rt: &impl Wait, channel: &ReplyChannel<u32>, mut seat: SenderSeat<u32>) -
 fn work(
     rt: &impl Wait,
     channel: &ReplyChannel<u32>,
-    parcel: ManuallyDrop<SenderSeat<u32>>,
+    parcel: ManuallyDrop<SenderPermit<u32>>,
 ) -> ManuallyDrop<SenderEnded<u32>>
     requires { IsSender channel.now (manually_drop_value parcel) }
     ensures { IsSenderEnded channel.now (manually_drop_value result) }
 {
-    let mut seat = ManuallyDrop::into_inner(parcel);
-    send_all(rt, channel, &mut seat);
-    packed(end(rt, channel, seat))
+    let mut permit = ManuallyDrop::into_inner(parcel);
+    send_all(rt, channel, &mut permit);
+    packed(end(rt, channel, permit))
 }
 
 fn pack_all(
     channel: &ReplyChannel<u32>,
-    mut seats: Vec<SenderSeat<u32>>,
-    mut parcels: Vec<ManuallyDrop<SenderSeat<u32>>>,
-) -> Vec<ManuallyDrop<SenderSeat<u32>>>
-    requires seats { All (IsSender channel.now) seats.items }
-    requires room { (vec_len seats ≤ vec_capacity parcels) × (parcels.items ≡ []) }
-    ensures seats { All (λ s. IsSender channel.now (manually_drop_value s)) result.items }
-    ensures len { vec_len result ≡ vec_len seats }
+    mut permits: Vec<SenderPermit<u32>>,
+    mut parcels: Vec<ManuallyDrop<SenderPermit<u32>>>,
+) -> Vec<ManuallyDrop<SenderPermit<u32>>>
+    requires permits { All (IsSender channel.now) permits.items }
+    requires room { (vec_len permits ≤ vec_capacity parcels) × (parcels.items ≡ []) }
+    ensures permits { All (λ s. IsSender channel.now (manually_drop_value s)) result.items }
+    ensures len { vec_len result ≡ vec_len permits }
 {
-    while let Some(seat) = seats.pop() {
-        parcels.push_reserved(packed(seat));
+    while let Some(permit) = permits.pop() {
+        parcels.push_reserved(packed(permit));
     }
-    seats.destroy_empty();
+    permits.destroy_empty();
     parcels
 }
 
@@ -87,16 +93,16 @@ fn unpack_all(
 fn receive_all(
     rt: &impl Wait,
     channel: &ReplyChannel<u32>,
-    seat: &mut ReceiverSeat<u32>,
+    permit: &mut ReceiverPermit<u32>,
     next: &mut [u32],
     entries: u32,
 ) -> bool
-    requires { IsReceiver channel.now seat.old }
-    ensures { IsReceiver channel.now seat.new }
+    requires { IsReceiver channel.now permit.old }
+    ensures { IsReceiver channel.now permit.new }
 {
     let mut in_order = true;
     for _ in 0..entries {
-        let is_right = match channel.recv_as(rt, seat) {
+        let is_right = match channel.recv_as(rt, permit) {
             Entry::Item(p, item) => is_next(next, p, item),
             Entry::End(p) => is_next(next, p, ITEMS),
         };
@@ -105,32 +111,32 @@ fn receive_all(
     in_order
 }
 
-// The last of the seats.
-fn last_seat(
+// The last of the permits.
+fn last_permit(
     rt: &impl Abort,
     channel: &ReplyChannel<u32>,
-    seats: &mut Vec<SenderSeat<u32>>,
-) -> SenderSeat<u32>
-    requires { All (IsSender channel.now) seats.old.items }
-    ensures seat { IsSender channel.now result }
-    ensures others { All (IsSender channel.now) seats.new.items }
-    ensures len { vec_len seats.old ≡ vec_len seats.new + 1 }
-    ensures capacity { vec_capacity seats.new ≡ vec_capacity seats.old }
+    permits: &mut Vec<SenderPermit<u32>>,
+) -> SenderPermit<u32>
+    requires { All (IsSender channel.now) permits.old.items }
+    ensures permit { IsSender channel.now result }
+    ensures others { All (IsSender channel.now) permits.new.items }
+    ensures len { vec_len permits.old ≡ vec_len permits.new + 1 }
+    ensures capacity { vec_capacity permits.new ≡ vec_capacity permits.old }
 {
-    seats.pop().expect(rt, "a seat")
+    permits.pop().expect(rt, "a permit")
 }
 
 // The item, where it had no room.
 fn sent(
     rt: &impl Wait,
     channel: &ReplyChannel<u32>,
-    seat: &mut SenderSeat<u32>,
+    permit: &mut SenderPermit<u32>,
     item: u32,
 ) -> Option<u32>
-    requires { IsSender channel.now seat.old }
-    ensures { IsSender channel.now seat.new }
+    requires { IsSender channel.now permit.old }
+    ensures { IsSender channel.now permit.new }
 {
-    match channel.send_as(rt, seat, item) {
+    match channel.send_as(rt, permit, item) {
         Ok(()) => None,
         Err(Full(back)) => Some(back),
     }
@@ -140,28 +146,28 @@ fn sent(
 fn received(
     rt: &impl Wait,
     channel: &ReplyChannel<u32>,
-    seat: &mut ReceiverSeat<u32>,
+    permit: &mut ReceiverPermit<u32>,
 ) -> (u8, Option<u32>)
-    requires { IsReceiver channel.now seat.old }
-    ensures { IsReceiver channel.now seat.new }
+    requires { IsReceiver channel.now permit.old }
+    ensures { IsReceiver channel.now permit.new }
 {
-    match channel.recv_as(rt, seat) {
+    match channel.recv_as(rt, permit) {
         Entry::Item(p, item) => (p, Some(item)),
         Entry::End(p) => (p, None),
     }
 }
 
-// The seat, whose end has no room.
+// The permit, whose end has no room.
 fn handed_back<R: Wait + Abort>(
     rt: &R,
     channel: &ReplyChannel<u32>,
-    seat: SenderSeat<u32>,
-) -> SenderSeat<u32>
-    requires { IsSender channel.now seat }
+    permit: SenderPermit<u32>,
+) -> SenderPermit<u32>
+    requires { IsSender channel.now permit }
     ensures { IsSender channel.now result }
 {
-    match channel.end_as(rt, seat) {
-        Err(seat) => seat,
+    match channel.end_as(rt, permit) {
+        Err(permit) => permit,
         Ok(ended) => {
             packed(ended);
             panic!(rt; "there was room")
@@ -169,19 +175,19 @@ fn handed_back<R: Wait + Abort>(
     }
 }
 
-// What is left of the seat, whose end has room.
+// What is left of the permit, whose end has room.
 fn at_end<R: Wait + Abort>(
     rt: &R,
     channel: &ReplyChannel<u32>,
-    seat: SenderSeat<u32>,
+    permit: SenderPermit<u32>,
 ) -> SenderEnded<u32>
-    requires { IsSender channel.now seat }
+    requires { IsSender channel.now permit }
     ensures { IsSenderEnded channel.now result }
 {
-    match channel.end_as(rt, seat) {
+    match channel.end_as(rt, permit) {
         Ok(ended) => ended,
-        Err(seat) => {
-            packed(seat);
+        Err(permit) => {
+            packed(permit);
             panic!(rt; "there was no room")
         }
     }
@@ -192,13 +198,13 @@ fn not_yet(
     rt: &impl Abort,
     channel: ReplyChannel<u32>,
     ended: Vec<SenderEnded<u32>>,
-    seat: ReceiverSeat<u32>,
+    permit: ReceiverPermit<u32>,
 ) -> ReplyNotAll<u32>
-    requires seat { IsReceiver channel seat }
+    requires permit { IsReceiver channel permit }
     requires ended { All (IsSenderEnded channel) ended.items }
-    ensures { (result.channel ≡ channel) × (result.ended ≡ ended) × (result.seat ≡ seat) }
+    ensures { (result.channel ≡ channel) × (result.ended ≡ ended) × (result.permit ≡ permit) }
 {
-    match channel.close(ended, seat) {
+    match channel.close(ended, permit) {
         Err(all) => all,
         Ok(_) => panic!(rt; "it was closed"),
     }
@@ -209,21 +215,21 @@ fn closes(
     alloc: Global,
     channel: ReplyChannel<u32>,
     ended: Vec<SenderEnded<u32>>,
-    seat: ReceiverSeat<u32>,
+    permit: ReceiverPermit<u32>,
 ) -> bool
-    requires seat { IsReceiver channel seat }
+    requires permit { IsReceiver channel permit }
     requires ended { All (IsSenderEnded channel) ended.items }
 {
-    match channel.close(ended, seat) {
+    match channel.close(ended, permit) {
         Ok(_) => true,
         Err(
             ReplyNotAll {
                 channel,
                 ended,
-                seat,
+                permit,
             },
         ) => {
-            channel.abandon(Vec::new(alloc), ended, seat);
+            channel.abandon(Vec::new(alloc), ended, permit);
             false
         }
     }
@@ -233,11 +239,11 @@ fn closes(
 fn a_full_channel_hands_back(rt: HostRuntime) {
     let alloc = rt.alloc();
     let mut ended = Vec::with_capacity(alloc, 1).expect(&rt, "memory");
-    let (channel, mut seats, mut receiver) = ReplyChannel::<u32>::new(alloc, 2, 2).expect(
+    let (channel, mut permits, mut receiver) = ReplyChannel::<u32>::new(alloc, 2, 2).expect(
         &rt, "memory",
     );
-    let mut second = last_seat(&rt, &channel, &mut seats);
-    let mut first = last_seat(&rt, &channel, &mut seats);
+    let mut second = last_permit(&rt, &channel, &mut permits);
+    let mut first = last_permit(&rt, &channel, &mut permits);
     let numbers = [first.number(), second.number()];
     let one = sent(&rt, &channel, &mut first, 7);
     let two = sent(&rt, &channel, &mut second, 8);
@@ -250,8 +256,8 @@ fn a_full_channel_hands_back(rt: HostRuntime) {
     let two_received = received(&rt, &channel, &mut receiver);
     let end_received = received(&rt, &channel, &mut receiver);
     ended.push_reserved(first);
-    seats.push_reserved(second);
-    channel.abandon(seats, ended, receiver);
+    permits.push_reserved(second);
+    channel.abandon(permits, ended, receiver);
     assert_eq!(rt; (numbers, back, over), ([0, 1], 0, 0));
     assert_eq!(rt; [one, two, three], [None, None, Some(9)]);
     assert_eq!(rt;
@@ -264,27 +270,27 @@ fn a_full_channel_hands_back(rt: HostRuntime) {
 fn a_channel_is_closed_after_all_ends(rt: HostRuntime) {
     let alloc = rt.alloc();
     let mut ended = Vec::with_capacity(alloc, 2).expect(&rt, "memory");
-    let (channel, mut seats, mut receiver) = ReplyChannel::<u32>::new(alloc, 2, 2).expect(
+    let (channel, mut permits, mut receiver) = ReplyChannel::<u32>::new(alloc, 2, 2).expect(
         &rt, "memory",
     );
-    let second = last_seat(&rt, &channel, &mut seats);
-    let first = last_seat(&rt, &channel, &mut seats);
-    seats.destroy_empty();
+    let second = last_permit(&rt, &channel, &mut permits);
+    let first = last_permit(&rt, &channel, &mut permits);
+    permits.destroy_empty();
     ended.push_reserved(at_end(&rt, &channel, first));
     let first_end = received(&rt, &channel, &mut receiver);
     let ReplyNotAll {
         channel,
         mut ended,
-        seat,
+        permit,
     } = not_yet(&rt, channel, ended, receiver);
     ended.push_reserved(at_end(&rt, &channel, second));
     let ReplyNotAll {
         channel,
         ended,
-        mut seat,
-    } = not_yet(&rt, channel, ended, seat);
-    let second_end = received(&rt, &channel, &mut seat);
-    let closed = closes(alloc, channel, ended, seat);
+        mut permit,
+    } = not_yet(&rt, channel, ended, permit);
+    let second_end = received(&rt, &channel, &mut permit);
+    let closed = closes(alloc, channel, ended, permit);
     assert_eq!(rt; (first_end, second_end), ((0, None), (1, None)));
     assert!(rt; closed);
 }
@@ -294,15 +300,17 @@ fn eight_threads_share_a_channel(rt: HostRuntime) -> Result<(), Fail> {
     let alloc = rt.alloc();
     let parcels = Vec::with_capacity(alloc, 8)?;
     let room = Vec::with_capacity(alloc, 8).expect(&rt, "memory");
-    let (channel, seats, mut seat) = ReplyChannel::<u32>::new(alloc, 1024, 8).expect(&rt, "memory");
-    let parcels = pack_all(&channel, seats, parcels);
+    let (channel, permits, mut permit) = ReplyChannel::<u32>::new(alloc, 1024, 8).expect(
+        &rt, "memory",
+    );
+    let parcels = pack_all(&channel, permits, parcels);
     let parcels = thread::map_vec(&rt, parcels, &|parcel| work(&rt, &channel, parcel)).expect(
         &rt, "memory",
     );
     let ended = unpack_all(&channel, parcels, room);
     let mut next = [0; 8];
-    let in_order = receive_all(&rt, &channel, &mut seat, &mut next, 408);
-    let closed = closes(alloc, channel, ended, seat);
+    let in_order = receive_all(&rt, &channel, &mut permit, &mut next, 408);
+    let closed = closes(alloc, channel, ended, permit);
     assert!(rt; in_order, "in order");
     assert!(rt; are_all(&next), "all of them");
     assert!(rt; closed);

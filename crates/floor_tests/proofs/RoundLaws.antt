@@ -5,10 +5,10 @@ use Rattle.std.proofs.lemmas.List.Elements.{All-cons, All-head, All-map, All-nil
 use Rattle.delivery_token.specs.declared.Job.{Job}
 use Rattle.shard_queue.specs.declared.queue.Ended.{Ended}
 use Rattle.shard_queue.specs.declared.queue.ShardQueue.{ShardQueue}
-use Rattle.shard_queue.specs.declared.queue.ConsumerSeat.{ConsumerSeat}
-use Rattle.lane_seats.specs.Rooms.{AreRooms}
-use Rattle.lane_seats.specs.rows.Rows.{EndedRows}
-use Rattle.lane_seats.proofs.RowLaws.{none_ended}
+use Rattle.shard_queue.specs.declared.queue.ConsumerPermit.{ConsumerPermit}
+use Rattle.lane_permits.specs.Rooms.{AreRooms}
+use Rattle.lane_permits.specs.rows.Rows.{EndedRows}
+use Rattle.lane_permits.proofs.RowLaws.{none_ended}
 use Rattle.lane_work.specs.declared.consumer.Consumed.{Consumed}
 use Rattle.house_floor.specs.Crew.{AllAt, IsPost}
 use Rattle.house_floor.specs.declared.floor.Floor.{Floor}
@@ -35,11 +35,11 @@ none_yet lanes count each lists are same =
     (All-map (λ (r : List (Ended Job)). r ≡ []) (λ (v : Vec (Ended Job) Global). v.items) lists.items
     (All-weaker (λ (v : Vec (Ended Job) Global). (v.items ≡ []) × (each ≤ vec_capacity v)) (λ v. v.items ≡ []) (λ v h. h.0) lists.items are.1))
 
--- one more seat was taken from the front
-pub seat_next : (seats more : List (ConsumerSeat Job)) (consumed less : List Consumed) (one : Consumed) (all : List (ConsumerSeat Job)) → consumed ≡ one ∷ less → more ≡ seats ++ one.seat ∷ []
-    → seats ++ map (λ c. c.seat) consumed ≡ all → more ++ map (λ c. c.seat) less ≡ all
-seat_next seats more consumed less one all split grew so =
-    ap (λ l. l ++ map (λ c. c.seat) less) grew ∙ append_assoc seats (one.seat ∷ []) (map (λ c. c.seat) less) ∙ ap (λ l. seats ++ map (λ c. c.seat) l) (sym split) ∙ so
+-- one more permit was taken from the front
+pub permit_next : (permits more : List (ConsumerPermit Job)) (consumed less : List Consumed) (one : Consumed) (all : List (ConsumerPermit Job)) → consumed ≡ one ∷ less → more ≡ permits ++ one.permit ∷ []
+    → permits ++ map (λ c. c.permit) consumed ≡ all → more ++ map (λ c. c.permit) less ≡ all
+permit_next permits more consumed less one all split grew so =
+    ap (λ l. l ++ map (λ c. c.permit) less) grew ∙ append_assoc permits (one.permit ∷ []) (map (λ c. c.permit) less) ∙ ap (λ l. permits ++ map (λ c. c.permit) l) (sym split) ∙ so
 
 -- the last is taken away
 pub popped : {A : Type 0} (P : A → Type 0) (all rest : List A) (x : A) → all ≡ rest ++ x ∷ [] → All P all → All P rest × P x

@@ -1,74 +1,74 @@
-//! Three workers' seats on two lanes, without threads: the lanes close where each end was taken, and
+//! Three workers' permits on two lanes, without threads: the lanes close where each end was taken, and
 //! not where one is left.
 
 ghost use Rattle.std.specs.Prelude.{◌≡◌, ◌≤◌, [], length, map, All, vec_len, vec_capacity};
-ghost use Rattle.shard_queue.specs.Seats.{IsConsumer, IsEnded, IsProducer, ended_number, number_of};
-ghost use Rattle.lane_work.specs.Seats.{AreEnded, AreSeats, IsSeat, seat_number};
-ghost use Rattle.lane_seats.specs.Rooms.{AreHandRooms};
-ghost use Rattle.lane_seats.specs.rows.Rows.{AreConsumers, AreEndedHands, AreHands};
+ghost use Rattle.shard_queue.specs.Permits.{IsConsumer, IsEnded, IsProducer, ended_number, number_of};
+ghost use Rattle.lane_work.specs.Permits.{AreEnded, ArePermits, IsPermit, permit_number};
+ghost use Rattle.lane_permits.specs.Rooms.{AreHandRooms};
+ghost use Rattle.lane_permits.specs.rows.Rows.{AreConsumers, AreEndedHands, AreHands};
 
 use delivery_token::Job;
-use lane_seats::{
-    Hands, Lanes, Rooms, SeatRooms, close_lanes, collect_all, deal_all, make_lanes, make_rooms,
-    spend_rooms, spend_seat_rooms,
+use lane_permits::{
+    Hands, Lanes, PermitRooms, Rooms, close_lanes, collect_all, deal_all, make_lanes, make_rooms,
+    spend_permit_rooms, spend_rooms,
 };
-use lane_work::LaneSeat;
-use shard_queue::{ConsumerSeat, Ended, ProducerSeat, ShardQueue};
+use lane_work::LanePermit;
+use shard_queue::{ConsumerPermit, Ended, ProducerPermit, ShardQueue};
 use std::alloc::{AllocError, Global};
 use std::sync::Wait;
 
-// Ends a seat; each lane here has room for all ends.
-fn end_live<R: Wait>(rt: &R, lane: &ShardQueue<Job>, mut seat: ProducerSeat<Job>) -> Ended<Job>
-    requires { IsProducer lane.now seat }
-    ensures { IsEnded lane.now result × (ended_number result ≡ number_of seat) }
+// Ends a permit; each lane here has room for all ends.
+fn end_live<R: Wait>(rt: &R, lane: &ShardQueue<Job>, mut permit: ProducerPermit<Job>) -> Ended<Job>
+    requires { IsProducer lane.now permit }
+    ensures { IsEnded lane.now result × (ended_number result ≡ number_of permit) }
 {
     for _ in rt.forever() {
-        match lane.end_as(rt, seat) {
+        match lane.end_as(rt, permit) {
             Ok(ended) => return ended,
-            Err(back) => seat = back,
+            Err(back) => permit = back,
         }
     }
     unreachable!()
 }
 
 // The same of one that may be over.
-fn end_seat<R: Wait>(rt: &R, lane: &ShardQueue<Job>, seat: LaneSeat) -> Ended<Job>
-    requires { IsSeat lane.now seat }
-    ensures { IsEnded lane.now result × (ended_number result ≡ seat_number seat) }
+fn end_permit<R: Wait>(rt: &R, lane: &ShardQueue<Job>, permit: LanePermit) -> Ended<Job>
+    requires { IsPermit lane.now permit }
+    ensures { IsEnded lane.now result × (ended_number result ≡ permit_number permit) }
 {
-    match seat {
-        LaneSeat::Live(live) => end_live(rt, lane, live),
-        LaneSeat::Over(ended) => ended,
+    match permit {
+        LanePermit::Live(live) => end_live(rt, lane, live),
+        LanePermit::Over(ended) => ended,
     }
 }
 
-// Ends one producer's seats.
+// Ends one producer's permits.
 fn end_hand<R: Wait>(
     rt: &R,
     lanes: &[ShardQueue<Job>],
     number: u8,
-    mut hand: Vec<LaneSeat>,
+    mut hand: Vec<LanePermit>,
     mut ended: Vec<Ended<Job>>,
 ) -> Vec<Ended<Job>>
-    requires seats { AreSeats lanes.now number hand.items }
+    requires permits { ArePermits lanes.now number hand.items }
     requires room { (ended.items ≡ []) × (length lanes.now ≤ vec_capacity ended) }
     ensures ended { AreEnded lanes.now number result.items }
     ensures len { vec_len result ≡ length lanes.now }
 {
     for lane in 0..lanes.len() {
-        let seat = hand.remove(0);
-        ended.push_reserved(end_seat(rt, &lanes[lane], seat));
+        let permit = hand.remove(0);
+        ended.push_reserved(end_permit(rt, &lanes[lane], permit));
     }
     hand.destroy_empty();
     ended
 }
 
-// Ends all producers' seats.
+// Ends all producers' permits.
 fn end_hands<R: Wait>(
     rt: &R,
     lanes: &[ShardQueue<Job>],
     producers: u8,
-    mut hands: Vec<Vec<LaneSeat>>,
+    mut hands: Vec<Vec<LanePermit>>,
     rooms: Hands<Ended<Job>>,
 ) -> Vec<Vec<Ended<Job>>>
     requires count { vec_len hands ≡ producers }
@@ -90,12 +90,17 @@ fn end_hands<R: Wait>(
 }
 
 // Takes so many times from a lane.
-fn take_from<R: Wait>(rt: &R, lane: &ShardQueue<Job>, seat: &mut ConsumerSeat<Job>, times: usize)
-    requires { IsConsumer lane.now seat.old }
-    ensures { IsConsumer lane.now seat.new }
+fn take_from<R: Wait>(
+    rt: &R,
+    lane: &ShardQueue<Job>,
+    permit: &mut ConsumerPermit<Job>,
+    times: usize,
+)
+    requires { IsConsumer lane.now permit.old }
+    ensures { IsConsumer lane.now permit.new }
 {
     for _ in 0..times {
-        let _taken = lane.take_as(rt, seat);
+        let _taken = lane.take_as(rt, permit);
     }
 }
 
@@ -103,7 +108,7 @@ fn take_from<R: Wait>(rt: &R, lane: &ShardQueue<Job>, seat: &mut ConsumerSeat<Jo
 fn take_from_all<R: Wait>(
     rt: &R,
     lanes: &[ShardQueue<Job>],
-    consumers: &mut Vec<ConsumerSeat<Job>>,
+    consumers: &mut Vec<ConsumerPermit<Job>>,
     times: usize,
 )
     requires { AreConsumers lanes.now consumers.old.items }
@@ -129,19 +134,19 @@ fn close_after<R: Wait>(rt: &R, alloc: Global, takes: usize) -> Result<bool, All
         workers,
         consumers: unused,
     } = rooms;
-    spend_seat_rooms(unused);
-    let SeatRooms {
-        seats: rooms,
+    spend_permit_rooms(unused);
+    let PermitRooms {
+        permits: rooms,
         ended,
         mut lists,
     } = workers;
     let Hands { each, all } = rooms;
     let Lanes {
         queues,
-        seats,
+        permits,
         mut consumers,
     } = lanes;
-    let hands = deal_all(queues.as_slice(), seats, 3, each, all);
+    let hands = deal_all(queues.as_slice(), permits, 3, each, all);
     let ended = end_hands(rt, queues.as_slice(), 3, hands, ended);
     take_from_all(rt, queues.as_slice(), &mut consumers, takes);
     collect_all(&mut lists, ended);

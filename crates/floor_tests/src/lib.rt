@@ -1,4 +1,4 @@
-//! Tests of what the threads of a house stand on: its floor, the seats on its lanes, and its clerks. What is proved of them stands in
+//! Tests of what the threads of a house stand on: its floor, the permits on its lanes, and its clerks. What is proved of them stands in
 //! their own crates.
 #![tactic(auto)]
 

@@ -5,9 +5,9 @@ ghost use Rattle.std.specs.Prelude.{◌≡◌, ◌<◌, ◌≤◌, ◌+◌, ℕ,
 ghost use Rattle.std.specs.Mem.{manually_drop_value};
 ghost use Rattle.std.specs.Thread.{IsSync};
 ghost use Rattle.shard_queue.specs.Reply.{IsReceiver};
-ghost use Rattle.shard_queue.specs.Seats.{IsProducer, number_of};
-ghost use Rattle.lane_work.specs.Seats.{AreSeats, IsSeat, seat_number};
-ghost use Rattle.lane_seats.specs.rows.Rows.{EndedRows};
+ghost use Rattle.shard_queue.specs.Permits.{IsProducer, number_of};
+ghost use Rattle.lane_work.specs.Permits.{ArePermits, IsPermit, permit_number};
+ghost use Rattle.lane_permits.specs.rows.Rows.{EndedRows};
 ghost use Rattle.house_floor.specs.Crew.{AllAt, IsCrew, IsPost, IsStand};
 ghost use Rattle.house_floor.specs.Opening.{AreBaskets};
 ghost use Rattle.floor_tests.specs.inner.Rounds.{AreSomeones, IsOwnPost};
@@ -20,12 +20,12 @@ use clerks::{
 use delivery_token::{CopyKey, Job, Noted, Text, Verdict};
 use envelope::Directory;
 use house_floor::{Baskets, Crew, Floor, Opened, Post, Sizes, Stand, open};
-use lane_seats::{close_lanes, collect, spend_lists};
-use lane_work::{Closing, Consumed, Depot, Desk, LaneSeat, Office, end_all};
+use lane_permits::{close_lanes, collect, spend_lists};
+use lane_work::{Closing, Consumed, Depot, Desk, LanePermit, Office, end_all};
 use mailbox::{History, Limits, Mailbox};
 use pace::{Actor, Pace};
 use shard_queue::{
-    ConsumerSeat, Ended, Entry, Full, ProducerSeat, ReceiverSeat, ReplyChannel, SenderEnded,
+    ConsumerPermit, Ended, Entry, Full, ProducerPermit, ReceiverPermit, ReplyChannel, SenderEnded,
     ShardQueue,
 };
 use std::alloc::{AllocError, AllocGlobal, Global};
@@ -43,10 +43,10 @@ const COPIES: u8 = 16;
 
 const MAILBOXES: u8 = 3;
 
-// What a worker leaves: its ended seats, its end of its channel, and how many copies were stored.
+// What a worker leaves: its ended permits, its end of its channel, and how many copies were stored.
 struct Left {
     ended: Vec<Ended<Job>>,
-    receiver: ReceiverSeat<Noted>,
+    receiver: ReceiverPermit<Noted>,
     stored: usize,
 }
 
@@ -72,24 +72,29 @@ fn job_of(alloc: Global, seat: u8, serial: u8) -> Result<Job, AllocError> {
 }
 
 // Puts a copy on a lane. Whether there was room.
-fn put_on<R: Wait>(rt: &R, lane: &ShardQueue<Job>, seat: &mut ProducerSeat<Job>, job: Job) -> bool
-    requires { IsProducer lane.now seat.old }
-    ensures { IsProducer lane.now seat.new × (number_of seat.new ≡ number_of seat.old) }
+fn put_on<R: Wait>(
+    rt: &R,
+    lane: &ShardQueue<Job>,
+    permit: &mut ProducerPermit<Job>,
+    job: Job,
+) -> bool
+    requires { IsProducer lane.now permit.old }
+    ensures { IsProducer lane.now permit.new × (number_of permit.new ≡ number_of permit.old) }
 {
-    match lane.put_as(rt, seat, job) {
+    match lane.put_as(rt, permit, job) {
         Ok(()) => true,
         Err(Full(_)) => false,
     }
 }
 
-// The same at a seat that may be over: then nothing is put.
-fn put_at<R: Wait>(rt: &R, lane: &ShardQueue<Job>, seat: &mut LaneSeat, job: Job) -> bool
-    requires { IsSeat lane.now seat.old }
-    ensures { IsSeat lane.now seat.new × (seat_number seat.new ≡ seat_number seat.old) }
+// The same with a permit that may be over: then nothing is put.
+fn put_at<R: Wait>(rt: &R, lane: &ShardQueue<Job>, permit: &mut LanePermit, job: Job) -> bool
+    requires { IsPermit lane.now permit.old }
+    ensures { IsPermit lane.now permit.new × (permit_number permit.new ≡ permit_number permit.old) }
 {
-    match seat {
-        LaneSeat::Live(live) => put_on(rt, lane, live, job),
-        LaneSeat::Over(_) => false,
+    match permit {
+        LanePermit::Live(live) => put_on(rt, lane, live, job),
+        LanePermit::Over(_) => false,
     }
 }
 
@@ -97,16 +102,16 @@ fn put_at<R: Wait>(rt: &R, lane: &ShardQueue<Job>, seat: &mut LaneSeat, job: Job
 fn put_copy<R: Wait>(
     rt: &R,
     office: &Office,
-    seats: &mut Vec<LaneSeat>,
+    permits: &mut Vec<LanePermit>,
     number: u8,
     job: Job,
 ) -> Option<usize>
-    requires seats { AreSeats office.now.lanes.items number seats.old.items }
+    requires permits { ArePermits office.now.lanes.items number permits.old.items }
     requires lanes { office.now.directory.shards ≡ length office.now.lanes.items }
-    ensures { AreSeats office.now.lanes.items number seats.new.items }
+    ensures { ArePermits office.now.lanes.items number permits.new.items }
 {
     let shard = office.directory.shard_of(job.mailbox);
-    let was_put = put_at(rt, &office.lanes[shard], &mut seats[shard], job);
+    let was_put = put_at(rt, &office.lanes[shard], &mut permits[shard], job);
     if was_put { Some(shard) } else { None }
 }
 
@@ -114,25 +119,25 @@ fn put_copy<R: Wait>(
 fn put_next<R: Wait>(
     rt: &R,
     floor: &Floor,
-    seats: &mut Vec<LaneSeat>,
+    permits: &mut Vec<LanePermit>,
     number: u8,
     serial: u8,
 ) -> Option<usize>
-    requires seats { AreSeats floor.now.office.lanes.items number seats.old.items }
+    requires permits { ArePermits floor.now.office.lanes.items number permits.old.items }
     requires lanes { floor.now.office.directory.shards ≡ length floor.now.office.lanes.items }
-    ensures { AreSeats floor.now.office.lanes.items number seats.new.items }
+    ensures { ArePermits floor.now.office.lanes.items number permits.new.items }
 {
     let Ok(job) = job_of(floor.alloc, number, serial) else {
         return None;
     };
-    put_copy(rt, &floor.office, seats, number, job)
+    put_copy(rt, &floor.office, permits, number, job)
 }
 
 // Whether the next verdict that waits tells that a copy was stored.
 fn hears_stored<R: Wait>(
     rt: &R,
     channel: &ReplyChannel<Noted>,
-    receiver: &mut ReceiverSeat<Noted>,
+    receiver: &mut ReceiverPermit<Noted>,
 ) -> bool
     requires { IsReceiver channel.now receiver.old }
     ensures { IsReceiver channel.now receiver.new }
@@ -154,16 +159,16 @@ fn put_all<H: Hall, R: Wait>(
     requires lanes { H.lanes ≡ Some floor.now.office.lanes.items }
     requires depot { H.depot ≡ Some floor.now.depot }
     requires shards { floor.now.office.directory.shards ≡ length floor.now.office.lanes.items }
-    requires seats { AreSeats floor.now.office.lanes.items desk.old.number desk.old.seats.items }
+    requires permits { ArePermits floor.now.office.lanes.items desk.old.number desk.old.permits.items }
     requires receiver { IsReceiver channel.now desk.old.receiver }
     ensures number { desk.new.number ≡ desk.old.number }
-    ensures seats { AreSeats floor.now.office.lanes.items desk.old.number desk.new.seats.items }
+    ensures permits { ArePermits floor.now.office.lanes.items desk.old.number desk.new.permits.items }
 {
     let help = Clerks::new(clerks, &floor.office.lanes, &floor.depot, &Unhindered);
     let number = desk.number;
     let mut stored = 0usize;
     for serial in 0..COPIES {
-        if let Some(shard) = put_next(rt, floor, &mut desk.seats, number, serial) {
+        if let Some(shard) = put_next(rt, floor, &mut desk.permits, number, serial) {
             help.help(rt, shard);
             if hears_stored(rt, channel, &mut desk.receiver) {
                 stored = stored.saturating_add(1);
@@ -192,13 +197,13 @@ fn labour<H: Hall, R: Wait + Abort>(
     let stored = put_all(rt, floor, clerks, channel, &mut desk);
     let Desk {
         number,
-        seats,
+        permits,
         receiver,
         ends: _,
     } = desk;
     let mut pace = Pace::new(&Unhindered, Actor::Worker(number));
     let help = Clerks::new(clerks, &floor.office.lanes, &floor.depot, &Unhindered);
-    let ended = end_all(rt, &mut pace, &floor.office, &help, number, seats, room);
+    let ended = end_all(rt, &mut pace, &floor.office, &help, number, permits, room);
     packed(Left {
         ended,
         receiver,
@@ -228,27 +233,27 @@ fn pack_all(
 // channels.
 fn part(
     mut consumed: Vec<Consumed>,
-    mut seats: Vec<ConsumerSeat<Job>>,
+    mut permits: Vec<ConsumerPermit<Job>>,
     hands: &mut Vec<Vec<SenderEnded<Noted>>>,
-) -> Vec<ConsumerSeat<Job>>
-    requires seats { (seats.items ≡ []) × (vec_len consumed ≤ vec_capacity seats) }
+) -> Vec<ConsumerPermit<Job>>
+    requires permits { (permits.items ≡ []) × (vec_len consumed ≤ vec_capacity permits) }
     requires hands { vec_len hands.old + vec_len consumed ≤ vec_capacity hands.old }
-    ensures seats { result.items ≡ map (λ c. c.seat) consumed.items }
+    ensures permits { result.items ≡ map (λ c. c.permit) consumed.items }
     ensures hands { vec_len hands.new ≡ vec_len hands.old + vec_len consumed }
 {
     for done in 0..consumed.len() {
         let Consumed {
-            seat,
+            permit,
             senders,
             copies: _,
             kept: _,
             torn: _,
         } = consumed.remove(0);
-        seats.push_reserved(seat);
+        permits.push_reserved(permit);
         hands.push_reserved(senders);
     }
     consumed.destroy_empty();
-    seats
+    permits
 }
 
 // What a round comes to.
@@ -262,12 +267,12 @@ struct Round {
     accepted: Vec<CopyKey>,
 }
 
-// Collects what is left of the workers' seats, and how many copies were told as stored.
+// Collects what is left of the workers' permits, and how many copies were told as stored.
 fn collect_all(
     floor: &Floor,
     mut left: Vec<ManuallyDrop<Left>>,
     lists: &mut Vec<Vec<Ended<Job>>>,
-    receivers: &mut Vec<ReceiverSeat<Noted>>,
+    receivers: &mut Vec<ReceiverPermit<Noted>>,
 ) -> usize
     requires ended { All (λ l. AreSomeones floor.now.office.lanes.items (manually_drop_value {X = Left} l).ended.items) left.items }
     requires lists { EndedRows floor.now.office.lanes.items (map (λ v. v.items) lists.old.items) }
@@ -291,12 +296,12 @@ fn collect_all(
     told
 }
 
-// Spends the channels with all that is left of their seats.
+// Spends the channels with all that is left of their permits.
 fn spend_channels(
     alloc: Global,
     mut channels: Vec<ReplyChannel<Noted>>,
     mut hands: Vec<Vec<SenderEnded<Noted>>>,
-    mut receivers: Vec<ReceiverSeat<Noted>>,
+    mut receivers: Vec<ReceiverPermit<Noted>>,
 )
     requires hands { vec_len hands ≤ vec_len channels }
     requires receivers { vec_len receivers ≡ vec_len channels }
@@ -398,7 +403,7 @@ fn run_in<H: Hall + Send, T: Threads + Wait + Sync + Abort>(
     if !in_order {
         panic!(rt; "a clerk stood at another's position")
     }
-    let seats = part(consumed, consumers, &mut sender_hands);
+    let permits = part(consumed, consumers, &mut sender_hands);
     let Floor {
         office,
         depot,
@@ -418,7 +423,7 @@ fn run_in<H: Hall + Send, T: Threads + Wait + Sync + Abort>(
         channels,
         sessions: _,
     } = depot;
-    let closed = close_lanes(alloc, lanes, lists, seats, closed).is_some();
+    let closed = close_lanes(alloc, lanes, lists, permits, closed).is_some();
     spend_channels(alloc, channels, sender_hands, receivers);
     let accepted = accepted_by_all(alloc, mailboxes).expect(rt, "memory");
     Round {
@@ -586,7 +591,7 @@ fn clerks_with_nothing_to_do_are_stood_down(rt: HostRuntime) -> Result<(), Fail>
     } = crew;
     let (shard, ends, stands) = idle_in::<Brand, HostRuntime>(&rt, &floor, stands);
     let count = stands.len();
-    // A house whose seats haven't ended can't be closed, and is left where it is.
+    // A house whose permits haven't ended can't be closed, and is left where it is.
     let _floor = packed(floor);
     let _baskets = packed(baskets);
     let _stands = packed(stands);

@@ -3,38 +3,38 @@ use Rattle.std.proofs.Common.{◌≡◌, ◌+◌, ◌∙◌, ℕ, suc, ap, sym, 
 use Rattle.delivery_token.specs.declared.Job.{Job}
 use Rattle.delivery_token.specs.declared.log.Noted.{Noted}
 use Rattle.shard_queue.specs.declared.queue.ShardQueue.{ShardQueue}
-use Rattle.lane_work.specs.declared.desk.LaneSeat.{LaneSeat}
-use Rattle.shard_queue.specs.declared.queue.ConsumerSeat.{ConsumerSeat}
+use Rattle.lane_work.specs.declared.desk.LanePermit.{LanePermit}
+use Rattle.shard_queue.specs.declared.queue.ConsumerPermit.{ConsumerPermit}
 use Rattle.shard_queue.specs.declared.ends.ReplyChannel.{ReplyChannel}
-use Rattle.shard_queue.specs.declared.reply.SenderSeat.{SenderSeat}
-use Rattle.shard_queue.specs.declared.reply.ReceiverSeat.{ReceiverSeat}
+use Rattle.shard_queue.specs.declared.reply.SenderPermit.{SenderPermit}
+use Rattle.shard_queue.specs.declared.reply.ReceiverPermit.{ReceiverPermit}
 use Rattle.shard_queue.specs.Reply.{IsReceiver, sent_on}
-use Rattle.shard_queue.specs.Seats.{IsConsumer}
-use Rattle.lane_work.specs.Seats.{AreSeats, AreSenders, IsNew}
-use Rattle.lane_seats.specs.rows.Rows.{AreConsumers, AreHands}
-use Rattle.lane_seats.specs.rows.SenderRows.{AreReceivers, AreSenderHands}
+use Rattle.shard_queue.specs.Permits.{IsConsumer}
+use Rattle.lane_work.specs.Permits.{ArePermits, AreSenders, IsNew}
+use Rattle.lane_permits.specs.rows.Rows.{AreConsumers, AreHands}
+use Rattle.lane_permits.specs.rows.SenderRows.{AreReceivers, AreSenderHands}
 use Rattle.house_floor.specs.Crew.{AllAt}
 
--- a producer's seats on all lanes, which have put nothing
-abbrev pub IsHand : List (ShardQueue Job) → ℕ → Vec LaneSeat Global → Type 0
-IsHand lanes n v = AreSeats lanes n v.items × All IsNew v.items
+-- a producer's permits on all lanes, which have put nothing
+abbrev pub IsHand : List (ShardQueue Job) → ℕ → Vec LanePermit Global → Type 0
+IsHand lanes n v = ArePermits lanes n v.items × All IsNew v.items
 
 -- a consumer's on all channels, which have sent nothing
-abbrev pub IsSenderHand : List (ReplyChannel Noted) → ℕ → Vec (SenderSeat Noted) Global → Type 0
+abbrev pub IsSenderHand : List (ReplyChannel Noted) → ℕ → Vec (SenderPermit Noted) Global → Type 0
 IsSenderHand channels n v = AreSenders channels n v.items × All (λ s. sent_on s ≡ []) v.items
 
 -- the end of the channel at this position, and of the lane
-abbrev pub IsReceiverAt : List (ReplyChannel Noted) → ℕ → ReceiverSeat Noted → Type 0
-IsReceiverAt channels n seat = (channel : ReplyChannel Noted) → slice_get channels n ≡ Some channel → IsReceiver channel seat
+abbrev pub IsReceiverAt : List (ReplyChannel Noted) → ℕ → ReceiverPermit Noted → Type 0
+IsReceiverAt channels n permit = (channel : ReplyChannel Noted) → slice_get channels n ≡ Some channel → IsReceiver channel permit
 
-abbrev pub IsConsumerAt : List (ShardQueue Job) → ℕ → ConsumerSeat Job → Type 0
-IsConsumerAt lanes n seat = (lane : ShardQueue Job) → slice_get lanes n ≡ Some lane → IsConsumer lane seat
+abbrev pub IsConsumerAt : List (ShardQueue Job) → ℕ → ConsumerPermit Job → Type 0
+IsConsumerAt lanes n permit = (lane : ShardQueue Job) → slice_get lanes n ≡ Some lane → IsConsumer lane permit
 
-pub hands_at : (lanes : List (ShardQueue Job)) (n : ℕ) (vs : List (Vec LaneSeat Global)) → AreHands lanes n (map (λ v. v.items) vs) → AllAt (IsHand lanes) n vs
+pub hands_at : (lanes : List (ShardQueue Job)) (n : ℕ) (vs : List (Vec LanePermit Global)) → AreHands lanes n (map (λ v. v.items) vs) → AllAt (IsHand lanes) n vs
 hands_at lanes n [] h = tt
 hands_at lanes n (v ∷ vs) h = (h.0, hands_at lanes (suc n) vs h.1)
 
-pub sender_hands_at : (channels : List (ReplyChannel Noted)) (n : ℕ) (vs : List (Vec (SenderSeat Noted) Global)) → AreSenderHands channels n (map (λ v. v.items) vs) → AllAt (IsSenderHand channels) n vs
+pub sender_hands_at : (channels : List (ReplyChannel Noted)) (n : ℕ) (vs : List (Vec (SenderPermit Noted) Global)) → AreSenderHands channels n (map (λ v. v.items) vs) → AllAt (IsSenderHand channels) n vs
 sender_hands_at channels n [] h = tt
 sender_hands_at channels n (v ∷ vs) h = (h.0, sender_hands_at channels (suc n) vs h.1)
 
@@ -56,14 +56,14 @@ module _ {A : Type 0} where
   pub all_rest : (all : List A) → IsRest all 0 all
   all_rest all i = let e : 0 + i ≡ i = omega arith in ap (slice_get all) e
 
-pub receivers_at : (all : List (ReplyChannel Noted)) (n : ℕ) (cs : List (ReplyChannel Noted)) (ss : List (ReceiverSeat Noted)) → IsRest all n cs → AreReceivers cs ss → AllAt (IsReceiverAt all) n ss
+pub receivers_at : (all : List (ReplyChannel Noted)) (n : ℕ) (cs : List (ReplyChannel Noted)) (ss : List (ReceiverPermit Noted)) → IsRest all n cs → AreReceivers cs ss → AllAt (IsReceiverAt all) n ss
 receivers_at all n [] [] rest h = tt
 receivers_at all n [] (s ∷ ss) rest h = absurd h
 receivers_at all n (c ∷ cs) [] rest h = tt
 receivers_at all n (c ∷ cs) (s ∷ ss) rest h =
     ((λ channel e. subst (λ q. IsReceiver q s) (same_at all n c channel (head_of all n c cs rest) e) h.0), receivers_at all (suc n) cs ss (tail_of all n c cs rest) h.1)
 
-pub consumers_at : (all : List (ShardQueue Job)) (n : ℕ) (qs : List (ShardQueue Job)) (ss : List (ConsumerSeat Job)) → IsRest all n qs → AreConsumers qs ss → AllAt (IsConsumerAt all) n ss
+pub consumers_at : (all : List (ShardQueue Job)) (n : ℕ) (qs : List (ShardQueue Job)) (ss : List (ConsumerPermit Job)) → IsRest all n qs → AreConsumers qs ss → AllAt (IsConsumerAt all) n ss
 consumers_at all n [] [] rest h = tt
 consumers_at all n [] (s ∷ ss) rest h = absurd h
 consumers_at all n (q ∷ qs) [] rest h = tt

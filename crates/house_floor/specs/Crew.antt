@@ -5,8 +5,8 @@ use Rattle.delivery_token.specs.declared.log.Noted.{Noted}
 use Rattle.shard_queue.specs.declared.queue.ShardQueue.{ShardQueue}
 use Rattle.shard_queue.specs.declared.ends.ReplyChannel.{ReplyChannel}
 use Rattle.shard_queue.specs.Reply.{IsReceiver, received, sent_on}
-use Rattle.shard_queue.specs.Seats.{IsConsumer, got}
-use Rattle.lane_work.specs.Seats.{AreSeats, AreSenders, IsNew}
+use Rattle.shard_queue.specs.Permits.{IsConsumer, got}
+use Rattle.lane_work.specs.Permits.{ArePermits, AreSenders, IsNew}
 use Rattle.house_floor.specs.Users.{user_numbered}
 use Rattle.house_floor.specs.declared.floor.Floor.{Floor}
 use Rattle.house_floor.specs.declared.floor.Visit.{Visit}
@@ -38,8 +38,8 @@ pub record AreVisits (floor : Floor) (visits : List Visit) : Type 0 where
 -- the post of producer n: it has put nothing, and hears its own channel, of which it has heard nothing yet
 pub record IsPost (floor : Floor) (n : ℕ) (post : Post) : Type 0 where
   pub number : post.desk.number ≡ n
-  pub seats : AreSeats floor.office.lanes.items n post.desk.seats.items
-  pub fresh : All IsNew post.desk.seats.items
+  pub permits : ArePermits floor.office.lanes.items n post.desk.permits.items
+  pub fresh : All IsNew post.desk.permits.items
   pub receiver : (channel : ReplyChannel Noted) → slice_get floor.depot.channels.items n ≡ Some channel → IsReceiver channel post.desk.receiver
   pub unheard : (received post.desk.receiver ≡ []) × (post.desk.ends ≡ 0)
   pub empty : post.room.items ≡ []
@@ -48,8 +48,8 @@ pub record IsPost (floor : Floor) (n : ℕ) (post : Post) : Type 0 where
 -- the stand of consumer n: it has taken nothing and sent nothing, and takes from its own lane
 pub record IsStand (floor : Floor) (n : ℕ) (stand : Stand) : Type 0 where
   pub shard : stand.stall.shard ≡ n
-  pub seat : (lane : ShardQueue Job) → slice_get floor.office.lanes.items n ≡ Some lane → IsConsumer lane stand.stall.seat
-  pub fresh : got stand.stall.seat ≡ []
+  pub permit : (lane : ShardQueue Job) → slice_get floor.office.lanes.items n ≡ Some lane → IsConsumer lane stand.stall.permit
+  pub fresh : got stand.stall.permit ≡ []
   pub senders : AreSenders floor.depot.channels.items n stand.stall.senders.items
   pub unsent : All (λ s. sent_on s ≡ []) stand.stall.senders.items
   pub empty : stand.room.items ≡ []

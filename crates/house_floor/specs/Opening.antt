@@ -1,9 +1,9 @@
 -- What is made before the first thread runs: the floor that all share, and room for what the threads will leave.
 use Rattle.std.specs.Prelude.{◌≡◌, ◌≤◌, ◌*◌, ℕ, [], All, length, map, vec_capacity}
 use Rattle.envelope.specs.Directory.{Directory}
-use Rattle.lane_seats.specs.Rooms.{AreRooms}
+use Rattle.lane_permits.specs.Rooms.{AreRooms}
 use Rattle.shard_queue.specs.Reply.{room_of, senders_of}
-use Rattle.shard_queue.specs.Seats.{capacity_of, producers_of}
+use Rattle.shard_queue.specs.Permits.{capacity_of, producers_of}
 use Rattle.house_floor.specs.Crew.{IsHouse}
 use Rattle.house_floor.specs.declared.floor.Floor.{Floor}
 use Rattle.house_floor.specs.declared.opening.Baskets.{Baskets}
@@ -29,12 +29,12 @@ pub record IsFloor (directory : Directory) (sizes : Sizes) (floor : Floor) : Typ
 
 -- nothing lies in these lists
 abbrev pub AreNoSpares : Spares → Type 0
-AreNoSpares s = (s.seats.items ≡ []) × (s.ended.items ≡ []) × (s.senders.items ≡ []) × (s.senders_ended.items ≡ [])
+AreNoSpares s = (s.permits.items ≡ []) × (s.ended.items ≡ []) × (s.senders.items ≡ []) × (s.senders_ended.items ≡ [])
 
 -- nor in these, and each has room for so many
 pub record AreSpares (n : ℕ) (s : Spares) : Type 0 where
   pub empty : AreNoSpares s
-  pub seats : n ≤ vec_capacity s.seats
+  pub permits : n ≤ vec_capacity s.permits
   pub ended : n ≤ vec_capacity s.ended
   pub senders : n ≤ vec_capacity s.senders
   pub senders_ended : n ≤ vec_capacity s.senders_ended

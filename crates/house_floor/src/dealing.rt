@@ -1,30 +1,32 @@
-//! What is dealt to the threads of a house: its seats, lane by lane and channel by channel, become a
+//! What is dealt to the threads of a house: its permits, lane by lane and channel by channel, become a
 //! post for each producer and a stand for each consumer. Nothing is made here, so nothing is refused.
 
 ghost use Rattle.std.specs.Prelude.{◌≡◌, ◌≤◌, [], All, length, map, vec_len, vec_capacity};
 ghost use Rattle.house_floor.specs.Crew.{AllAt, IsPost, IsStand};
 ghost use Rattle.house_floor.specs.inner.Making.{AreUndealt};
-ghost use Rattle.lane_seats.specs.Rooms.{AreRooms};
-ghost use Rattle.lane_seats.specs.rows.Rows.{AreConsumers, AreHands};
-ghost use Rattle.lane_seats.specs.rows.SenderRows.{AreReceivers, AreSenderHands};
+ghost use Rattle.lane_permits.specs.Rooms.{AreRooms};
+ghost use Rattle.lane_permits.specs.rows.Rows.{AreConsumers, AreHands};
+ghost use Rattle.lane_permits.specs.rows.SenderRows.{AreReceivers, AreSenderHands};
 ghost use Rattle.shard_queue.specs.Reply.{received, senders_of};
-ghost use Rattle.shard_queue.specs.Seats.{got, producers_of};
+ghost use Rattle.shard_queue.specs.Permits.{got, producers_of};
 
 use crate::floor::{Floor, Post, Stand};
 use crossbeam_utils::sync::Parker;
 use delivery_token::{Job, Noted};
-use lane_seats::{Hands, deal_all, deal_all_senders};
-use lane_work::{Desk, LaneSeat, Stall};
-use shard_queue::{ConsumerSeat, Ended, ProducerSeat, ReceiverSeat, SenderEnded, SenderSeat};
+use lane_permits::{Hands, deal_all, deal_all_senders};
+use lane_work::{Desk, LanePermit, Stall};
+use shard_queue::{
+    ConsumerPermit, Ended, ProducerPermit, ReceiverPermit, SenderEnded, SenderPermit,
+};
 
 // A post for each of so many producers, from the hands that were dealt to them, from the receivers'
-// ends of their channels, and from empty lists with room for what is left of their seats. `posts`,
+// ends of their channels, and from empty lists with room for what is left of their permits. `posts`,
 // which is empty, has room for all.
 fn set_posts(
     floor: &Floor,
     producers: u8,
-    mut hands: Vec<Vec<LaneSeat>>,
-    mut receivers: Vec<ReceiverSeat<Noted>>,
+    mut hands: Vec<Vec<LanePermit>>,
+    mut receivers: Vec<ReceiverPermit<Noted>>,
     mut rooms: Vec<Vec<Ended<Job>>>,
     mut posts: Vec<Post>,
 ) -> Vec<Post>
@@ -39,7 +41,7 @@ fn set_posts(
     for number in 0..producers {
         let desk = Desk {
             number,
-            seats: hands.remove(0),
+            permits: hands.remove(0),
             receiver: receivers.remove(0),
             ends: 0,
         };
@@ -55,13 +57,13 @@ fn set_posts(
 }
 
 // A stand for each of so many consumers, from the hands that were dealt to them, from their ends of
-// their lanes and of their bells, and from empty lists with room for what is left of their seats.
+// their lanes and of their bells, and from empty lists with room for what is left of their permits.
 // `stands`, which is empty, has room for all.
 fn set_stands(
     floor: &Floor,
     shards: u8,
-    mut hands: Vec<Vec<SenderSeat<Noted>>>,
-    mut consumers: Vec<ConsumerSeat<Job>>,
+    mut hands: Vec<Vec<SenderPermit<Noted>>>,
+    mut consumers: Vec<ConsumerPermit<Job>>,
     mut parkers: Vec<Parker>,
     mut rooms: Vec<Vec<SenderEnded<Noted>>>,
     mut stands: Vec<Stand>,
@@ -78,7 +80,7 @@ fn set_stands(
     for shard in 0..shards {
         let stall = Stall {
             shard,
-            seat: consumers.remove(0),
+            permit: consumers.remove(0),
             senders: hands.remove(0),
             bell: parkers.remove(0),
         };
@@ -95,27 +97,27 @@ fn set_stands(
 
 /// What is to be dealt, and the empty lists that it goes into.
 pub(crate) struct Undealt {
-    /// For each lane the producers' seats.
-    pub(crate) lane_seats: Vec<Vec<ProducerSeat<Job>>>,
+    /// For each lane the producers' permits.
+    pub(crate) lane_permits: Vec<Vec<ProducerPermit<Job>>>,
     /// For each producer its end of its reply channel.
-    pub(crate) receivers: Vec<ReceiverSeat<Noted>>,
-    /// For each reply channel the consumers' seats.
-    pub(crate) channel_seats: Vec<Vec<SenderSeat<Noted>>>,
+    pub(crate) receivers: Vec<ReceiverPermit<Noted>>,
+    /// For each reply channel the consumers' permits.
+    pub(crate) channel_permits: Vec<Vec<SenderPermit<Noted>>>,
     /// For each consumer its end of its lane.
-    pub(crate) consumers: Vec<ConsumerSeat<Job>>,
+    pub(crate) consumers: Vec<ConsumerPermit<Job>>,
     /// For each consumer its own end of its bell.
     pub(crate) parkers: Vec<Parker>,
-    /// For each producer's seats.
-    pub(crate) hands: Hands<LaneSeat>,
-    /// For what is left of each producer's seats.
+    /// For each producer's permits.
+    pub(crate) hands: Hands<LanePermit>,
+    /// For what is left of each producer's permits.
     pub(crate) rooms: Vec<Vec<Ended<Job>>>,
-    /// For each consumer's seats.
-    pub(crate) sender_hands: Hands<SenderSeat<Noted>>,
-    /// For what is left of each consumer's seats.
+    /// For each consumer's permits.
+    pub(crate) sender_hands: Hands<SenderPermit<Noted>>,
+    /// For what is left of each consumer's permits.
     pub(crate) sender_rooms: Vec<Vec<SenderEnded<Noted>>>,
 }
 
-/// Deals the seats of all lanes and channels, none of which has put, taken or sent anything: a stand
+/// Deals the permits of all lanes and channels, none of which has put, taken or sent anything: a stand
 /// for each of so many consumers and a post for each of so many producers, in the order of their
 /// numbers. The two lists, which are empty, have room for all.
 pub(crate) fn deal_out(
@@ -135,9 +137,9 @@ pub(crate) fn deal_out(
     ensures posts { AllAt (IsPost floor.now) 0 result.1.items }
 {
     let Undealt {
-        lane_seats,
+        lane_permits,
         receivers,
-        channel_seats,
+        channel_permits,
         consumers,
         parkers,
         hands,
@@ -146,9 +148,9 @@ pub(crate) fn deal_out(
         sender_rooms,
     } = undealt;
     let Hands { each, all } = hands;
-    let hands = deal_all(&floor.office.lanes, lane_seats, producers, each, all);
+    let hands = deal_all(&floor.office.lanes, lane_permits, producers, each, all);
     let Hands { each, all } = sender_hands;
-    let sender_hands = deal_all_senders(&floor.depot.channels, channel_seats, shards, each, all);
+    let sender_hands = deal_all_senders(&floor.depot.channels, channel_permits, shards, each, all);
     let stands = set_stands(
         floor,
         shards,

@@ -29,7 +29,7 @@ pub struct Visit {
     pub steps: Vec<Step>,
 }
 
-/// A producer's desk, and room for what is left of its seats.
+/// A producer's desk, and room for what is left of its permits.
 pub struct Post {
     pub desk: Desk,
     pub room: Vec<Ended<Job>>,

@@ -2,7 +2,7 @@
 
 ghost use Rattle.std.specs.Prelude.{◌≡◌, ◌<◌, All, length, vec_len};
 ghost use Rattle.shard_queue.specs.Reply.{room_of, senders_of};
-ghost use Rattle.shard_queue.specs.Seats.{capacity_of, producers_of};
+ghost use Rattle.shard_queue.specs.Permits.{capacity_of, producers_of};
 ghost use Rattle.house_floor.specs.Crew.{IsCrew};
 ghost use Rattle.house_floor.specs.inner.Making.{AreCrewLists, AreFittings, AreStock, AreUndealt, IsHall};
 ghost use Rattle.house_floor.specs.Opening.{AreBaskets, IsFloor, reply_room};
@@ -15,7 +15,7 @@ use crate::stock::{CrewLists, EndLists, Lists, Stock};
 use crossbeam_utils::sync::Parker;
 use delivery_token::{Job, Noted};
 use envelope::Directory;
-use lane_seats::{Channels, Hands, Lanes, Rooms, SeatRooms};
+use lane_permits::{Channels, Hands, Lanes, PermitRooms, Rooms};
 use lane_work::{Depot, Office};
 use shard_queue::{Ended, ReplyChannel, SenderEnded, ShardQueue};
 use std::alloc::Global;
@@ -85,30 +85,30 @@ fn man(floor: &Floor, producers: u8, shards: u8, undealt: Undealt, lists: CrewLi
     }
 }
 
-// Empty lists for what is left of seats after their ends.
+// Empty lists for what is left of permits after their ends.
 struct Leavings<E> {
     // For each actor's.
     hands: Vec<Vec<E>>,
-    // For each position a list, for what is left there of all actors' seats.
+    // For each position a list, for what is left there of all actors' permits.
     lists: Vec<Vec<E>>,
 }
 
-// The rooms that are needed for the dealing, for each actor's seats and for what is left of them, and those
+// The rooms that are needed for the dealing, for each actor's permits and for what is left of them, and those
 // that are needed behind it.
-fn parted<S, E>(rooms: SeatRooms<S, E>) -> (Hands<S>, Vec<Vec<E>>, Leavings<E>)
-    ensures dealt { (result.0 ≡ rooms.seats) × (result.1 ≡ rooms.ended.each) }
+fn parted<S, E>(rooms: PermitRooms<S, E>) -> (Hands<S>, Vec<Vec<E>>, Leavings<E>)
+    ensures dealt { (result.0 ≡ rooms.permits) × (result.1 ≡ rooms.ended.each) }
     ensures left { (result.2.hands ≡ rooms.ended.all) × (result.2.lists ≡ rooms.lists) }
 {
-    let SeatRooms {
-        seats,
+    let PermitRooms {
+        permits,
         ended,
         lists,
     } = rooms;
     let Hands { each, all } = ended;
-    (seats, each, Leavings { hands: all, lists })
+    (permits, each, Leavings { hands: all, lists })
 }
 
-// The queues, what is to be dealt of their seats, and room for what is left of these.
+// The queues, what is to be dealt of their permits, and room for what is left of these.
 struct Sorted {
     lanes: Vec<ShardQueue<Job>>,
     channels: Vec<ReplyChannel<Noted>>,
@@ -119,12 +119,12 @@ struct Sorted {
 
 // Sorts what was made.
 fn sort_out(rooms: Rooms, lanes: Lanes, channels: Channels, parkers: Vec<Parker>) -> Sorted
-    ensures lanes { (result.lanes ≡ lanes.queues) × (result.undealt.lane_seats ≡ lanes.seats) × (result.undealt.consumers ≡ lanes.consumers) }
-    ensures channels { (result.channels ≡ channels.channels) × (result.undealt.channel_seats ≡ channels.seats)
+    ensures lanes { (result.lanes ≡ lanes.queues) × (result.undealt.lane_permits ≡ lanes.permits) × (result.undealt.consumers ≡ lanes.consumers) }
+    ensures channels { (result.channels ≡ channels.channels) × (result.undealt.channel_permits ≡ channels.permits)
         × (result.undealt.receivers ≡ channels.receivers) }
     ensures parkers { result.undealt.parkers ≡ parkers }
-    ensures rooms { (result.undealt.hands ≡ rooms.workers.seats) × (result.undealt.rooms ≡ rooms.workers.ended.each)
-        × (result.undealt.sender_hands ≡ rooms.consumers.seats) × (result.undealt.sender_rooms ≡ rooms.consumers.ended.each) }
+    ensures rooms { (result.undealt.hands ≡ rooms.workers.permits) × (result.undealt.rooms ≡ rooms.workers.ended.each)
+        × (result.undealt.sender_hands ≡ rooms.consumers.permits) × (result.undealt.sender_rooms ≡ rooms.consumers.ended.each) }
     ensures left { (result.of_producers.hands ≡ rooms.workers.ended.all) × (result.of_producers.lists ≡ rooms.workers.lists)
         × (result.of_consumers.hands ≡ rooms.consumers.ended.all) × (result.of_consumers.lists ≡ rooms.consumers.lists) }
 {
@@ -133,18 +133,18 @@ fn sort_out(rooms: Rooms, lanes: Lanes, channels: Channels, parkers: Vec<Parker>
     let (sender_hands, sender_rooms, of_consumers) = parted(consumers);
     let Lanes {
         queues,
-        seats: lane_seats,
+        permits: lane_permits,
         consumers,
     } = lanes;
     let Channels {
         channels,
-        seats: channel_seats,
+        permits: channel_permits,
         receivers,
     } = channels;
     let undealt = Undealt {
-        lane_seats,
+        lane_permits,
         receivers,
-        channel_seats,
+        channel_permits,
         consumers,
         parkers,
         hands,

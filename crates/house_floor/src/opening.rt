@@ -1,4 +1,4 @@
-//! What is made before the first thread runs: the mailboxes, the queues with their seats dealt, the
+//! What is made before the first thread runs: the mailboxes, the queues with their permits dealt, the
 //! bells, and room for all that the threads will leave, so that behind the start nothing is refused but
 //! a thread. No thread is started here.
 
@@ -16,7 +16,7 @@ use envelope::Directory;
 use lane_work::Closing;
 use mailbox::{History, Limits};
 use session_bells::Sleeper;
-use shard_queue::{Closed, ConsumerSeat, Ended, ReceiverSeat, ReplyClosed, SenderEnded};
+use shard_queue::{Closed, ConsumerPermit, Ended, ReceiverPermit, ReplyClosed, SenderEnded};
 use std::alloc::{AllocError, Global};
 
 /// How large the parts of a house are.
@@ -46,18 +46,18 @@ pub struct Sizes<'a> {
 
 /// Room for what the threads leave.
 pub struct Baskets {
-    /// For each producer, what is left of its seats on the lanes.
+    /// For each producer, what is left of its permits on the lanes.
     pub hands: Vec<Vec<Ended<Job>>>,
     /// For each lane, the same.
     pub lists: Vec<Vec<Ended<Job>>>,
-    /// For each consumer, what is left of its seats on the reply channels.
+    /// For each consumer, what is left of its permits on the reply channels.
     pub sender_hands: Vec<Vec<SenderEnded<Noted>>>,
     /// For each channel, the same.
     pub sender_lists: Vec<Vec<SenderEnded<Noted>>>,
     /// Each lane's consumer's end.
-    pub consumers: Vec<ConsumerSeat<Job>>,
+    pub consumers: Vec<ConsumerPermit<Job>>,
     /// Each producer's end of its reply channel.
-    pub receivers: Vec<ReceiverSeat<Noted>>,
+    pub receivers: Vec<ReceiverPermit<Noted>>,
     /// For each producer, what it said: of a worker the replies to each connection, of a session one
     /// text.
     pub replies: Vec<Vec<Vec<u8>>>,
@@ -69,7 +69,7 @@ pub struct Baskets {
     pub lanes: Vec<Closed<Job>>,
     /// For each reply channel, the same.
     pub channels: Vec<ReplyClosed<Noted>>,
-    /// For all seats, where the run comes to nothing.
+    /// For all permits, where the run comes to nothing.
     pub spares: Spares,
 }
 

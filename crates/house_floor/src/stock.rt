@@ -1,4 +1,4 @@
-//! What a house is made of that can't be let go: its lanes and channels with all their seats, and empty
+//! What a house is made of that can't be let go: its lanes and channels with all their permits, and empty
 //! lists for what is dealt of them and for what the threads leave. Where memory is refused on the way,
 //! all that was made by then is spent. What may be let go stands in `fittings`.
 
@@ -8,11 +8,13 @@ ghost use Rattle.house_floor.specs.Opening.{AreNoSpares, AreSpares};
 
 use crate::floor::{Post, Stand};
 use delivery_token::{Job, Noted};
-use lane_seats::{
+use lane_permits::{
     Channels, Lanes, Rooms, abandon_lanes, make_channels, make_lanes, make_rooms, spend_rooms,
 };
 use lane_work::{Consumed, Worked};
-use shard_queue::{ConsumerSeat, Ended, ProducerSeat, ReceiverSeat, SenderEnded, SenderSeat};
+use shard_queue::{
+    ConsumerPermit, Ended, ProducerPermit, ReceiverPermit, SenderEnded, SenderPermit,
+};
 use std::alloc::{AllocError, Global};
 
 /// So many verdicts have room in a producer's reply channel.
@@ -35,21 +37,21 @@ pub(crate) struct CrewLists {
 /// Empty lists for the ends of the queues.
 pub(crate) struct EndLists {
     /// For each consumer's end of its lane.
-    pub(crate) consumers: Vec<ConsumerSeat<Job>>,
+    pub(crate) consumers: Vec<ConsumerPermit<Job>>,
     /// For each producer's end of its reply channel.
-    pub(crate) receivers: Vec<ReceiverSeat<Noted>>,
+    pub(crate) receivers: Vec<ReceiverPermit<Noted>>,
     pub(crate) spares: Spares,
 }
 
-/// Room for all seats of a house at once, and for what is left of them: a run that comes to nothing
+/// Room for all permits of a house at once, and for what is left of them: a run that comes to nothing
 /// gives them back in whatever state they are.
 pub struct Spares {
-    /// For the producers' seats on all lanes.
-    pub seats: Vec<ProducerSeat<Job>>,
+    /// For the producers' permits on all lanes.
+    pub permits: Vec<ProducerPermit<Job>>,
     /// For what is left of them.
     pub ended: Vec<Ended<Job>>,
-    /// For the consumers' seats on all reply channels.
-    pub senders: Vec<SenderSeat<Noted>>,
+    /// For the consumers' permits on all reply channels.
+    pub senders: Vec<SenderPermit<Noted>>,
     /// For what is left of them.
     pub senders_ended: Vec<SenderEnded<Noted>>,
 }
@@ -60,23 +62,23 @@ impl Spares {
         ensures { AreNoSpares result }
     {
         Spares {
-            seats: Vec::new(alloc),
+            permits: Vec::new(alloc),
             ended: Vec::new(alloc),
             senders: Vec::new(alloc),
             senders_ended: Vec::new(alloc),
         }
     }
 
-    // Makes room for so many seats of each kind.
-    fn reserve(&mut self, seats: usize) -> Result<(), AllocError>
+    // Makes room for so many permits of each kind.
+    fn reserve(&mut self, permits: usize) -> Result<(), AllocError>
         requires { AreNoSpares self.old }
         ensures empty { AreNoSpares self.new }
-        ensures room { OnOk result (AreSpares seats self.new) }
+        ensures room { OnOk result (AreSpares permits self.new) }
     {
-        self.seats.reserve(seats)?;
-        self.ended.reserve(seats)?;
-        self.senders.reserve(seats)?;
-        self.senders_ended.reserve(seats)?;
+        self.permits.reserve(permits)?;
+        self.ended.reserve(permits)?;
+        self.senders.reserve(permits)?;
+        self.senders_ended.reserve(permits)?;
         Ok(())
     }
 
@@ -85,12 +87,12 @@ impl Spares {
         requires { AreNoSpares self }
     {
         let Spares {
-            seats,
+            permits,
             ended,
             senders,
             senders_ended,
         } = self;
-        seats.destroy_empty();
+        permits.destroy_empty();
         ended.destroy_empty();
         senders.destroy_empty();
         senders_ended.destroy_empty();

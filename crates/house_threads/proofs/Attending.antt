@@ -1,4 +1,4 @@
--- A session's account, of what its life and the end of its seats tell.
+-- A session's account, of what its life and the end of its permits tell.
 use Rattle.std.proofs.Common.{◌≡◌, ◌++◌, ◌∷◌, ◌∙◌, ℕ, List, [], Some, None, length, map, sym, subst}
 use Rattle.courier.specs.Carried.{Carried, judged_of}
 use Rattle.delivery_token.specs.declared.Job.{Job}
@@ -18,7 +18,7 @@ use Rattle.lane_work.proofs.ServedLaws.{accounted_of}
 use Rattle.session_thread.specs.Life.{Lives, greeted_at}
 use Rattle.session_thread.specs.Locks.{LockedDesk}
 use Rattle.shard_queue.specs.Reply.{received}
-use Rattle.lane_work.specs.Seats.{put_by}
+use Rattle.lane_work.specs.Permits.{put_by}
 use Rattle.shard_queue.specs.Shared.{IsStartOf}
 use Rattle.shard_queue.specs.declared.lane.Entry.{Entry}
 use Rattle.house_threads.specs.Crew.{SessionAccount, most_of}
@@ -27,18 +27,18 @@ use Rattle.house_threads.specs.inner.Crew.{HasLived}
 -- books of the same desk, by its own number and serial
 same_books : (office now : Office) (desk : Desk) (seat serial : ℕ) (notes : List Noted) (carried : List Carried) → now ≡ office → desk.number ≡ seat → serial ≡ 0
     → HasCarried now desk serial (notes_tell notes) carried
-    → AreBooksOf office.directory (rooms_of office.lanes.items) seat (map (judged_of seat 0) carried) (notes_tell notes) (received desk.receiver) (map put_by desk.seats.items)
+    → AreBooksOf office.directory (rooms_of office.lanes.items) seat (map (judged_of seat 0) carried) (notes_tell notes) (received desk.receiver) (map put_by desk.permits.items)
 same_books office now desk seat serial notes carried there own first books =
-    subst (λ (o : Office). AreBooksOf o.directory (rooms_of o.lanes.items) seat (map (judged_of seat 0) carried) (notes_tell notes) (received desk.receiver) (map put_by desk.seats.items)) there
-    (subst (λ (n : ℕ). AreBooksOf now.directory (rooms_of now.lanes.items) n (map (judged_of n 0) carried) (notes_tell notes) (received desk.receiver) (map put_by desk.seats.items)) own
-    (subst (λ (s : ℕ). AreBooksOf now.directory (rooms_of now.lanes.items) desk.number (map (judged_of desk.number s) carried) (notes_tell notes) (received desk.receiver) (map put_by desk.seats.items)) first books))
+    subst (λ (o : Office). AreBooksOf o.directory (rooms_of o.lanes.items) seat (map (judged_of seat 0) carried) (notes_tell notes) (received desk.receiver) (map put_by desk.permits.items)) there
+    (subst (λ (n : ℕ). AreBooksOf now.directory (rooms_of now.lanes.items) n (map (judged_of n 0) carried) (notes_tell notes) (received desk.receiver) (map put_by desk.permits.items)) own
+    (subst (λ (s : ℕ). AreBooksOf now.directory (rooms_of now.lanes.items) desk.number (map (judged_of desk.number s) carried) (notes_tell notes) (received desk.receiver) (map put_by desk.permits.items)) first books))
 
 pub session_account : (floor : Floor) (now : Office) (desk : Desk) (seat serial : ℕ) (visit : Visit) (user : List ℕ) (selection : LockedDesk) (carried : List Carried) (text : List ℕ) (replies : List (List ℕ)) (notes kept : List Noted)
     (hears : List (Entry Noted)) (after : List (List (Entry Job)))
     → now ≡ floor.office → desk.number ≡ seat → serial ≡ 0 → kept ≡ notes
     → user_numbered visit.user floor.office.directory.homes ≡ Some user → selection ≡ record { mailboxes = length floor.depot.mailboxes.items; entered = None }
     → HasLived floor user selection visit carried text → replies ≡ text ∷ []
-    → HasCarried now desk serial (notes_tell notes) carried → IsStartOf (received desk.receiver) hears → HaveEnded desk.number (map put_by desk.seats.items) after
+    → HasCarried now desk serial (notes_tell notes) carried → IsStartOf (received desk.receiver) hears → HaveEnded desk.number (map put_by desk.permits.items) after
     → SessionAccount (premises_of floor.office) (length floor.depot.mailboxes.items) floor.turns seat visit replies kept hears after
 session_account floor now desk seat serial visit user selection carried text replies notes kept hears after there own first same named outside lived one books grew ended = record {
   carried = carried;
@@ -52,6 +52,6 @@ session_account floor now desk seat serial visit user selection carried text rep
   };
   alone = one;
   copies = subst (λ (ns : List Noted). AreAccountedFor (premises_of floor.office) seat (map (judged_of seat 0) carried) ns hears after) (sym same)
-      (accounted_of (premises_of floor.office) seat (map (judged_of seat 0) carried) notes (received desk.receiver) hears (map put_by desk.seats.items) after grew
-      (subst (λ (n : ℕ). HaveEnded n (map put_by desk.seats.items) after) own ended) (same_books floor.office now desk seat serial notes carried there own first books));
+      (accounted_of (premises_of floor.office) seat (map (judged_of seat 0) carried) notes (received desk.receiver) hears (map put_by desk.permits.items) after grew
+      (subst (λ (n : ℕ). HaveEnded n (map put_by desk.permits.items) after) own ended) (same_books floor.office now desk seat serial notes carried there own first books));
 }

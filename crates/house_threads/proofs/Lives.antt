@@ -10,13 +10,13 @@ use Rattle.shard_queue.specs.declared.queue.ShardQueue.{ShardQueue}
 use Rattle.lane_work.specs.declared.worker.Worked.{Worked}
 use Rattle.lane_work.specs.declared.consumer.Consumed.{Consumed}
 use Rattle.lane_work.specs.declared.worker.Fate.TheVariants.{NotBegun, Whole}
-use Rattle.lane_work.specs.Seats.{AreEnded}
+use Rattle.lane_work.specs.Permits.{AreEnded}
 use Rattle.lane_work.specs.Account.{Account}
 use Rattle.lane_work.specs.Speaking.{premises_of}
 use Rattle.lane_work.specs.Working.{IsWorked}
 use Rattle.shard_queue.specs.Reply.{IsReceiver, received}
-use Rattle.shard_queue.specs.Seats.{said}
-use Rattle.shard_queue.specs.declared.reply.ReceiverSeat.{ReceiverSeat}
+use Rattle.shard_queue.specs.Permits.{said}
+use Rattle.shard_queue.specs.declared.reply.ReceiverPermit.{ReceiverPermit}
 use Rattle.house_floor.specs.declared.floor.Visit.{Visit}
 use Rattle.lane_work.specs.Consuming.{IsConsumed}
 use Rattle.envelope.specs.Directory.{Home}
@@ -71,7 +71,7 @@ attended_of floor plans visits i n number j c v w same of behind attended =
     }
 
 -- what is left of a producer that stood down
-pub stood_down : (floor : Floor) (plans : Plans) (visits : List Visit) (n number : ℕ) (receiver : ReceiverSeat Noted) (w r : Worked)
+pub stood_down : (floor : Floor) (plans : Plans) (visits : List Visit) (n number : ℕ) (receiver : ReceiverPermit Noted) (w r : Worked)
     → number ≡ n → r ≡ w → AreEnded floor.office.lanes.items number w.ended.items → w.receiver ≡ receiver → w.log.seat ≡ number → w.fate ≡ NotBegun
     → ((channel : ReplyChannel Noted) → slice_get floor.depot.channels.items n ≡ Some channel → IsReceiver channel receiver)
     → IsProduceOf floor plans visits n r

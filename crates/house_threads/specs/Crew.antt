@@ -14,10 +14,10 @@ use Rattle.lane_work.specs.declared.worker.Worked.{Worked}
 use Rattle.lane_work.specs.declared.consumer.Consumed.{Consumed}
 use Rattle.lane_work.specs.declared.worker.Fate.TheVariants.{Whole}
 use Rattle.lane_work.specs.Account.{Account, AreAccountedFor, Premises}
-use Rattle.lane_work.specs.Seats.{AreEnded}
+use Rattle.lane_work.specs.Permits.{AreEnded}
 use Rattle.lane_work.specs.Speaking.{premises_of}
 use Rattle.shard_queue.specs.Reply.{IsReceiver, received}
-use Rattle.shard_queue.specs.Seats.{said}
+use Rattle.shard_queue.specs.Permits.{said}
 use Rattle.lane_work.specs.Consuming.{IsConsumed}
 use Rattle.house_floor.specs.Users.{user_numbered}
 use Rattle.house_floor.specs.declared.floor.Floor.{Floor}
@@ -54,7 +54,7 @@ pub record SessionAccount (house : Premises) (mailboxes turns seat : ℕ) (visit
   pub alone : replies ≡ text ∷ []
   pub copies : AreAccountedFor house seat (map (judged_of seat 0) carried) notes heard put
 
--- What producer n left: its ended seats are its own on each lane, its receiver is of its channel, and the log is its own. Where a worker went through all its
+-- What producer n left: its ended permits are its own on each lane, its receiver is of its channel, and the log is its own. Where a worker went through all its
 -- connections, that is its account of them; where a session, behind the workers, made all its steps, that is its account of these.
 pub record IsProduceOf (floor : Floor) (plans : Plans) (visits : List Visit) (n : ℕ) (w : Worked) : Type 0 where
   pub ended : AreEnded floor.office.lanes.items n w.ended.items
@@ -77,15 +77,15 @@ pub record LeavesAll (floor : Floor) (plans : Plans) (visits : List Visit) (ran 
   pub stands : ran.stands.items ≡ []
   pub posts : ran.posts.items ≡ []
 
--- a post that no thread has had: each seat stands there, or what is left of it
+-- a post that no thread has had: each permit stands there, or what is left of it
 abbrev pub IsPostLeft : ℕ → Post → Type 0
-IsPostLeft lanes post = vec_len post.desk.seats + vec_len post.room ≤ lanes
+IsPostLeft lanes post = vec_len post.desk.permits + vec_len post.room ≤ lanes
 
 -- a stand that no thread has had: none of its senders has ended
 abbrev pub IsStandLeft : ℕ → Stand → Type 0
 IsStandLeft producers stand = (vec_len stand.stall.senders ≤ producers) × (stand.room.items ≡ [])
 
--- However the threads were started: of each producer there is what it left or its post, of each consumer what it left or its stand, and none has more seats than it was dealt.
+-- However the threads were started: of each producer there is what it left or its post, of each consumer what it left or its stand, and none has more permits than it was dealt.
 pub record IsSpendable (floor : Floor) (producers : ℕ) (ran : Ran) : Type 0 where
   pub each_producer : vec_len ran.posts + vec_len ran.worked ≡ producers
   pub each_lane : vec_len ran.stands + vec_len ran.consumed ≡ length floor.office.lanes.items

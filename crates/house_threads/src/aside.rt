@@ -5,22 +5,22 @@ ghost use Rattle.std.specs.Prelude.{◌≡◌, ◌≤◌, ◌+◌, [], ℕ, leng
 ghost use Rattle.delivery_token.specs.declared.Job.{Job};
 ghost use Rattle.shard_queue.specs.declared.queue.ShardQueue.{ShardQueue};
 ghost use Rattle.shard_queue.specs.Reply.{sent_on};
-ghost use Rattle.shard_queue.specs.Seats.{IsConsumer, got};
+ghost use Rattle.shard_queue.specs.Permits.{IsConsumer, got};
 ghost use Rattle.lane_work.specs.Consuming.{IsConsumed};
-ghost use Rattle.lane_work.specs.Seats.{AreEnded, AreSeats, AreSenders};
+ghost use Rattle.lane_work.specs.Permits.{AreEnded, ArePermits, AreSenders};
 ghost use Rattle.house_threads.specs.Crew.{IsPostLeft};
 
 use delivery_token::WorkerLog;
 use house_floor::{Post, Stand};
 use lane_work::{
-    Consumed, Depot, Desk, Fate, Office, Stall, Summons, Worked, end_all, end_seat, end_senders,
+    Consumed, Depot, Desk, Fate, Office, Stall, Summons, Worked, end_all, end_permit, end_senders,
 };
 use pace::{Gate, Pace};
 use std::alloc::Global;
 use std::sync::Wait;
 
-/// A producer that has no thread: it ends its seat on each lane, and hears nothing. To wait for the ends
-/// of its channel would be to wait for ever: they come when each producer's seats have ended, and this
+/// A producer that has no thread: it ends its permit on each lane, and hears nothing. To wait for the ends
+/// of its channel would be to wait for ever: they come when each producer's permits have ended, and this
 /// thread ends those of the producers behind it.
 pub(crate) fn stand_down<R: Wait, G: Gate, S: Summons>(
     rt: &R,
@@ -30,9 +30,9 @@ pub(crate) fn stand_down<R: Wait, G: Gate, S: Summons>(
     summons: &S,
     post: Post,
 ) -> Worked
-    requires seats { AreSeats office.now.lanes.items post.desk.number post.desk.seats.items }
+    requires permits { ArePermits office.now.lanes.items post.desk.number post.desk.permits.items }
     requires room { (post.room.items ≡ []) × (length office.now.lanes.items ≤ vec_capacity post.room) }
-    ensures seats { AreEnded office.now.lanes.items post.desk.number result.ended.items }
+    ensures permits { AreEnded office.now.lanes.items post.desk.number result.ended.items }
     ensures receiver { result.receiver ≡ post.desk.receiver }
     ensures log { result.log.seat ≡ post.desk.number }
     ensures fate { result.fate ≡ Fate.NotBegun }
@@ -40,12 +40,12 @@ pub(crate) fn stand_down<R: Wait, G: Gate, S: Summons>(
     let Post { desk, room } = post;
     let Desk {
         number,
-        seats,
+        permits,
         receiver,
         ends: _,
     } = desk;
     let log = WorkerLog::new(alloc, number);
-    let ended = end_all(rt, pace, office, summons, number, seats, room);
+    let ended = end_all(rt, pace, office, summons, number, permits, room);
     Worked {
         ended,
         receiver,
@@ -65,20 +65,20 @@ pub(crate) fn step_aside<R: Wait, G: Gate>(
 ) -> Consumed
     requires senders { AreSenders depot.now.channels.items stand.stall.shard stand.stall.senders.items }
     requires room { (stand.room.items ≡ []) × (length depot.now.channels.items ≤ vec_capacity stand.room) }
-    requires fresh { got stand.stall.seat ≡ [] }
-    ensures { (lane : ShardQueue Job) → IsConsumer lane stand.stall.seat →
+    requires fresh { got stand.stall.permit ≡ [] }
+    ensures { (lane : ShardQueue Job) → IsConsumer lane stand.stall.permit →
         IsConsumed lane depot.now stand.stall.shard (map sent_on stand.stall.senders.items) result }
 {
     let Stand { stall, room } = stand;
     let Stall {
         shard,
-        seat,
+        permit,
         senders,
         bell: _,
     } = stall;
     let senders = end_senders(rt, pace, &depot.channels, shard, senders, room);
     Consumed {
-        seat,
+        permit,
         senders,
         copies: Vec::new(alloc),
         kept: false,
@@ -86,7 +86,7 @@ pub(crate) fn step_aside<R: Wait, G: Gate>(
     }
 }
 
-/// A producer that isn't to begin: it ends its seats on the first lanes, whose consumers run, and keeps
+/// A producer that isn't to begin: it ends its permits on the first lanes, whose consumers run, and keeps
 /// the others.
 pub(crate) fn end_first<R: Wait, G: Gate, S: Summons>(
     rt: &R,
@@ -96,7 +96,7 @@ pub(crate) fn end_first<R: Wait, G: Gate, S: Summons>(
     post: Post,
     manned: usize,
 ) -> Post
-    requires seats { AreSeats office.now.lanes.items post.desk.number post.desk.seats.items }
+    requires permits { ArePermits office.now.lanes.items post.desk.number post.desk.permits.items }
     requires room { (post.room.items ≡ []) × (length office.now.lanes.items ≤ vec_capacity post.room) }
     requires manned { manned ≤ length office.now.lanes.items }
     ensures { IsPostLeft (length office.now.lanes.items) result }
@@ -104,19 +104,19 @@ pub(crate) fn end_first<R: Wait, G: Gate, S: Summons>(
     let Post { desk, mut room } = post;
     let Desk {
         number,
-        mut seats,
+        mut permits,
         receiver,
         ends,
     } = desk;
     for lane in 0..manned {
-        let seat = seats.remove(0);
-        room.push_reserved(end_seat(rt, pace, &office.lanes[lane], seat));
+        let permit = permits.remove(0);
+        room.push_reserved(end_permit(rt, pace, &office.lanes[lane], permit));
         summons.summon(rt, lane);
     }
     Post {
         desk: Desk {
             number,
-            seats,
+            permits,
             receiver,
             ends,
         },

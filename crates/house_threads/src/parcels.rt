@@ -9,7 +9,7 @@ use std::sync::atomic::{AtomicU64, Ordering};
 
 /// The first shard, and the first producer, that has no thread. Those before them have one. A flag would
 /// not do: a consumer that was started and hadn't looked yet would step aside too, and whoever ends a
-/// seat on its full lane would wait for ever.
+/// permit on its full lane would wait for ever.
 #[derive(Drop)]
 pub(crate) struct Manned {
     pub(crate) shards: AtomicU64,

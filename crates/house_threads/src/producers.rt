@@ -144,7 +144,7 @@ fn produce_there<R: Wait, G: Gate>(
     }
 }
 
-// Starts a producer's thread. Where none can be made, no producer from here on begins, and its seats are
+// Starts a producer's thread. Where none can be made, no producer from here on begins, and its permits are
 // ended here.
 fn start_producer<'s, E, R: Threads + Wait + Sync, G: Gate + Sync>(
     scope: &thread::Scope<'s, E>,

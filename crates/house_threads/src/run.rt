@@ -33,7 +33,7 @@ pub enum Started {
 }
 
 /// What the threads left, and what was never handed to one: consumers' stands, and producers' posts,
-/// which may have ended their seats on some lanes.
+/// which may have ended their permits on some lanes.
 pub struct Ran {
     /// What the workers left, and behind them the sessions.
     pub worked: Vec<Worked>,
@@ -43,7 +43,7 @@ pub struct Ran {
     pub started: Started,
 }
 
-// No producer is to begin: ends their seats on the lanes whose consumers run.
+// No producer is to begin: ends their permits on the lanes whose consumers run.
 fn end_posts<R: Wait, G: Gate>(
     rt: &R,
     floor: &Floor,
@@ -88,7 +88,7 @@ fn handles_for<'a>(
     })
 }
 
-// All that is done in the scope. Where a consumer has no thread no worker begins, and the workers' seats
+// All that is done in the scope. Where a consumer has no thread no worker begins, and the workers' permits
 // are ended on the lanes whose consumers run.
 fn in_scope<'s, E, R: Threads + Wait + Sync, G: Gate + Sync>(
     scope: &thread::Scope<'s, E>,

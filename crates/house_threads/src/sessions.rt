@@ -1,5 +1,5 @@
 //! A session's whole life in a house with threads: its steps, over mailboxes behind locks, its messages by way of the lanes, and then
-//! the end of its seats. What it is answered stands in `session_thread`, who starts its thread in `producers`.
+//! the end of its permits. What it is answered stands in `session_thread`, who starts its thread in `producers`.
 
 ghost use Rattle.std.specs.Prelude.{ℕ, ◌≡◌, ◌≢◌, ◌∷◌, ◌++◌, ◌≤◌, [], List, None, length, map};
 ghost use Rattle.courier.specs.Carried.{Carried};

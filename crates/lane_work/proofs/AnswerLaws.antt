@@ -9,12 +9,12 @@ use Rattle.delivery_token.specs.declared.log.Noted.{Noted}
 use Rattle.shard_queue.specs.declared.lane.Entry.{Entry}
 use Rattle.shard_queue.specs.declared.lane.Entry.TheVariants.{Item, End}
 use Rattle.shard_queue.specs.declared.ends.ReplyChannel.{ReplyChannel}
-use Rattle.shard_queue.specs.declared.reply.SenderSeat.{SenderSeat}
+use Rattle.shard_queue.specs.declared.reply.SenderPermit.{SenderPermit}
 use Rattle.shard_queue.specs.Reply.{sender_number, sent_on}
 use Rattle.lane_work.specs.Answering.{HaveClosed, IsVerdict, Serves, WereAnswered, answered, is_nobodys, none, passed, telling}
 use Rattle.lane_work.specs.inner.Answering.{HaveAnswered}
-use Rattle.lane_work.specs.Seats.{AreSenders}
-use Rattle.lane_work.proofs.SeatLaws.{senders_length}
+use Rattle.lane_work.specs.Permits.{AreSenders}
+use Rattle.lane_work.proofs.PermitLaws.{senders_length}
 
 any_next : {A : Type 0} (f : A → Bool) (xs : List A) (x : A) → list_any f (xs ++ x ∷ []) ≡ (list_any f xs || f x)
 any_next f [] x = one (f x) where
@@ -26,13 +26,13 @@ any_next f (y ∷ ys) x = ap (λ b. f y || b) (any_next f ys x) ∙ sym (assoc (
   assoc true b c = refl
   assoc false b c = refl
 
-sent_on_at : (ss : List (SenderSeat Noted)) (i : ℕ) (d : SenderSeat Noted) → i < length ss → slice_index_or (map sent_on ss) i [] ≡ sent_on (slice_index_or ss i d)
+sent_on_at : (ss : List (SenderPermit Noted)) (i : ℕ) (d : SenderPermit Noted) → i < length ss → slice_index_or (map sent_on ss) i [] ≡ sent_on (slice_index_or ss i d)
 sent_on_at [] i d under = absurd (omega arith)
 sent_on_at (s ∷ ss) zero d under = refl
 sent_on_at (s ∷ ss) (suc i) d under = sent_on_at ss i d (omega arith)
 
 -- a producer was told the verdict on its copy
-pub serves_at : (mailboxes channels shard i : ℕ) (ss : List (SenderSeat Noted)) (old new : SenderSeat Noted) (job : Job) (verdict : Verdict)
+pub serves_at : (mailboxes channels shard i : ℕ) (ss : List (SenderPermit Noted)) (old new : SenderPermit Noted) (job : Job) (verdict : Verdict)
     → i < channels → i < length ss → old ≡ slice_index_or ss i old → sender_number old ≡ shard
     → sent_on new ≡ sent_on old ++ telling (sender_number old) job verdict ∷ [] → IsVerdict mailboxes job verdict
     → Serves mailboxes channels shard i job (map sent_on ss) (map sent_on (slice_set ss i new))
@@ -92,12 +92,12 @@ answers_end mailboxes channels shard q got more before mid is so p under =
     (a.0, subst (λ (l : List (Entry Job)). WereAnswered mailboxes shard p l a.0) (sym is) (passed (End q) a.1 (λ e. e)), a.2)
 
 -- the senders have ended
-pub answers_close : (mailboxes shard : ℕ) (got : List (Entry Job)) (qs : List (ReplyChannel Noted)) (ss : List (SenderSeat Noted)) (before after : List (List (Entry Noted))) → AreSenders qs shard ss
+pub answers_close : (mailboxes shard : ℕ) (got : List (Entry Job)) (qs : List (ReplyChannel Noted)) (ss : List (SenderPermit Noted)) (before after : List (List (Entry Noted))) → AreSenders qs shard ss
     → HaveClosed shard (map sent_on ss) after → HaveAnswered mailboxes (length qs) shard got before (map sent_on ss)
     → (p : ℕ) → p < length qs → (told : List (Entry Noted)) × WereAnswered mailboxes shard p got told × (slice_index_or after p [] ≡ (slice_index_or before p [] ++ told) ++ End shard ∷ [])
-answers_close mailboxes shard got qs ss before after seats closed so p under =
+answers_close mailboxes shard got qs ss before after permits closed so p under =
     let a = so p under in
-    let n = senders_length qs shard ss seats in
+    let n = senders_length qs shard ss permits in
     let m = length-map ss sent_on in
     (a.0, a.1, ap (λ l. slice_index_or l p []) closed ∙ at_end (map sent_on ss) p (omega (arith, n, m, under)) ∙ ap (λ l. l ++ End shard ∷ []) a.2) where
       at_end : (xs : List (List (Entry Noted))) (i : ℕ) → i < length xs → slice_index_or (map (λ entries. entries ++ End shard ∷ []) xs) i [] ≡ slice_index_or xs i [] ++ End shard ∷ []

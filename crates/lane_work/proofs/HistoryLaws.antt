@@ -10,11 +10,11 @@ use Rattle.shard_queue.specs.declared.lane.Entry.{Entry}
 use Rattle.shard_queue.specs.declared.queue.Ended.{Ended}
 use Rattle.shard_queue.specs.declared.queue.ShardQueue.{ShardQueue}
 use Rattle.shard_queue.specs.Lane.{of}
-use Rattle.shard_queue.specs.Seats.{said}
+use Rattle.shard_queue.specs.Permits.{said}
 use Rattle.lane_work.specs.Account.{Account, Premises}
 use Rattle.lane_work.specs.Copies.{IsAtOnce, IsHeard, Room, WerePut, note_of, none, put, elsewhere, refused}
 use Rattle.lane_work.specs.Histories.{AreHeard}
-use Rattle.lane_work.specs.Seats.{AreEnded}
+use Rattle.lane_work.specs.Permits.{AreEnded}
 
 pub said_is_taken : (lanes : List (ShardQueue Job)) (p : ℕ) (es : List (Ended Job)) (gots : List (List (Entry Job))) → AreEnded lanes p es → AreHeard es gots → map said es ≡ map (of p) gots
 said_is_taken lanes p [] [] h k = refl

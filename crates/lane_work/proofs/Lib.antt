@@ -1,4 +1,4 @@
-pub mod SeatLaws
+pub mod PermitLaws
 pub mod SlotLaws
 pub mod CopyLaws
 pub mod TalkLaws

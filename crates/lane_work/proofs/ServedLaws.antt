@@ -8,8 +8,8 @@ use Rattle.delivery_token.specs.declared.Verdict.{Verdict}
 use Rattle.delivery_token.specs.declared.log.Noted.{Noted}
 use Rattle.shard_queue.specs.declared.lane.Entry.{Entry}
 use Rattle.shard_queue.specs.declared.lane.Entry.TheVariants.{End}
-use Rattle.lane_work.specs.declared.desk.LaneSeat.{LaneSeat}
-use Rattle.lane_work.specs.Seats.{IsNew, put_by}
+use Rattle.lane_work.specs.declared.desk.LanePermit.{LanePermit}
+use Rattle.lane_work.specs.Permits.{IsNew, put_by}
 use Rattle.shard_queue.specs.Shared.{IsStartOf}
 use Rattle.envelope.specs.Directory.{Directory}
 use Rattle.lane_work.specs.Talk.{Judged, WholeTalk}
@@ -36,9 +36,9 @@ served_next house p connections replies bytes reply serial keeps more heard hear
     }
 
 -- before the first connection
-pub books_begin : (d : Directory) (rooms : List Room) (p : ℕ) (notes : List Noted) (heard : List (Entry Noted)) (ss : List LaneSeat) → notes ≡ [] → All IsNew ss → AreBooks d rooms p [] (notes_tell notes) heard (map put_by ss)
+pub books_begin : (d : Directory) (rooms : List Room) (p : ℕ) (notes : List Noted) (heard : List (Entry Noted)) (ss : List LanePermit) → notes ≡ [] → All IsNew ss → AreBooks d rooms p [] (notes_tell notes) heard (map put_by ss)
 books_begin d rooms p notes heard ss is each = record { noted = is; lanes = λ lane under. ([], none, nothing_sent ss each lane) } where
-  nothing_sent : (xs : List LaneSeat) → All IsNew xs → (lane : ℕ) → slice_index_or (map put_by xs) lane [] ≡ []
+  nothing_sent : (xs : List LanePermit) → All IsNew xs → (lane : ℕ) → slice_index_or (map put_by xs) lane [] ≡ []
   nothing_sent [] h lane = refl
   nothing_sent (x ∷ xs) h zero = (All-head IsNew x xs h).0
   nothing_sent (x ∷ xs) h (suc lane) = nothing_sent xs (All-tail IsNew x xs h) lane
@@ -48,7 +48,7 @@ at_end p [] lane h = absurd (omega arith)
 at_end p (x ∷ xs) zero h = refl
 at_end p (x ∷ xs) (suc lane) h = at_end p xs lane (omega arith)
 
--- the seats have ended
+-- the permits have ended
 pub accounted_of : (house : Premises) (p : ℕ) (copies : List (Job × Verdict)) (notes : List Noted) (heard hears : List (Entry Noted)) (before after : List (List (Entry Job)))
     → IsStartOf heard hears → HaveEnded p before after → AreBooksOf house.directory house.rooms p copies (notes_tell notes) heard before → AreAccountedFor house p copies notes hears after
 accounted_of house p copies notes heard hears before after grew ended books = record {

@@ -1,4 +1,4 @@
--- What one worker's thread says: of its own seats, its own log and its own replies.
+-- What one worker's thread says: of its own permits, its own log and its own replies.
 use Rattle.std.specs.Prelude.{◌≡◌, ℕ, Bool, ◌<◌, ◌==◌, ◌&&◌, ◌||◌, nat_le, List, [], ◌∷◌, ◌++◌, length, map, slice_index_or}
 use Rattle.std.specs.List.{list_any}
 use Rattle.delivery_token.specs.declared.Job.{Job}

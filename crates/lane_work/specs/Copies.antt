@@ -12,7 +12,7 @@ use Rattle.lmtp_machine.specs.Dialogue.{Submission}
 use Rattle.shard_queue.specs.declared.lane.Entry.{Entry}
 use Rattle.shard_queue.specs.declared.lane.Entry.TheVariants.{Item}
 use Rattle.shard_queue.specs.declared.queue.ShardQueue.{ShardQueue}
-use Rattle.shard_queue.specs.Seats.{WasFull, capacity_of, producers_of}
+use Rattle.shard_queue.specs.Permits.{WasFull, capacity_of, producers_of}
 use Rattle.lane_work.specs.Talk.{Judged}
 
 -- how many producers a lane has, and how many entries have room there

@@ -11,11 +11,11 @@ use Rattle.lane_work.specs.declared.desk.Office.{Office}
 use Rattle.lane_work.specs.Account.{AreBooksOf}
 use Rattle.lane_work.specs.Copies.{rooms_of}
 use Rattle.lane_work.specs.Ends.{CountsEnds}
-use Rattle.lane_work.specs.Seats.{AreLive, AreSeats, put_by}
+use Rattle.lane_work.specs.Permits.{AreLive, ArePermits, put_by}
 
--- the desk's seats are its own on each lane, and none is over; its receiver is of this channel
+-- the desk's permits are its own on each lane, and none is over; its receiver is of this channel
 abbrev pub IsReady : Office → ReplyChannel Noted → Desk → Type 0
-IsReady office channel desk = AreSeats office.lanes.items desk.number desk.seats.items × IsReceiver channel desk.receiver × (office.directory.shards ≡ length office.lanes.items) × AreLive desk.seats.items
+IsReady office channel desk = ArePermits office.lanes.items desk.number desk.permits.items × IsReceiver channel desk.receiver × (office.directory.shards ≡ length office.lanes.items) × AreLive desk.permits.items
 
 -- it is the same producer's desk, over the same lanes and channel, and it counted no end that it didn't hear
 abbrev pub IsSameDesk : Office → Office → ReplyChannel Noted → ReplyChannel Noted → Desk → Desk → Type 0
@@ -24,4 +24,4 @@ IsSameDesk office then channel later first now = (then ≡ office) × (later ≡
 -- the books of the desk, and what is kept, tell of just these messages of this session, and of the verdicts on them
 abbrev pub HasCarried : Office → Desk → ℕ → (List (Job × Verdict) → Type 0) → List Carried → Type 0
 HasCarried office desk serial keeps done =
-    AreBooksOf office.directory (rooms_of office.lanes.items) desk.number (map (judged_of desk.number serial) done) keeps (received desk.receiver) (map put_by desk.seats.items)
+    AreBooksOf office.directory (rooms_of office.lanes.items) desk.number (map (judged_of desk.number serial) done) keeps (received desk.receiver) (map put_by desk.permits.items)

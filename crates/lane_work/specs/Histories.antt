@@ -9,11 +9,11 @@ use Rattle.shard_queue.specs.declared.lane.Entry.{Entry}
 use Rattle.shard_queue.specs.declared.queue.ShardQueue.{ShardQueue}
 use Rattle.shard_queue.specs.declared.queue.Ended.{Ended}
 use Rattle.shard_queue.specs.Lane.{of}
-use Rattle.shard_queue.specs.Seats.{ended_number, said}
+use Rattle.shard_queue.specs.Permits.{ended_number, said}
 use Rattle.lane_work.specs.Copies.{IsHeard, Room, WerePut, note_of}
-use Rattle.lane_work.specs.Seats.{AreEnded}
+use Rattle.lane_work.specs.Permits.{AreEnded}
 
--- what each of these ended seats said is what was taken of it from its lane, as `close` of each lane tells
+-- what each of these ended permits said is what was taken of it from its lane, as `close` of each lane tells
 abbrev pub AreHeard : List (Ended Job) → List (List (Entry Job)) → Type 0
 AreHeard [] [] = Unit {0}
 AreHeard [] (g ∷ gs) = ⊥

@@ -1,7 +1,7 @@
 pub mod Talk
 pub mod Copies
 pub mod Couriers
-pub mod Seats
+pub mod Permits
 pub mod Account
 pub mod Answering
 pub mod Consuming

@@ -3,15 +3,15 @@ use Rattle.std.specs.Prelude.{◌≡◌, ℕ, List, map}
 use Rattle.delivery_token.specs.declared.log.Noted.{Noted}
 use Rattle.shard_queue.specs.declared.ends.ReplyChannel.{ReplyChannel}
 use Rattle.shard_queue.specs.Reply.{IsReceiver, received}
-use Rattle.shard_queue.specs.Seats.{said}
+use Rattle.shard_queue.specs.Permits.{said}
 use Rattle.lane_work.specs.declared.desk.Office.{Office}
 use Rattle.lane_work.specs.declared.worker.Worked.{Worked}
 use Rattle.lane_work.specs.declared.worker.Fate.TheVariants.{Whole}
 use Rattle.lane_work.specs.Account.{Account}
-use Rattle.lane_work.specs.Seats.{AreEnded}
+use Rattle.lane_work.specs.Permits.{AreEnded}
 use Rattle.lane_work.specs.Speaking.{premises_of}
 
--- Its ended seats are its own on each lane, its receiver is of its channel, and where it went through its connections, this is its account of them.
+-- Its ended permits are its own on each lane, its receiver is of its channel, and where it went through its connections, this is its account of them.
 abbrev pub IsWorked : Office → ReplyChannel Noted → ℕ → List (List ℕ) → Worked → Type 0
 IsWorked office channel seat connections w =
     AreEnded office.lanes.items seat w.ended.items × IsReceiver channel w.receiver × (w.log.seat ≡ seat)

@@ -3,5 +3,5 @@ pub mod Answering
 pub mod Closing
 pub mod Copies
 pub mod Desk
-pub mod Seats
+pub mod Permits
 pub mod Speaking

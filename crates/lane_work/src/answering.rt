@@ -4,7 +4,7 @@
 ghost use Rattle.std.specs.Prelude.{◌≡◌, ◌++◌, ◌∷◌, [], length, map};
 ghost use Rattle.shard_queue.specs.declared.lane.Entry.TheVariants as entries;
 ghost use Rattle.shard_queue.specs.Reply.{IsSender, sender_number, sent_on};
-ghost use Rattle.lane_work.specs.Seats.{AreSenders};
+ghost use Rattle.lane_work.specs.Permits.{AreSenders};
 ghost use Rattle.lane_work.specs.Answering.{IsDelivered, IsVerdict, Serves, UnderLock, is_ours, verdict_of};
 
 use crate::bells::ring_sessions;
@@ -13,7 +13,7 @@ use delivery_token::{Job, Noted, Refusal, Verdict};
 use mailbox::{Mailbox, Receipt};
 use mailbox_holds::deliver;
 use pace::{Gate, Pace};
-use shard_queue::{ReplyChannel, SenderSeat};
+use shard_queue::{ReplyChannel, SenderPermit};
 use std::sync::{Mutex, Wait};
 use std::thread;
 
@@ -65,16 +65,16 @@ fn answer<R: Wait, G: Gate>(
     rt: &R,
     pace: &mut Pace<'_, G>,
     channel: &ReplyChannel<Noted>,
-    seat: &mut SenderSeat<Noted>,
+    permit: &mut SenderPermit<Noted>,
     noted: Noted,
 )
-    requires { IsSender channel.now seat.old }
-    ensures seat { IsSender channel.now seat.new × (sender_number seat.new ≡ sender_number seat.old) }
-    ensures sent { sent_on seat.new ≡ sent_on seat.old ++ entries.Item (sender_number seat.old) noted ∷ [] }
+    requires { IsSender channel.now permit.old }
+    ensures permit { IsSender channel.now permit.new × (sender_number permit.new ≡ sender_number permit.old) }
+    ensures sent { sent_on permit.new ≡ sent_on permit.old ++ entries.Item (sender_number permit.old) noted ∷ [] }
 {
     for _ in rt.forever() {
         pace.pass();
-        match channel.send_as(rt, seat, noted) {
+        match channel.send_as(rt, permit, noted) {
             Ok(()) => return,
             Err(_) => thread::yield_now(),
         }
@@ -90,7 +90,7 @@ pub fn serve_copy<R: Wait, G: Gate>(
     pace: &mut Pace<'_, G>,
     depot: &Depot,
     shard: u8,
-    senders: &mut Vec<SenderSeat<Noted>>,
+    senders: &mut Vec<SenderPermit<Noted>>,
     producer: u8,
     job: &Job,
 ) -> bool

@@ -1,4 +1,4 @@
-//! A session's way to the lanes: its seat on each, and its end of a reply channel, as a worker has them.
+//! A session's way to the lanes: its permit on each, and its end of a reply channel, as a worker has them.
 //! What a session is answered stands above.
 
 ghost use Rattle.std.specs.Prelude.{◌≡◌, ◌+◌, ◌≤◌, IfOk, length, map};
@@ -8,7 +8,7 @@ ghost use Rattle.lane_work.specs.Copies.{rooms_of};
 ghost use Rattle.lane_work.specs.Couriers.{HasCarried, IsReady, IsSameDesk};
 ghost use Rattle.lane_work.specs.inner.Copies.{WasJudged};
 ghost use Rattle.lane_work.specs.Ends.{CountsEnds};
-ghost use Rattle.lane_work.specs.Seats.{AreLive, AreSeats, put_by};
+ghost use Rattle.lane_work.specs.Permits.{AreLive, ArePermits, put_by};
 
 use crate::bells::Summons;
 use crate::desk::{Desk, Office};
@@ -52,19 +52,19 @@ fn judge<R: Wait, G: Gate, S: Summons>(
     text: &Text,
     flags: Flags,
 ) -> Result<Verdict, Stop>
-    requires seats { AreSeats office.now.lanes.items desk.old.number desk.old.seats.items }
+    requires permits { ArePermits office.now.lanes.items desk.old.number desk.old.permits.items }
     requires receiver { IsReceiver channel.now desk.old.receiver }
     requires lanes { office.now.directory.shards ≡ length office.now.lanes.items }
-    requires live { AreLive desk.old.seats.items }
-    ensures seats { AreSeats office.now.lanes.items desk.old.number desk.new.seats.items }
+    requires live { AreLive desk.old.permits.items }
+    ensures permits { ArePermits office.now.lanes.items desk.old.number desk.new.permits.items }
     ensures receiver { IsReceiver channel.now desk.new.receiver }
     ensures number { desk.new.number ≡ desk.old.number }
-    ensures live { AreLive desk.new.seats.items }
+    ensures live { AreLive desk.new.permits.items }
     ensures ends { CountsEnds desk.old desk.new }
     ensures grew { IsStartOf (received desk.old.receiver) (received desk.new.receiver) }
     ensures judged { IfOk result (λ verdict. WasJudged office.now.directory (rooms_of office.now.lanes.items) desk.old.number
         (record { key = key; mailbox = mailbox; text = text.now; flags = flags }) verdict
-        (received desk.new.receiver) (map put_by desk.old.seats.items) (map put_by desk.new.seats.items)) }
+        (received desk.new.receiver) (map put_by desk.old.permits.items) (map put_by desk.new.permits.items)) }
 {
     match put_copy(rt, pace, office, summons, desk, key, mailbox, text, flags) {
         Some(verdict) => Ok(verdict),

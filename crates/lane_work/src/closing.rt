@@ -1,13 +1,13 @@
-//! A worker closes shards before its connections: it marks them in its own directory, and its seats
+//! A worker closes shards before its connections: it marks them in its own directory, and its permits
 //! there are over. What is said of a closed shard is the conversation's, and stands below.
 
 ghost use Rattle.std.specs.Prelude.{◌≡◌, ◌<◌, ◌||◌, ◌∷◌, [], ℕ, true, false, length, slice_index_or};
 ghost use Rattle.envelope.specs.Directory.{is_shut};
-ghost use Rattle.lane_work.specs.Seats.{AreSeated, IsSeat, is_over, overs, put_by, seat_number};
+ghost use Rattle.lane_work.specs.Permits.{AreInForce, IsPermit, is_over, overs, permit_number, put_by};
 ghost use Rattle.lane_work.specs.inner.Closing.{KeepsDesk, Marks, closings_at};
 
 use crate::bells::Summons;
-use crate::desk::{Closing, Desk, LaneSeat, Office};
+use crate::desk::{Closing, Desk, LanePermit, Office};
 use crate::ending::end_one;
 use delivery_token::Job;
 use envelope::Directory;
@@ -49,35 +49,35 @@ fn mark_due(closings: &[Closing], connection: usize, directory: &mut Directory)
     }
 }
 
-// A seat as it is left: where the shard is shut it is over, and whoever is to take its end is summoned.
+// A permit as it is left: where the shard is shut it is over, and whoever is to take its end is summoned.
 fn left_at<R: Wait, G: Gate, S: Summons>(
     rt: &R,
     pace: &mut Pace<'_, G>,
     lane: &ShardQueue<Job>,
     summons: &S,
     shard: usize,
-    seat: LaneSeat,
+    permit: LanePermit,
     shut: bool,
-) -> LaneSeat
-    requires { IsSeat lane.now seat }
-    ensures seat { IsSeat lane.now result × (seat_number result ≡ seat_number seat) }
-    ensures put { put_by result ≡ put_by seat }
-    ensures over { is_over result ≡ (shut || is_over seat) }
+) -> LanePermit
+    requires { IsPermit lane.now permit }
+    ensures permit { IsPermit lane.now result × (permit_number result ≡ permit_number permit) }
+    ensures put { put_by result ≡ put_by permit }
+    ensures over { is_over result ≡ (shut || is_over permit) }
 {
     if !shut {
-        return seat;
+        return permit;
     }
-    match seat {
-        LaneSeat::Over(ended) => LaneSeat::Over(ended),
-        LaneSeat::Live(live) => {
+    match permit {
+        LanePermit::Over(ended) => LanePermit::Over(ended),
+        LanePermit::Live(live) => {
             let ended = end_one(rt, pace, lane, live);
             summons.summon(rt, shard);
-            LaneSeat::Over(ended)
+            LanePermit::Over(ended)
         }
     }
 }
 
-// Ends the seats that aren't over on shards that are shut. Each seat is taken from the front and put
+// Ends the permits that aren't over on shards that are shut. Each permit is taken from the front and put
 // back behind the others, so that they stand as before when all have gone round.
 fn end_where_shut<R: Wait, G: Gate, S: Summons>(
     rt: &R,
@@ -87,22 +87,22 @@ fn end_where_shut<R: Wait, G: Gate, S: Summons>(
     desk: &mut Desk,
     directory: &Directory,
 )
-    requires { AreSeated directory.now office.now.lanes.items desk.old.number desk.old.seats.items }
-    ensures seats { AreSeated directory.now office.now.lanes.items desk.old.number desk.new.seats.items }
+    requires { AreInForce directory.now office.now.lanes.items desk.old.number desk.old.permits.items }
+    ensures permits { AreInForce directory.now office.now.lanes.items desk.old.number desk.new.permits.items }
     ensures kept { KeepsDesk desk.old desk.new }
     ensures over { (lane : ℕ) → lane < length office.now.lanes.items → is_shut directory.now lane ≡ true →
-        slice_index_or (overs desk.new.seats.items) lane false ≡ true }
+        slice_index_or (overs desk.new.permits.items) lane false ≡ true }
 {
     for lane in 0..office.lanes.len() {
-        let seat = desk.seats.remove(0);
+        let permit = desk.permits.remove(0);
         let shut = directory.is_shut(lane);
-        let left = left_at(rt, pace, &office.lanes[lane], summons, lane, seat, shut);
-        desk.seats.push_reserved(left);
+        let left = left_at(rt, pace, &office.lanes[lane], summons, lane, permit, shut);
+        desk.permits.push_reserved(left);
     }
 }
 
 /// Closes the shards that the desk's worker is to close before this connection: they are marked in its
-/// own directory, and its seats there are over. Where a lane is full it tries again until there is room
+/// own directory, and its permits there are over. Where a lane is full it tries again until there is room
 /// for the end.
 pub(crate) fn close_due<R: Wait, G: Gate, S: Summons>(
     rt: &R,
@@ -113,14 +113,14 @@ pub(crate) fn close_due<R: Wait, G: Gate, S: Summons>(
     directory: &mut Directory,
     connection: usize,
 )
-    requires seats { AreSeated directory.old office.now.lanes.items desk.old.number desk.old.seats.items }
+    requires permits { AreInForce directory.old office.now.lanes.items desk.old.number desk.old.permits.items }
     requires lanes { directory.old.shards ≡ length office.now.lanes.items }
     requires marks { length directory.old.shut ≡ directory.old.shards }
-    ensures seats { AreSeated directory.new office.now.lanes.items desk.old.number desk.new.seats.items }
+    ensures permits { AreInForce directory.new office.now.lanes.items desk.old.number desk.new.permits.items }
     ensures kept { KeepsDesk desk.old desk.new }
     ensures marks { Marks connection (closings_at office.now desk.old.number) directory.old directory.new }
     ensures over { (lane : ℕ) → lane < length office.now.lanes.items → is_shut directory.new lane ≡ true →
-        slice_index_or (overs desk.new.seats.items) lane false ≡ true }
+        slice_index_or (overs desk.new.permits.items) lane false ≡ true }
 {
     mark_due(closings_of(office, desk.number), connection, directory);
     end_where_shut(rt, pace, office, summons, desk, directory);

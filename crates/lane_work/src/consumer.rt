@@ -1,11 +1,11 @@
 //! A consumer's life: each copy of its lane is taken, delivered and answered, until the end of every
-//! producer came; then its own seats are ended. What becomes of one copy stands in `answering`.
+//! producer came; then its own permits are ended. What becomes of one copy stands in `answering`.
 
 ghost use Rattle.std.specs.Prelude.{◌≡◌, ◌≤◌, ◌<◌, ◌+◌, ◌++◌, ◌∷◌, [], true, length, map, vec_capacity};
 ghost use Rattle.std.specs.List.{list_any};
-ghost use Rattle.shard_queue.specs.Seats.{IsConsumer, got};
+ghost use Rattle.shard_queue.specs.Permits.{IsConsumer, got};
 ghost use Rattle.shard_queue.specs.Reply.{sent_on};
-ghost use Rattle.lane_work.specs.Seats.{AreSenders};
+ghost use Rattle.lane_work.specs.Permits.{AreSenders};
 ghost use Rattle.lane_work.specs.Answering.{is_nobodys};
 ghost use Rattle.lane_work.specs.inner.Answering.{HaveAnswered};
 ghost use Rattle.lane_work.specs.Consuming.{IsConsumed, items_of};
@@ -19,7 +19,7 @@ use delivery_token::{Job, Noted};
 use mailbox::Mailbox;
 use pace::{Gate, Pace};
 use session_bells::SessionBell;
-use shard_queue::{ConsumerSeat, ReplyChannel, SenderEnded, SenderSeat, ShardQueue, Taken};
+use shard_queue::{ConsumerPermit, ReplyChannel, SenderEnded, SenderPermit, ShardQueue, Taken};
 use std::sync::{Mutex, Wait};
 
 /// What all consumers share.
@@ -38,9 +38,9 @@ pub struct Stall {
     /// The number of its shard, which is that of its senders.
     pub shard: u8,
     /// Its end of its lane.
-    pub seat: ConsumerSeat<Job>,
-    /// Its seat on each reply channel.
-    pub senders: Vec<SenderSeat<Noted>>,
+    pub permit: ConsumerPermit<Job>,
+    /// Its permit on each reply channel.
+    pub senders: Vec<SenderPermit<Noted>>,
     /// The bell that wakes it: whoever puts on its lane, or ends there, rings it.
     pub bell: Parker,
 }
@@ -48,8 +48,8 @@ pub struct Stall {
 /// What a consumer leaves.
 pub struct Consumed {
     /// Its end of its lane.
-    pub seat: ConsumerSeat<Job>,
-    /// What is left of its seat on each reply channel.
+    pub permit: ConsumerPermit<Job>,
+    /// What is left of its permit on each reply channel.
     pub senders: Vec<SenderEnded<Noted>>,
     /// The copies that it took, in order, up to the first that there was no memory for.
     pub copies: Vec<Job>,
@@ -91,17 +91,17 @@ fn serve_all<R: Wait, G: Gate>(
     copies: &mut Vec<Job>,
     producers: usize,
 ) -> Tally
-    requires seat { IsConsumer lane.now stall.old.seat × (got stall.old.seat ≡ []) }
+    requires permit { IsConsumer lane.now stall.old.permit × (got stall.old.permit ≡ []) }
     requires senders { AreSenders depot.now.channels.items stall.old.shard stall.old.senders.items }
     requires none { copies.old.items ≡ [] }
     ensures shard { stall.new.shard ≡ stall.old.shard }
-    ensures seat { IsConsumer lane.now stall.new.seat }
+    ensures permit { IsConsumer lane.now stall.new.permit }
     ensures senders { AreSenders depot.now.channels.items stall.old.shard stall.new.senders.items }
     ensures answered { HaveAnswered (length depot.now.mailboxes.items) (length depot.now.channels.items) stall.old.shard
-        (got stall.new.seat) (map sent_on stall.old.senders.items) (map sent_on stall.new.senders.items) }
-    ensures ends { producers ≤ ends_in (got stall.new.seat) }
-    ensures torn { result.torn ≡ list_any (is_nobodys (length depot.now.mailboxes.items) (length depot.now.channels.items)) (got stall.new.seat) }
-    ensures kept { result.kept ≡ true → copies.new.items ≡ items_of (got stall.new.seat) }
+        (got stall.new.permit) (map sent_on stall.old.senders.items) (map sent_on stall.new.senders.items) }
+    ensures ends { producers ≤ ends_in (got stall.new.permit) }
+    ensures torn { result.torn ≡ list_any (is_nobodys (length depot.now.mailboxes.items) (length depot.now.channels.items)) (got stall.new.permit) }
+    ensures kept { result.kept ≡ true → copies.new.items ≡ items_of (got stall.new.permit) }
 {
     let mut tally = Tally {
         kept: true,
@@ -115,7 +115,7 @@ fn serve_all<R: Wait, G: Gate>(
             return tally;
         }
         pace.pass();
-        match lane.take_as(rt, &mut stall.seat) {
+        match lane.take_as(rt, &mut stall.permit) {
             Taken::Item(p, job) => {
                 pauses = 0;
                 let known = serve_copy(rt, pace, depot, shard, &mut stall.senders, p, &job);
@@ -133,7 +133,7 @@ fn serve_all<R: Wait, G: Gate>(
 }
 
 /// A consumer's whole life: it takes until the end of each of so many producers came, and then ends its
-/// seat on each reply channel. Each copy is delivered under its mailbox's lock, answered on its
+/// permit on each reply channel. Each copy is delivered under its mailbox's lock, answered on its
 /// producer's channel and kept; where the list of those that are kept can't grow, it goes on without
 /// keeping.
 ///
@@ -149,23 +149,23 @@ pub fn consume<R: Wait, G: Gate>(
     mut copies: Vec<Job>,
     producers: usize,
 ) -> Consumed
-    requires seat { IsConsumer lane.now stall.seat × (got stall.seat ≡ []) }
+    requires permit { IsConsumer lane.now stall.permit × (got stall.permit ≡ []) }
     requires senders { AreSenders depot.now.channels.items stall.shard stall.senders.items }
     requires room { (ended.items ≡ []) × (length depot.now.channels.items ≤ vec_capacity ended) }
     requires none { copies.items ≡ [] }
     ensures consumed { IsConsumed lane.now depot.now stall.shard (map sent_on stall.senders.items) result }
-    ensures ends { producers ≤ ends_in (got result.seat) }
+    ensures ends { producers ≤ ends_in (got result.permit) }
 {
     let tally = serve_all(rt, pace, depot, lane, &mut stall, &mut copies, producers);
     let Stall {
         shard,
-        seat,
+        permit,
         senders,
         bell: _,
     } = stall;
     let senders = end_senders(rt, pace, &depot.channels, shard, senders, ended);
     Consumed {
-        seat,
+        permit,
         senders,
         copies,
         kept: tally.kept,

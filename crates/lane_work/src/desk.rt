@@ -3,7 +3,7 @@
 
 use delivery_token::{Job, Noted};
 use envelope::Directory;
-use shard_queue::{Ended, ProducerSeat, ReceiverSeat, ShardQueue};
+use shard_queue::{Ended, ProducerPermit, ReceiverPermit, ShardQueue};
 
 /// What all workers share.
 pub struct Office {
@@ -20,7 +20,7 @@ pub struct Office {
 }
 
 /// A worker closes a shard before one of its connections, by its number from 0: from then on it takes no
-/// mail for the shard's mailboxes, and its seat on the shard's lane is over. One for a connection that
+/// mail for the shard's mailboxes, and its permit on the shard's lane is over. One for a connection that
 /// never comes, for a shard that it has closed, or for one that isn't there does nothing.
 #[derive(Clone, Copy, Debug, PartialEq, Eq)]
 pub struct Closing {
@@ -28,22 +28,22 @@ pub struct Closing {
     pub shard: u8,
 }
 
-/// A producer's seat on one lane.
-pub enum LaneSeat {
+/// A producer's permit on one lane.
+pub enum LanePermit {
     /// It may put copies there.
-    Live(ProducerSeat<Job>),
+    Live(ProducerPermit<Job>),
     /// It has ended, and puts nothing there any more.
     Over(Ended<Job>),
 }
 
 /// What one worker holds.
 pub struct Desk {
-    /// The worker's number, which is that of its seats and of the keys of its copies.
+    /// The worker's number, which is that of its permits and of the keys of its copies.
     pub number: u8,
-    /// Its seat on each lane.
-    pub seats: Vec<LaneSeat>,
+    /// Its permit on each lane.
+    pub permits: Vec<LanePermit>,
     /// Its end of its reply channel.
-    pub receiver: ReceiverSeat<Noted>,
+    pub receiver: ReceiverPermit<Noted>,
     /// How many shards' ends it has heard there.
     pub ends: usize,
 }

@@ -1,66 +1,67 @@
-//! A worker's seats and a consumer's senders are ended, and a worker hears the ends of its reply
+//! A worker's permits and a consumer's senders are ended, and a worker hears the ends of its reply
 //! channel. What stood on them before does not matter here.
 
 ghost use Rattle.std.specs.Prelude.{true, ◌≡◌, ◌≤◌, ◌+◌, ◌++◌, ◌∷◌, [], length, map, vec_capacity};
 ghost use Rattle.shard_queue.specs.declared.lane.Entry.TheVariants as entries;
-ghost use Rattle.shard_queue.specs.Seats.{IsProducer, IsEnded, sent, said, number_of, ended_number};
+ghost use Rattle.shard_queue.specs.Permits.{IsProducer, IsEnded, sent, said, number_of, ended_number};
 ghost use Rattle.shard_queue.specs.Reply.{IsReceiver, IsSender, IsSenderEnded, received, sender_number, sender_ended_number, sent_on, said_on};
 ghost use Rattle.shard_queue.specs.Shared.{IsStartOf};
-ghost use Rattle.lane_work.specs.Seats.{AreEnded, AreSeats, AreSenders, AreSendersEnded, IsSeat, put_by, seat_number};
+ghost use Rattle.lane_work.specs.Permits.{AreEnded, ArePermits, AreSenders, AreSendersEnded, IsPermit, permit_number, put_by};
 ghost use Rattle.lane_work.specs.Account.{HaveEnded};
 ghost use Rattle.lane_work.specs.Answering.{HaveClosed};
 ghost use Rattle.lane_work.specs.Ends.{ends_in};
 
 use crate::bells::Summons;
-use crate::desk::{LaneSeat, Office};
+use crate::desk::{LanePermit, Office};
 use delivery_token::{Job, Noted};
 use pace::{Gate, Pace};
 use shard_queue::{
-    Ended, Entry, ProducerSeat, ReceiverSeat, ReplyChannel, SenderEnded, SenderSeat, ShardQueue,
+    Ended, Entry, ProducerPermit, ReceiverPermit, ReplyChannel, SenderEnded, SenderPermit,
+    ShardQueue,
 };
 use std::sync::Wait;
 use std::thread;
 
-/// Ends a producer's seat: its end goes behind all that it has put. Where the lane is full it tries
+/// Ends a producer's permit: its end goes behind all that it has put. Where the lane is full it tries
 /// again until there is room.
 pub fn end_one<R: Wait, G: Gate>(
     rt: &R,
     pace: &mut Pace<'_, G>,
     lane: &ShardQueue<Job>,
-    mut seat: ProducerSeat<Job>,
+    mut permit: ProducerPermit<Job>,
 ) -> Ended<Job>
-    requires { IsProducer lane.now seat }
-    ensures { IsEnded lane.now result × (ended_number result ≡ number_of seat) × (said result ≡ sent seat ++ entries.End (number_of seat) ∷ []) }
+    requires { IsProducer lane.now permit }
+    ensures { IsEnded lane.now result × (ended_number result ≡ number_of permit) × (said result ≡ sent permit ++ entries.End (number_of permit) ∷ []) }
 {
     for _ in rt.forever() {
         pace.pass();
-        match lane.end_as(rt, seat) {
+        match lane.end_as(rt, permit) {
             Ok(ended) => return ended,
-            Err(back) => seat = back,
+            Err(back) => permit = back,
         }
         thread::yield_now();
     }
     unreachable!()
 }
 
-/// The same of a seat that may be over: then it stays as it is.
-pub fn end_seat<R: Wait, G: Gate>(
+/// The same of a permit that may be over: then it stays as it is.
+pub fn end_permit<R: Wait, G: Gate>(
     rt: &R,
     pace: &mut Pace<'_, G>,
     lane: &ShardQueue<Job>,
-    seat: LaneSeat,
+    permit: LanePermit,
 ) -> Ended<Job>
-    requires { IsSeat lane.now seat }
-    ensures { IsEnded lane.now result × (ended_number result ≡ seat_number seat) ×
-        (said result ≡ put_by seat ++ entries.End (seat_number seat) ∷ []) }
+    requires { IsPermit lane.now permit }
+    ensures { IsEnded lane.now result × (ended_number result ≡ permit_number permit) ×
+        (said result ≡ put_by permit ++ entries.End (permit_number permit) ∷ []) }
 {
-    match seat {
-        LaneSeat::Live(live) => end_one(rt, pace, lane, live),
-        LaneSeat::Over(ended) => ended,
+    match permit {
+        LanePermit::Live(live) => end_one(rt, pace, lane, live),
+        LanePermit::Over(ended) => ended,
     }
 }
 
-/// Ends a worker's seat on each lane, from the first on, and summons whoever is to take it there. One
+/// Ends a worker's permit on each lane, from the first on, and summons whoever is to take it there. One
 /// that is over stays as it is. `ended`, which is empty, has room for all.
 pub fn end_all<R: Wait, G: Gate, S: Summons>(
     rt: &R,
@@ -68,20 +69,20 @@ pub fn end_all<R: Wait, G: Gate, S: Summons>(
     office: &Office,
     summons: &S,
     number: u8,
-    mut seats: Vec<LaneSeat>,
+    mut permits: Vec<LanePermit>,
     mut ended: Vec<Ended<Job>>,
 ) -> Vec<Ended<Job>>
-    requires seats { AreSeats office.now.lanes.items number seats.items }
+    requires permits { ArePermits office.now.lanes.items number permits.items }
     requires room { (ended.items ≡ []) × (length office.now.lanes.items ≤ vec_capacity ended) }
     ensures ended { AreEnded office.now.lanes.items number result.items }
-    ensures said { HaveEnded number (map put_by seats.items) (map said result.items) }
+    ensures said { HaveEnded number (map put_by permits.items) (map said result.items) }
 {
     for lane in 0..office.lanes.len() {
-        let seat = seats.remove(0);
-        ended.push_reserved(end_seat(rt, pace, &office.lanes[lane], seat));
+        let permit = permits.remove(0);
+        ended.push_reserved(end_permit(rt, pace, &office.lanes[lane], permit));
         summons.summon(rt, lane);
     }
-    seats.destroy_empty();
+    permits.destroy_empty();
     ended
 }
 
@@ -91,7 +92,7 @@ pub fn hear_ends<R: Wait, G: Gate>(
     rt: &R,
     pace: &mut Pace<'_, G>,
     channel: &ReplyChannel<Noted>,
-    receiver: &mut ReceiverSeat<Noted>,
+    receiver: &mut ReceiverPermit<Noted>,
     mut heard: usize,
     shards: usize,
 ) -> bool
@@ -116,37 +117,37 @@ pub fn hear_ends<R: Wait, G: Gate>(
     unreachable!()
 }
 
-/// Ends a sender's seat: its end goes behind all that it has sent. Where the channel is full it tries
+/// Ends a sender's permit: its end goes behind all that it has sent. Where the channel is full it tries
 /// again until there is room.
 pub fn end_sender<R: Wait, G: Gate>(
     rt: &R,
     pace: &mut Pace<'_, G>,
     channel: &ReplyChannel<Noted>,
-    mut seat: SenderSeat<Noted>,
+    mut permit: SenderPermit<Noted>,
 ) -> SenderEnded<Noted>
-    requires { IsSender channel.now seat }
-    ensures { IsSenderEnded channel.now result × (sender_ended_number result ≡ sender_number seat) ×
-        (said_on result ≡ sent_on seat ++ entries.End (sender_number seat) ∷ []) }
+    requires { IsSender channel.now permit }
+    ensures { IsSenderEnded channel.now result × (sender_ended_number result ≡ sender_number permit) ×
+        (said_on result ≡ sent_on permit ++ entries.End (sender_number permit) ∷ []) }
 {
     for _ in rt.forever() {
         pace.pass();
-        match channel.end_as(rt, seat) {
+        match channel.end_as(rt, permit) {
             Ok(ended) => return ended,
-            Err(back) => seat = back,
+            Err(back) => permit = back,
         }
         thread::yield_now();
     }
     unreachable!()
 }
 
-/// Ends a consumer's seat on each reply channel, from the first on. `ended`, which is empty, has room
+/// Ends a consumer's permit on each reply channel, from the first on. `ended`, which is empty, has room
 /// for all.
 pub fn end_senders<R: Wait, G: Gate>(
     rt: &R,
     pace: &mut Pace<'_, G>,
     channels: &[ReplyChannel<Noted>],
     shard: u8,
-    mut senders: Vec<SenderSeat<Noted>>,
+    mut senders: Vec<SenderPermit<Noted>>,
     mut ended: Vec<SenderEnded<Noted>>,
 ) -> Vec<SenderEnded<Noted>>
     requires senders { AreSenders channels.now shard senders.items }

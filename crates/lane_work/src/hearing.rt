@@ -12,9 +12,9 @@ ghost use Rattle.lane_work.specs.Copies.{IsHeard, copies_of};
 ghost use Rattle.lane_work.specs.inner.Copies.{WereHeard};
 ghost use Rattle.lane_work.specs.inner.Desk.{SameButReceiver};
 ghost use Rattle.lane_work.specs.Ends.{CountsEnds, ends_in};
-ghost use Rattle.lane_work.specs.Seats.{AreLive, overs};
+ghost use Rattle.lane_work.specs.Permits.{AreLive, overs};
 
-use crate::desk::{Desk, LaneSeat};
+use crate::desk::{Desk, LanePermit};
 use crate::worker::Stop;
 use delivery_token::{CopyKey, Noted, Verdict};
 use lmtp_machine::Submission;
@@ -23,18 +23,18 @@ use shard_queue::{Entry, ReplyChannel};
 use std::sync::Wait;
 use submission::Verdicts;
 
-// Whether the seat on this shard's lane is over, so that the shard's end may come.
-fn is_over_at(seats: &[LaneSeat], shard: u8) -> bool
-    ensures { result ≡ slice_index_or (overs seats.now) shard false }
+// Whether the permit on this shard's lane is over, so that the shard's end may come.
+fn is_over_at(permits: &[LanePermit], shard: u8) -> bool
+    ensures { result ≡ slice_index_or (overs permits.now) shard false }
 {
-    match seats.get(usize::from(shard)) {
-        Some(LaneSeat::Over(_)) => true,
+    match permits.get(usize::from(shard)) {
+        Some(LanePermit::Over(_)) => true,
         _ => false,
     }
 }
 
 /// Hears verdicts until each of the message's is known; Torn where what comes isn't awaited. The end of
-/// a shard on whose lane the seat is over is counted, and no more.
+/// a shard on whose lane the permit is over is counted, and no more.
 pub(crate) fn hear_all<R: Wait, G: Gate>(
     rt: &R,
     pace: &mut Pace<'_, G>,
@@ -52,7 +52,7 @@ pub(crate) fn hear_all<R: Wait, G: Gate>(
     ensures heard { WereHeard (received desk.new.receiver) (copies_of (submission_of message.now)) verdicts.old.slots verdicts.new.slots }
     ensures awaited { OnOk result (length (received desk.new.receiver) + ends_in (received desk.old.receiver)
         ≡ length (received desk.old.receiver) + unknown verdicts.old.slots + ends_in (received desk.new.receiver)) }
-    ensures live { OnOk result (AreLive desk.old.seats.items → ends_in (received desk.new.receiver) ≡ ends_in (received desk.old.receiver)) }
+    ensures live { OnOk result (AreLive desk.old.permits.items → ends_in (received desk.new.receiver) ≡ ends_in (received desk.old.receiver)) }
     ensures known { OnOk result (list_all is_some verdicts.new.slots ≡ true) }
     ensures torn { OnErr result (length (received desk.old.receiver) < length (received desk.new.receiver)) }
 {
@@ -71,7 +71,7 @@ pub(crate) fn hear_all<R: Wait, G: Gate>(
             }
             Entry::End(shard) => {
                 desk.ends = desk.ends.saturating_add(1);
-                if !is_over_at(desk.seats.as_slice(), shard) {
+                if !is_over_at(desk.permits.as_slice(), shard) {
                     return Err(Stop::Torn);
                 }
             }

@@ -5,22 +5,22 @@ ghost use Rattle.std.specs.Prelude.{◌≡◌, ◌≤◌, ◌<◌, ◌+◌, ℕ,
 ghost use Rattle.shard_queue.specs.declared.lane.Entry.TheVariants as entries;
 ghost use Rattle.delivery_token.specs.declared.Refusal.TheVariants as refusals;
 ghost use Rattle.delivery_token.specs.declared.Verdict.TheVariants as verdicts;
-ghost use Rattle.shard_queue.specs.Seats.{IsProducer, sent, number_of};
+ghost use Rattle.shard_queue.specs.Permits.{IsProducer, sent, number_of};
 ghost use Rattle.envelope.specs.Directory.{shard_of};
 ghost use Rattle.lmtp_machine.specs.Calls.{submission_of};
-ghost use Rattle.lane_work.specs.Seats.{AreSeats, IsSeat, is_over, overs, put_by, seat_number};
-ghost use Rattle.lane_work.specs.inner.Seats.{AreOpenTo};
-ghost use Rattle.lane_work.specs.inner.Desk.{SameButSeats};
+ghost use Rattle.lane_work.specs.Permits.{ArePermits, IsPermit, is_over, overs, permit_number, put_by};
+ghost use Rattle.lane_work.specs.inner.Permits.{AreOpenTo};
+ghost use Rattle.lane_work.specs.inner.Desk.{SameButPermits};
 ghost use Rattle.lane_work.specs.Copies.{FoundFull, IsAtOnce, copies_of, room_at, room_of, rooms_of};
 ghost use Rattle.lane_work.specs.inner.Copies.{HavePut, WereTried};
 
 use crate::bells::Summons;
-use crate::desk::{Desk, LaneSeat, Office};
+use crate::desk::{Desk, LanePermit, Office};
 use change_ring::{Flags, NO_FLAGS};
 use delivery_token::{CopyKey, Job, Refusal, Text, Verdict};
 use lmtp_machine::Submission;
 use pace::{Gate, Pace};
-use shard_queue::{Full, ProducerSeat, ShardQueue};
+use shard_queue::{Full, ProducerPermit, ShardQueue};
 use std::sync::Wait;
 use submission::Verdicts;
 
@@ -28,18 +28,18 @@ use submission::Verdicts;
 fn put_on<R: Wait>(
     rt: &R,
     lane: &ShardQueue<Job>,
-    seat: &mut ProducerSeat<Job>,
+    permit: &mut ProducerPermit<Job>,
     key: CopyKey,
     mailbox: u8,
     text: &Text,
     flags: Flags,
 ) -> Option<Verdict>
-    requires { IsProducer lane.now seat.old }
-    ensures seat { IsProducer lane.now seat.new × (number_of seat.new ≡ number_of seat.old) }
+    requires { IsProducer lane.now permit.old }
+    ensures permit { IsProducer lane.now permit.new × (number_of permit.new ≡ number_of permit.old) }
     ensures put { MatchOption result
-        (sent seat.new ≡ sent seat.old ++ entries.Item (number_of seat.old)
+        (sent permit.new ≡ sent permit.old ++ entries.Item (number_of permit.old)
         (record { key = key; mailbox = mailbox; text = text.now; flags = flags }) ∷ [])
-        (λ v. (sent seat.new ≡ sent seat.old) × IsAtOnce (FoundFull (room_of lane.now) (number_of seat.old) (sent seat.old)) v) }
+        (λ v. (sent permit.new ≡ sent permit.old) × IsAtOnce (FoundFull (room_of lane.now) (number_of permit.old) (sent permit.old)) v) }
 {
     let Ok(text) = text.copy() else {
         return Some(Verdict::Refused(Refusal::NoMemory));
@@ -50,33 +50,33 @@ fn put_on<R: Wait>(
         text,
         flags,
     };
-    match lane.put_as(rt, seat, job) {
+    match lane.put_as(rt, permit, job) {
         Ok(()) => None,
         Err(Full(_)) => Some(Verdict::Refused(Refusal::Full)),
     }
 }
 
-// The same at a seat that may be over: there nothing is put, and the copy is refused at once.
+// The same with a permit that may be over: there nothing is put, and the copy is refused at once.
 fn put_at<R: Wait>(
     rt: &R,
     lane: &ShardQueue<Job>,
-    seat: &mut LaneSeat,
+    permit: &mut LanePermit,
     key: CopyKey,
     mailbox: u8,
     text: &Text,
     flags: Flags,
 ) -> Option<Verdict>
-    requires { IsSeat lane.now seat.old }
-    ensures seat { IsSeat lane.now seat.new × (seat_number seat.new ≡ seat_number seat.old) × (is_over seat.new ≡ is_over seat.old) }
-    ensures put { is_over seat.old ≡ false → MatchOption result
-        (put_by seat.new ≡ put_by seat.old ++ entries.Item (seat_number seat.old)
+    requires { IsPermit lane.now permit.old }
+    ensures permit { IsPermit lane.now permit.new × (permit_number permit.new ≡ permit_number permit.old) × (is_over permit.new ≡ is_over permit.old) }
+    ensures put { is_over permit.old ≡ false → MatchOption result
+        (put_by permit.new ≡ put_by permit.old ++ entries.Item (permit_number permit.old)
         (record { key = key; mailbox = mailbox; text = text.now; flags = flags }) ∷ [])
-        (λ v. (put_by seat.new ≡ put_by seat.old) × IsAtOnce (FoundFull (room_of lane.now) (seat_number seat.old) (put_by seat.old)) v) }
-    ensures over { is_over seat.old ≡ true → (result ≡ Some (verdicts.Refused refusals.Shut)) × (seat.new ≡ seat.old) }
+        (λ v. (put_by permit.new ≡ put_by permit.old) × IsAtOnce (FoundFull (room_of lane.now) (permit_number permit.old) (put_by permit.old)) v) }
+    ensures over { is_over permit.old ≡ true → (result ≡ Some (verdicts.Refused refusals.Shut)) × (permit.new ≡ permit.old) }
 {
-    match seat {
-        LaneSeat::Live(live) => put_on(rt, lane, live, key, mailbox, text, flags),
-        LaneSeat::Over(_) => Some(Verdict::Refused(Refusal::Shut)),
+    match permit {
+        LanePermit::Live(live) => put_on(rt, lane, live, key, mailbox, text, flags),
+        LanePermit::Over(_) => Some(Verdict::Refused(Refusal::Shut)),
     }
 }
 
@@ -92,27 +92,27 @@ pub(crate) fn put_copy<R: Wait, G: Gate, S: Summons>(
     text: &Text,
     flags: Flags,
 ) -> Option<Verdict>
-    requires seats { AreSeats office.now.lanes.items desk.old.number desk.old.seats.items }
+    requires permits { ArePermits office.now.lanes.items desk.old.number desk.old.permits.items }
     requires lanes { office.now.directory.shards ≡ length office.now.lanes.items }
-    ensures seats { AreSeats office.now.lanes.items desk.old.number desk.new.seats.items }
-    ensures same { SameButSeats desk.old desk.new }
+    ensures permits { ArePermits office.now.lanes.items desk.old.number desk.new.permits.items }
+    ensures same { SameButPermits desk.old desk.new }
     ensures within { shard_of office.now.directory mailbox < length office.now.lanes.items }
-    ensures put { slice_index_or (overs desk.old.seats.items) (shard_of office.now.directory mailbox) false ≡ false → MatchOption result
-        (map put_by desk.new.seats.items ≡ slice_set (map put_by desk.old.seats.items) (shard_of office.now.directory mailbox)
-        (slice_index_or (map put_by desk.old.seats.items) (shard_of office.now.directory mailbox) []
+    ensures put { slice_index_or (overs desk.old.permits.items) (shard_of office.now.directory mailbox) false ≡ false → MatchOption result
+        (map put_by desk.new.permits.items ≡ slice_set (map put_by desk.old.permits.items) (shard_of office.now.directory mailbox)
+        (slice_index_or (map put_by desk.old.permits.items) (shard_of office.now.directory mailbox) []
         ++ entries.Item desk.old.number (record { key = key; mailbox = mailbox; text = text.now; flags = flags }) ∷ []))
-        (λ v. (map put_by desk.new.seats.items ≡ map put_by desk.old.seats.items)
+        (λ v. (map put_by desk.new.permits.items ≡ map put_by desk.old.permits.items)
         × IsAtOnce (FoundFull (room_at (rooms_of office.now.lanes.items) (shard_of office.now.directory mailbox)) desk.old.number
-        (slice_index_or (map put_by desk.old.seats.items) (shard_of office.now.directory mailbox) [])) v) }
-    ensures over { slice_index_or (overs desk.old.seats.items) (shard_of office.now.directory mailbox) false ≡ true
-        → (result ≡ Some (verdicts.Refused refusals.Shut)) × (map put_by desk.new.seats.items ≡ map put_by desk.old.seats.items) }
+        (slice_index_or (map put_by desk.old.permits.items) (shard_of office.now.directory mailbox) [])) v) }
+    ensures over { slice_index_or (overs desk.old.permits.items) (shard_of office.now.directory mailbox) false ≡ true
+        → (result ≡ Some (verdicts.Refused refusals.Shut)) × (map put_by desk.new.permits.items ≡ map put_by desk.old.permits.items) }
 {
     let shard = office.directory.shard_of(mailbox);
     pace.pass();
     let verdict = put_at(
         rt,
         &office.lanes[shard],
-        &mut desk.seats[shard],
+        &mut desk.permits[shard],
         key,
         mailbox,
         text,
@@ -122,7 +122,7 @@ pub(crate) fn put_copy<R: Wait, G: Gate, S: Summons>(
     verdict
 }
 
-/// Puts each copy of a message, in the order of its recipients; one for a lane on which the seat is over is refused as Shut. In `verdicts`, which
+/// Puts each copy of a message, in the order of its recipients; one for a lane on which the permit is over is refused as Shut. In `verdicts`, which
 /// has room for as many as there are, is then of each what was known of it at once, or None where it is under way.
 pub(crate) fn put_all<R: Wait, G: Gate, S: Summons>(
     rt: &R,
@@ -133,20 +133,20 @@ pub(crate) fn put_all<R: Wait, G: Gate, S: Summons>(
     message: &Submission,
     verdicts: &mut Verdicts,
 )
-    requires seats { AreSeats office.now.lanes.items desk.old.number desk.old.seats.items }
+    requires permits { ArePermits office.now.lanes.items desk.old.number desk.old.permits.items }
     requires lanes { office.now.directory.shards ≡ length office.now.lanes.items }
     requires mailboxes { vec_len message.now.mailboxes ≡ vec_len message.now.keys }
     requires slots { (verdicts.old.slots ≡ []) × (vec_len message.now.keys ≤ verdicts.old.most) }
-    ensures seats { AreSeats office.now.lanes.items desk.old.number desk.new.seats.items }
-    ensures same { SameButSeats desk.old desk.new }
+    ensures permits { ArePermits office.now.lanes.items desk.old.number desk.new.permits.items }
+    ensures same { SameButPermits desk.old desk.new }
     ensures slots { length verdicts.new.slots ≡ vec_len message.now.keys }
-    // Where no seat is over that a copy is for.
-    ensures tried { AreOpenTo office.now.directory message.now.mailboxes.items desk.old.seats.items
+    // Where no permit is over that a copy is for.
+    ensures tried { AreOpenTo office.now.directory message.now.mailboxes.items desk.old.permits.items
         → WereTried office.now.directory (rooms_of office.now.lanes.items) desk.old.number (copies_of (submission_of message.now)) verdicts.new.slots
-        (map put_by desk.old.seats.items) }
-    ensures put { AreOpenTo office.now.directory message.now.mailboxes.items desk.old.seats.items
-        → HavePut office.now.directory desk.old.number (copies_of (submission_of message.now)) verdicts.new.slots (map put_by desk.old.seats.items)
-        (map put_by desk.new.seats.items) }
+        (map put_by desk.old.permits.items) }
+    ensures put { AreOpenTo office.now.directory message.now.mailboxes.items desk.old.permits.items
+        → HavePut office.now.directory desk.old.number (copies_of (submission_of message.now)) verdicts.new.slots (map put_by desk.old.permits.items)
+        (map put_by desk.new.permits.items) }
 {
     for i in 0..message.keys.len() {
         let verdict = put_copy(

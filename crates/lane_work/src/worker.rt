@@ -1,4 +1,4 @@
-//! A worker's connections, from the first greeting to the end of its seat on each lane. How copies are
+//! A worker's connections, from the first greeting to the end of its permit on each lane. How copies are
 //! put and verdicts are heard stands in `putting` and `hearing`.
 
 ghost use Rattle.std.specs.Prelude.{◌≡◌, ◌≢◌, ◌≤◌, ◌<◌, ◌+◌, ◌-◌, ℕ, ◌++◌, ◌∷◌, [], take, true, false, length, map, All, List, Ok, Err, OnOk, OnErr, IfOk, vec_len, vec_capacity};
@@ -6,13 +6,13 @@ ghost use Rattle.std.specs.Io.{StartsWith};
 ghost use Rattle.delivery_token.specs.declared.Job.{Job};
 ghost use Rattle.delivery_token.specs.declared.Verdict.{Verdict};
 ghost use Rattle.envelope.specs.Directory.{marked};
-ghost use Rattle.shard_queue.specs.Seats.{said};
+ghost use Rattle.shard_queue.specs.Permits.{said};
 ghost use Rattle.shard_queue.specs.Reply.{IsReceiver, received};
 ghost use Rattle.shard_queue.specs.Shared.{IsStartOf};
 ghost use Rattle.lmtp_machine.specs.Calls.{Moves, submission_of};
 ghost use Rattle.lane_work.specs.Talk.{Judged};
-ghost use Rattle.lane_work.specs.Seats.{AreEnded, AreSeated, AreSeats, IsNew, overs, put_by};
-ghost use Rattle.lane_work.specs.inner.Seats.{AreOpenTo};
+ghost use Rattle.lane_work.specs.Permits.{AreEnded, AreInForce, ArePermits, IsNew, overs, put_by};
+ghost use Rattle.lane_work.specs.inner.Permits.{AreOpenTo};
 ghost use Rattle.lane_work.specs.Account.{AreBooks, HaveEnded, notes_tell, setting_at};
 ghost use Rattle.lane_work.specs.inner.Account.{HasServed};
 ghost use Rattle.lane_work.specs.Ends.{CountsEnds, ends_in};
@@ -32,7 +32,7 @@ use delivery_token::{Job, Noted, Verdict, WorkerLog};
 use envelope::Directory;
 use lmtp_machine::{ANSWER_ROOM, Fed, Limits, LmtpMachine, Submission, What};
 use pace::{Gate, Pace};
-use shard_queue::{Ended, ReceiverSeat, ReplyChannel};
+use shard_queue::{Ended, ReceiverPermit, ReplyChannel};
 use std::alloc::Global;
 use std::sync::Wait;
 use submission::Verdicts;
@@ -51,7 +51,7 @@ pub enum Stop {
 pub enum Fate {
     /// It went through all its connections, or all its steps.
     Whole,
-    /// It never had a thread, and its seats were ended for it.
+    /// It never had a thread, and its permits were ended for it.
     NotBegun,
     /// Memory was refused, for more than a copy's text; it submitted nothing after that.
     NoMemory,
@@ -72,25 +72,25 @@ fn settle<R: Wait, G: Gate, S: Summons, N: Notebook>(
     book: &mut N,
     message: &Submission,
 ) -> Result<Vec<Verdict>, Stop>
-    requires seats { AreSeats office.now.lanes.items desk.old.number desk.old.seats.items }
+    requires permits { ArePermits office.now.lanes.items desk.old.number desk.old.permits.items }
     requires receiver { IsReceiver channel.now desk.old.receiver }
     requires lanes { office.now.directory.shards ≡ length office.now.lanes.items }
     requires mailboxes { vec_len message.now.mailboxes ≡ vec_len message.now.keys }
-    ensures seats { AreSeats office.now.lanes.items desk.old.number desk.new.seats.items }
+    ensures permits { ArePermits office.now.lanes.items desk.old.number desk.new.permits.items }
     ensures receiver { IsReceiver channel.now desk.new.receiver }
     ensures number { desk.new.number ≡ desk.old.number }
     ensures ends { CountsEnds desk.old desk.new }
-    ensures overs { overs desk.new.seats.items ≡ overs desk.old.seats.items }
+    ensures overs { overs desk.new.permits.items ≡ overs desk.old.permits.items }
     ensures owner { N.owner book.new ≡ N.owner book.old }
     ensures verdicts { IfOk result (λ vs. vec_len vs ≡ vec_len message.now.keys) }
-    // Where no seat is over that a copy is for.
-    ensures books { IfOk result (λ vs. AreOpenTo office.now.directory message.now.mailboxes.items desk.old.seats.items →
+    // Where no permit is over that a copy is for.
+    ensures books { IfOk result (λ vs. AreOpenTo office.now.directory message.now.mailboxes.items desk.old.permits.items →
         (judged : List Judged) → AreBooks office.now.directory (rooms_of office.now.lanes.items) desk.old.number judged (N.tells book.old)
-        (received desk.old.receiver) (map put_by desk.old.seats.items)
+        (received desk.old.receiver) (map put_by desk.old.permits.items)
         → AreBooks office.now.directory (rooms_of office.now.lanes.items) desk.old.number (judged
         ++ record { message = submission_of message.now; verdicts = vs.items } ∷ []) (N.tells book.new) (received desk.new.receiver)
-        (map put_by desk.new.seats.items)) }
-    ensures err { result ≡ Err Stop.NoMemory → (map put_by desk.new.seats.items ≡ map put_by desk.old.seats.items) ×
+        (map put_by desk.new.permits.items)) }
+    ensures err { result ≡ Err Stop.NoMemory → (map put_by desk.new.permits.items ≡ map put_by desk.old.permits.items) ×
         (received desk.new.receiver ≡ received desk.old.receiver) }
     ensures noted { result ≡ Err Stop.NoMemory → (copies : List (Job × Verdict)) → N.tells book.old copies → N.tells book.new copies }
     ensures torn { result ≡ Err Stop.Torn → length (received desk.old.receiver) < length (received desk.new.receiver) }
@@ -138,12 +138,12 @@ pub fn turn<R: Wait, G: Gate, S: Summons, N: Notebook>(
     piece: &[u8],
     out: &mut Vec<u8>,
 ) -> Result<Fed, Stop>
-    requires seats { AreSeated directory.now office.now.lanes.items desk.old.number desk.old.seats.items }
+    requires permits { AreInForce directory.now office.now.lanes.items desk.old.number desk.old.permits.items }
     requires receiver { IsReceiver channel.now desk.old.receiver }
     requires lanes { office.now.directory.shards ≡ length office.now.lanes.items }
     requires marks { directory.now ≡ marked directory.now.shut office.now.directory }
     requires quiet { machine.old.pending ≡ [] }
-    ensures seats { AreSeated directory.now office.now.lanes.items desk.old.number desk.new.seats.items }
+    ensures permits { AreInForce directory.now office.now.lanes.items desk.old.number desk.new.permits.items }
     ensures receiver { IsReceiver channel.now desk.new.receiver }
     ensures number { desk.new.number ≡ desk.old.number }
     ensures ends { CountsEnds desk.old desk.new }
@@ -154,14 +154,14 @@ pub fn turn<R: Wait, G: Gate, S: Summons, N: Notebook>(
     ensures moves { IfOk result (λ fed. Moves fed.used fed.what piece.now) }
     ensures stands { IfOk result (λ fed. (done : List Judged) (bytes told : List ℕ)
         → Stands directory.now office.now.directory (rooms_of office.now.lanes.items) desk.old.number done bytes false machine.old (told
-        ++ out.old.items) (N.tells book.old) (received desk.old.receiver) (map put_by desk.old.seats.items)
+        ++ out.old.items) (N.tells book.old) (received desk.old.receiver) (map put_by desk.old.permits.items)
         → Stands directory.now office.now.directory (rooms_of office.now.lanes.items) desk.old.number done (bytes ++ take fed.used piece.now)
-        (is_quit fed.what) machine.new (told ++ out.new.items) (N.tells book.new) (received desk.new.receiver) (map put_by desk.new.seats.items)) }
+        (is_quit fed.what) machine.new (told ++ out.new.items) (N.tells book.new) (received desk.new.receiver) (map put_by desk.new.permits.items)) }
     ensures kept { OnErr result ((done : List Judged) (bytes told : List ℕ)
         → Stands directory.now office.now.directory (rooms_of office.now.lanes.items) desk.old.number done bytes false machine.old (told
-        ++ out.old.items) (N.tells book.old) (received desk.old.receiver) (map put_by desk.old.seats.items)
+        ++ out.old.items) (N.tells book.old) (received desk.old.receiver) (map put_by desk.old.permits.items)
         → StartsWith out.new.items out.old.items) }
-    ensures err { result ≡ Err Stop.NoMemory → (map put_by desk.new.seats.items ≡ map put_by desk.old.seats.items) ×
+    ensures err { result ≡ Err Stop.NoMemory → (map put_by desk.new.permits.items ≡ map put_by desk.old.permits.items) ×
         (received desk.new.receiver ≡ received desk.old.receiver) }
     ensures noted { result ≡ Err Stop.NoMemory → (copies : List (Job × Verdict)) → N.tells book.old copies → N.tells book.new copies }
     ensures torn { result ≡ Err Stop.Torn → length (received desk.old.receiver) < length (received desk.new.receiver) }
@@ -213,22 +213,22 @@ fn speak<R: Wait, G: Gate, S: Summons>(
     bytes: &[u8],
     out: &mut Vec<u8>,
 ) -> Result<(), Stop>
-    requires seats { AreSeated directory.now office.now.lanes.items desk.old.number desk.old.seats.items }
+    requires permits { AreInForce directory.now office.now.lanes.items desk.old.number desk.old.permits.items }
     requires receiver { IsReceiver channel.now desk.old.receiver }
     requires lanes { office.now.directory.shards ≡ length office.now.lanes.items }
     requires marks { directory.now ≡ marked directory.now.shut office.now.directory }
     requires quiet { machine.old.pending ≡ [] }
-    ensures seats { AreSeated directory.now office.now.lanes.items desk.old.number desk.new.seats.items }
+    ensures permits { AreInForce directory.now office.now.lanes.items desk.old.number desk.new.permits.items }
     ensures receiver { IsReceiver channel.now desk.new.receiver }
     ensures number { desk.new.number ≡ desk.old.number }
     ensures ends { CountsEnds desk.old desk.new }
     ensures seat { log.new.seat ≡ log.old.seat }
     ensures spoke { OnOk result ((done : List Judged)
         → Stands directory.now office.now.directory (rooms_of office.now.lanes.items) desk.old.number done [] false machine.old out.old.items
-        (notes_tell log.old.notes) (received desk.old.receiver) (map put_by desk.old.seats.items)
+        (notes_tell log.old.notes) (received desk.old.receiver) (map put_by desk.old.permits.items)
         → Spoke directory.now office.now.directory
         (rooms_of office.now.lanes.items) desk.old.number done bytes.now machine.old.setting machine.old.host out.new.items
-        (notes_tell log.new.notes) (received desk.new.receiver) (map put_by desk.new.seats.items)) }
+        (notes_tell log.new.notes) (received desk.new.receiver) (map put_by desk.new.permits.items)) }
 {
     let mut used = 0;
     loop {
@@ -276,22 +276,22 @@ fn converse<R: Wait, G: Gate, S: Summons>(
     serial: u64,
     bytes: &[u8],
 ) -> Result<Vec<u8>, Stop>
-    requires seats { AreSeated directory.now office.now.lanes.items desk.old.number desk.old.seats.items }
+    requires permits { AreInForce directory.now office.now.lanes.items desk.old.number desk.old.permits.items }
     requires receiver { IsReceiver channel.now desk.old.receiver }
     requires lanes { office.now.directory.shards ≡ length office.now.lanes.items }
     requires marks { directory.now ≡ marked directory.now.shut office.now.directory }
     requires host { length office.now.host.items < 256 }
-    ensures seats { AreSeated directory.now office.now.lanes.items desk.old.number desk.new.seats.items }
+    ensures permits { AreInForce directory.now office.now.lanes.items desk.old.number desk.new.permits.items }
     ensures receiver { IsReceiver channel.now desk.new.receiver }
     ensures number { desk.new.number ≡ desk.old.number }
     ensures ends { CountsEnds desk.old desk.new }
     ensures seat { log.new.seat ≡ log.old.seat }
     ensures spoke { IfOk result (λ reply. (done : List Judged)
         → AreBooks office.now.directory (rooms_of office.now.lanes.items) desk.old.number done (notes_tell log.old.notes)
-        (received desk.old.receiver) (map put_by desk.old.seats.items)
+        (received desk.old.receiver) (map put_by desk.old.permits.items)
         → Spoke directory.now office.now.directory (rooms_of office.now.lanes.items) desk.old.number done bytes.now
         (setting_at (premises_of office.now) desk.old.number serial) office.now.host.items reply.items (notes_tell log.new.notes)
-        (received desk.new.receiver) (map put_by desk.new.seats.items)) }
+        (received desk.new.receiver) (map put_by desk.new.permits.items)) }
 {
     let limits = Limits {
         host: office.host.as_slice(),
@@ -325,10 +325,10 @@ fn converse<R: Wait, G: Gate, S: Summons>(
 
 /// What a producer leaves: a worker, or a session.
 pub struct Worked {
-    /// What is left of its seat on each lane.
+    /// What is left of its permit on each lane.
     pub ended: Vec<Ended<Job>>,
     /// Its end of its reply channel.
-    pub receiver: ReceiverSeat<Noted>,
+    pub receiver: ReceiverPermit<Noted>,
     /// The replies to each of its connections, up to the one in which it stopped; of a session what it said.
     pub replies: Vec<Vec<u8>>,
     /// The verdicts on its copies.
@@ -350,20 +350,20 @@ fn go_through<R: Wait, G: Gate, S: Summons>(
     replies: &mut Vec<Vec<u8>>,
     connections: &[Vec<u8>],
 ) -> Fate
-    requires seats { AreSeats office.now.lanes.items desk.old.number desk.old.seats.items × All IsNew desk.old.seats.items }
+    requires permits { ArePermits office.now.lanes.items desk.old.number desk.old.permits.items × All IsNew desk.old.permits.items }
     requires receiver { IsReceiver channel.now desk.old.receiver }
     requires lanes { office.now.directory.shards ≡ length office.now.lanes.items }
     requires host { length office.now.host.items < 256 }
     requires begun { (replies.old.items ≡ []) × AreBooks office.now.directory (rooms_of office.now.lanes.items) desk.old.number []
-        (notes_tell log.old.notes) (received desk.old.receiver) (map put_by desk.old.seats.items) }
-    ensures seats { AreSeats office.now.lanes.items desk.old.number desk.new.seats.items }
+        (notes_tell log.old.notes) (received desk.old.receiver) (map put_by desk.old.permits.items) }
+    ensures permits { ArePermits office.now.lanes.items desk.old.number desk.new.permits.items }
     ensures receiver { IsReceiver channel.now desk.new.receiver }
     ensures number { desk.new.number ≡ desk.old.number }
     ensures ends { CountsEnds desk.old desk.new }
     ensures seat { log.new.seat ≡ log.old.seat }
     ensures began { result ≢ Fate.NotBegun }
     ensures whole { result ≡ Fate.Whole → HasServed (premises_of office.now) desk.old.number (map (λ b. b.items) connections.now)
-        (map (λ b. b.items) replies.new.items) (notes_tell log.new.notes) (received desk.new.receiver) (map put_by desk.new.seats.items) }
+        (map (λ b. b.items) replies.new.items) (notes_tell log.new.notes) (received desk.new.receiver) (map put_by desk.new.permits.items) }
 {
     let Ok(mut directory) = office.directory.copy(alloc) else {
         return Fate::NoMemory;
@@ -402,9 +402,9 @@ fn go_through<R: Wait, G: Gate, S: Summons>(
 /// The copies of a message are put in the order of its recipients, each into
 /// its shard's queue: one that finds no room is refused as Full at once, and one whose text can't be
 /// shared as NoMemory. All verdicts are awaited before the replies. A worker that stops, by `Fate`,
-/// still ends its seats and hears all ends.
+/// still ends its permits and hears all ends.
 ///
-/// `room`, which is empty, has room for what is left of each seat.
+/// `room`, which is empty, has room for what is left of each permit.
 pub fn work<R: Wait, G: Gate, S: Summons>(
     rt: &R,
     alloc: Global,
@@ -416,7 +416,7 @@ pub fn work<R: Wait, G: Gate, S: Summons>(
     room: Vec<Ended<Job>>,
     connections: &[Vec<u8>],
 ) -> Worked
-    requires seats { AreSeats office.now.lanes.items desk.number desk.seats.items × All IsNew desk.seats.items }
+    requires permits { ArePermits office.now.lanes.items desk.number desk.permits.items × All IsNew desk.permits.items }
     requires receiver { IsReceiver channel.now desk.receiver }
     requires lanes { office.now.directory.shards ≡ length office.now.lanes.items }
     requires host { length office.now.host.items < 256 }
@@ -448,7 +448,7 @@ pub fn work<R: Wait, G: Gate, S: Summons>(
 /// shard's end came on its reply channel. What it has said and noted by then goes with it, and so does how
 /// it came there; where all had gone well and something else than an end comes now, it is torn.
 ///
-/// `room`, which is empty, has room for what is left of each seat.
+/// `room`, which is empty, has room for what is left of each permit.
 pub fn finish<R: Wait, G: Gate, S: Summons>(
     rt: &R,
     pace: &mut Pace<'_, G>,
@@ -461,11 +461,11 @@ pub fn finish<R: Wait, G: Gate, S: Summons>(
     replies: Vec<Vec<u8>>,
     fate: Fate,
 ) -> Worked
-    requires seats { AreSeats office.now.lanes.items desk.number desk.seats.items }
+    requires permits { ArePermits office.now.lanes.items desk.number desk.permits.items }
     requires receiver { IsReceiver channel.now desk.receiver }
     requires room { (room.items ≡ []) × (length office.now.lanes.items ≤ vec_capacity room) }
     ensures ended { AreEnded office.now.lanes.items desk.number result.ended.items }
-    ensures said { HaveEnded desk.number (map put_by desk.seats.items) (map said result.ended.items) }
+    ensures said { HaveEnded desk.number (map put_by desk.permits.items) (map said result.ended.items) }
     ensures receiver { IsReceiver channel.now result.receiver }
     ensures grew { IsStartOf (received desk.receiver) (received result.receiver) }
     ensures heard { length office.now.lanes.items + ends_in (received desk.receiver) ≤ desk.ends + ends_in (received result.receiver) }
@@ -477,11 +477,11 @@ pub fn finish<R: Wait, G: Gate, S: Summons>(
 {
     let Desk {
         number,
-        seats,
+        permits,
         mut receiver,
         ends,
     } = desk;
-    let ended = end_all(rt, pace, office, summons, number, seats, room);
+    let ended = end_all(rt, pace, office, summons, number, permits, room);
     let quiet = hear_ends(rt, pace, channel, &mut receiver, ends, office.lanes.len());
     Worked {
         ended,

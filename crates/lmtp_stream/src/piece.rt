@@ -5,7 +5,7 @@ ghost use Rattle.std.specs.Prelude.{◌≡◌, ◌<◌, ◌++◌, ℕ, List, [],
 ghost use Rattle.shard_queue.specs.Reply.{IsReceiver, received};
 ghost use Rattle.shard_queue.specs.Shared.{IsStartOf};
 ghost use Rattle.lane_work.specs.Talk.{Judged};
-ghost use Rattle.lane_work.specs.Seats.{AreSeated, put_by};
+ghost use Rattle.lane_work.specs.Permits.{AreInForce, put_by};
 ghost use Rattle.lane_work.specs.Ends.{CountsEnds};
 ghost use Rattle.lane_work.specs.Speaking.{Stands};
 ghost use Rattle.lane_work.specs.Copies.{rooms_of};
@@ -44,11 +44,11 @@ pub(crate) fn take_piece<R: Wait, G: Gate, S: Summons, N: Notebook>(
     stop: &AtomicBool,
     out: &mut Vec<u8>,
 ) -> Result<Next, Stop>
-    requires seats { AreSeated office.now.directory office.now.lanes.items desk.old.number desk.old.seats.items }
+    requires permits { AreInForce office.now.directory office.now.lanes.items desk.old.number desk.old.permits.items }
     requires receiver { IsReceiver channel.now desk.old.receiver }
     requires lanes { office.now.directory.shards ≡ length office.now.lanes.items }
     requires quiet { machine.old.pending ≡ [] }
-    ensures seats { AreSeated office.now.directory office.now.lanes.items desk.old.number desk.new.seats.items }
+    ensures permits { AreInForce office.now.directory office.now.lanes.items desk.old.number desk.new.permits.items }
     ensures receiver { IsReceiver channel.now desk.new.receiver }
     ensures number { desk.new.number ≡ desk.old.number }
     ensures ends { CountsEnds desk.old desk.new }
@@ -59,15 +59,15 @@ pub(crate) fn take_piece<R: Wait, G: Gate, S: Summons, N: Notebook>(
     ensures same { OnOk result ((machine.new.setting ≡ machine.old.setting) × (machine.new.host ≡ machine.old.host)) }
     ensures took { IfOk result (λ next. (done : List Judged) (bytes told : List ℕ)
         → Stands office.now.directory office.now.directory (rooms_of office.now.lanes.items) desk.old.number done bytes false machine.old (told
-        ++ out.old.items) (N.tells book.old) (received desk.old.receiver) (map put_by desk.old.seats.items)
+        ++ out.old.items) (N.tells book.old) (received desk.old.receiver) (map put_by desk.old.permits.items)
         → TookPiece office.now.directory (rooms_of office.now.lanes.items) desk.old.number done bytes piece.now next machine.new (told
-        ++ out.new.items) (N.tells book.new) (received desk.new.receiver) (map put_by desk.new.seats.items)) }
+        ++ out.new.items) (N.tells book.new) (received desk.new.receiver) (map put_by desk.new.permits.items)) }
     ensures no_memory { result ≡ Err Stop.NoMemory → (done : List Judged) (bytes told : List ℕ)
         → Stands office.now.directory office.now.directory (rooms_of office.now.lanes.items) desk.old.number done bytes false machine.old (told
-        ++ out.old.items) (N.tells book.old) (received desk.old.receiver) (map put_by desk.old.seats.items)
+        ++ out.old.items) (N.tells book.old) (received desk.old.receiver) (map put_by desk.old.permits.items)
         → SaidByThen machine.old.setting machine.old.host office.now.directory
         (rooms_of office.now.lanes.items) desk.old.number done bytes piece.now (told ++ out.new.items) (N.tells book.new)
-        (received desk.new.receiver) (map put_by desk.new.seats.items) }
+        (received desk.new.receiver) (map put_by desk.new.permits.items) }
 {
     if stop.load(Ordering::SeqCst) {
         return Ok(Next::Shut);

@@ -9,7 +9,7 @@ ghost use Rattle.lmtp_machine.specs.Replies.{wire};
 ghost use Rattle.shard_queue.specs.Reply.{IsReceiver, received};
 ghost use Rattle.shard_queue.specs.Shared.{IsStartOf};
 ghost use Rattle.lane_work.specs.Talk.{Judged};
-ghost use Rattle.lane_work.specs.Seats.{AreSeated, put_by};
+ghost use Rattle.lane_work.specs.Permits.{AreInForce, put_by};
 ghost use Rattle.lane_work.specs.Account.{AreBooks, setting_at};
 ghost use Rattle.lane_work.specs.Ends.{CountsEnds};
 ghost use Rattle.lane_work.specs.Speaking.{Stands, premises_of};
@@ -73,14 +73,14 @@ fn go_on<R: Wait, G: Gate, S: Summons, N: Notebook, I: Read, O: Sink>(
     buffer: &mut [u8],
     out: &mut Vec<u8>,
 ) -> Result<Ending, TalkFault>
-    requires seats { AreSeated office.now.directory office.now.lanes.items desk.old.number desk.old.seats.items }
+    requires permits { AreInForce office.now.directory office.now.lanes.items desk.old.number desk.old.permits.items }
     requires receiver { IsReceiver channel.now desk.old.receiver }
     requires lanes { office.now.directory.shards ≡ length office.now.lanes.items }
     requires quiet { machine.old.pending ≡ [] }
     requires host { machine.old.host ≡ office.now.host.items }
     requires live { O.failed output.old ≡ false }
     requires room { 0 < length buffer.old }
-    ensures seats { AreSeated office.now.directory office.now.lanes.items desk.old.number desk.new.seats.items }
+    ensures permits { AreInForce office.now.directory office.now.lanes.items desk.old.number desk.new.permits.items }
     ensures receiver { IsReceiver channel.now desk.new.receiver }
     ensures number { desk.new.number ≡ desk.old.number }
     ensures ends { CountsEnds desk.old desk.new }
@@ -93,10 +93,10 @@ fn go_on<R: Wait, G: Gate, S: Summons, N: Notebook, I: Read, O: Sink>(
     ensures played { (done : List Judged)
         → Stands office.now.directory office.now.directory
         (rooms_of office.now.lanes.items) desk.old.number done [] false machine.old out.old.items (N.tells book.old) (received desk.old.receiver)
-        (map put_by desk.old.seats.items)
+        (map put_by desk.old.permits.items)
         → IsPlayed (premises_of office.now) machine.old.setting desk.old.number done (I.remaining input.old) (I.remaining input.new)
         (O.taken output.old) (O.taken output.new) (O.failed output.new)
-        (N.tells book.new) (received desk.new.receiver) (map put_by desk.new.seats.items) result }
+        (N.tells book.new) (received desk.new.receiver) (map put_by desk.new.permits.items) result }
 {
     for _ in rt.forever() {
         let Ok(()) = send(output, out.as_slice()) else {
@@ -169,13 +169,13 @@ pub fn converse<R: Wait, G: Gate, S: Summons, N: Notebook, I: Read, O: Sink>(
     buffer: &mut [u8],
     out: &mut Vec<u8>,
 ) -> Result<Ending, TalkFault>
-    requires seats { AreSeated office.now.directory office.now.lanes.items desk.old.number desk.old.seats.items }
+    requires permits { AreInForce office.now.directory office.now.lanes.items desk.old.number desk.old.permits.items }
     requires receiver { IsReceiver channel.now desk.old.receiver }
     requires lanes { office.now.directory.shards ≡ length office.now.lanes.items }
     requires host { length office.now.host.items < 256 }
     requires live { O.failed output.old ≡ false }
     requires room { 0 < length buffer.old }
-    ensures seats { AreSeated office.now.directory office.now.lanes.items desk.old.number desk.new.seats.items }
+    ensures permits { AreInForce office.now.directory office.now.lanes.items desk.old.number desk.new.permits.items }
     ensures receiver { IsReceiver channel.now desk.new.receiver }
     ensures number { desk.new.number ≡ desk.old.number }
     ensures ends { CountsEnds desk.old desk.new }
@@ -187,10 +187,10 @@ pub fn converse<R: Wait, G: Gate, S: Summons, N: Notebook, I: Read, O: Sink>(
     ensures failed { result ≡ Err TalkFault.Write → O.failed output.new ≡ true }
     ensures played { (done : List Judged)
         → AreBooks office.now.directory (rooms_of office.now.lanes.items) desk.old.number done (N.tells book.old) (received desk.old.receiver)
-        (map put_by desk.old.seats.items)
+        (map put_by desk.old.permits.items)
         → IsPlayed (premises_of office.now) (setting_at (premises_of office.now) desk.old.number serial) desk.old.number done
         (I.remaining input.old) (I.remaining input.new) (O.taken output.old) (O.taken output.new) (O.failed output.new)
-        (N.tells book.new) (received desk.new.receiver) (map put_by desk.new.seats.items) result }
+        (N.tells book.new) (received desk.new.receiver) (map put_by desk.new.permits.items) result }
 {
     out.clear();
     let Ok(mut machine) = open(alloc, office, desk.number, serial, out) else {

@@ -1,8 +1,8 @@
 -- What `open` and `run_threads` promise is what a run that came to nothing is abandoned by.
 use Rattle.std.proofs.Common.{◌≡◌, ◌≤◌, ◌<◌, ◌+◌, ◌∙◌, ℕ, suc, List, [], ◌∷◌, All, length, subst, sym, vec_len, arith}
 use Rattle.std.proofs.lemmas.List.Elements.{All-cons, All-nil}
-use Rattle.lane_seats.proofs.RowLaws as lanes
-use Rattle.lane_seats.proofs.SenderRowLaws as channels
+use Rattle.lane_permits.proofs.RowLaws as lanes
+use Rattle.lane_permits.proofs.SenderRowLaws as channels
 use Rattle.lane_work.specs.declared.consumer.Consumed.{Consumed}
 use Rattle.lane_work.specs.declared.worker.Worked.{Worked}
 use Rattle.house_floor.specs.Crew.{AllAt, IsHouse}
@@ -14,7 +14,7 @@ use Rattle.house_threads.specs.Crew.{IsProduceOf, IsServiceOf, IsSpendable, Plan
 use Rattle.house_threads.specs.declared.run.Ran.{Ran}
 use Rattle.reckoning.proofs.Parts.{some_at}
 
--- a producer that had its turn has left something of each of its seats
+-- a producer that had its turn has left something of each of its permits
 ended_lengths : (floor : Floor) (plans : Plans) (visits : List Visit) (n : ℕ) (ws : List Worked) → AllAt (IsProduceOf floor plans visits) n ws
     → All (λ (w : Worked). vec_len w.ended ≡ length floor.office.lanes.items) ws
 ended_lengths floor plans visits n [] all = All-nil (λ (w : Worked). vec_len w.ended ≡ length floor.office.lanes.items)

@@ -6,13 +6,13 @@ use Rattle.delivery_token.specs.declared.Job.{Job}
 use Rattle.delivery_token.specs.declared.log.Noted.{Noted}
 use Rattle.shard_queue.specs.declared.lane.Entry.{Entry}
 use Rattle.shard_queue.specs.declared.queue.Closed.{Closed}
-use Rattle.shard_queue.specs.declared.queue.ConsumerSeat.{ConsumerSeat}
+use Rattle.shard_queue.specs.declared.queue.ConsumerPermit.{ConsumerPermit}
 use Rattle.shard_queue.specs.declared.queue.Ended.{Ended}
 use Rattle.shard_queue.specs.declared.reply.ReplyClosed.{ReplyClosed}
 use Rattle.shard_queue.specs.declared.reply.SenderEnded.{SenderEnded}
 use Rattle.shard_queue.specs.Lane.{of}
 use Rattle.shard_queue.specs.Reply.{received, reply_history}
-use Rattle.shard_queue.specs.Seats.{got, history, said}
+use Rattle.shard_queue.specs.Permits.{got, history, said}
 use Rattle.lane_work.specs.Account.{Account}
 use Rattle.lane_work.specs.Consuming.{items_of}
 use Rattle.lane_work.specs.Speaking.{premises_of}
@@ -21,9 +21,9 @@ use Rattle.lane_work.specs.declared.worker.Fate.{Fate}
 use Rattle.lane_work.specs.declared.worker.Fate.TheVariants as fates
 use Rattle.lane_work.specs.declared.worker.Worked.{Worked}
 use Rattle.lane_work.proofs.HistoryLaws.{said_is_taken}
-use Rattle.lane_seats.specs.rows.Rows.{AllIn, AreIn}
-use Rattle.lane_seats.proofs.CloseLaws as lanes
-use Rattle.lane_seats.proofs.ChannelCloseLaws as channels
+use Rattle.lane_permits.specs.rows.Rows.{AllIn, AreIn}
+use Rattle.lane_permits.proofs.CloseLaws as lanes
+use Rattle.lane_permits.proofs.ChannelCloseLaws as channels
 use Rattle.house_floor.specs.Crew.{AllAt}
 use Rattle.house_floor.specs.declared.floor.Floor.{Floor}
 use Rattle.house_floor.specs.declared.floor.Visit.{Visit}
@@ -101,7 +101,7 @@ module _ (ws : List Worked) (p : ℕ) (w : Worked) (at : slice_get ws p ≡ Some
       (subst (λ x. P (map (λ b. b.items) w.replies.items) w.log.notes x) d here))
 
 module _ (floor : Floor) (plans : Plans) (visits : List Visit) (ws : List Worked) (all : AllAt (IsProduceOf floor plans visits) 0 ws) (count : length ws ≡ length plans + length visits)
-    (fine : All (λ w. fault_of_fate w.fate ≡ None) ws) (seats : List (ConsumerSeat Job)) (closed : List (Closed Job)) (are : AreClosedWith floor.office.lanes.items (map (λ w. w.ended.items) ws) seats closed)
+    (fine : All (λ w. fault_of_fate w.fate ≡ None) ws) (permits : List (ConsumerPermit Job)) (closed : List (Closed Job)) (are : AreClosedWith floor.office.lanes.items (map (λ w. w.ended.items) ws) permits closed)
     (hands : List (List (SenderEnded Noted))) (replied : List (ReplyClosed Noted)) (heard : AreChannelsClosedWith floor.depot.channels.items hands (map (λ w. w.receiver) ws) replied) where
   -- what producer p left, that it came to its end, and that what it said is what was taken
   left_by : (p : ℕ) → p < length plans + length visits
@@ -160,11 +160,11 @@ kept_of (c ∷ cs) all =
 -- what the consumers kept is what was taken
 pub copies_taken : (floor : Floor) (cs : List Consumed) (closed : List (Closed Job)) (hands : List (List (Ended Job)))
     → AllAt (IsServiceOf floor) 0 cs → length cs ≡ length floor.office.lanes.items → All (λ c. fault_of_consumer c ≡ None) cs
-    → AreClosedWith floor.office.lanes.items hands (map (λ c. c.seat) cs) closed
+    → AreClosedWith floor.office.lanes.items hands (map (λ c. c.permit) cs) closed
     → map (λ c. c.copies.items) cs ≡ map items_of (map history closed)
 copies_taken floor cs closed hands all count services are =
     copies_of floor 0 cs all (omega (arith, count)) (kept_of cs services) ∙ sym (ap (λ xs. map items_of xs) (lanes.histories_taken are.2) ∙ thrice cs)
   where
-    thrice : (ds : List Consumed) → map items_of (map got (map (λ (c : Consumed). c.seat) ds)) ≡ map (λ (c : Consumed). items_of (got c.seat)) ds
+    thrice : (ds : List Consumed) → map items_of (map got (map (λ (c : Consumed). c.permit) ds)) ≡ map (λ (c : Consumed). items_of (got c.permit)) ds
     thrice [] = refl
-    thrice (d ∷ ds) = ap (λ xs. items_of (got d.seat) ∷ xs) (thrice ds)
+    thrice (d ∷ ds) = ap (λ xs. items_of (got d.permit) ∷ xs) (thrice ds)

@@ -1,14 +1,14 @@
 -- What the producers and consumers promise of themselves, said of their parts in lists of their own.
 use Rattle.std.proofs.Common.{◌≡◌, ◌<◌, ◌+◌, ◌∙◌, ℕ, zero, suc, true, List, [], ◌∷◌, All, Some, length, map, drop, slice_get, refl, sym, ap, subst, arith}
 use Rattle.std.proofs.lemmas.List.Elements.{All-head, All-tail}
-use Rattle.shard_queue.specs.Seats.{numbers}
-use Rattle.shard_queue.specs.Seats.{got}
+use Rattle.shard_queue.specs.Permits.{numbers}
+use Rattle.shard_queue.specs.Permits.{got}
 use Rattle.lane_work.specs.Consuming.{items_of}
 use Rattle.lane_work.specs.declared.consumer.Consumed.{Consumed}
 use Rattle.lane_work.specs.declared.worker.Worked.{Worked}
-use Rattle.lane_seats.specs.rows.Rows.{AreEndedHands}
-use Rattle.lane_seats.specs.rows.Rows as rows
-use Rattle.lane_seats.specs.rows.SenderRows.{AreReceivers, AreSenderEndedHands}
+use Rattle.lane_permits.specs.rows.Rows.{AreEndedHands}
+use Rattle.lane_permits.specs.rows.Rows as rows
+use Rattle.lane_permits.specs.rows.SenderRows.{AreReceivers, AreSenderEndedHands}
 use Rattle.house_floor.specs.Crew.{AllAt}
 use Rattle.house_floor.specs.declared.floor.Floor.{Floor}
 use Rattle.house_floor.specs.declared.floor.Visit.{Visit}
@@ -49,12 +49,12 @@ module _ (floor : Floor) (plans : Plans) (visits : List Visit) where
   seats_of n (w ∷ ws) all = ap (λ s. s ∷ map (λ v. v.log.seat) ws) all.0.seat ∙ ap (λ ss. n ∷ ss) (seats_of (suc n) ws all.1)
 
 module _ (floor : Floor) where
-  pub consumers_of : (n : ℕ) (cs : List Consumed) → AllAt (IsServiceOf floor) n cs → n + length cs ≡ length floor.office.lanes.items → rows.AreConsumers (drop n floor.office.lanes.items) (map (λ c. c.seat) cs)
+  pub consumers_of : (n : ℕ) (cs : List Consumed) → AllAt (IsServiceOf floor) n cs → n + length cs ≡ length floor.office.lanes.items → rows.AreConsumers (drop n floor.office.lanes.items) (map (λ c. c.permit) cs)
   consumers_of n [] all count = subst (λ qs. rows.AreConsumers qs []) (sym (past_all floor.office.lanes.items n (omega (arith, count)))) tt
   consumers_of n (c ∷ cs) all count =
       let lane = some_at floor.office.lanes.items n (omega (arith, count)) in
-      subst (λ qs. rows.AreConsumers qs (c.seat ∷ map (λ d. d.seat) cs)) (sym (from_here floor.office.lanes.items n lane.0 lane.1))
-      ((all.0.each lane.0 lane.1).2.seat, consumers_of (suc n) cs all.1 (omega (arith, count)))
+      subst (λ qs. rows.AreConsumers qs (c.permit ∷ map (λ d. d.permit) cs)) (sym (from_here floor.office.lanes.items n lane.0 lane.1))
+      ((all.0.each lane.0 lane.1).2.permit, consumers_of (suc n) cs all.1 (omega (arith, count)))
 
   pub sender_hands_of : (n : ℕ) (cs : List Consumed) → AllAt (IsServiceOf floor) n cs → n + length cs ≡ length floor.office.lanes.items → AreSenderEndedHands floor.depot.channels.items n (map (λ c. c.senders.items) cs)
   sender_hands_of n [] all count = tt
@@ -64,9 +64,9 @@ module _ (floor : Floor) where
 
   -- where each kept all that it took, the copies are those of what was taken
   pub copies_of : (n : ℕ) (cs : List Consumed) → AllAt (IsServiceOf floor) n cs → n + length cs ≡ length floor.office.lanes.items → All (λ c. c.kept ≡ true) cs
-      → map (λ c. c.copies.items) cs ≡ map (λ c. items_of (got c.seat)) cs
+      → map (λ c. c.copies.items) cs ≡ map (λ c. items_of (got c.permit)) cs
   copies_of n [] all count kept = refl
   copies_of n (c ∷ cs) all count kept =
       let lane = some_at floor.office.lanes.items n (omega (arith, count)) in
       ap (λ xs. xs ∷ map (λ d. d.copies.items) cs) ((all.0.each lane.0 lane.1).2.kept (All-head (λ (d : Consumed). d.kept ≡ true) c cs kept))
-      ∙ ap (λ xss. items_of (got c.seat) ∷ xss) (copies_of (suc n) cs all.1 (omega (arith, count)) (All-tail (λ (d : Consumed). d.kept ≡ true) c cs kept))
+      ∙ ap (λ xss. items_of (got c.permit) ∷ xss) (copies_of (suc n) cs all.1 (omega (arith, count)) (All-tail (λ (d : Consumed). d.kept ≡ true) c cs kept))

@@ -2,7 +2,7 @@
 use Rattle.std.proofs.Common.{◌≡◌, ◌∙◌, ℕ, List, [], ◌∷◌, All, Option, None, Some, Vec, length, map, refl, ap, sym, subst}
 use Rattle.std.specs.Global.{Global}
 use Rattle.std.proofs.lemmas.List.{length-map}
-use Rattle.lane_seats.specs.Rooms.{AreRooms}
+use Rattle.lane_permits.specs.Rooms.{AreRooms}
 use Rattle.std.proofs.lemmas.List.Elements.{All-cons, All-nil}
 use Rattle.reckoning.specs.Gathered.{graver, gravest}
 use Rattle.reckoning.specs.declared.gather.Fault.{Fault}

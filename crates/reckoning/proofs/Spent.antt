@@ -1,4 +1,4 @@
--- There is room for all seats of a run that came to nothing.
+-- There is room for all permits of a run that came to nothing.
 use Rattle.std.proofs.Common.{◌≡◌, ◌≤◌, ◌+◌, ◌*◌, ℕ, List, [], All, Vec, length, ap, sum_by, vec_len, vec_capacity, add-mul, mul-le-mul_right, arith}
 use Rattle.std.specs.Global.{Global}
 use Rattle.std.proofs.lemmas.List.Elements.{All-weaker}
@@ -39,8 +39,8 @@ fits_behind f g each count xs ys old new empty room grown all others same =
     let none : length old.items ≡ 0 = ap length empty in
     omega (arith, in_both f g each count xs ys all others same, none, old.ok.0, room, grown.0, grown.1)
 
-pub seats_of_posts : (lanes : ℕ) (posts : List Post) → All (IsPostLeft lanes) posts → All (λ (p : Post). vec_len p.desk.seats ≤ lanes) posts
-seats_of_posts lanes posts left = All-weaker (IsPostLeft lanes) (λ (p : Post). vec_len p.desk.seats ≤ lanes) (λ p h. omega (arith, h)) posts left
+pub permits_of_posts : (lanes : ℕ) (posts : List Post) → All (IsPostLeft lanes) posts → All (λ (p : Post). vec_len p.desk.permits ≤ lanes) posts
+permits_of_posts lanes posts left = All-weaker (IsPostLeft lanes) (λ (p : Post). vec_len p.desk.permits ≤ lanes) (λ p h. omega (arith, h)) posts left
 
 pub senders_of_stands : (producers : ℕ) (stands : List Stand) → All (IsStandLeft producers) stands → All (λ (s : Stand). vec_len s.stall.senders ≤ producers) stands
 senders_of_stands producers stands left = All-weaker (IsStandLeft producers) (λ (s : Stand). vec_len s.stall.senders ≤ producers) (λ s h. h.0) stands left

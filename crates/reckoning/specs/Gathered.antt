@@ -47,7 +47,7 @@ pub record AreWorkers (producers : List Worked) (from : FromWorkers) : Type 0 wh
 
 -- these are the consumers' parts, in their order
 pub record AreConsumers (consumers : List Consumed) (from : FromConsumers) : Type 0 where
-  pub seats : from.seats.items ≡ map (λ c. c.seat) consumers
+  pub permits : from.permits.items ≡ map (λ c. c.permit) consumers
   pub hands : map (λ h. h.items) from.hands.items ≡ map (λ c. c.senders.items) consumers
   pub copies : from.copies.items ≡ map (λ c. c.copies) consumers
 
@@ -59,6 +59,6 @@ pub record IsRoomForWorkers (n : ℕ) (from : FromWorkers) : Type 0 where
   pub logs : (from.logs.items ≡ []) × (n ≤ vec_capacity from.logs)
 
 pub record IsRoomForConsumers (n : ℕ) (from : FromConsumers) : Type 0 where
-  pub seats : (from.seats.items ≡ []) × (n ≤ vec_capacity from.seats)
+  pub permits : (from.permits.items ≡ []) × (n ≤ vec_capacity from.permits)
   pub hands : (from.hands.items ≡ []) × (n ≤ vec_capacity from.hands)
   pub copies : (from.copies.items ≡ []) × (n ≤ vec_capacity from.copies)

@@ -6,7 +6,7 @@ use Rattle.shard_queue.specs.declared.ends.ReplyChannel.{ReplyChannel}
 use Rattle.shard_queue.specs.declared.queue.ShardQueue.{ShardQueue}
 use Rattle.lane_work.specs.declared.consumer.Consumed.{Consumed}
 use Rattle.lane_work.specs.declared.worker.Worked.{Worked}
-use Rattle.lane_seats.specs.Rooms.{AreRooms}
+use Rattle.lane_permits.specs.Rooms.{AreRooms}
 use Rattle.reckoning.specs.Closing.{AreChannelsClosedWith, AreChannelsTornWith, AreClosedWith, AreTornWith}
 use Rattle.reckoning.specs.Gathered.{AreConsumers, AreWorkers, fault_of_consumer, fault_of_fate, graver, gravest}
 use Rattle.reckoning.specs.declared.gather.Fault.{Fault}
@@ -32,14 +32,14 @@ pub record IsGathered (producers : List Worked) (consumers : List Consumed) (g :
 
 -- ---- the books
 
--- No thread had a fault. Each queue was closed, with what all threads left of their seats; the rest of what they left is in the books, in their order.
+-- No thread had a fault. Each queue was closed, with what all threads left of their permits; the rest of what they left is in the books, in their order.
 pub record IsSettled (lanes : List (ShardQueue Job)) (channels : List (ReplyChannel Noted)) (producers : List Worked) (consumers : List Consumed) (books : Books) : Type 0 where
   pub fates : All (λ w. fault_of_fate w.fate ≡ None) producers
   pub services : All (λ c. fault_of_consumer c ≡ None) consumers
   pub replies : books.replies.items ≡ map (λ w. w.replies) producers
   pub logs : books.logs.items ≡ map (λ w. w.log) producers
   pub copies : books.copies.items ≡ map (λ c. c.copies) consumers
-  pub lanes_closed : AreClosedWith lanes (map (λ w. w.ended.items) producers) (map (λ c. c.seat) consumers) books.closed.lanes.items
+  pub lanes_closed : AreClosedWith lanes (map (λ w. w.ended.items) producers) (map (λ c. c.permit) consumers) books.closed.lanes.items
   pub channels_closed : AreChannelsClosedWith channels (map (λ c. c.senders.items) consumers) (map (λ w. w.receiver) producers) books.closed.channels.items
 
 -- There was this fault, the gravest; or there was none, and some queue couldn't be closed.
@@ -47,5 +47,5 @@ abbrev pub IsWhyNot : List (ShardQueue Job) → List (ReplyChannel Noted) → Li
 IsWhyNot lanes channels producers consumers fault =
     (worst_of producers consumers ≡ Some fault)
     ⊎ ((worst_of producers consumers ≡ None) × (fault ≡ Torn)
-    × (AreTornWith lanes (map (λ w. w.ended.items) producers) (map (λ c. c.seat) consumers)
+    × (AreTornWith lanes (map (λ w. w.ended.items) producers) (map (λ c. c.permit) consumers)
     ⊎ AreChannelsTornWith channels (map (λ c. c.senders.items) consumers) (map (λ w. w.receiver) producers)))

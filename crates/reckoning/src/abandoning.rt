@@ -1,4 +1,4 @@
-//! A run that came to nothing is spent: all seats, whatever became of them, with their queues. No report
+//! A run that came to nothing is spent: all permits, whatever became of them, with their queues. No report
 //! is made of it.
 
 ghost use Rattle.std.specs.Prelude.{◌≡◌, ◌<◌, ◌≤◌, ◌+◌, [], All, length, sum_by, vec_len, vec_capacity};
@@ -10,10 +10,10 @@ use crate::remains::{Remains, remains_of};
 use delivery_token::{Job, Noted};
 use house_floor::{Baskets, Floor, Post, Spares, Stand};
 use house_threads::Ran;
-use lane_seats::spend_lists;
-use lane_work::{Consumed, Desk, LaneSeat, Stall, Worked};
+use lane_permits::spend_lists;
+use lane_work::{Consumed, Desk, LanePermit, Stall, Worked};
 use shard_queue::{
-    ConsumerSeat, Ended, ProducerSeat, ReceiverSeat, ReplyChannel, SenderEnded, SenderSeat,
+    ConsumerPermit, Ended, ProducerPermit, ReceiverPermit, ReplyChannel, SenderEnded, SenderPermit,
     ShardQueue,
 };
 use std::alloc::Global;
@@ -29,17 +29,21 @@ fn pour<T>(mut from: Vec<T>, into: &mut Vec<T>)
     from.destroy_empty();
 }
 
-// Sorts a producer's seats: those that may put still, and what is left of those that are over.
-fn sort(mut from: Vec<LaneSeat>, seats: &mut Vec<ProducerSeat<Job>>, ended: &mut Vec<Ended<Job>>)
-    requires seats { vec_len seats.old + vec_len from ≤ vec_capacity seats.old }
+// Sorts a producer's permits: those that may put still, and what is left of those that are over.
+fn sort(
+    mut from: Vec<LanePermit>,
+    permits: &mut Vec<ProducerPermit<Job>>,
+    ended: &mut Vec<Ended<Job>>,
+)
+    requires permits { vec_len permits.old + vec_len from ≤ vec_capacity permits.old }
     requires ended { vec_len ended.old + vec_len from ≤ vec_capacity ended.old }
-    ensures seats { HasGrownAtMost (vec_len from) seats.old seats.new }
+    ensures permits { HasGrownAtMost (vec_len from) permits.old permits.new }
     ensures ended { HasGrownAtMost (vec_len from) ended.old ended.new }
 {
     while let Some(one) = from.pop() {
         match one {
-            LaneSeat::Live(seat) => seats.push_reserved(seat),
-            LaneSeat::Over(left) => ended.push_reserved(left),
+            LanePermit::Live(permit) => permits.push_reserved(permit),
+            LanePermit::Over(left) => ended.push_reserved(left),
         }
     }
     from.destroy_empty();
@@ -48,44 +52,44 @@ fn sort(mut from: Vec<LaneSeat>, seats: &mut Vec<ProducerSeat<Job>>, ended: &mut
 // Takes apart a post that never had a thread.
 fn clear_post(
     post: Post,
-    receivers: &mut Vec<ReceiverSeat<Noted>>,
-    seats: &mut Vec<ProducerSeat<Job>>,
+    receivers: &mut Vec<ReceiverPermit<Noted>>,
+    permits: &mut Vec<ProducerPermit<Job>>,
     ended: &mut Vec<Ended<Job>>,
 )
     requires receivers { vec_len receivers.old < vec_capacity receivers.old }
-    requires seats { vec_len seats.old + vec_len post.desk.seats ≤ vec_capacity seats.old }
-    requires ended { vec_len ended.old + (vec_len post.desk.seats + vec_len post.room) ≤ vec_capacity ended.old }
+    requires permits { vec_len permits.old + vec_len post.desk.permits ≤ vec_capacity permits.old }
+    requires ended { vec_len ended.old + (vec_len post.desk.permits + vec_len post.room) ≤ vec_capacity ended.old }
     ensures receivers { HasGrown 1 receivers.old receivers.new }
-    ensures seats { HasGrownAtMost (vec_len post.desk.seats) seats.old seats.new }
-    ensures ended { HasGrownAtMost (vec_len post.desk.seats + vec_len post.room) ended.old ended.new }
+    ensures permits { HasGrownAtMost (vec_len post.desk.permits) permits.old permits.new }
+    ensures ended { HasGrownAtMost (vec_len post.desk.permits + vec_len post.room) ended.old ended.new }
 {
     let Post { desk, room } = post;
     let Desk {
         number: _,
-        seats: own,
+        permits: own,
         receiver,
         ends: _,
     } = desk;
     receivers.push_reserved(receiver);
-    sort(own, seats, ended);
+    sort(own, permits, ended);
     pour(room, ended);
 }
 
 // The same of all of them.
 fn clear_posts(
     mut posts: Vec<Post>,
-    receivers: &mut Vec<ReceiverSeat<Noted>>,
-    seats: &mut Vec<ProducerSeat<Job>>,
+    receivers: &mut Vec<ReceiverPermit<Noted>>,
+    permits: &mut Vec<ProducerPermit<Job>>,
     ended: &mut Vec<Ended<Job>>,
 )
     requires receivers { vec_len receivers.old + vec_len posts ≤ vec_capacity receivers.old }
-    requires seats { vec_len seats.old + sum_by (λ p. vec_len p.desk.seats) posts.items ≤ vec_capacity seats.old }
-    requires ended { vec_len ended.old + sum_by (λ p. vec_len p.desk.seats + vec_len p.room) posts.items ≤ vec_capacity ended.old }
+    requires permits { vec_len permits.old + sum_by (λ p. vec_len p.desk.permits) posts.items ≤ vec_capacity permits.old }
+    requires ended { vec_len ended.old + sum_by (λ p. vec_len p.desk.permits + vec_len p.room) posts.items ≤ vec_capacity ended.old }
     ensures receivers { HasGrown (vec_len posts) receivers.old receivers.new }
-    ensures ended { HasGrownAtMost (sum_by (λ p. vec_len p.desk.seats + vec_len p.room) posts.items) ended.old ended.new }
+    ensures ended { HasGrownAtMost (sum_by (λ p. vec_len p.desk.permits + vec_len p.room) posts.items) ended.old ended.new }
 {
     while let Some(post) = posts.pop() {
-        clear_post(post, receivers, seats, ended);
+        clear_post(post, receivers, permits, ended);
     }
     posts.destroy_empty();
 }
@@ -93,7 +97,7 @@ fn clear_posts(
 // Takes apart what a producer left.
 fn clear_worker(
     worked: Worked,
-    receivers: &mut Vec<ReceiverSeat<Noted>>,
+    receivers: &mut Vec<ReceiverPermit<Noted>>,
     ended: &mut Vec<Ended<Job>>,
 )
     requires receivers { vec_len receivers.old < vec_capacity receivers.old }
@@ -115,7 +119,7 @@ fn clear_worker(
 // The same of all of them.
 fn clear_workers(
     mut worked: Vec<Worked>,
-    receivers: &mut Vec<ReceiverSeat<Noted>>,
+    receivers: &mut Vec<ReceiverPermit<Noted>>,
     ended: &mut Vec<Ended<Job>>,
 )
     requires receivers { vec_len receivers.old + vec_len worked ≤ vec_capacity receivers.old }
@@ -131,23 +135,23 @@ fn clear_workers(
 // Takes apart a stand that never had a thread.
 fn clear_stand(
     stand: Stand,
-    seats: &mut Vec<ConsumerSeat<Job>>,
-    senders: &mut Vec<SenderSeat<Noted>>,
+    permits: &mut Vec<ConsumerPermit<Job>>,
+    senders: &mut Vec<SenderPermit<Noted>>,
 )
-    requires seats { vec_len seats.old < vec_capacity seats.old }
+    requires permits { vec_len permits.old < vec_capacity permits.old }
     requires senders { vec_len senders.old + vec_len stand.stall.senders ≤ vec_capacity senders.old }
     requires room { stand.room.items ≡ [] }
-    ensures seats { HasGrown 1 seats.old seats.new }
+    ensures permits { HasGrown 1 permits.old permits.new }
     ensures senders { HasGrown (vec_len stand.stall.senders) senders.old senders.new }
 {
     let Stand { stall, room } = stand;
     let Stall {
         shard: _,
-        seat,
+        permit,
         senders: live,
         bell: _,
     } = stall;
-    seats.push_reserved(seat);
+    permits.push_reserved(permit);
     pour(live, senders);
     room.destroy_empty();
 }
@@ -155,16 +159,16 @@ fn clear_stand(
 // The same of all of them.
 fn clear_stands(
     mut stands: Vec<Stand>,
-    seats: &mut Vec<ConsumerSeat<Job>>,
-    senders: &mut Vec<SenderSeat<Noted>>,
+    permits: &mut Vec<ConsumerPermit<Job>>,
+    senders: &mut Vec<SenderPermit<Noted>>,
 )
-    requires seats { vec_len seats.old + vec_len stands ≤ vec_capacity seats.old }
+    requires permits { vec_len permits.old + vec_len stands ≤ vec_capacity permits.old }
     requires senders { vec_len senders.old + sum_by (λ s. vec_len s.stall.senders) stands.items ≤ vec_capacity senders.old }
     requires rooms { All (λ s. s.room.items ≡ []) stands.items }
-    ensures seats { HasGrown (vec_len stands) seats.old seats.new }
+    ensures permits { HasGrown (vec_len stands) permits.old permits.new }
 {
     while let Some(stand) = stands.pop() {
-        clear_stand(stand, seats, senders);
+        clear_stand(stand, permits, senders);
     }
     stands.destroy_empty();
 }
@@ -172,55 +176,55 @@ fn clear_stands(
 // Takes apart what a consumer left.
 fn clear_consumer(
     consumed: Consumed,
-    seats: &mut Vec<ConsumerSeat<Job>>,
+    permits: &mut Vec<ConsumerPermit<Job>>,
     ended: &mut Vec<SenderEnded<Noted>>,
 )
-    requires seats { vec_len seats.old < vec_capacity seats.old }
+    requires permits { vec_len permits.old < vec_capacity permits.old }
     requires ended { vec_len ended.old + vec_len consumed.senders ≤ vec_capacity ended.old }
-    ensures seats { HasGrown 1 seats.old seats.new }
+    ensures permits { HasGrown 1 permits.old permits.new }
     ensures ended { HasGrown (vec_len consumed.senders) ended.old ended.new }
 {
     let Consumed {
-        seat,
+        permit,
         senders,
         copies: _,
         kept: _,
         torn: _,
     } = consumed;
-    seats.push_reserved(seat);
+    permits.push_reserved(permit);
     pour(senders, ended);
 }
 
 // The same of all of them.
 fn clear_consumers(
     mut consumed: Vec<Consumed>,
-    seats: &mut Vec<ConsumerSeat<Job>>,
+    permits: &mut Vec<ConsumerPermit<Job>>,
     ended: &mut Vec<SenderEnded<Noted>>,
 )
-    requires seats { vec_len seats.old + vec_len consumed ≤ vec_capacity seats.old }
+    requires permits { vec_len permits.old + vec_len consumed ≤ vec_capacity permits.old }
     requires ended { vec_len ended.old + sum_by (λ c. vec_len c.senders) consumed.items ≤ vec_capacity ended.old }
-    ensures seats { HasGrown (vec_len consumed) seats.old seats.new }
+    ensures permits { HasGrown (vec_len consumed) permits.old permits.new }
 {
     while let Some(one) = consumed.pop() {
-        clear_consumer(one, seats, ended);
+        clear_consumer(one, permits, ended);
     }
     consumed.destroy_empty();
 }
 
-// Spends all lanes, with one consumer's end for each and with all seats that are there. A lane that is
-// abandoned asks no seat whose it is, so the first takes them all.
+// Spends all lanes, with one consumer's end for each and with all permits that are there. A lane that is
+// abandoned asks no permit whose it is, so the first takes them all.
 fn abandon_lanes(
     alloc: Global,
     mut lanes: Vec<ShardQueue<Job>>,
-    mut consumers: Vec<ConsumerSeat<Job>>,
-    seats: Vec<ProducerSeat<Job>>,
+    mut consumers: Vec<ConsumerPermit<Job>>,
+    permits: Vec<ProducerPermit<Job>>,
     ended: Vec<Ended<Job>>,
 )
     requires some { 0 < vec_len lanes }
     requires consumers { vec_len consumers ≡ vec_len lanes }
 {
     let first = lanes.remove(0);
-    first.abandon(seats, ended, consumers.remove(0));
+    first.abandon(permits, ended, consumers.remove(0));
     while let Some(lane) = lanes.pop() {
         lane.abandon(Vec::new(alloc), Vec::new(alloc), consumers.remove(0));
     }
@@ -232,15 +236,15 @@ fn abandon_lanes(
 fn abandon_channels(
     alloc: Global,
     mut channels: Vec<ReplyChannel<Noted>>,
-    mut receivers: Vec<ReceiverSeat<Noted>>,
-    seats: Vec<SenderSeat<Noted>>,
+    mut receivers: Vec<ReceiverPermit<Noted>>,
+    permits: Vec<SenderPermit<Noted>>,
     ended: Vec<SenderEnded<Noted>>,
 )
     requires some { 0 < vec_len channels }
     requires receivers { vec_len receivers ≡ vec_len channels }
 {
     let first = channels.remove(0);
-    first.abandon(seats, ended, receivers.remove(0));
+    first.abandon(permits, ended, receivers.remove(0));
     while let Some(channel) = channels.pop() {
         channel.abandon(Vec::new(alloc), Vec::new(alloc), receivers.remove(0));
     }
@@ -248,10 +252,10 @@ fn abandon_channels(
     receivers.destroy_empty();
 }
 
-// Room for the seats of all queues.
+// Room for the permits of all queues.
 struct Ends {
-    consumers: Vec<ConsumerSeat<Job>>,
-    receivers: Vec<ReceiverSeat<Noted>>,
+    consumers: Vec<ConsumerPermit<Job>>,
+    receivers: Vec<ReceiverPermit<Noted>>,
     spares: Spares,
 }
 
@@ -317,15 +321,15 @@ pub fn abandon(alloc: Global, floor: Floor, ran: Ran, baskets: Baskets)
         spares,
     } = ends_of(baskets);
     let Spares {
-        mut seats,
+        mut permits,
         mut ended,
         mut senders,
         mut senders_ended,
     } = spares;
-    clear_posts(posts, &mut receivers, &mut seats, &mut ended);
+    clear_posts(posts, &mut receivers, &mut permits, &mut ended);
     clear_workers(worked, &mut receivers, &mut ended);
     clear_stands(stands, &mut consumers, &mut senders);
     clear_consumers(consumed, &mut consumers, &mut senders_ended);
-    abandon_lanes(alloc, lanes, consumers, seats, ended);
+    abandon_lanes(alloc, lanes, consumers, permits, ended);
     abandon_channels(alloc, channels, receivers, senders, senders_ended);
 }

@@ -1,27 +1,28 @@
-//! What is left of all seats is collected, lane by lane and channel by channel, and each of these is
-//! closed. What the seats' holders did does not belong here.
+//! What is left of all permits is collected, lane by lane and channel by channel, and each of these is
+//! closed. What the permits' holders did does not belong here.
 
 ghost use Rattle.std.specs.Prelude.{◌≡◌, ◌≤◌, [], MatchOption, map, vec_len, vec_capacity};
-ghost use Rattle.lane_seats.specs.Rooms.{AreRooms};
-ghost use Rattle.lane_seats.specs.rows.Rows.{AreConsumers, AreEndedHands};
-ghost use Rattle.lane_seats.specs.rows.SenderRows.{AreReceivers, AreSenderEndedHands};
+ghost use Rattle.lane_permits.specs.Rooms.{AreRooms};
+ghost use Rattle.lane_permits.specs.rows.Rows.{AreConsumers, AreEndedHands};
+ghost use Rattle.lane_permits.specs.rows.SenderRows.{AreReceivers, AreSenderEndedHands};
 ghost use Rattle.reckoning.specs.Closing.{AreChannelsClosedWith, AreChannelsTornWith, AreClosedWith, AreTornWith};
 
 use delivery_token::{Job, Noted};
-use lane_seats::{close_channels, close_lanes, collect_all, collect_all_senders};
+use lane_permits::{close_channels, close_lanes, collect_all, collect_all_senders};
 use shard_queue::{
-    Closed, ConsumerSeat, Ended, ReceiverSeat, ReplyChannel, ReplyClosed, SenderEnded, ShardQueue,
+    Closed, ConsumerPermit, Ended, ReceiverPermit, ReplyChannel, ReplyClosed, SenderEnded,
+    ShardQueue,
 };
 use std::alloc::Global;
 
-/// Closes each lane with what is left of all producers' seats, a hand for each producer, and with its
+/// Closes each lane with what is left of all producers' permits, a hand for each producer, and with its
 /// consumer's. None just where some lane is torn. `lists` has an empty list for each lane with room for
 /// all producers, `closed` has room for all lanes.
 pub fn close_all_lanes(
     alloc: Global,
     lanes: Vec<ShardQueue<Job>>,
     hands: Vec<Vec<Ended<Job>>>,
-    consumers: Vec<ConsumerSeat<Job>>,
+    consumers: Vec<ConsumerPermit<Job>>,
     mut lists: Vec<Vec<Ended<Job>>>,
     closed: Vec<Closed<Job>>,
 ) -> Option<Vec<Closed<Job>>>
@@ -36,14 +37,14 @@ pub fn close_all_lanes(
     close_lanes(alloc, lanes, lists, consumers, closed)
 }
 
-/// Closes each reply channel with what is left of all consumers' seats, a hand for each consumer, and
+/// Closes each reply channel with what is left of all consumers' permits, a hand for each consumer, and
 /// with its producer's. None just where some channel is torn. `lists` has an empty list for each
 /// channel with room for all consumers, `closed` has room for all channels.
 pub fn close_all_channels(
     alloc: Global,
     channels: Vec<ReplyChannel<Noted>>,
     hands: Vec<Vec<SenderEnded<Noted>>>,
-    receivers: Vec<ReceiverSeat<Noted>>,
+    receivers: Vec<ReceiverPermit<Noted>>,
     mut lists: Vec<Vec<SenderEnded<Noted>>>,
     closed: Vec<ReplyClosed<Noted>>,
 ) -> Option<Vec<ReplyClosed<Noted>>>

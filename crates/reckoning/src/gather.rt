@@ -6,7 +6,7 @@ ghost use Rattle.reckoning.specs.Gathered.{AreConsumers, AreWorkers, IsRoomForCo
 
 use delivery_token::{Job, Noted, WorkerLog};
 use lane_work::{Consumed, Fate, Worked};
-use shard_queue::{ConsumerSeat, Ended, ReceiverSeat, SenderEnded};
+use shard_queue::{ConsumerPermit, Ended, ReceiverPermit, SenderEnded};
 
 /// Why what the threads left is no report.
 #[derive(Clone, Copy, Debug, PartialEq, Eq)]
@@ -22,14 +22,14 @@ pub enum Fault {
 /// What the producers left, by their numbers.
 pub struct FromWorkers {
     pub hands: Vec<Vec<Ended<Job>>>,
-    pub receivers: Vec<ReceiverSeat<Noted>>,
+    pub receivers: Vec<ReceiverPermit<Noted>>,
     pub replies: Vec<Vec<Vec<u8>>>,
     pub logs: Vec<WorkerLog>,
 }
 
 /// What the consumers left, by their shards.
 pub struct FromConsumers {
-    pub seats: Vec<ConsumerSeat<Job>>,
+    pub permits: Vec<ConsumerPermit<Job>>,
     pub hands: Vec<Vec<SenderEnded<Noted>>>,
     pub copies: Vec<Vec<Job>>,
 }
@@ -109,11 +109,11 @@ pub fn gather_workers(mut worked: Vec<Worked>, into: &mut FromWorkers) -> Option
 
 // Lays a consumer's parts behind those of the consumers before it, and answers its fault.
 fn lay_consumer(consumed: Consumed, into: &mut FromConsumers) -> Option<Fault>
-    requires seats { vec_len into.old.seats < vec_capacity into.old.seats }
+    requires permits { vec_len into.old.permits < vec_capacity into.old.permits }
     requires hands { vec_len into.old.hands < vec_capacity into.old.hands }
     requires copies { vec_len into.old.copies < vec_capacity into.old.copies }
-    ensures seats { (into.new.seats.items ≡ into.old.seats.items ++ consumed.seat ∷ []) ×
-        (vec_capacity into.new.seats ≡ vec_capacity into.old.seats) }
+    ensures permits { (into.new.permits.items ≡ into.old.permits.items ++ consumed.permit ∷ []) ×
+        (vec_capacity into.new.permits ≡ vec_capacity into.old.permits) }
     ensures hands { (into.new.hands.items ≡ into.old.hands.items ++ consumed.senders ∷ []) ×
         (vec_capacity into.new.hands ≡ vec_capacity into.old.hands) }
     ensures copies { (into.new.copies.items ≡ into.old.copies.items ++ consumed.copies ∷ []) ×
@@ -121,13 +121,13 @@ fn lay_consumer(consumed: Consumed, into: &mut FromConsumers) -> Option<Fault>
     ensures fault { result ≡ fault_of_consumer consumed }
 {
     let Consumed {
-        seat,
+        permit,
         senders,
         copies,
         kept,
         torn,
     } = consumed;
-    into.seats.push_reserved(seat);
+    into.permits.push_reserved(permit);
     into.hands.push_reserved(senders);
     into.copies.push_reserved(copies);
     if !kept {

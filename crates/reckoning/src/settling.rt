@@ -3,8 +3,8 @@
 
 ghost use Rattle.std.specs.Prelude.{◌≡◌, IfErr, IfOk, map, vec_len};
 ghost use Rattle.house_floor.specs.Opening.{AreBaskets};
-ghost use Rattle.lane_seats.specs.rows.Rows.{AreConsumers, AreEndedHands};
-ghost use Rattle.lane_seats.specs.rows.SenderRows.{AreReceivers, AreSenderEndedHands};
+ghost use Rattle.lane_permits.specs.rows.Rows.{AreConsumers, AreEndedHands};
+ghost use Rattle.lane_permits.specs.rows.SenderRows.{AreReceivers, AreSenderEndedHands};
 ghost use Rattle.reckoning.specs.Settling.{IsSettled, IsWhyNot, IsGathered};
 
 use crate::close::{close_all_channels, close_all_lanes};
@@ -42,9 +42,9 @@ pub struct Books {
 pub struct Gathered {
     pub workers: FromWorkers,
     pub consumers: FromConsumers,
-    /// For what is left of all producers' seats on each lane.
+    /// For what is left of all producers' permits on each lane.
     pub lists: Vec<Vec<Ended<Job>>>,
-    /// For what is left of all consumers' seats on each channel.
+    /// For what is left of all consumers' permits on each channel.
     pub sender_lists: Vec<Vec<SenderEnded<Noted>>>,
     /// For what is taken of each queue.
     pub closed: Closes,
@@ -62,7 +62,7 @@ pub fn gather_all(worked: Vec<Worked>, consumed: Vec<Consumed>, baskets: Baskets
         lists,
         sender_hands,
         sender_lists,
-        consumers: seats,
+        consumers: permits,
         receivers,
         replies,
         logs,
@@ -79,7 +79,7 @@ pub fn gather_all(worked: Vec<Worked>, consumed: Vec<Consumed>, baskets: Baskets
         logs,
     };
     let mut consumers = FromConsumers {
-        seats,
+        permits,
         hands: sender_hands,
         copies,
     };
@@ -112,7 +112,7 @@ pub fn settle(
     requires counts { (vec_len worked ≡ vec_len channels) × (vec_len consumed ≡ vec_len lanes) }
     requires hands { AreEndedHands lanes.items 0 (map (λ w. w.ended.items) worked.items) }
     requires receivers { AreReceivers channels.items (map (λ w. w.receiver) worked.items) }
-    requires consumers { AreConsumers lanes.items (map (λ c. c.seat) consumed.items) }
+    requires consumers { AreConsumers lanes.items (map (λ c. c.permit) consumed.items) }
     requires senders { AreSenderEndedHands channels.items 0 (map (λ c. c.senders.items) consumed.items) }
     requires baskets { AreBaskets (vec_len channels) (vec_len lanes) baskets }
     ensures settled { IfOk result (λ books. IsSettled lanes.items channels.items worked.items consumed.items books) }
@@ -133,11 +133,11 @@ pub fn settle(
         logs,
     } = workers;
     let FromConsumers {
-        seats,
+        permits,
         hands: sender_hands,
         copies,
     } = consumers;
-    let lanes = close_all_lanes(alloc, lanes, hands, seats, lists, closed.lanes);
+    let lanes = close_all_lanes(alloc, lanes, hands, permits, lists, closed.lanes);
     let channels = close_all_channels(
         alloc,
         channels,

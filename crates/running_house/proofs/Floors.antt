@@ -7,7 +7,7 @@ use Rattle.shard_queue.specs.declared.ends.ReplyChannel.{ReplyChannel}
 use Rattle.delivery_token.specs.declared.log.Noted.{Noted}
 use Rattle.shard_queue.specs.declared.queue.ShardQueue.{ShardQueue}
 use Rattle.shard_queue.specs.Reply.{room_of, senders_of}
-use Rattle.shard_queue.specs.Seats.{capacity_of, producers_of}
+use Rattle.shard_queue.specs.Permits.{capacity_of, producers_of}
 use Rattle.house.specs.Settings.{setup_of}
 use Rattle.lane_work.specs.Account.{Premises}
 use Rattle.lane_work.specs.Copies.{Room, rooms_of}

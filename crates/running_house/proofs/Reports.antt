@@ -6,14 +6,14 @@ use Rattle.agreement.specs.Lists.{ListsAgree}
 use Rattle.shard_queue.specs.Closing.{IsWhole}
 use Rattle.shard_queue.specs.Lane.{of}
 use Rattle.shard_queue.specs.Reply.{reply_history}
-use Rattle.shard_queue.specs.Seats.{history, numbers}
+use Rattle.shard_queue.specs.Permits.{history, numbers}
 use Rattle.lane_work.specs.Account.{Account}
 use Rattle.lane_work.specs.Consuming.{items_of}
 use Rattle.lane_work.specs.Speaking.{premises_of}
 use Rattle.lane_work.specs.declared.consumer.Consumed.{Consumed}
 use Rattle.lane_work.specs.declared.worker.Worked.{Worked}
-use Rattle.lane_seats.proofs.CloseLaws as lanes
-use Rattle.lane_seats.proofs.ChannelCloseLaws as channels
+use Rattle.lane_permits.proofs.CloseLaws as lanes
+use Rattle.lane_permits.proofs.ChannelCloseLaws as channels
 use Rattle.house_floor.specs.Crew.{AllAt}
 use Rattle.house_floor.specs.Opening.{reply_room}
 use Rattle.house_floor.specs.declared.floor.Floor.{Floor}

@@ -16,7 +16,7 @@ use Rattle.shard_queue.specs.declared.lane.Entry.{Entry}
 use Rattle.shard_queue.specs.declared.lane.Entry.TheVariants.{Item}
 use Rattle.shard_queue.specs.Closing.{IsWhole}
 use Rattle.shard_queue.specs.Lane.{of, producer}
-use Rattle.shard_queue.specs.Seats.{history, numbers}
+use Rattle.shard_queue.specs.Permits.{history, numbers}
 use Rattle.account_laws.proofs.ListLaws.{contains_cases, contains_none, first_of, later_of}
 use Rattle.account_laws.proofs.LogLaws.{account_is_of_lines, stored_is_there}
 use Rattle.courier.specs.Carried.{judged_of}

@@ -8,7 +8,7 @@ use Rattle.shard_queue.specs.declared.lane.Entry.{Entry}
 use Rattle.shard_queue.specs.Closing.{IsWhole}
 use Rattle.shard_queue.specs.Lane.{of}
 use Rattle.shard_queue.specs.Reply.{reply_history}
-use Rattle.shard_queue.specs.Seats.{history, numbers}
+use Rattle.shard_queue.specs.Permits.{history, numbers}
 use Rattle.lane_work.specs.Account.{Account}
 use Rattle.lane_work.specs.Consuming.{items_of}
 use Rattle.house_floor.specs.Opening.{reply_room}

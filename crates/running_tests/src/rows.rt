@@ -14,7 +14,7 @@ use std::sync::Wait;
 use std::thread::Threads;
 
 // No worker begins before the other, and consumer 0 takes nothing before worker 1 has put its copy and heard of it: its pass 0 is the put,
-// its pass 1 the hearing, its pass 2 the end of its seat on the first lane.
+// its pass 1 the hearing, its pass 2 the end of its permit on the first lane.
 fn meeting(alloc: Global) -> Result<Turnstile, AllocError> {
     let mut gate = Turnstile::new(alloc, PATIENCE);
     gate.hold(Actor::Worker(0), Passes::First, Actor::Worker(1), 0)?;

@@ -8,7 +8,7 @@ ghost use Rattle.std.specs.Mem.{manually_drop_value};
 ghost use Rattle.std.specs.Thread.{IsSync};
 ghost use Rattle.house_floor.specs.Crew.{AllAt, IsCrew, IsHouse, IsPost};
 ghost use Rattle.house_floor.specs.Opening.{AreBaskets};
-ghost use Rattle.lane_seats.specs.Rooms.{AreRooms};
+ghost use Rattle.lane_permits.specs.Rooms.{AreRooms};
 ghost use Rattle.serving_workers.specs.Leaving.{IsServed};
 
 use crate::equipment::{Crowd, Equipment, crowd_for, equip};

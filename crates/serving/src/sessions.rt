@@ -176,7 +176,7 @@ fn answer_clients<'a, R: Wait, S: Summons>(
     }
 }
 
-// The life of the thread that answers: its clients, who append by way of the lanes, and then the end of its seats. It hears no end of its
+// The life of the thread that answers: its clients, who append by way of the lanes, and then the end of its permits. It hears no end of its
 // channel: those come when all have ended.
 fn attend_there<'a, 'g, H: Hall, R: Wait>(
     rt: &'a R,
@@ -232,12 +232,20 @@ fn attend_there<'a, 'g, H: Hall, R: Wait>(
     } = courier;
     let Desk {
         number,
-        seats,
+        permits,
         receiver,
         ends,
     } = desk;
     let mut pace = Pace::new(gate, Actor::Session(session));
-    let ended = end_all(rt, &mut pace, &floor.office, &summons, number, seats, room);
+    let ended = end_all(
+        rt,
+        &mut pace,
+        &floor.office,
+        &summons,
+        number,
+        permits,
+        room,
+    );
     packed(Served {
         ended,
         receiver,
@@ -258,7 +266,7 @@ fn watch_clients<'a, R: Wait>(
 }
 
 // Starts the thread of a berth that answers. Where none can be made the house's mark has to be set before what came of it can be had: so
-// nobody is served there, and its seats are ended here.
+// nobody is served there, and its permits are ended here.
 fn start_answering<'s, E, H: Hall + Send, R: Threads + Wait + Sync>(
     scope: &thread::Scope<'s, E>,
     rt: &'s R,

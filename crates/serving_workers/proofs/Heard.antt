@@ -4,10 +4,10 @@ use Rattle.std.proofs.lemmas.List.Elements.{All-cons, All-nil}
 use Rattle.shard_queue.specs.declared.queue.Ended.{Ended}
 use Rattle.shard_queue.specs.declared.queue.ShardQueue.{ShardQueue}
 use Rattle.delivery_token.specs.declared.Job.{Job}
-use Rattle.lane_work.specs.Seats.{AreEnded}
+use Rattle.lane_work.specs.Permits.{AreEnded}
 use Rattle.lane_work.specs.declared.worker.Worked.{Worked}
-use Rattle.lane_seats.specs.rows.Rows.{AreEndedHands}
-use Rattle.lane_seats.specs.rows.SenderRows.{AreReceivers}
+use Rattle.lane_permits.specs.rows.Rows.{AreEndedHands}
+use Rattle.lane_permits.specs.rows.SenderRows.{AreReceivers}
 use Rattle.house_floor.specs.Crew.{AllAt}
 use Rattle.house_floor.specs.declared.floor.Floor.{Floor}
 use Rattle.reckoning.proofs.Parts.{from_here, past_all, some_at}

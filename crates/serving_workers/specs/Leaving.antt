@@ -4,13 +4,13 @@ use Rattle.std.specs.Mem.{manually_drop_value}
 use Rattle.delivery_token.specs.declared.log.Noted.{Noted}
 use Rattle.shard_queue.specs.declared.ends.ReplyChannel.{ReplyChannel}
 use Rattle.shard_queue.specs.Reply.{IsReceiver}
-use Rattle.lane_work.specs.Seats.{AreEnded}
+use Rattle.lane_work.specs.Permits.{AreEnded}
 use Rattle.house_floor.specs.declared.floor.Floor.{Floor}
 use Rattle.serving_workers.specs.declared.accepting.Served.{Served}
 use Rattle.serving_workers.specs.declared.threads.Hired.{Hired}
 use Rattle.serving_workers.specs.declared.threads.Hired.TheVariants.{There, Here}
 
--- what producer n leaves: its ended seats on all lanes, and its end of its own channel
+-- what producer n leaves: its ended permits on all lanes, and its end of its own channel
 pub record IsServed (floor : Floor) (n : ℕ) (s : Served) : Type 0 where
   pub ended : AreEnded floor.office.lanes.items n s.ended.items
   pub receiver : (channel : ReplyChannel Noted) → slice_get floor.depot.channels.items n ≡ Some channel → IsReceiver channel s.receiver

@@ -1,11 +1,11 @@
-//! A worker's life in a server: one connection after another, until the house stops, and then the end of its seat on each lane. What is
+//! A worker's life in a server: one connection after another, until the house stops, and then the end of its permit on each lane. What is
 //! said on a connection stands in `lmtp_stream`.
 
 ghost use Rattle.std.specs.Prelude.{◌≡◌, ◌≤◌, ◌<◌, [], length, vec_capacity};
 ghost use Rattle.delivery_token.specs.declared.log.Noted.{Noted};
 ghost use Rattle.shard_queue.specs.declared.ends.ReplyChannel.{ReplyChannel};
 ghost use Rattle.shard_queue.specs.Reply.{IsReceiver};
-ghost use Rattle.lane_work.specs.Seats.{AreEnded, AreSeated};
+ghost use Rattle.lane_work.specs.Permits.{AreEnded, AreInForce};
 
 use crate::door::Door;
 use delivery_token::{Job, Noted};
@@ -15,17 +15,17 @@ use line_io::Watched;
 use lmtp_stream::{TalkFault, converse};
 use loopback::{Patience, Slot, prepare};
 use pace::{Gate, Pace};
-use shard_queue::{Ended, ReceiverSeat, ReplyChannel};
+use shard_queue::{Ended, ReceiverPermit, ReplyChannel};
 use std::alloc::Global;
 use std::net::TcpStream;
 use std::sync::Wait;
 
 /// What a producer of a server leaves: a worker, or whoever else has a post.
 pub struct Served {
-    /// What is left of its seat on each lane.
+    /// What is left of its permit on each lane.
     pub ended: Vec<Ended<Job>>,
     /// Its end of its reply channel.
-    pub receiver: ReceiverSeat<Noted>,
+    pub receiver: ReceiverPermit<Noted>,
     /// How many shards' ends it has heard there.
     pub ends: usize,
     /// Whether it heard a verdict that it didn't await, after which it served nobody.
@@ -55,12 +55,12 @@ fn serve_one<R: Wait, G: Gate, S: Summons>(
     stream: &TcpStream,
     buffers: &mut Buffers,
 ) -> bool
-    requires seats { AreSeated office.now.directory office.now.lanes.items desk.old.number desk.old.seats.items }
+    requires permits { AreInForce office.now.directory office.now.lanes.items desk.old.number desk.old.permits.items }
     requires receiver { IsReceiver channel.now desk.old.receiver }
     requires lanes { office.now.directory.shards ≡ length office.now.lanes.items }
     requires host { length office.now.host.items < 256 }
     requires room { 0 < length buffers.old.input.items }
-    ensures seats { AreSeated office.now.directory office.now.lanes.items desk.old.number desk.new.seats.items }
+    ensures permits { AreInForce office.now.directory office.now.lanes.items desk.old.number desk.new.permits.items }
     ensures receiver { IsReceiver channel.now desk.new.receiver }
     ensures number { desk.new.number ≡ desk.old.number }
     ensures room { length buffers.new.input.items ≡ length buffers.old.input.items }
@@ -105,12 +105,12 @@ fn attend<R: Wait, G: Gate, S: Summons>(
     stream: &TcpStream,
     buffers: &mut Buffers,
 ) -> bool
-    requires seats { AreSeated office.now.directory office.now.lanes.items desk.old.number desk.old.seats.items }
+    requires permits { AreInForce office.now.directory office.now.lanes.items desk.old.number desk.old.permits.items }
     requires receiver { IsReceiver channel.now desk.old.receiver }
     requires lanes { office.now.directory.shards ≡ length office.now.lanes.items }
     requires host { length office.now.host.items < 256 }
     requires room { 0 < length buffers.old.input.items }
-    ensures seats { AreSeated office.now.directory office.now.lanes.items desk.old.number desk.new.seats.items }
+    ensures permits { AreInForce office.now.directory office.now.lanes.items desk.old.number desk.new.permits.items }
     ensures receiver { IsReceiver channel.now desk.new.receiver }
     ensures number { desk.new.number ≡ desk.old.number }
     ensures room { length buffers.new.input.items ≡ length buffers.old.input.items }
@@ -143,12 +143,12 @@ fn serve_all<R: Wait, G: Gate, S: Summons>(
     slot: &Slot,
     buffers: &mut Buffers,
 ) -> bool
-    requires seats { AreSeated office.now.directory office.now.lanes.items desk.old.number desk.old.seats.items }
+    requires permits { AreInForce office.now.directory office.now.lanes.items desk.old.number desk.old.permits.items }
     requires receiver { IsReceiver channel.now desk.old.receiver }
     requires lanes { office.now.directory.shards ≡ length office.now.lanes.items }
     requires host { length office.now.host.items < 256 }
     requires room { 0 < length buffers.old.input.items }
-    ensures seats { AreSeated office.now.directory office.now.lanes.items desk.old.number desk.new.seats.items }
+    ensures permits { AreInForce office.now.directory office.now.lanes.items desk.old.number desk.new.permits.items }
     ensures receiver { IsReceiver channel.now desk.new.receiver }
     ensures number { desk.new.number ≡ desk.old.number }
 {
@@ -171,7 +171,7 @@ fn serve_all<R: Wait, G: Gate, S: Summons>(
 /// with the next serial from 0 on; then its end on each lane, from shard 0 on. What it leaves has heard no end of its channel: those come
 /// when all workers have ended.
 ///
-/// `room`, which is empty, has room for what is left of each seat.
+/// `room`, which is empty, has room for what is left of each permit.
 pub(crate) fn serve_until_stopped<R: Wait, G: Gate, S: Summons>(
     rt: &R,
     alloc: Global,
@@ -185,7 +185,7 @@ pub(crate) fn serve_until_stopped<R: Wait, G: Gate, S: Summons>(
     slot: &Slot,
     mut buffers: Buffers,
 ) -> Served
-    requires seats { AreSeated office.now.directory office.now.lanes.items desk.number desk.seats.items }
+    requires permits { AreInForce office.now.directory office.now.lanes.items desk.number desk.permits.items }
     requires receiver { IsReceiver channel.now desk.receiver }
     requires lanes { office.now.directory.shards ≡ length office.now.lanes.items }
     requires host { length office.now.host.items < 256 }
@@ -208,11 +208,11 @@ pub(crate) fn serve_until_stopped<R: Wait, G: Gate, S: Summons>(
     );
     let Desk {
         number,
-        seats,
+        permits,
         receiver,
         ends,
     } = desk;
-    let ended = end_all(rt, pace, office, summons, number, seats, room);
+    let ended = end_all(rt, pace, office, summons, number, permits, room);
     Served {
         ended,
         receiver,

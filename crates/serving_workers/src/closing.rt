@@ -2,8 +2,8 @@
 //! left. No thread runs any more.
 
 ghost use Rattle.std.specs.Prelude.{◌≡◌, ◌<◌, ◌≤◌, [], All, length, map, true, vec_len, vec_capacity};
-ghost use Rattle.lane_seats.specs.rows.Rows.{AreConsumers, AreEndedHands};
-ghost use Rattle.lane_seats.specs.rows.SenderRows.{AreReceivers, AreSenderEndedHands};
+ghost use Rattle.lane_permits.specs.rows.Rows.{AreConsumers, AreEndedHands};
+ghost use Rattle.lane_permits.specs.rows.SenderRows.{AreReceivers, AreSenderEndedHands};
 ghost use Rattle.house_floor.specs.Crew.{AllAt, IsHouse};
 ghost use Rattle.house_floor.specs.Opening.{AreBaskets};
 ghost use Rattle.serving_workers.specs.Leaving.{IsServed};
@@ -92,7 +92,7 @@ fn close_queues(
     requires counts { (vec_len worked ≡ vec_len channels) × (vec_len consumed ≡ vec_len lanes) }
     requires hands { AreEndedHands lanes.items 0 (map (λ w. w.ended.items) worked.items) }
     requires receivers { AreReceivers channels.items (map (λ w. w.receiver) worked.items) }
-    requires consumers { AreConsumers lanes.items (map (λ c. c.seat) consumed.items) }
+    requires consumers { AreConsumers lanes.items (map (λ c. c.permit) consumed.items) }
     requires senders { AreSenderEndedHands channels.items 0 (map (λ c. c.senders.items) consumed.items) }
     requires baskets { AreBaskets (vec_len channels) (vec_len lanes) baskets }
 {
@@ -111,11 +111,11 @@ fn close_queues(
         logs: _,
     } = workers;
     let FromConsumers {
-        seats,
+        permits,
         hands: sender_hands,
         copies: _,
     } = consumers;
-    let lanes = close_all_lanes(alloc, lanes, hands, seats, lists, closed.lanes);
+    let lanes = close_all_lanes(alloc, lanes, hands, permits, lists, closed.lanes);
     let channels = close_all_channels(
         alloc,
         channels,
@@ -133,7 +133,7 @@ fn is_torn(worked: &[Worked], consumed: &[Consumed]) -> bool {
 }
 
 /// Closes the house that the producers and the clerks have left: each producer hears the end of each shard, and each queue is closed with what
-/// is left of all seats. Answers whether all went well: nobody met what he didn't await, and each queue could be closed.
+/// is left of all permits. Answers whether all went well: nobody met what he didn't await, and each queue could be closed.
 ///
 /// `worked`, which is empty, has room for all producers.
 pub fn close_house<R: Wait>(
@@ -149,7 +149,7 @@ pub fn close_house<R: Wait>(
     requires served { AllAt (IsServed floor) 0 served.items }
     requires room { (worked.items ≡ []) × (vec_len served ≤ vec_capacity worked) }
     requires consumed { vec_len dismissed.consumed ≡ length floor.office.lanes.items }
-    requires seats { dismissed.in_order ≡ true → AreConsumers floor.office.lanes.items (map (λ c. c.seat) dismissed.consumed.items) }
+    requires permits { dismissed.in_order ≡ true → AreConsumers floor.office.lanes.items (map (λ c. c.permit) dismissed.consumed.items) }
     requires hands { dismissed.in_order ≡ true → AreSenderEndedHands floor.depot.channels.items 0
         (map (λ c. c.senders.items) dismissed.consumed.items) }
     requires senders { All (λ c. vec_len c.senders ≡ length floor.depot.channels.items) dismissed.consumed.items }

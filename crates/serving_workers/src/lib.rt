@@ -1,5 +1,5 @@
 //! The workers of a server: each accepts one LMTP connection after another until the house stops, hands its copies over to the clerks of
-//! the shards, and ends its seats; and the house that they leave is closed. Sessions, and who starts and stops all of it, stand above.
+//! the shards, and ends its permits; and the house that they leave is closed. Sessions, and who starts and stops all of it, stand above.
 #![tactic(auto)]
 
 mod accepting;

@@ -19,7 +19,7 @@ use std::sync::{Mutex, Wait};
 use std::thread;
 use std::thread::{Promise, Threads};
 
-/// What the thread of this producer is to return: what is left of its seats.
+/// What the thread of this producer is to return: what is left of its permits.
 #[derive(Clone, Copy)]
 pub struct Serves<'a> {
     pub floor: &'a Floor,
@@ -86,7 +86,7 @@ fn serve_there<H: Hall, R: Wait>(
 }
 
 // Starts a worker's thread. Where none can be made the house's mark has to be set before what came of it can be had: so the worker serves
-// nobody, and its seats are ended here.
+// nobody, and its permits are ended here.
 fn start_worker<'s, E, H: Hall + Send, R: Threads + Wait + Sync>(
     scope: &thread::Scope<'s, E>,
     rt: &'s R,

@@ -1,4 +1,4 @@
--- What the consumer's seat shows: the marks of the ends that were taken, and what is known when all of them were.
+-- What the consumer's permit shows: the marks of the ends that were taken, and what is known when all of them were.
 use Rattle.std.proofs.Common.{None, ◌≡◌, ◌≢◌, ◌⊎◌, inl, inr, ℕ, zero, suc, ◌≤◌, ◌<◌, ◌+◌, ◌==◌, Bool, true, false, true≢false, eqb, List, [], ◌∷◌, ◌++◌, length, set, replicate, slice_index_or, map, All, Any, sym, refl, ap, ◌∙◌, subst, arith, append-nil, length-append, lt_of_not-le, Option, Some}
 use native.Mathlib.Decide.{ℕ_discrete, dec_le}
 use Rattle.std.specs.List.{list_any}
@@ -16,7 +16,7 @@ use Rattle.shard_queue.specs.declared.shared.View.TheVariants.{Consumer, Produce
 use Rattle.shard_queue.specs.Lane.{producer, of, has_end, Lane, IsMerge, EndsLast}
 use Rattle.shard_queue.specs.Shared.{consumer, sender, spent, list_of, seen_of, IsSharedBy, Saw, IsStartOf, Takes, Puts, heard_out}
 use Rattle.shard_queue.specs.Closing.{HasAllEnds, IsWhole}
-use Rattle.shard_queue.specs.Seats.{AreMarks, numbers, WasFull, WasEmpty}
+use Rattle.shard_queue.specs.Permits.{AreMarks, numbers, WasFull, WasEmpty}
 use Rattle.shard_queue.proofs.LaneLaws.{of_append, of_own, of_other, closed_is_empty}
 use Rattle.shard_queue.proofs.SharedLaws.{hears}
 
@@ -26,7 +26,7 @@ marked (b ∷ marks) zero h = refl
 marked (b ∷ marks) (suc p) h = marked marks p (omega arith)
 
 module _ {T : Type 0} where
-  -- after a put, as the seat sees it
+  -- after a put, as the permit sees it
   pub sent_more : (k p : ℕ) (sent seen : List (Entry T)) (v w : View T) (e : Entry T) → v ≡ sender k p sent seen → Puts v e w
       → (w ≡ sender k p (list_of w) (seen_of w)) × (list_of w ≡ sent ++ e ∷ []) × ((before : List (Entry T)) × (seen_of w ≡ before ++ e ∷ []) × IsStartOf seen before)
   sent_more k p sent seen v w e is new =
@@ -43,7 +43,7 @@ module _ {T : Type 0} where
   end_has_end (Item q y ∷ xs) p = end_has_end xs p
   end_has_end (End q ∷ xs) p = refl
 
-  -- after a take, as the seat sees it
+  -- after a take, as the permit sees it
   pub took_one : (n m : ℕ) (got : List (Entry T)) (heard : Option (ℕ × List (Entry T))) (seen : List (Entry T)) (v w : View T) (e : Entry T) → v ≡ consumer n m got heard seen → Takes v e w
       → (w ≡ consumer n m (list_of w) heard (seen_of w)) × (list_of w ≡ got ++ e ∷ []) × (producer e < n) × ((others : List (Entry T)) × (seen_of w ≡ (got ++ e ∷ []) ++ others) × IsStartOf seen ((got ++ e ∷ []) ++ others))
   took_one n m got heard seen v w e is new =
@@ -90,9 +90,9 @@ module _ {T : Type 0} where
     by_case (yes d) = ap (λ i. slice_index_or (set marks p true) i false) d ∙ marked marks p short ∙ sym (marks_own got (End p) q d ∙ end_has_end (of q got) p)
     by_case (no d) = get_or-set_other marks p q true false d ∙ m q less ∙ sym (marks_of got (End p) q d)
 
-  -- the consumer's seat when each producer has its own
-  pub all_seated : (n k : ℕ) (v : View T) → v ≡ consumer n k [] None [] → k ≡ n → v ≡ consumer n n (list_of v) None (seen_of v)
-  all_seated n k v is all = is ∙ ap (λ i. consumer n i [] None []) all ∙ (λ i. consumer n n (sym (ap list_of is) i) None (sym (ap seen_of is) i))
+  -- the consumer's permit when each producer has its own
+  pub all_permitted : (n k : ℕ) (v : View T) → v ≡ consumer n k [] None [] → k ≡ n → v ≡ consumer n n (list_of v) None (seen_of v)
+  all_permitted n k v is all = is ∙ ap (λ i. consumer n i [] None []) all ∙ (λ i. consumer n n (sym (ap list_of is) i) None (sym (ap seen_of is) i))
 
   -- hearing a producer out
   pub hears_all : (n position : ℕ) (v : View T) (door i p : ℕ) (said late : List (Entry T)) (u : View T) → HasAllEnds n v → u ≡ sender i p said late → has_end said ≡ true → Merges IsSharedBy position v door u (heard_out v u) spent
@@ -161,11 +161,11 @@ module _ {S : Type 0} (number : S → ℕ) where
   pub none_numbered : (p : ℕ) (xs : List S) → list_any (λ x. number x == p) xs ≡ false → All (λ x. number x ≢ p) xs
   none_numbered p xs h k d less same = true≢false (sym (list_any_at (λ x. number x == p) xs k d less (eq-eqb (number (slice_index_or xs k d)) p same)) ∙ h)
 
-  pub one_more_number : (seats more : List S) (s : S) (n : ℕ) → map number seats ≡ numbers 0 n → number s ≡ n → more ≡ seats ++ s ∷ [] → map number more ≡ numbers 0 (n + 1)
-  one_more_number seats more s n h is new =
+  pub one_more_number : (permits more : List S) (s : S) (n : ℕ) → map number permits ≡ numbers 0 n → number s ≡ n → more ≡ permits ++ s ∷ [] → map number more ≡ numbers 0 (n + 1)
+  one_more_number permits more s n h is new =
       let zero_plus : n ≡ 0 + n = omega arith in
       let more_is : suc n ≡ n + 1 = omega arith in
-      ap (map number) new ∙ map-append number seats (s ∷ []) ∙ (λ i. h i ++ is i ∷ []) ∙ ap (λ (x : ℕ). numbers 0 n ++ x ∷ []) zero_plus ∙ sym (numbers_push 0 n) ∙ ap (numbers 0) more_is
+      ap (map number) new ∙ map-append number permits (s ∷ []) ∙ (λ i. h i ++ is i ∷ []) ∙ ap (λ (x : ℕ). numbers 0 n ++ x ∷ []) zero_plus ∙ sym (numbers_push 0 n) ∙ ap (numbers 0) more_is
 
 pub all_left : {X : Type 0} (P : X → Type 0) (xs ys : List X) → All P (xs ++ ys) → All P xs
 all_left P xs ys all k d less = subst P (get_or-append xs ys d k less) (all k d (let a = length-append xs ys in omega arith))

@@ -1,11 +1,11 @@
--- What a seat that has seen what was put rules out.
+-- What a permit that has seen what was put rules out.
 use Rattle.std.proofs.Common.{◌≡◌, ◌≢◌, ℕ, ◌<◌, ◌≤◌, true, false, List, zero, suc, refl, None, [], ◌∷◌, ◌++◌, length, sym, ap, ◌∙◌, subst, arith, length-append, lt_of_not-le}
 use native.Mathlib.Decide.{ℕ_discrete, dec_le}
 use Rattle.shard_queue.specs.declared.lane.Entry.{Entry}
 use Rattle.shard_queue.specs.declared.lane.Entry.TheVariants.{End}
 use Rattle.shard_queue.specs.Shared.{Saw, consumer, sender}
 use Rattle.shard_queue.specs.Lane.{producer, of, has_end, Lane, EndsLast, IsMerge, empty_lane, put}
-use Rattle.shard_queue.specs.Seats.{WasFull, WasEmpty}
+use Rattle.shard_queue.specs.Permits.{WasFull, WasEmpty}
 use Rattle.shard_queue.proofs.LaneLaws.{of_append, of_own, after_end, empty_merge, merge_put}
 
 module _ {T : Type 0} where

@@ -6,11 +6,11 @@ use Rattle.shard_queue.specs.declared.shared.View.TheVariants.{Consumer, Produce
 use Rattle.shard_queue.specs.Lane.{of, has_end, Lane, IsMerge, IsClosed}
 
 module _ {E T : Type 0} where
-  -- of each producer the seat that has ended is there, and its end was taken
+  -- of each producer the permit that has ended is there, and its end was taken
   abbrev pub IsAll : (E → ℕ) → ℕ → List E → List (Entry T) → Type 0
   IsAll number producers ended got = (p : ℕ) → p < producers → Any (λ e. number e ≡ p) ended × (has_end (of p got) ≡ true)
 
-  -- the ended seat of one producer is missing, or its end wasn't taken
+  -- the ended permit of one producer is missing, or its end wasn't taken
   abbrev pub IsNotAll : (E → ℕ) → ℕ → List E → List (Entry T) → Type 0
   IsNotAll number producers ended got = (p : ℕ) × (p < producers) × (All (λ e. number e ≢ p) ended ⊎ (has_end (of p got) ≡ false))
 

@@ -4,5 +4,5 @@ pub mod PlainLane
 pub mod Plain
 pub mod Shared
 pub mod Closing
-pub mod Seats
+pub mod Permits
 pub mod Reply

@@ -5,8 +5,8 @@ ghost use Rattle.std.specs.Prelude.{◌≡◌, ◌≢◌, ℕ, ◌<◌, ◌≤�
 ghost use Rattle.shard_queue.specs.declared.lane.Entry.{Entry};
 ghost use Rattle.shard_queue.specs.declared.shared.View.{View};
 ghost use Rattle.shard_queue.specs.Lane.{empty_lane, of, has_end, ComesBy, IsClosed, IsMerge, Lane, Move};
-ghost use Rattle.shard_queue.specs.Shared.{IsSharedBy, SeatsMerge, Saw, consumer, sender};
-ghost use Rattle.shard_queue.specs.Seats.{WasEmpty, WasFull};
+ghost use Rattle.shard_queue.specs.Shared.{IsSharedBy, PermitsMerge, Saw, consumer, sender};
+ghost use Rattle.shard_queue.specs.Permits.{WasEmpty, WasFull};
 
 /// By every legal history of a lane, for any items: what was taken and what waits is a merge of
 /// what the producers sent, an end is sent last, and where the end of every producer was taken
@@ -19,10 +19,10 @@ pub fn each_lane_is_a_merge<T>()
 {}
 
 /// Of each lane that threads share, whenever its rule holds, which is between any two atomic steps:
-/// what the consumer has taken and then what waits is, of each producer, what its seat has sent; each
+/// what the consumer has taken and then what waits is, of each producer, what its permit has sent; each
 /// entry is a producer's, and nothing follows an end.
 pub fn shared_lanes_merge<T>()
-    ensures { (waiting : List (Entry T)) (seats : List (View T)) → IsSharedBy waiting seats → SeatsMerge waiting seats }
+    ensures { (waiting : List (Entry T)) (permits : List (View T)) → IsSharedBy waiting permits → PermitsMerge waiting permits }
 {}
 
 /// What Empty and Full rule out. Where something stood behind the entry that was taken last, the next
@@ -35,7 +35,7 @@ pub fn empty_and_full_tell<T>()
         → WasFull producers room p sent seen → room ≤ length seen }
 {}
 
-/// What a seat learns by a look, when something waits or not, gives no leave to answer Empty or Full.
+/// What a permit learns by a look, when something waits or not, gives no leave to answer Empty or Full.
 pub fn a_look_is_not_enough<T>()
     ensures empty { ((producers room : ℕ) (got seen waiting : List (Entry T)) → Saw (consumer producers producers got None seen) waiting
         → WasEmpty producers room got seen) → ⊥ }

@@ -14,5 +14,5 @@ mod shared;
 pub use ends::ReplyChannel;
 pub use lane::{Entry, Full, PlainLane, Taken};
 pub use laws::{each_lane_is_a_merge, shared_lanes_merge};
-pub use queue::{Closed, ConsumerSeat, Ended, NotAll, ProducerSeat, ShardQueue};
-pub use reply::{ReceiverSeat, ReplyClosed, ReplyNotAll, SenderEnded, SenderSeat};
+pub use queue::{Closed, ConsumerPermit, Ended, NotAll, ProducerPermit, ShardQueue};
+pub use reply::{ReceiverPermit, ReplyClosed, ReplyNotAll, SenderEnded, SenderPermit};

@@ -1,5 +1,5 @@
-//! A lane that threads share: a queue, a seat for each producer and one for the consumer. Whoever
-//! holds a seat acts for it, and no other.
+//! A lane that threads share: a queue, a permit for each producer and one for the consumer. Whoever
+//! holds a permit acts for it, and no other.
 
 ghost use Rattle.std.specs.Prelude.{◌≡◌, ◌≢◌, ◌⊎◌, ◌↔◌, ◌==◌, ℕ, ◌+◌, ◌<◌, ◌≤◌, ◌++◌, ◌∷◌, [], true, false, Some, None, IfOk, IfErr, MatchResult, MatchOption, vec_len, map, All};
 ghost use Rattle.std.specs.List.{list_any};
@@ -9,7 +9,7 @@ ghost use Rattle.shard_queue.specs.Lane.{producer, of, has_end};
 ghost use Rattle.shard_queue.specs.Plain.{taken_entry};
 ghost use Rattle.shard_queue.specs.Shared.{consumer, sender, list_of};
 ghost use Rattle.shard_queue.specs.Closing.{IsAll, IsNotAll, IsWhole, HasAllEnds};
-ghost use Rattle.shard_queue.specs.Seats.{IsProducer, IsEnded, IsConsumer, sent, said, got, history, capacity_of, producers_of, number_of, ended_number, numbers, put_seen, end_seen, take_seen, IsPutBehind, IsLeftBy, WasFull, WasEmpty};
+ghost use Rattle.shard_queue.specs.Permits.{IsProducer, IsEnded, IsConsumer, sent, said, got, history, capacity_of, producers_of, number_of, ended_number, numbers, put_seen, end_seen, take_seen, IsPutBehind, IsLeftBy, WasFull, WasEmpty};
 
 use crate::lane::{Entry, Full, Taken};
 use crate::shared::{Announce, HearOut, Hire, Merge, Put, Take, View, no_marks};
@@ -28,12 +28,12 @@ pub struct ShardQueue<T> {
 
 /// Whoever holds it puts for this producer. It can't be copied, and must be spent: by its end, or by
 /// `abandon`.
-pub struct ProducerSeat<T> {
+pub struct ProducerPermit<T> {
     pass: Pass<Entry<T>, View<T>>,
     number: u8,
 }
 
-/// What is left of a producer's seat after its end. It can't be copied, and must be spent: by `close`
+/// What is left of a producer's permit after its end. It can't be copied, and must be spent: by `close`
 /// or `abandon`.
 pub struct Ended<T> {
     pass: Pass<Entry<T>, View<T>>,
@@ -41,7 +41,7 @@ pub struct Ended<T> {
 }
 
 /// Whoever holds it takes. It can't be copied, and must be spent: by `close` or `abandon`.
-pub struct ConsumerSeat<T> {
+pub struct ConsumerPermit<T> {
     pass: Pass<Entry<T>, View<T>>,
     // Of each producer, whether its end was taken.
     ended: [bool; 256],
@@ -57,10 +57,10 @@ pub struct Closed<T> {
 pub struct NotAll<T> {
     pub queue: ShardQueue<T>,
     pub ended: Vec<Ended<T>>,
-    pub seat: ConsumerSeat<T>,
+    pub permit: ConsumerPermit<T>,
 }
 
-impl<T> ProducerSeat<T> {
+impl<T> ProducerPermit<T> {
     /// The producer's number, from 0.
     pub fn number(&self) -> u8
         ensures { result ≡ number_of self.now }
@@ -79,32 +79,32 @@ impl<T> Ended<T> {
 }
 
 impl<T: Drop> ShardQueue<T> {
-    /// An empty queue with room for `capacity` entries (at least 1), the seats of the producers 0 to
+    /// An empty queue with room for `capacity` entries (at least 1), the permits of the producers 0 to
     /// `producers - 1` in this order, and the consumer's. An error where memory is refused.
     pub fn new(
         alloc: Global,
         capacity: usize,
         producers: u8,
-    ) -> Result<(ShardQueue<T>, Vec<ProducerSeat<T>>, ConsumerSeat<T>), AllocError>
+    ) -> Result<(ShardQueue<T>, Vec<ProducerPermit<T>>, ConsumerPermit<T>), AllocError>
         requires { 0 < capacity }
         ensures queue { IfOk result (λ r. (capacity_of r.0 ≡ capacity) × (producers_of r.0 ≡ producers)) }
         ensures numbers { IfOk result (λ r. map number_of r.1.items ≡ numbers 0 producers) }
         ensures len { IfOk result (λ r. vec_len r.1 ≡ producers) }
-        ensures seats { IfOk result (λ r. All (λ s. IsProducer r.0 s × (sent s ≡ [])) r.1.items) }
+        ensures permits { IfOk result (λ r. All (λ s. IsProducer r.0 s × (sent s ≡ [])) r.1.items) }
         ensures consumer { IfOk result (λ r. IsConsumer r.0 r.2 × (got r.2 ≡ [])) }
     {
         let (queue, mut pass) = Lane::ruled(alloc, capacity)?;
-        let mut seats = Vec::with_capacity(alloc, usize::from(producers))?;
+        let mut permits = Vec::with_capacity(alloc, usize::from(producers))?;
         announce(&queue, &mut pass, producers);
         for p in 0..producers {
-            seats.push_reserved(hire(&queue, producers, &mut pass, p));
+            permits.push_reserved(hire(&queue, producers, &mut pass, p));
         }
         let queue = ShardQueue { queue, producers };
-        let seat = ConsumerSeat {
+        let permit = ConsumerPermit {
             pass,
             ended: no_marks(),
         };
-        Ok((queue, seats, seat))
+        Ok((queue, permits, permit))
     }
 
     /// Puts an item behind all that waits; takes no memory. Full only where at one moment of the call as
@@ -114,19 +114,19 @@ impl<T: Drop> ShardQueue<T> {
     pub fn put_as<R: Wait>(
         &self,
         rt: &R,
-        seat: &mut ProducerSeat<T>,
+        permit: &mut ProducerPermit<T>,
         item: T,
     ) -> Result<(), Full<T>>
-        requires seat { IsProducer self.now seat.old }
-        ensures seat { IsProducer self.now seat.new × (number_of seat.new ≡ number_of seat.old) }
+        requires permit { IsProducer self.now permit.old }
+        ensures permit { IsProducer self.now permit.new × (number_of permit.new ≡ number_of permit.old) }
         ensures put { MatchResult result
-            (λ _. (sent seat.new ≡ sent seat.old ++ entries.Item (number_of seat.old) item ∷ [])
-            × IsPutBehind (put_seen seat.old) (entries.Item (number_of seat.old) item) (put_seen seat.new))
-            (λ back. (back.0 ≡ item) × (sent seat.new ≡ sent seat.old) × (put_seen seat.new ≡ put_seen seat.old)
-            × WasFull (producers_of self.now) (capacity_of self.now) (number_of seat.old) (sent seat.old) (put_seen seat.old)) }
+            (λ _. (sent permit.new ≡ sent permit.old ++ entries.Item (number_of permit.old) item ∷ [])
+            × IsPutBehind (put_seen permit.old) (entries.Item (number_of permit.old) item) (put_seen permit.new))
+            (λ back. (back.0 ≡ item) × (sent permit.new ≡ sent permit.old) × (put_seen permit.new ≡ put_seen permit.old)
+            × WasFull (producers_of self.now) (capacity_of self.now) (number_of permit.old) (sent permit.old) (put_seen permit.old)) }
     {
-        let put = Entry::Item(seat.number, item);
-        match self.queue.push_as::<Put, R>(rt, &mut seat.pass, put) {
+        let put = Entry::Item(permit.number, item);
+        match self.queue.push_as::<Put, R>(rt, &mut permit.pass, put) {
             Ok(()) => Ok(()),
             Err(Entry::Item(_, back)) => Err(Full(back)),
             Err(Entry::End(_)) => unreachable!(),
@@ -134,26 +134,26 @@ impl<T: Drop> ShardQueue<T> {
     }
 
     /// Puts the producer's end behind all that waits, after which it can put nothing more; takes no
-    /// memory. Where it was full, as for an item, the seat comes back, and has sent no more than before.
+    /// memory. Where it was full, as for an item, the permit comes back, and has sent no more than before.
     pub fn end_as<R: Wait>(
         &self,
         rt: &R,
-        seat: ProducerSeat<T>,
-    ) -> Result<Ended<T>, ProducerSeat<T>>
-        requires seat { IsProducer self.now seat }
-        ensures ended { IfOk result (λ e. IsEnded self.now e × (ended_number e ≡ number_of seat)
-            × (said e ≡ sent seat ++ entries.End (number_of seat) ∷ [])
-            × IsPutBehind (put_seen seat) (entries.End (number_of seat)) (end_seen e)) }
-        ensures full { IfErr result (λ s. IsProducer self.now s × (number_of s ≡ number_of seat) × (sent s ≡ sent seat) × (put_seen s ≡ put_seen seat)
-            × WasFull (producers_of self.now) (capacity_of self.now) (number_of seat) (sent seat) (put_seen seat)) }
+        permit: ProducerPermit<T>,
+    ) -> Result<Ended<T>, ProducerPermit<T>>
+        requires permit { IsProducer self.now permit }
+        ensures ended { IfOk result (λ e. IsEnded self.now e × (ended_number e ≡ number_of permit)
+            × (said e ≡ sent permit ++ entries.End (number_of permit) ∷ [])
+            × IsPutBehind (put_seen permit) (entries.End (number_of permit)) (end_seen e)) }
+        ensures full { IfErr result (λ s. IsProducer self.now s × (number_of s ≡ number_of permit) × (sent s ≡ sent permit) × (put_seen s ≡ put_seen permit)
+            × WasFull (producers_of self.now) (capacity_of self.now) (number_of permit) (sent permit) (put_seen permit)) }
     {
-        let ProducerSeat { mut pass, number } = seat;
+        let ProducerPermit { mut pass, number } = permit;
         match self
             .queue
             .push_as::<Put, R>(rt, &mut pass, Entry::End(number))
         {
             Ok(()) => {}
-            Err(_) => return Err(ProducerSeat { pass, number }),
+            Err(_) => return Err(ProducerPermit { pass, number }),
         }
         Ok(Ended { pass, number })
     }
@@ -161,19 +161,19 @@ impl<T: Drop> ShardQueue<T> {
     /// Takes the first entry that waits, which is of one of the queue's producers; takes no memory.
     /// Empty only where at one moment of the call nothing waited, so that all is taken that stood behind the
     /// entry before (a mere look doesn't give that); nothing was taken then.
-    pub fn take_as<R: Wait>(&self, rt: &R, seat: &mut ConsumerSeat<T>) -> Taken<T>
-        requires seat { IsConsumer self.now seat.old }
-        ensures seat { IsConsumer self.now seat.new }
+    pub fn take_as<R: Wait>(&self, rt: &R, permit: &mut ConsumerPermit<T>) -> Taken<T>
+        requires permit { IsConsumer self.now permit.old }
+        ensures permit { IsConsumer self.now permit.new }
         ensures taken { MatchOption (taken_entry result)
-            ((got seat.new ≡ got seat.old) × (take_seen seat.new ≡ take_seen seat.old)
-            × WasEmpty (producers_of self.now) (capacity_of self.now) (got seat.old) (take_seen seat.old))
-            (λ e. (got seat.new ≡ got seat.old ++ e ∷ []) × (producer e < producers_of self.now)
-            × IsLeftBy (take_seen seat.old) (got seat.new) (take_seen seat.new)) }
+            ((got permit.new ≡ got permit.old) × (take_seen permit.new ≡ take_seen permit.old)
+            × WasEmpty (producers_of self.now) (capacity_of self.now) (got permit.old) (take_seen permit.old))
+            (λ e. (got permit.new ≡ got permit.old ++ e ∷ []) × (producer e < producers_of self.now)
+            × IsLeftBy (take_seen permit.old) (got permit.new) (take_seen permit.new)) }
     {
-        match self.queue.pop_as::<Take, R>(rt, &mut seat.pass) {
+        match self.queue.pop_as::<Take, R>(rt, &mut permit.pass) {
             Some(Entry::Item(p, item)) => Taken::Item(p, item),
             Some(Entry::End(p)) => {
-                seat.ended[usize::from(p)] = true;
+                permit.ended[usize::from(p)] = true;
                 Taken::End(p)
             }
             None => Taken::Empty,
@@ -183,24 +183,28 @@ impl<T: Drop> ShardQueue<T> {
     /// Closes a queue of which each producer has ended and each end was taken; takes no memory. What was
     /// taken of each producer is then all that it has sent. NotAll exactly where an Ended is missing or
     /// an end wasn't taken; it hands back all that it was given, unchanged.
-    pub fn close(self, ended: Vec<Ended<T>>, seat: ConsumerSeat<T>) -> Result<Closed<T>, NotAll<T>>
-        requires seat { IsConsumer self seat }
+    pub fn close(
+        self,
+        ended: Vec<Ended<T>>,
+        permit: ConsumerPermit<T>,
+    ) -> Result<Closed<T>, NotAll<T>>
+        requires permit { IsConsumer self permit }
         requires ended { All (IsEnded self) ended.items }
-        ensures history { IfOk result (λ c. history c ≡ got seat) }
-        ensures each { IfOk result (λ _. All (λ e. said e ≡ of (ended_number e) (got seat)) ended.items) }
-        ensures all { IfOk result (λ _. IsAll ended_number (producers_of self) ended.items (got seat)) }
-        ensures whole { IfOk result (λ _. IsWhole (producers_of self) (capacity_of self) (got seat)) }
-        ensures back { IfErr result (λ n. (n.queue ≡ self) × (n.ended ≡ ended) × (n.seat ≡ seat)
-            × IsNotAll ended_number (producers_of self) ended.items (got seat)) }
+        ensures history { IfOk result (λ c. history c ≡ got permit) }
+        ensures each { IfOk result (λ _. All (λ e. said e ≡ of (ended_number e) (got permit)) ended.items) }
+        ensures all { IfOk result (λ _. IsAll ended_number (producers_of self) ended.items (got permit)) }
+        ensures whole { IfOk result (λ _. IsWhole (producers_of self) (capacity_of self) (got permit)) }
+        ensures back { IfErr result (λ n. (n.queue ≡ self) × (n.ended ≡ ended) × (n.permit ≡ permit)
+            × IsNotAll ended_number (producers_of self) ended.items (got permit)) }
     {
-        if !self.are_all(ended.as_slice(), &seat) {
+        if !self.are_all(ended.as_slice(), &permit) {
             return Err(NotAll {
                 queue: self,
                 ended,
-                seat,
+                permit,
             });
         }
-        let ConsumerSeat { mut pass, ended: _ } = seat;
+        let ConsumerPermit { mut pass, ended: _ } = permit;
         hear_all_out(&self.queue, self.producers, &mut pass, ended);
         self.queue.learn_as::<Take>(&mut pass);
         let ShardQueue {
@@ -213,10 +217,15 @@ impl<T: Drop> ShardQueue<T> {
 
     /// Spends what is left of a queue that is not to be closed; what waits in it is dropped. It promises
     /// nothing, and takes no memory.
-    pub fn abandon(self, seats: Vec<ProducerSeat<T>>, ended: Vec<Ended<T>>, seat: ConsumerSeat<T>) {
-        spend_seats(seats);
+    pub fn abandon(
+        self,
+        permits: Vec<ProducerPermit<T>>,
+        ended: Vec<Ended<T>>,
+        permit: ConsumerPermit<T>,
+    ) {
+        spend_permits(permits);
         spend_ended(ended);
-        let ConsumerSeat { pass: _, ended: _ } = seat;
+        let ConsumerPermit { pass: _, ended: _ } = permit;
         let ShardQueue {
             queue,
             producers: _,
@@ -225,13 +234,13 @@ impl<T: Drop> ShardQueue<T> {
     }
 
     // Whether each producer has ended and its end was taken.
-    fn are_all(&self, ended: &[Ended<T>], seat: &ConsumerSeat<T>) -> bool
-        requires { IsConsumer self.now seat.now }
-        ensures all { result ≡ true → IsAll ended_number (producers_of self.now) ended.now (got seat.now) }
-        ensures lacks { result ≡ false → IsNotAll ended_number (producers_of self.now) ended.now (got seat.now) }
+    fn are_all(&self, ended: &[Ended<T>], permit: &ConsumerPermit<T>) -> bool
+        requires { IsConsumer self.now permit.now }
+        ensures all { result ≡ true → IsAll ended_number (producers_of self.now) ended.now (got permit.now) }
+        ensures lacks { result ≡ false → IsNotAll ended_number (producers_of self.now) ended.now (got permit.now) }
     {
         for p in 0..self.producers {
-            if !seat.ended[usize::from(p)] {
+            if !permit.ended[usize::from(p)] {
                 return false;
             }
             if !has_ended(ended, p) {
@@ -248,7 +257,7 @@ fn has_ended<T>(ended: &[Ended<T>], number: u8) -> bool
     ended.iter().any(|e| e.number == number)
 }
 
-// How many producers there will be, so that each of their seats knows it.
+// How many producers there will be, so that each of their permits knows it.
 fn announce<T>(queue: &Lane<T>, pass: &mut Pass<Entry<T>, View<T>>, producers: u8)
     requires { IsPassOf queue.now pass.old × (view pass.old ≡ consumer 0 0 [] None []) }
     ensures { IsPassOf queue.now pass.new × (view pass.new ≡ consumer producers 0 [] None []) }
@@ -258,19 +267,19 @@ fn announce<T>(queue: &Lane<T>, pass: &mut Pass<Entry<T>, View<T>>, producers: u
     }
 }
 
-// The seat of the next producer.
+// The permit of the next producer.
 fn hire<T>(
     queue: &Lane<T>,
     producers: u8,
     pass: &mut Pass<Entry<T>, View<T>>,
     number: u8,
-) -> ProducerSeat<T>
+) -> ProducerPermit<T>
     requires { IsPassOf queue.now pass.old × (view pass.old ≡ consumer producers number [] None []) × (number < producers) }
     ensures pass { IsPassOf queue.now pass.new × (view pass.new ≡ consumer producers (number + 1) [] None []) }
-    ensures seat { IsPassOf queue.now result.pass × (view result.pass ≡ sender producers number [] []) × (result.number ≡ number) }
+    ensures permit { IsPassOf queue.now result.pass × (view result.pass ≡ sender producers number [] []) × (result.number ≡ number) }
 {
     let pass = queue.another::<Hire>(pass);
-    ProducerSeat { pass, number }
+    ProducerPermit { pass, number }
 }
 
 // Hears a producer out: what it has sent is what was taken of it.
@@ -307,11 +316,11 @@ fn hear_all_out<T>(
     ended.destroy_empty();
 }
 
-fn spend_seats<T>(mut seats: Vec<ProducerSeat<T>>) {
-    while let Some(one) = seats.pop() {
-        let ProducerSeat { pass: _, number: _ } = one;
+fn spend_permits<T>(mut permits: Vec<ProducerPermit<T>>) {
+    while let Some(one) = permits.pop() {
+        let ProducerPermit { pass: _, number: _ } = one;
     }
-    seats.destroy_empty();
+    permits.destroy_empty();
 }
 
 fn spend_ended<T>(mut ended: Vec<Ended<T>>) {

@@ -9,7 +9,7 @@ ghost use Rattle.shard_queue.specs.declared.lane.Entry.TheVariants as entries;
 ghost use Rattle.shard_queue.specs.Lane.{producer, of, has_end};
 ghost use Rattle.shard_queue.specs.Shared.{consumer, sender, list_of};
 ghost use Rattle.shard_queue.specs.Closing.{IsAll, IsNotAll, IsWhole, HasAllEnds};
-ghost use Rattle.shard_queue.specs.Seats.{IsPutBehind, IsLeftBy, WasFull, numbers};
+ghost use Rattle.shard_queue.specs.Permits.{IsPutBehind, IsLeftBy, WasFull, numbers};
 ghost use Rattle.shard_queue.specs.Reply.{IsSender, IsSenderEnded, IsReceiver, sent_on, said_on, received, reply_history, room_of, senders_of, sender_number, sender_ended_number, send_seen, last_seen, receive_seen};
 
 use crate::ends::ReplyChannel;
@@ -23,12 +23,12 @@ type Sends<T> = RuledSender<Entry<T>, View<T>, Merge>;
 
 /// Whoever holds it sends for this sender. It can't be copied, and must be spent: by its end, or by
 /// `abandon`.
-pub struct SenderSeat<T> {
+pub struct SenderPermit<T> {
     pass: Pass<Entry<T>, View<T>>,
     number: u8,
 }
 
-/// What is left of a sender's seat after its end. It can't be copied, and must be spent: by `close` or
+/// What is left of a sender's permit after its end. It can't be copied, and must be spent: by `close` or
 /// `abandon`.
 pub struct SenderEnded<T> {
     pass: Pass<Entry<T>, View<T>>,
@@ -36,7 +36,7 @@ pub struct SenderEnded<T> {
 }
 
 /// Whoever holds it receives. It can't be copied, and must be spent: by `close` or `abandon`.
-pub struct ReceiverSeat<T> {
+pub struct ReceiverPermit<T> {
     pass: Pass<Entry<T>, View<T>>,
     // Of each sender, whether its end was received.
     ended: [bool; 256],
@@ -52,10 +52,10 @@ pub struct ReplyClosed<T> {
 pub struct ReplyNotAll<T: Drop> {
     pub channel: ReplyChannel<T>,
     pub ended: Vec<SenderEnded<T>>,
-    pub seat: ReceiverSeat<T>,
+    pub permit: ReceiverPermit<T>,
 }
 
-impl<T> SenderSeat<T> {
+impl<T> SenderPermit<T> {
     /// The sender's number, from 0.
     pub fn number(&self) -> u8
         ensures { result ≡ sender_number self.now }
@@ -74,55 +74,63 @@ impl<T> SenderEnded<T> {
 }
 
 impl<T: Drop> ReplyChannel<T> {
-    /// An empty channel with room for `capacity` entries (at least 1), the seats of the senders 0 to
+    /// An empty channel with room for `capacity` entries (at least 1), the permits of the senders 0 to
     /// `senders - 1` in this order, and the receiver's. An error where memory is refused.
     pub fn new(
         alloc: Global,
         capacity: usize,
         senders: u8,
-    ) -> Result<(ReplyChannel<T>, Vec<SenderSeat<T>>, ReceiverSeat<T>), AllocError>
+    ) -> Result<(ReplyChannel<T>, Vec<SenderPermit<T>>, ReceiverPermit<T>), AllocError>
         requires { 0 < capacity }
         ensures channel { IfOk result (λ r. (room_of r.0 ≡ capacity) × (senders_of r.0 ≡ senders)) }
         ensures numbers { IfOk result (λ r. map sender_number r.1.items ≡ numbers 0 senders) }
         ensures len { IfOk result (λ r. vec_len r.1 ≡ senders) }
-        ensures seats { IfOk result (λ r. All (λ s. IsSender r.0 s × (sent_on s ≡ [])) r.1.items) }
+        ensures permits { IfOk result (λ r. All (λ s. IsSender r.0 s × (sent_on s ≡ [])) r.1.items) }
         ensures receiver { IfOk result (λ r. IsReceiver r.0 r.2 × (received r.2 ≡ [])) }
     {
         let (sender, receiver, mut pass) = bounded_with(alloc, capacity)?;
-        let mut seats = Vec::with_capacity(alloc, usize::from(senders))?;
+        let mut permits = Vec::with_capacity(alloc, usize::from(senders))?;
         announce(&sender, &mut pass, senders);
         for p in 0..senders {
-            seats.push_reserved(hire(&sender, senders, &mut pass, p));
+            permits.push_reserved(hire(&sender, senders, &mut pass, p));
         }
         let channel = ReplyChannel {
             sender,
             receiver,
             senders,
         };
-        let seat = ReceiverSeat {
+        let permit = ReceiverPermit {
             pass,
             ended: no_marks(),
         };
-        Ok((channel, seats, seat))
+        Ok((channel, permits, permit))
     }
 
     /// Sends an item behind all that waits; takes no memory. Full only where at one moment of the call as
     /// many entries waited as there is room for; the item comes back then, and the sender has sent no
     /// more than before.
-    pub fn send_as<R: Wait>(&self, rt: &R, seat: &mut SenderSeat<T>, item: T) -> Result<(), Full<T>>
-        requires seat { IsSender self.now seat.old }
-        ensures seat { IsSender self.now seat.new × (sender_number seat.new ≡ sender_number seat.old) }
+    pub fn send_as<R: Wait>(
+        &self,
+        rt: &R,
+        permit: &mut SenderPermit<T>,
+        item: T,
+    ) -> Result<(), Full<T>>
+        requires permit { IsSender self.now permit.old }
+        ensures permit { IsSender self.now permit.new × (sender_number permit.new ≡ sender_number permit.old) }
         ensures sent { MatchResult result
-            (λ _. (sent_on seat.new ≡ sent_on seat.old ++ entries.Item (sender_number seat.old) item ∷ [])
-            × IsPutBehind (send_seen seat.old) (entries.Item (sender_number seat.old) item) (send_seen seat.new))
-            (λ back. (back.0 ≡ item) × (sent_on seat.new ≡ sent_on seat.old) × (send_seen seat.new ≡ send_seen seat.old)
-            × WasFull (senders_of self.now) (room_of self.now) (sender_number seat.old) (sent_on seat.old) (send_seen seat.old)) }
+            (λ _. (sent_on permit.new ≡ sent_on permit.old ++ entries.Item (sender_number permit.old) item ∷ [])
+            × IsPutBehind (send_seen permit.old) (entries.Item (sender_number permit.old) item) (send_seen permit.new))
+            (λ back. (back.0 ≡ item) × (sent_on permit.new ≡ sent_on permit.old) × (send_seen permit.new ≡ send_seen permit.old)
+            × WasFull (senders_of self.now) (room_of self.now) (sender_number permit.old) (sent_on permit.old) (send_seen permit.old)) }
     {
-        let mut entry = Entry::Item(seat.number, item);
+        let mut entry = Entry::Item(permit.number, item);
         // Both ends are here, so nobody is ever told that the other is gone. No clause of the channel
         // says so: whoever were told would try again.
         for _ in rt.forever() {
-            match self.sender.try_send_as::<Put, R>(rt, &mut seat.pass, entry) {
+            match self
+                .sender
+                .try_send_as::<Put, R>(rt, &mut permit.pass, entry)
+            {
                 Ok(()) => return Ok(()),
                 Err(TrySendError::Full(Entry::Item(_, back))) => return Err(Full(back)),
                 Err(e) => entry = e.into_inner(),
@@ -132,21 +140,21 @@ impl<T: Drop> ReplyChannel<T> {
     }
 
     /// Sends the sender's end behind all that waits, after which it can send nothing more; takes no
-    /// memory. Where it was full, as for an item, the seat comes back, and has sent no more than before.
+    /// memory. Where it was full, as for an item, the permit comes back, and has sent no more than before.
     pub fn end_as<R: Wait>(
         &self,
         rt: &R,
-        seat: SenderSeat<T>,
-    ) -> Result<SenderEnded<T>, SenderSeat<T>>
-        requires seat { IsSender self.now seat }
-        ensures ended { IfOk result (λ e. IsSenderEnded self.now e × (sender_ended_number e ≡ sender_number seat)
-            × (said_on e ≡ sent_on seat ++ entries.End (sender_number seat) ∷ [])
-            × IsPutBehind (send_seen seat) (entries.End (sender_number seat)) (last_seen e)) }
-        ensures full { IfErr result (λ s. IsSender self.now s × (sender_number s ≡ sender_number seat) × (sent_on s ≡ sent_on seat)
-            × (send_seen s ≡ send_seen seat)
-            × WasFull (senders_of self.now) (room_of self.now) (sender_number seat) (sent_on seat) (send_seen seat)) }
+        permit: SenderPermit<T>,
+    ) -> Result<SenderEnded<T>, SenderPermit<T>>
+        requires permit { IsSender self.now permit }
+        ensures ended { IfOk result (λ e. IsSenderEnded self.now e × (sender_ended_number e ≡ sender_number permit)
+            × (said_on e ≡ sent_on permit ++ entries.End (sender_number permit) ∷ [])
+            × IsPutBehind (send_seen permit) (entries.End (sender_number permit)) (last_seen e)) }
+        ensures full { IfErr result (λ s. IsSender self.now s × (sender_number s ≡ sender_number permit) × (sent_on s ≡ sent_on permit)
+            × (send_seen s ≡ send_seen permit)
+            × WasFull (senders_of self.now) (room_of self.now) (sender_number permit) (sent_on permit) (send_seen permit)) }
     {
-        let SenderSeat { mut pass, number } = seat;
+        let SenderPermit { mut pass, number } = permit;
         // As in `send_as`: whoever were told that the other end is gone would try again.
         for _ in rt.forever() {
             match self
@@ -154,7 +162,7 @@ impl<T: Drop> ReplyChannel<T> {
                 .try_send_as::<Put, R>(rt, &mut pass, Entry::End(number))
             {
                 Ok(()) => return Ok(SenderEnded { pass, number }),
-                Err(TrySendError::Full(_)) => return Err(SenderSeat { pass, number }),
+                Err(TrySendError::Full(_)) => return Err(SenderPermit { pass, number }),
                 Err(_) => {}
             }
         }
@@ -163,17 +171,17 @@ impl<T: Drop> ReplyChannel<T> {
 
     /// Takes the first entry that waits, which is of one of the channel's senders; where nothing waits,
     /// it waits for an entry. Takes no memory.
-    pub fn recv_as<R: Wait>(&self, rt: &R, seat: &mut ReceiverSeat<T>) -> Entry<T>
-        requires seat { IsReceiver self.now seat.old }
-        ensures seat { IsReceiver self.now seat.new }
-        ensures received { (received seat.new ≡ received seat.old ++ result ∷ []) × (producer result < senders_of self.now)
-            × IsLeftBy (receive_seen seat.old) (received seat.new) (receive_seen seat.new) }
+    pub fn recv_as<R: Wait>(&self, rt: &R, permit: &mut ReceiverPermit<T>) -> Entry<T>
+        requires permit { IsReceiver self.now permit.old }
+        ensures permit { IsReceiver self.now permit.new }
+        ensures received { (received permit.new ≡ received permit.old ++ result ∷ []) × (producer result < senders_of self.now)
+            × IsLeftBy (receive_seen permit.old) (received permit.new) (receive_seen permit.new) }
     {
         for _ in rt.forever() {
-            match self.receiver.recv_as::<Take, R>(rt, &mut seat.pass) {
+            match self.receiver.recv_as::<Take, R>(rt, &mut permit.pass) {
                 Ok(Entry::Item(p, item)) => return Entry::Item(p, item),
                 Ok(Entry::End(p)) => {
-                    seat.ended[usize::from(p)] = true;
+                    permit.ended[usize::from(p)] = true;
                     return Entry::End(p);
                 }
                 Err(_) => {}
@@ -188,25 +196,25 @@ impl<T: Drop> ReplyChannel<T> {
     pub fn close(
         self,
         ended: Vec<SenderEnded<T>>,
-        seat: ReceiverSeat<T>,
+        permit: ReceiverPermit<T>,
     ) -> Result<ReplyClosed<T>, ReplyNotAll<T>>
-        requires seat { IsReceiver self seat }
+        requires permit { IsReceiver self permit }
         requires ended { All (IsSenderEnded self) ended.items }
-        ensures history { IfOk result (λ c. reply_history c ≡ received seat) }
-        ensures each { IfOk result (λ _. All (λ e. said_on e ≡ of (sender_ended_number e) (received seat)) ended.items) }
-        ensures all { IfOk result (λ _. IsAll sender_ended_number (senders_of self) ended.items (received seat)) }
-        ensures whole { IfOk result (λ _. IsWhole (senders_of self) (room_of self) (received seat)) }
-        ensures back { IfErr result (λ n. (n.channel ≡ self) × (n.ended ≡ ended) × (n.seat ≡ seat)
-            × IsNotAll sender_ended_number (senders_of self) ended.items (received seat)) }
+        ensures history { IfOk result (λ c. reply_history c ≡ received permit) }
+        ensures each { IfOk result (λ _. All (λ e. said_on e ≡ of (sender_ended_number e) (received permit)) ended.items) }
+        ensures all { IfOk result (λ _. IsAll sender_ended_number (senders_of self) ended.items (received permit)) }
+        ensures whole { IfOk result (λ _. IsWhole (senders_of self) (room_of self) (received permit)) }
+        ensures back { IfErr result (λ n. (n.channel ≡ self) × (n.ended ≡ ended) × (n.permit ≡ permit)
+            × IsNotAll sender_ended_number (senders_of self) ended.items (received permit)) }
     {
-        if !self.are_all(ended.as_slice(), &seat) {
+        if !self.are_all(ended.as_slice(), &permit) {
             return Err(ReplyNotAll {
                 channel: self,
                 ended,
-                seat,
+                permit,
             });
         }
-        let ReceiverSeat { mut pass, ended: _ } = seat;
+        let ReceiverPermit { mut pass, ended: _ } = permit;
         hear_all_out(&self.sender, self.senders, &mut pass, ended);
         self.sender.learn_as::<Take>(&mut pass);
         let ReplyChannel {
@@ -223,13 +231,13 @@ impl<T: Drop> ReplyChannel<T> {
     /// nothing, and takes no memory.
     pub fn abandon(
         self,
-        seats: Vec<SenderSeat<T>>,
+        permits: Vec<SenderPermit<T>>,
         ended: Vec<SenderEnded<T>>,
-        seat: ReceiverSeat<T>,
+        permit: ReceiverPermit<T>,
     ) {
-        spend_seats(seats);
+        spend_permits(permits);
         spend_ended(ended);
-        let ReceiverSeat { pass: _, ended: _ } = seat;
+        let ReceiverPermit { pass: _, ended: _ } = permit;
         let ReplyChannel {
             sender,
             receiver,
@@ -240,13 +248,13 @@ impl<T: Drop> ReplyChannel<T> {
     }
 
     // Whether each sender has ended and its end was received.
-    fn are_all(&self, ended: &[SenderEnded<T>], seat: &ReceiverSeat<T>) -> bool
-        requires { IsReceiver self.now seat.now }
-        ensures all { result ≡ true → IsAll sender_ended_number (senders_of self.now) ended.now (received seat.now) }
-        ensures lacks { result ≡ false → IsNotAll sender_ended_number (senders_of self.now) ended.now (received seat.now) }
+    fn are_all(&self, ended: &[SenderEnded<T>], permit: &ReceiverPermit<T>) -> bool
+        requires { IsReceiver self.now permit.now }
+        ensures all { result ≡ true → IsAll sender_ended_number (senders_of self.now) ended.now (received permit.now) }
+        ensures lacks { result ≡ false → IsNotAll sender_ended_number (senders_of self.now) ended.now (received permit.now) }
     {
         for p in 0..self.senders {
-            if !seat.ended[usize::from(p)] {
+            if !permit.ended[usize::from(p)] {
                 return false;
             }
             if !has_ended(ended, p) {
@@ -263,7 +271,7 @@ fn has_ended<T>(ended: &[SenderEnded<T>], number: u8) -> bool
     ended.iter().any(|e| e.number == number)
 }
 
-// How many senders there will be, so that each of their seats knows it.
+// How many senders there will be, so that each of their permits knows it.
 fn announce<T: Drop>(ends: &Sends<T>, pass: &mut Pass<Entry<T>, View<T>>, senders: u8)
     requires { IsSeatAt (sends_on ends.now) pass.old × (view pass.old ≡ consumer 0 0 [] None []) }
     ensures { IsSeatAt (sends_on ends.now) pass.new × (view pass.new ≡ consumer senders 0 [] None []) }
@@ -273,19 +281,19 @@ fn announce<T: Drop>(ends: &Sends<T>, pass: &mut Pass<Entry<T>, View<T>>, sender
     }
 }
 
-// The seat of the next sender.
+// The permit of the next sender.
 fn hire<T: Drop>(
     ends: &Sends<T>,
     senders: u8,
     pass: &mut Pass<Entry<T>, View<T>>,
     number: u8,
-) -> SenderSeat<T>
+) -> SenderPermit<T>
     requires { IsSeatAt (sends_on ends.now) pass.old × (view pass.old ≡ consumer senders number [] None []) × (number < senders) }
     ensures pass { IsSeatAt (sends_on ends.now) pass.new × (view pass.new ≡ consumer senders (number + 1) [] None []) }
-    ensures seat { IsSeatAt (sends_on ends.now) result.pass × (view result.pass ≡ sender senders number [] []) × (result.number ≡ number) }
+    ensures permit { IsSeatAt (sends_on ends.now) result.pass × (view result.pass ≡ sender senders number [] []) × (result.number ≡ number) }
 {
     let pass = ends.another::<Hire>(pass);
-    SenderSeat { pass, number }
+    SenderPermit { pass, number }
 }
 
 // Hears a sender out: what it has sent is what was received of it.
@@ -327,11 +335,11 @@ fn hear_all_out<T: Drop>(
     ended.destroy_empty();
 }
 
-fn spend_seats<T>(mut seats: Vec<SenderSeat<T>>) {
-    while let Some(one) = seats.pop() {
-        let SenderSeat { pass: _, number: _ } = one;
+fn spend_permits<T>(mut permits: Vec<SenderPermit<T>>) {
+    while let Some(one) = permits.pop() {
+        let SenderPermit { pass: _, number: _ } = one;
     }
-    seats.destroy_empty();
+    permits.destroy_empty();
 }
 
 fn spend_ended<T>(mut ended: Vec<SenderEnded<T>>) {

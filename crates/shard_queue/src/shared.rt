@@ -1,4 +1,4 @@
-//! The rule of a lane that threads share: what each seat knows, and what a put, a take and a seat
+//! The rule of a lane that threads share: what each permit knows, and what a put, a take and a permit
 //! that joins or leaves make of it. The queue and the channel keep the same rule.
 
 ghost use Rattle.std.specs.Prelude.{◌≡◌, ℕ, false, slice_index_or};
@@ -10,9 +10,9 @@ use crossbeam_channel::protocol::{
 use crossbeam_queue::protocol::{Join, Lesson, Outcome, Protocol, Split};
 use std::collections::LinkedList;
 
-/// What a seat knows of its lane. No value of it is ever made: seats carry it for contracts alone.
+/// What a permit knows of its lane. No value of it is ever made: permits carry it for contracts alone.
 pub enum View<T> {
-    /// The consumer's: how many producers there are, how many of them have their seats, what was taken,
+    /// The consumer's: how many producers there are, how many of them have their permits, what was taken,
     /// while the lane is closed the producer that was heard out last with all that it has sent, and all
     /// that had been put when it last took.
     Consumer(
@@ -29,7 +29,7 @@ pub enum View<T> {
     Spent,
 }
 
-/// There is one lane of which all is true that its seats know.
+/// There is one lane of which all is true that its permits know.
 pub struct Merge;
 
 impl<T> Protocol<Entry<T>, View<T>> for Merge {
@@ -50,7 +50,7 @@ impl<T> ChannelProtocol<Entry<T>, View<T>> for Merge {
     ghost first = { consumer 0 0 [] None [] };
 }
 
-/// The consumer's seat learns that there will be one more producer. This makes a seat of no use.
+/// The consumer's permit learns that there will be one more producer. This makes a permit of no use.
 pub struct Announce;
 
 impl<T> Split<View<T>> for Announce {
@@ -61,7 +61,7 @@ impl<T> Split<View<T>> for Announce {
     ghost right = { announced };
 }
 
-/// The consumer's seat makes the seat of the next producer.
+/// The consumer's permit makes the permit of the next producer.
 pub struct Hire;
 
 impl<T> Split<View<T>> for Hire {
@@ -72,7 +72,7 @@ impl<T> Split<View<T>> for Hire {
     ghost right = { hired };
 }
 
-/// The consumer's seat takes in that of a producer that has ended.
+/// The consumer's permit takes in that of a producer that has ended.
 pub struct HearOut;
 
 impl<T> Join<View<T>> for HearOut {

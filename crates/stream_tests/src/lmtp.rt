@@ -2,18 +2,19 @@
 //! either side, and shut at each position where the house may stop.
 
 ghost use Rattle.std.specs.Prelude.{◌≡◌, ◌<◌, ◌≤◌, ◌∷◌, [], Some, IfSome, IfOk, OnOk, length, vec_len, vec_capacity};
-ghost use Rattle.shard_queue.specs.Seats.{IsConsumer, IsProducer, number_of};
+ghost use Rattle.shard_queue.specs.Permits.{IsConsumer, IsProducer, number_of};
 ghost use Rattle.shard_queue.specs.Reply.{IsReceiver, IsSender};
-ghost use Rattle.lane_work.specs.Seats.{AreSeated};
+ghost use Rattle.lane_work.specs.Permits.{AreInForce};
 
 use delivery_token::{Job, Noted, Verdict};
 use envelope::Directory;
-use lane_work::{Desk, LaneSeat, Office, Summons, Unkept};
+use lane_work::{Desk, LanePermit, Office, Summons, Unkept};
 use line_io::Sink;
 use lmtp_stream::{Ending, TalkFault, converse};
 use pace::{Actor, Gate, Pace};
 use shard_queue::{
-    ConsumerSeat, Ended, ProducerSeat, ReceiverSeat, ReplyChannel, SenderSeat, ShardQueue, Taken,
+    ConsumerPermit, Ended, ProducerPermit, ReceiverPermit, ReplyChannel, SenderPermit, ShardQueue,
+    Taken,
 };
 use std::alloc::{AllocError, Global};
 use std::io::{Error, ErrorKind, Read, Result as IoResult};
@@ -56,16 +57,16 @@ const TWO: &[u8] =
 struct Clerk<'a> {
     lane: &'a ShardQueue<Job>,
     channel: &'a ReplyChannel<Noted>,
-    seat: ConsumerSeat<Job>,
-    sender: SenderSeat<Noted>,
-    ghost takes: { IsConsumer lane.now seat },
+    permit: ConsumerPermit<Job>,
+    sender: SenderPermit<Noted>,
+    ghost takes: { IsConsumer lane.now permit },
     ghost answers: { IsSender channel.now sender },
 }
 
 impl<'a> Clerk<'a> {
     fn serve<R: Wait>(&mut self, rt: &R) {
         for _ in rt.forever() {
-            match self.lane.take_as(rt, &mut self.seat) {
+            match self.lane.take_as(rt, &mut self.permit) {
                 Taken::Item(_, job) => {
                     let noted = Noted {
                         key: job.key,
@@ -374,11 +375,11 @@ fn talk<R: Wait, S: Summons>(
     stop: &AtomicBool,
     case: &Case,
 ) -> Result<bool, AllocError>
-    requires seats { AreSeated office.now.directory office.now.lanes.items desk.old.number desk.old.seats.items }
+    requires permits { AreInForce office.now.directory office.now.lanes.items desk.old.number desk.old.permits.items }
     requires receiver { IsReceiver channel.now desk.old.receiver }
     requires lanes { office.now.directory.shards ≡ length office.now.lanes.items }
     requires host { length office.now.host.items < 256 }
-    ensures { length desk.new.seats.items ≡ length office.now.lanes.items }
+    ensures { length desk.new.permits.items ≡ length office.now.lanes.items }
 {
     let mut input = Pieces {
         pieces: case.pieces,
@@ -427,28 +428,28 @@ fn with_clerk<R: Wait>(
     lane: &ShardQueue<Job>,
     channel: &ReplyChannel<Noted>,
     desk: &mut Desk,
-    seat: ConsumerSeat<Job>,
-    sender: SenderSeat<Noted>,
+    permit: ConsumerPermit<Job>,
+    sender: SenderPermit<Noted>,
     case: &Case,
 ) -> (
-    ConsumerSeat<Job>,
-    SenderSeat<Noted>,
+    ConsumerPermit<Job>,
+    SenderPermit<Noted>,
     Result<bool, AllocError>,
 )
-    requires seats { AreSeated office.now.directory office.now.lanes.items desk.old.number desk.old.seats.items }
+    requires permits { AreInForce office.now.directory office.now.lanes.items desk.old.number desk.old.permits.items }
     requires receiver { IsReceiver channel.now desk.old.receiver }
     requires lanes { office.now.directory.shards ≡ length office.now.lanes.items }
     requires host { length office.now.host.items < 256 }
-    requires takes { IsConsumer lane.now seat }
+    requires takes { IsConsumer lane.now permit }
     requires answers { IsSender channel.now sender }
-    ensures { length desk.new.seats.items ≡ length office.now.lanes.items }
+    ensures { length desk.new.permits.items ≡ length office.now.lanes.items }
 {
     let stop = AtomicBool::new(false);
     let counter = Counter {
         clerk: Mutex::new(Clerk {
             lane,
             channel,
-            seat,
+            permit,
             sender,
         }),
         stop: &stop,
@@ -463,10 +464,10 @@ fn with_clerk<R: Wait>(
     let Clerk {
         lane: _,
         channel: _,
-        seat,
+        permit,
         sender,
     } = clerk.into_inner();
-    (seat, sender, told)
+    (permit, sender, told)
 }
 
 fn directory(alloc: Global) -> Option<Directory>
@@ -475,27 +476,27 @@ fn directory(alloc: Global) -> Option<Directory>
     Directory::new(alloc, &[b"example.org"], &[b"alice", b"bob"], 1).ok()
 }
 
-// The seats of one lane and one channel, each with one that puts and one that takes.
-struct Seats {
+// The permits of one lane and one channel, each with one that puts and one that takes.
+struct Permits {
     lane: ShardQueue<Job>,
-    producer: ProducerSeat<Job>,
-    seat: ConsumerSeat<Job>,
+    producer: ProducerPermit<Job>,
+    permit: ConsumerPermit<Job>,
     channel: ReplyChannel<Noted>,
-    sender: SenderSeat<Noted>,
-    receiver: ReceiverSeat<Noted>,
+    sender: SenderPermit<Noted>,
+    receiver: ReceiverPermit<Noted>,
 }
 
-fn make_seats(alloc: Global) -> Result<Seats, AllocError>
+fn make_permits(alloc: Global) -> Result<Permits, AllocError>
     ensures producer { IfOk result (λ s. IsProducer s.lane s.producer × (number_of s.producer ≡ 0)) }
-    ensures seat { IfOk result (λ s. IsConsumer s.lane s.seat) }
+    ensures permit { IfOk result (λ s. IsConsumer s.lane s.permit) }
     ensures sender { IfOk result (λ s. IsSender s.channel s.sender) }
     ensures receiver { IfOk result (λ s. IsReceiver s.channel s.receiver) }
 {
-    let (lane, mut hand, seat) = ShardQueue::new(alloc, 4, 1)?;
+    let (lane, mut hand, permit) = ShardQueue::new(alloc, 4, 1)?;
     let (channel, mut senders, receiver) = match ReplyChannel::new(alloc, 4, 1) {
         Ok(made) => made,
         Err(e) => {
-            lane.abandon(hand, Vec::new(alloc), seat);
+            lane.abandon(hand, Vec::new(alloc), permit);
             return Err(e);
         }
     };
@@ -503,23 +504,23 @@ fn make_seats(alloc: Global) -> Result<Seats, AllocError>
     senders.destroy_empty();
     let producer = hand.remove(0);
     hand.destroy_empty();
-    Ok(Seats {
+    Ok(Permits {
         lane,
         producer,
-        seat,
+        permit,
         channel,
         sender,
         receiver,
     })
 }
 
-// Lists with room for one, of the lanes and of the seats, before and after.
+// Lists with room for one, of the lanes and of the permits, before and after.
 struct Room {
     lanes: Vec<ShardQueue<Job>>,
-    hand: Vec<LaneSeat>,
-    live: Vec<ProducerSeat<Job>>,
+    hand: Vec<LanePermit>,
+    live: Vec<ProducerPermit<Job>>,
     ended: Vec<Ended<Job>>,
-    back: Vec<SenderSeat<Noted>>,
+    back: Vec<SenderPermit<Noted>>,
 }
 
 fn no_room(alloc: Global) -> Room
@@ -582,25 +583,29 @@ fn make_room(alloc: Global) -> Result<Room, AllocError>
     }
 }
 
-// The seat of a desk goes to those that may put still, or to what is left of the others.
-fn sort(desk_seats: Vec<LaneSeat>, live: &mut Vec<ProducerSeat<Job>>, ended: &mut Vec<Ended<Job>>)
-    requires seats { vec_len desk_seats ≡ 1 }
+// The permit of a desk goes to those that may put still, or to what is left of the others.
+fn sort(
+    desk_permits: Vec<LanePermit>,
+    live: &mut Vec<ProducerPermit<Job>>,
+    ended: &mut Vec<Ended<Job>>,
+)
+    requires permits { vec_len desk_permits ≡ 1 }
     requires live { vec_len live.old < vec_capacity live.old }
     requires ended { vec_len ended.old < vec_capacity ended.old }
 {
-    let mut seats = desk_seats;
-    match seats.remove(0) {
-        LaneSeat::Live(seat) => live.push_reserved(seat),
-        LaneSeat::Over(left) => ended.push_reserved(left),
+    let mut permits = desk_permits;
+    match permits.remove(0) {
+        LanePermit::Live(permit) => live.push_reserved(permit),
+        LanePermit::Over(left) => ended.push_reserved(left),
     }
-    seats.destroy_empty();
+    permits.destroy_empty();
 }
 
 // What comes back when the connection is over.
 struct Back {
-    live: Vec<ProducerSeat<Job>>,
+    live: Vec<ProducerPermit<Job>>,
     ended: Vec<Ended<Job>>,
-    senders: Vec<SenderSeat<Noted>>,
+    senders: Vec<SenderPermit<Noted>>,
 }
 
 // What is left goes.
@@ -608,12 +613,12 @@ fn spend(
     office: Office,
     desk: Desk,
     channel: ReplyChannel<Noted>,
-    seat: ConsumerSeat<Job>,
+    permit: ConsumerPermit<Job>,
     back: Back,
     alloc: Global,
 )
     requires lanes { vec_len office.lanes ≡ 1 }
-    requires seats { vec_len desk.seats ≡ 1 }
+    requires permits { vec_len desk.permits ≡ 1 }
     requires room { (vec_len back.live < vec_capacity back.live) × (vec_len back.ended < vec_capacity back.ended) }
 {
     let Office {
@@ -625,7 +630,7 @@ fn spend(
     } = office;
     let Desk {
         number: _,
-        seats,
+        permits,
         receiver,
         ends: _,
     } = desk;
@@ -634,21 +639,21 @@ fn spend(
         mut ended,
         senders,
     } = back;
-    sort(seats, &mut live, &mut ended);
+    sort(permits, &mut live, &mut ended);
     let lane = lanes.remove(0);
     lanes.destroy_empty();
-    lane.abandon(live, ended, seat);
+    lane.abandon(live, ended, permit);
     channel.abandon(senders, Vec::new(alloc), receiver);
 }
 
-// A case is played in a house of these seats.
+// A case is played in a house of these permits.
 fn play_in<R: Wait>(
     rt: &R,
     alloc: Global,
     directory: Directory,
     host: Vec<u8>,
     room: Room,
-    seats: Seats,
+    permits: Permits,
     case: &Case,
 ) -> Result<bool, AllocError>
     requires shards { directory.shards ≡ 1 }
@@ -656,10 +661,10 @@ fn play_in<R: Wait>(
     requires empty { (room.lanes.items ≡ []) × (room.hand.items ≡ []) × (room.live.items ≡ []) × (room.ended.items ≡ []) × (room.back.items ≡ []) }
     requires room { (1 ≤ vec_capacity room.lanes) × (1 ≤ vec_capacity room.hand) × (1 ≤ vec_capacity room.live) ×
         (1 ≤ vec_capacity room.ended) × (1 ≤ vec_capacity room.back) }
-    requires producer { IsProducer seats.lane seats.producer × (number_of seats.producer ≡ 0) }
-    requires seat { IsConsumer seats.lane seats.seat }
-    requires sender { IsSender seats.channel seats.sender }
-    requires receiver { IsReceiver seats.channel seats.receiver }
+    requires producer { IsProducer permits.lane permits.producer × (number_of permits.producer ≡ 0) }
+    requires permit { IsConsumer permits.lane permits.permit }
+    requires sender { IsSender permits.channel permits.sender }
+    requires receiver { IsReceiver permits.channel permits.receiver }
 {
     let Room {
         mut lanes,
@@ -668,16 +673,16 @@ fn play_in<R: Wait>(
         ended,
         back: mut senders,
     } = room;
-    let Seats {
+    let Permits {
         lane,
         producer,
-        seat,
+        permit,
         channel,
         sender,
         receiver,
-    } = seats;
+    } = permits;
     lanes.push_reserved(lane);
-    hand.push_reserved(LaneSeat::Live(producer));
+    hand.push_reserved(LanePermit::Live(producer));
     let office = Office {
         directory,
         host,
@@ -687,13 +692,13 @@ fn play_in<R: Wait>(
     };
     let mut desk = Desk {
         number: 0,
-        seats: hand,
+        permits: hand,
         receiver,
         ends: 0,
     };
     let served = &office.lanes[0];
-    let (seat, sender, told) = with_clerk(
-        rt, alloc, &office, served, &channel, &mut desk, seat, sender, case,
+    let (permit, sender, told) = with_clerk(
+        rt, alloc, &office, served, &channel, &mut desk, permit, sender, case,
     );
     senders.push_reserved(sender);
     let back = Back {
@@ -701,7 +706,7 @@ fn play_in<R: Wait>(
         ended,
         senders,
     };
-    spend(office, desk, channel, seat, back, alloc);
+    spend(office, desk, channel, permit, back, alloc);
     told
 }
 
@@ -712,14 +717,14 @@ fn play<R: Wait>(rt: &R, alloc: Global, case: &Case) -> Result<bool, AllocError>
     };
     let host = Vec::from_slice(alloc, b"mx.example.org")?;
     let room = make_room(alloc)?;
-    let seats = match make_seats(alloc) {
-        Ok(seats) => seats,
+    let permits = match make_permits(alloc) {
+        Ok(permits) => permits,
         Err(e) => {
             spend_room(room);
             return Err(e);
         }
     };
-    play_in(rt, alloc, directory, host, room, seats, case)
+    play_in(rt, alloc, directory, host, room, permits, case)
 }
 
 // The first case that doesn't come as it is to come.

@@ -596,8 +596,8 @@ fn a_session_of_another_mailbox_is_told_so_and_ends(rt: HostRuntime) -> Result<(
     Ok(())
 }
 
-// The seat of a mailbox is a stranger to each call on another, and still its own mailbox's afterwards.
-// Whether each call of a seat of another mailbox is a stranger's.
+// The handle of a mailbox is a stranger to each call on another, and still its own mailbox's afterwards.
+// Whether each call with a handle of another mailbox is a stranger's.
 fn is_a_stranger<R: Wait>(
     desk: &mut LockedDesk<'_, R, Tally>,
     alloc: Global,
@@ -628,7 +628,9 @@ fn is_a_stranger_meanwhile<R: Wait>(rt: &R, alloc: Global, mailboxes: &[Mutex<Ma
 }
 
 #[test]
-fn a_seat_of_another_mailbox_is_a_stranger_to_each_call(rt: HostRuntime) -> Result<(), AllocError> {
+fn a_handle_of_another_mailbox_is_a_stranger_to_each_call(
+    rt: HostRuntime,
+) -> Result<(), AllocError> {
     let mailboxes = with_a_message(&rt, rt.alloc())?;
     assert!(rt; is_a_stranger_meanwhile(&rt, rt.alloc(), &mailboxes));
     Ok(())

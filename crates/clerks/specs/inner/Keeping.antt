@@ -4,11 +4,11 @@ use Rattle.std.specs.List.{list_any}
 use Rattle.delivery_token.specs.declared.Job.{Job}
 use Rattle.shard_queue.specs.declared.queue.ShardQueue.{ShardQueue}
 use Rattle.shard_queue.specs.Reply.{sent_on}
-use Rattle.shard_queue.specs.Seats.{got}
+use Rattle.shard_queue.specs.Permits.{got}
 use Rattle.lane_work.specs.Answering.{is_nobodys}
 use Rattle.lane_work.specs.inner.Answering.{HaveAnswered}
 use Rattle.lane_work.specs.Ends.{ends_in}
-use Rattle.lane_work.specs.Seats.{AreSenders}
+use Rattle.lane_work.specs.Permits.{AreSenders}
 use Rattle.lane_work.specs.declared.consumer.Depot.{Depot}
 use Rattle.lane_work.specs.declared.consumer.Stall.{Stall}
 use Rattle.clerks.specs.Keeping.{IsOnLane, counted}
@@ -16,11 +16,11 @@ use Rattle.clerks.specs.Keeping.{IsOnLane, counted}
 -- Of a hall with this depot: its senders are of all channels, and what was said on each is the answers to the copies that were taken, and nothing else. It is torn where one of these was nobody's.
 pub record IsAnswering (depot : Depot) (stall : Stall) (is_torn : Bool) : Type 0 where
   pub senders : AreSenders depot.channels.items stall.shard stall.senders.items
-  pub answered : HaveAnswered (length depot.mailboxes.items) (length depot.channels.items) stall.shard (got stall.seat) [] (map sent_on stall.senders.items)
-  pub torn : is_torn ≡ list_any (is_nobodys (length depot.mailboxes.items) (length depot.channels.items)) (got stall.seat)
+  pub answered : HaveAnswered (length depot.mailboxes.items) (length depot.channels.items) stall.shard (got stall.permit) [] (map sent_on stall.senders.items)
+  pub torn : is_torn ≡ list_any (is_nobodys (length depot.mailboxes.items) (length depot.channels.items)) (got stall.permit)
 
 -- all that, of the hall that the clerk's type names
 pub record Keeps (lanes : Option (List (ShardQueue Job))) (depot : Option Depot) (stall : Stall) (ends : ℕ) (torn : Bool) : Type 0 where
   pub on_lane : (ls : List (ShardQueue Job)) → lanes ≡ Some ls → IsOnLane ls stall
   pub answering : (d : Depot) → depot ≡ Some d → IsAnswering d stall torn
-  pub ends_are : ends ≡ counted (ends_in (got stall.seat))
+  pub ends_are : ends ≡ counted (ends_in (got stall.permit))

@@ -3,7 +3,7 @@ use Rattle.std.specs.Prelude.{ℕ, List}
 use Rattle.delivery_token.specs.declared.Job.{Job}
 use Rattle.shard_queue.specs.declared.queue.Ended.{Ended}
 use Rattle.shard_queue.specs.declared.queue.ShardQueue.{ShardQueue}
-use Rattle.lane_work.specs.Seats.{AreEnded}
+use Rattle.lane_work.specs.Permits.{AreEnded}
 use Rattle.house_floor.specs.Crew.{IsPost}
 use Rattle.house_floor.specs.declared.floor.Floor.{Floor}
 use Rattle.house_floor.specs.declared.floor.Post.{Post}
@@ -12,7 +12,7 @@ use Rattle.house_floor.specs.declared.floor.Post.{Post}
 pub record IsOwnPost (floor : Floor) (post : Post) : Type 0 where
   pub is : IsPost floor post.desk.number post
 
--- one producer's ended seats, one on each lane
+-- one producer's ended permits, one on each lane
 pub record AreSomeones (lanes : List (ShardQueue Job)) (ended : List (Ended Job)) : Type 0 where
   pub number : ℕ
   pub are : AreEnded lanes number ended

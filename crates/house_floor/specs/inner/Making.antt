@@ -3,13 +3,13 @@ use Rattle.std.specs.Prelude.{◌≡◌, ◌≤◌, ◌*◌, ℕ, List, [], All,
 use Rattle.delivery_token.specs.declared.Job.{Job}
 use Rattle.delivery_token.specs.declared.log.Noted.{Noted}
 use Rattle.envelope.specs.Directory.{Directory}
-use Rattle.lane_seats.specs.Rooms.{AreHandRooms, AreRooms, AreSeatRooms}
-use Rattle.lane_seats.specs.rows.Rows.{AreConsumers, Rows}
-use Rattle.lane_seats.specs.rows.SenderRows.{AreReceivers, SenderRows}
+use Rattle.lane_permits.specs.Rooms.{AreHandRooms, ArePermitRooms, AreRooms}
+use Rattle.lane_permits.specs.rows.Rows.{AreConsumers, Rows}
+use Rattle.lane_permits.specs.rows.SenderRows.{AreReceivers, SenderRows}
 use Rattle.shard_queue.specs.declared.queue.ShardQueue.{ShardQueue}
 use Rattle.shard_queue.specs.declared.ends.ReplyChannel.{ReplyChannel}
 use Rattle.shard_queue.specs.Reply.{received, room_of, senders_of}
-use Rattle.shard_queue.specs.Seats.{capacity_of, got, producers_of}
+use Rattle.shard_queue.specs.Permits.{capacity_of, got, producers_of}
 use Rattle.house_floor.specs.Opening.{AreNoSpares, AreSpares, reply_room}
 use Rattle.house_floor.specs.declared.bells.Bells.{Bells}
 use Rattle.house_floor.specs.declared.dealing.Undealt.{Undealt}
@@ -20,8 +20,8 @@ use Rattle.house_floor.specs.declared.opening.Sizes.{Sizes}
 use Rattle.house_floor.specs.declared.stock.CrewLists.{CrewLists}
 use Rattle.house_floor.specs.declared.stock.Lists.{Lists}
 use Rattle.house_floor.specs.declared.stock.Stock.{Stock}
-use Rattle.lane_seats.specs.declared.channels.Channels.{Channels}
-use Rattle.lane_seats.specs.declared.lanes.Lanes.{Lanes}
+use Rattle.lane_permits.specs.declared.channels.Channels.{Channels}
+use Rattle.lane_permits.specs.declared.lanes.Lanes.{Lanes}
 
 -- a bell for each consumer, both ends of it, and for each mailbox a list of its sessions' bells
 pub record AreBells (directory : Directory) (b : Bells) : Type 0 where
@@ -77,11 +77,11 @@ pub record AreLists (producers shards : ℕ) (l : Lists) : Type 0 where
   pub receivers : (l.ends.receivers.items ≡ []) × (producers ≤ vec_capacity l.ends.receivers)
   pub spares : AreSpares (producers * shards) l.ends.spares
 
--- a lane for each shard, with all its seats, which have put and taken nothing
+-- a lane for each shard, with all its permits, which have put and taken nothing
 pub record AreNewLanes (producers shards depth : ℕ) (l : Lanes) : Type 0 where
   pub count : vec_len l.queues ≡ shards
   pub queues : All (λ q. (capacity_of q ≡ depth) × (producers_of q ≡ producers)) l.queues.items
-  pub seats : Rows l.queues.items 0 (map (λ v. v.items) l.seats.items)
+  pub permits : Rows l.queues.items 0 (map (λ v. v.items) l.permits.items)
   pub consumers : AreConsumers l.queues.items l.consumers.items
   pub fresh : All (λ s. got s ≡ []) l.consumers.items
 
@@ -89,24 +89,24 @@ pub record AreNewLanes (producers shards depth : ℕ) (l : Lanes) : Type 0 where
 pub record AreNewChannels (producers shards : ℕ) (c : Channels) : Type 0 where
   pub count : vec_len c.channels ≡ producers
   pub channels : All (λ q. (room_of q ≡ reply_room) × (senders_of q ≡ shards)) c.channels.items
-  pub seats : SenderRows c.channels.items 0 (map (λ v. v.items) c.seats.items)
+  pub permits : SenderRows c.channels.items 0 (map (λ v. v.items) c.permits.items)
   pub receivers : AreReceivers c.channels.items c.receivers.items
   pub fresh : All (λ s. received s ≡ []) c.receivers.items
 
 -- all of a house that can't be let go
 pub record AreStock (producers shards depth : ℕ) (s : Stock) : Type 0 where
-  pub of_producers : AreSeatRooms producers shards s.rooms.workers
-  pub of_consumers : AreSeatRooms shards producers s.rooms.consumers
+  pub of_producers : ArePermitRooms producers shards s.rooms.workers
+  pub of_consumers : ArePermitRooms shards producers s.rooms.consumers
   pub lists : AreLists producers shards s.lists
   pub lanes : AreNewLanes producers shards depth s.lanes
   pub channels : AreNewChannels producers shards s.channels
 
 -- what is to be dealt to so many producers and consumers over these lanes and channels, and the empty lists that it goes into
 pub record AreUndealt (producers shards : ℕ) (lanes : List (ShardQueue Job)) (channels : List (ReplyChannel Noted)) (u : Undealt) : Type 0 where
-  pub lane_seats : Rows lanes 0 (map (λ v. v.items) u.lane_seats.items)
+  pub lane_permits : Rows lanes 0 (map (λ v. v.items) u.lane_permits.items)
   pub receivers : AreReceivers channels u.receivers.items
   pub unheard : All (λ s. received s ≡ []) u.receivers.items
-  pub channel_seats : SenderRows channels 0 (map (λ v. v.items) u.channel_seats.items)
+  pub channel_permits : SenderRows channels 0 (map (λ v. v.items) u.channel_permits.items)
   pub consumers : AreConsumers lanes u.consumers.items
   pub fresh : All (λ s. got s ≡ []) u.consumers.items
   pub parkers : vec_len u.parkers ≡ shards

@@ -17,11 +17,11 @@ use Rattle.house_session.specs.Folders.{folders_of}
 use Rattle.delivery_token.specs.declared.log.Noted.{Noted}
 use Rattle.lane_work.specs.declared.worker.Fate.TheVariants.{Whole}
 use Rattle.lane_work.specs.declared.worker.Worked.{Worked}
-use Rattle.lane_work.specs.Seats.{AreEnded}
+use Rattle.lane_work.specs.Permits.{AreEnded}
 use Rattle.lane_work.specs.Speaking.{premises_of}
 use Rattle.shard_queue.specs.declared.ends.ReplyChannel.{ReplyChannel}
 use Rattle.shard_queue.specs.Reply.{IsReceiver, received}
-use Rattle.shard_queue.specs.Seats.{said}
+use Rattle.shard_queue.specs.Permits.{said}
 use Rattle.house_threads.specs.Crew.{Plans, IsProduceOf, IsServiceOf, SessionAccount, most_of}
 
 -- ---- promises
@@ -50,7 +50,7 @@ pub record HasLived (floor : Floor) (user : List ℕ) (selection : LockedDesk) (
   pub lives : Lives floor.turns (greeted_at (Some (most_of floor.office.max_message)) (folders_of floor.office.directory user) selection greeting) visit.steps.items carried last
   pub wrote : text ≡ last.text
 
--- What a session leaves: its ended seats are its own on each lane, its receiver is of its channel, and where it made all its steps, this is its account of them.
+-- What a session leaves: its ended permits are its own on each lane, its receiver is of its channel, and where it made all its steps, this is its account of them.
 abbrev pub IsAttended : Floor → ReplyChannel Noted → ℕ → Visit → Worked → Type 0
 IsAttended floor channel seat visit w =
     AreEnded floor.office.lanes.items seat w.ended.items × IsReceiver channel w.receiver × (w.log.seat ≡ seat)

@@ -1,4 +1,4 @@
--- What bodies and proofs say besides: what one worker's thread says: of its own seats, its own log and its own replies.
+-- What bodies and proofs say besides: what one worker's thread says: of its own permits, its own log and its own replies.
 use Rattle.std.specs.Prelude.{ℕ, List}
 use Rattle.delivery_token.specs.declared.Job.{Job}
 use Rattle.delivery_token.specs.declared.Verdict.{Verdict}

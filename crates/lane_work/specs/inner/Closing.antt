@@ -5,7 +5,7 @@ use Rattle.envelope.specs.Directory.{Directory, is_shut, marked}
 use Rattle.lane_work.specs.declared.desk.Closing.{Closing}
 use Rattle.lane_work.specs.declared.desk.Desk.{Desk}
 use Rattle.lane_work.specs.declared.desk.Office.{Office}
-use Rattle.lane_work.specs.Seats.{put_by}
+use Rattle.lane_work.specs.Permits.{put_by}
 
 -- the shard is closed just before this connection
 abbrev pub is_closed_at : ℕ → ℕ → Closing → Bool
@@ -20,9 +20,9 @@ Marks connection closings old new = (new ≡ marked new.shut old) × (length new
 abbrev pub closings_at : Office → ℕ → List Closing
 closings_at office number = slice_index_or (map (λ c. c.items) office.closings.items) number []
 
--- nothing is put, and nothing is changed but which seats are over
+-- nothing is put, and nothing is changed but which permits are over
 abbrev pub KeepsDesk : Desk → Desk → Type 0
-KeepsDesk old new = (new.number ≡ old.number) × (new.receiver ≡ old.receiver) × (new.ends ≡ old.ends) × (map put_by new.seats.items ≡ map put_by old.seats.items)
+KeepsDesk old new = (new.number ≡ old.number) × (new.receiver ≡ old.receiver) × (new.ends ≡ old.ends) × (map put_by new.permits.items ≡ map put_by old.permits.items)
 
 -- the shard is closed before an earlier connection
 abbrev pub is_closed_before : ℕ → ℕ → Closing → Bool

@@ -2,7 +2,7 @@
 use Rattle.std.specs.Prelude.{◌≡◌, ◌<◌, ℕ, List, [], ◌∷◌, length, map, All, Vec}
 use Rattle.std.specs.Global.{Global}
 use Rattle.shard_queue.specs.Reply.{room_of, senders_of}
-use Rattle.shard_queue.specs.Seats.{capacity_of, history, producers_of}
+use Rattle.shard_queue.specs.Permits.{capacity_of, history, producers_of}
 use Rattle.lane_work.specs.Speaking.{premises_of}
 use Rattle.mailbox.specs.declared.history.History.TheVariants.{Kept}
 use Rattle.house_floor.specs.Crew.{IsHouse}

@@ -2,7 +2,7 @@ use Rattle.std.proofs.Common.{rules, ◌<◌, ◌≤◌, ◌≡◌, ◌∙◌, �
 use Rattle.std.proofs.lemmas.List.Elements.{All-tail}
 use Rattle.delivery_token.specs.declared.log.Noted.{Noted}
 use Rattle.shard_queue.specs.declared.reply.SenderEnded.{SenderEnded}
-use Rattle.lane_seats.proofs.StepLaws.{removed}
+use Rattle.lane_permits.proofs.StepLaws.{removed}
 use Rattle.lane_work.specs.declared.consumer.Consumed.{Consumed}
 use Rattle.clerks.specs.Staff.{IsService}
 use Rattle.clerks.proofs.StaffLaws.{consumers_of, in_order, more_at, one_more, sender_hands_of}
@@ -38,8 +38,8 @@ loop-position-preserved g c =
       one_more N consumed c.push_reserved.new.self.items _ pushed v.7 (search rules),
     )
 
-pub returns-clause-seats : goal.returns-clause-seats
-returns-clause-seats g c so =
+pub returns-clause-permits : goal.returns-clause-permits
+returns-clause-permits g c so =
     let floor = c.args.floor.now in
     let consumed = c.loop-position.consumed in
     let all : vec_len consumed ≡ length floor.office.lanes.items = search rules in

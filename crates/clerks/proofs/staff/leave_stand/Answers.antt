@@ -1,5 +1,5 @@
 use Rattle.std.proofs.Common.{◌∙◌}
-use Rattle.lane_work.proofs.SeatLaws.{senders_length}
+use Rattle.lane_work.proofs.PermitLaws.{senders_length}
 use Rattle.clerks.proofs.staff.leave_stand.Goals as goal
 
 pub returns-clause-senders : goal.returns-clause-senders

@@ -1,6 +1,6 @@
 use Rattle.std.proofs.Common.{◌≤◌, ◌+◌, All, vec_len, vec_capacity}
 use Rattle.std.specs.Mem.{manually_drop_value}
-use Rattle.shard_queue.specs.Seats.{IsEnded}
+use Rattle.shard_queue.specs.Permits.{IsEnded}
 use Rattle.delivery_tests.proofs.queues.unpack_all.Given as goal
 
 abbrev pub invariant-loop-parcel : goal.invariant-loop-parcel

@@ -3,13 +3,13 @@ use Rattle.std.proofs.lemmas.List.{length-map}
 use Rattle.std.proofs.lemmas.List.Elements.{All-map, All-weaker}
 use Rattle.delivery_token.specs.declared.Job.{Job}
 use Rattle.shard_queue.specs.declared.queue.Ended.{Ended}
-use Rattle.lane_seats.specs.Rooms.{AreRooms}
-use Rattle.lane_seats.specs.rows.Rows.{AreEndedHands}
-use Rattle.lane_seats.proofs.StepLaws.{list}
-use Rattle.lane_seats.proofs.RowLaws.{none_ended}
+use Rattle.lane_permits.specs.Rooms.{AreRooms}
+use Rattle.lane_permits.specs.rows.Rows.{AreEndedHands}
+use Rattle.lane_permits.proofs.StepLaws.{list}
+use Rattle.lane_permits.proofs.RowLaws.{none_ended}
 use Rattle.floor_tests.proofs.lanes.close_after.Goals as goal
 
--- nothing stood in the lists before the ended seats were collected
+-- nothing stood in the lists before the ended permits were collected
 pub close_lanes-requires-clause-ended : goal.close_lanes-requires-clause-ended
 close_lanes-requires-clause-ended g c =
     let queues = c.in-Ok.lanes.queues.items in

@@ -1,6 +1,6 @@
 use Rattle.std.proofs.Common.{◌≡◌}
-use Rattle.shard_queue.specs.Seats.{IsProducer, number_of}
+use Rattle.shard_queue.specs.Permits.{IsProducer, number_of}
 use Rattle.floor_tests.proofs.lanes.end_live.Given as goal
 
 abbrev pub invariant-loop : goal.invariant-loop
-invariant-loop g l = IsProducer l.lane l.seat × (number_of l.seat ≡ number_of l.fn.seat)
+invariant-loop g l = IsProducer l.lane l.permit × (number_of l.permit ≡ number_of l.fn.permit)

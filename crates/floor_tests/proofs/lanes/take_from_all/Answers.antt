@@ -1,5 +1,5 @@
 use Rattle.std.proofs.Common.{arith}
-use Rattle.lane_seats.proofs.RowLaws.{consumers_length, consumer_read, consumers_written}
+use Rattle.lane_permits.proofs.RowLaws.{consumers_length, consumer_read, consumers_written}
 use Rattle.floor_tests.proofs.lanes.take_from_all.Goals as goal
 
 pub index_mut-requires : goal.index_mut-requires
@@ -13,4 +13,4 @@ take_from-requires g c =
 
 pub loop-lane-preserved : goal.loop-lane-preserved
 loop-lane-preserved g c =
-    consumers_written c.args.lanes.now c.loop-lane.consumers.items c.loop-lane.invariant c.loop-lane.lane c.index-lanes-lane.result c.take_from.new.seat c.index-lanes-lane.is c.take_from.ensures
+    consumers_written c.args.lanes.now c.loop-lane.consumers.items c.loop-lane.invariant c.loop-lane.lane c.index-lanes-lane.result c.take_from.new.permit c.index-lanes-lane.is c.take_from.ensures

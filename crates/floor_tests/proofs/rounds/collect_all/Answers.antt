@@ -1,7 +1,7 @@
 use Rattle.std.proofs.Common.{rules, ◌≡◌, subst, map, vec_len, arith}
 use Rattle.std.proofs.lemmas.List.{length-map}
 use Rattle.std.specs.Mem.{manually_drop_value}
-use Rattle.lane_seats.proofs.RowLaws.{ended_hand_length, ended_length}
+use Rattle.lane_permits.proofs.RowLaws.{ended_hand_length, ended_length}
 use Rattle.floor_tests.specs.inner.Rounds.{AreSomeones}
 use Rattle.floor_tests.specs.declared.rounds.Left.{Left}
 use Rattle.floor_tests.proofs.RoundLaws.{popped}

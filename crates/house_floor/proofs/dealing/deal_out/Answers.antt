@@ -1,18 +1,18 @@
 use Rattle.std.proofs.Common.{arith}
-use Rattle.lane_seats.proofs.RowLaws.{consumers_length}
-use Rattle.lane_seats.proofs.SenderRowLaws.{receivers_length}
+use Rattle.lane_permits.proofs.RowLaws.{consumers_length}
+use Rattle.lane_permits.proofs.SenderRowLaws.{receivers_length}
 use Rattle.house_floor.proofs.dealing.deal_out.Goals as goal
 
 pub set_stands-stands-requires-clause-consumers : goal.set_stands-stands-requires-clause-consumers
 set_stands-stands-requires-clause-consumers c =
-    let seats = c.args.undealt.consumers in
+    let permits = c.args.undealt.consumers in
     let are = c.requires.undealt.consumers in
-    let same = consumers_length c.args.floor.now.office.lanes.items seats.items are in
-    (let count = c.requires.lanes.0 in omega (arith, same, count, seats.ok.0), are)
+    let same = consumers_length c.args.floor.now.office.lanes.items permits.items are in
+    (let count = c.requires.lanes.0 in omega (arith, same, count, permits.ok.0), are)
 
 pub set_posts-posts-requires-clause-receivers : goal.set_posts-posts-requires-clause-receivers
 set_posts-posts-requires-clause-receivers c =
-    let seats = c.args.undealt.receivers in
+    let permits = c.args.undealt.receivers in
     let are = c.requires.undealt.receivers in
-    let same = receivers_length c.args.floor.now.depot.channels.items seats.items are in
-    (let count = c.requires.channels.0 in omega (arith, same, count, seats.ok.0), are)
+    let same = receivers_length c.args.floor.now.depot.channels.items permits.items are in
+    (let count = c.requires.channels.0 in omega (arith, same, count, permits.ok.0), are)

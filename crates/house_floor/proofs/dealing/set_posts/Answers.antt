@@ -3,12 +3,12 @@ use Rattle.std.proofs.lemmas.List.Elements.{All-head, All-tail}
 use Rattle.delivery_token.specs.declared.Job.{Job}
 use Rattle.delivery_token.specs.declared.log.Noted.{Noted}
 use Rattle.shard_queue.specs.Reply.{received}
-use Rattle.shard_queue.specs.declared.reply.ReceiverSeat.{ReceiverSeat}
+use Rattle.shard_queue.specs.declared.reply.ReceiverPermit.{ReceiverPermit}
 use Rattle.shard_queue.specs.declared.queue.Ended.{Ended}
 use Rattle.house_floor.specs.Crew.{AllAt, IsPost}
 use Rattle.house_floor.proofs.DealLaws.{IsHand, IsReceiverAt, all_rest, hands_at, receivers_at}
 use Rattle.house_floor.proofs.Positions.{first_at, more_at}
-use Rattle.lane_seats.proofs.StepLaws.{removed}
+use Rattle.lane_permits.proofs.StepLaws.{removed}
 use Rattle.house_floor.proofs.dealing.set_posts.Goals as goal
 
 pub loop-number-init : goal.loop-number-init
@@ -46,10 +46,10 @@ loop-number-preserved c =
     let P : Vec (Ended Job) Global → Type 0 = λ v. (v.items ≡ []) × (length lanes ≤ vec_capacity v) in
     let hand = first_at (IsHand lanes) n hands c.remove.new.self.items c.remove.result some_hand c.remove.ensures.value c.remove.ensures.items v.5 in
     let end = first_at (IsReceiverAt channels) n receivers c.remove-in-loop-number.new.self.items c.remove-in-loop-number.result some_end c.remove-in-loop-number.ensures.value c.remove-in-loop-number.ensures.items v.6 in
-    let Q : ReceiverSeat Noted → Type 0 = λ s. received s ≡ [] in
-    let seat = c.remove-in-loop-number.result in
+    let Q : ReceiverPermit Noted → Type 0 = λ s. received s ≡ [] in
+    let permit = c.remove-in-loop-number.result in
     let ends = c.remove-in-loop-number.ensures in
-    let unheard = subst (All Q) (removed receivers c.remove-in-loop-number.new.self.items seat some_end ends.value ends.items) v.7 in
+    let unheard = subst (All Q) (removed receivers c.remove-in-loop-number.new.self.items permit some_end ends.value ends.items) v.7 in
     let room = c.remove-in-loop-number-2.result in
     let split = removed rooms c.remove-in-loop-number-2.new.self.items room some_room c.remove-in-loop-number-2.ensures.value c.remove-in-loop-number-2.ensures.items in
     let each = subst (All P) split v.8 in
@@ -62,8 +62,8 @@ loop-number-preserved c =
       search rules,
       hand.1,
       end.1,
-      All-tail Q seat c.remove-in-loop-number.new.self.items unheard,
+      All-tail Q permit c.remove-in-loop-number.new.self.items unheard,
       All-tail P room c.remove-in-loop-number-2.new.self.items each,
       more_at (IsPost floor) 0 posts c.push_reserved.new.self.items _ n c.push_reserved.ensures.items v.9 count
-          (record { number = refl; seats = hand.0.0; fresh = hand.0.1; receiver = end.0; unheard = (All-head Q seat c.remove-in-loop-number.new.self.items unheard, refl); empty = own.0; room = own.1 }),
+          (record { number = refl; permits = hand.0.0; fresh = hand.0.1; receiver = end.0; unheard = (All-head Q permit c.remove-in-loop-number.new.self.items unheard, refl); empty = own.0; room = own.1 }),
     )

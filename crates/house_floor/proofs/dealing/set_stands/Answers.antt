@@ -2,13 +2,13 @@ use Rattle.std.proofs.Common.{rules, refl, ◌≡◌, ◌≤◌, ◌<◌, ◌+�
 use Rattle.std.proofs.lemmas.List.Elements.{All-head, All-tail}
 use Rattle.delivery_token.specs.declared.log.Noted.{Noted}
 use Rattle.delivery_token.specs.declared.Job.{Job}
-use Rattle.shard_queue.specs.declared.queue.ConsumerSeat.{ConsumerSeat}
+use Rattle.shard_queue.specs.declared.queue.ConsumerPermit.{ConsumerPermit}
 use Rattle.shard_queue.specs.declared.reply.SenderEnded.{SenderEnded}
-use Rattle.shard_queue.specs.Seats.{got}
+use Rattle.shard_queue.specs.Permits.{got}
 use Rattle.house_floor.specs.Crew.{AllAt, IsStand}
 use Rattle.house_floor.proofs.DealLaws.{IsConsumerAt, IsSenderHand, all_rest, consumers_at, sender_hands_at}
 use Rattle.house_floor.proofs.Positions.{first_at, more_at}
-use Rattle.lane_seats.proofs.StepLaws.{removed}
+use Rattle.lane_permits.proofs.StepLaws.{removed}
 use Rattle.house_floor.proofs.dealing.set_stands.Goals as goal
 
 pub loop-shard-init : goal.loop-shard-init
@@ -45,11 +45,11 @@ loop-shard-preserved c =
     let some_end : 0 < length consumers = (let e = v.1 in let o = c.loop-shard.consumers.ok.0 in omega (arith, under, e, o)) in
     let some_room : 0 < length rooms = (let e = v.3 in let o = c.loop-shard.rooms.ok.0 in omega (arith, under, e, o)) in
     let P : Vec (SenderEnded Noted) Global → Type 0 = λ v. (v.items ≡ []) × (length channels ≤ vec_capacity v) in
-    let Q : ConsumerSeat Job → Type 0 = λ s. got s ≡ [] in
-    let seat = c.remove.result in
-    let end = first_at (IsConsumerAt lanes) n consumers c.remove.new.self.items seat some_end c.remove.ensures.value c.remove.ensures.items v.7 in
+    let Q : ConsumerPermit Job → Type 0 = λ s. got s ≡ [] in
+    let permit = c.remove.result in
+    let end = first_at (IsConsumerAt lanes) n consumers c.remove.new.self.items permit some_end c.remove.ensures.value c.remove.ensures.items v.7 in
     let hand = first_at (IsSenderHand channels) n hands c.remove-in-loop-shard.new.self.items c.remove-in-loop-shard.result some_hand c.remove-in-loop-shard.ensures.value c.remove-in-loop-shard.ensures.items v.6 in
-    let none = subst (All Q) (removed consumers c.remove.new.self.items seat some_end c.remove.ensures.value c.remove.ensures.items) v.8 in
+    let none = subst (All Q) (removed consumers c.remove.new.self.items permit some_end c.remove.ensures.value c.remove.ensures.items) v.8 in
     let room = c.remove-in-loop-shard-3.result in
     let split = removed rooms c.remove-in-loop-shard-3.new.self.items room some_room c.remove-in-loop-shard-3.ensures.value c.remove-in-loop-shard-3.ensures.items in
     let each = subst (All P) split v.9 in
@@ -63,8 +63,8 @@ loop-shard-preserved c =
       search rules,
       hand.1,
       end.1,
-      All-tail Q seat c.remove.new.self.items none,
+      All-tail Q permit c.remove.new.self.items none,
       All-tail P room c.remove-in-loop-shard-3.new.self.items each,
       more_at (IsStand floor) 0 stands c.push_reserved.new.self.items _ n c.push_reserved.ensures.items v.10 count
-          (record { shard = refl; seat = end.0; fresh = All-head Q seat c.remove.new.self.items none; senders = hand.0.0; unsent = hand.0.1; empty = own.0; room = own.1 }),
+          (record { shard = refl; permit = end.0; fresh = All-head Q permit c.remove.new.self.items none; senders = hand.0.0; unsent = hand.0.1; empty = own.0; room = own.1 }),
     )

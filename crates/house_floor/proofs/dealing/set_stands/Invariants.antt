@@ -1,5 +1,5 @@
 use Rattle.std.proofs.Common.{◌≡◌, ◌≤◌, ◌+◌, [], All, length, vec_len, vec_capacity}
-use Rattle.shard_queue.specs.Seats.{got}
+use Rattle.shard_queue.specs.Permits.{got}
 use Rattle.house_floor.specs.Crew.{AllAt, IsStand}
 use Rattle.house_floor.proofs.DealLaws.{IsConsumerAt, IsSenderHand}
 use Rattle.house_floor.proofs.dealing.set_stands.Given as goal

@@ -20,7 +20,7 @@ returns-then-load-from g c =
         before,
         fresh,
         subst (IsConsumed lane floor.depot c.args.shard before) (sym c.packed.ensures)
-            (subst (λ (n : ℕ). IsConsumed lane floor.depot n before c.step_aside-aside.result) is.shard (c.step_aside-aside.ensures lane (is.seat lane at))),
+            (subst (λ (n : ℕ). IsConsumed lane floor.depot n before c.step_aside-aside.result) is.shard (c.step_aside-aside.ensures lane (is.permit lane at))),
       );
     }
 

@@ -2,10 +2,10 @@ use Rattle.std.proofs.Common.{rules, ◌≡◌, ◌∙◌, ℕ, [], ◌∷◌, V
 use Rattle.std.specs.Global.{Global}
 use Rattle.delivery_token.specs.WorkerLog.{WorkerLog}
 use Rattle.lane_work.specs.Copies.{rooms_of}
-use Rattle.lane_work.specs.Seats.{AreEnded}
+use Rattle.lane_work.specs.Permits.{AreEnded}
 use Rattle.lane_work.proofs.ServedLaws.{books_begin}
 use Rattle.shard_queue.specs.Reply.{received}
-use Rattle.shard_queue.specs.Seats.{said}
+use Rattle.shard_queue.specs.Permits.{said}
 use Rattle.house_threads.proofs.Attending.{session_account}
 use Rattle.house_threads.proofs.Lives.{user_named}
 use Rattle.house_threads.proofs.sessions.attend.Goals as goal
@@ -21,7 +21,7 @@ returns g c =
     let end = c.finish.ensures in
     let left = c.finish.result in
     let own : now.desk.number ≡ seat = life.same.2 in
-    let begun = books_begin directory (rooms_of office.lanes.items) seat c.new.result.notes (received c.args.post.desk.receiver) c.args.post.desk.seats.items c.new.ensures.notes c.requires.post.fresh in (
+    let begun = books_begin directory (rooms_of office.lanes.items) seat c.new.result.notes (received c.args.post.desk.receiver) c.args.post.desk.permits.items c.new.ensures.notes c.requires.post.fresh in (
       subst (λ (n : ℕ). AreEnded office.lanes.items n left.ended.items) own end.ended,
       end.receiver,
       ap (λ (b : WorkerLog). b.seat) end.kept.0 ∙ life.book ∙ c.new.ensures.seat,

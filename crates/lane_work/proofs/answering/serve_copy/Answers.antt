@@ -2,7 +2,7 @@ use Rattle.std.proofs.Common.{rules, ◌<◌, ◌∙◌, sym, subst, inr, refl, 
 use Rattle.shard_queue.specs.Reply.{IsSender}
 use Rattle.lane_work.specs.Answering.{IsVerdict}
 use Rattle.lane_work.proofs.AnswerLaws.{serves_at}
-use Rattle.lane_work.proofs.SeatLaws.{sender_here, senders_length, senders_set}
+use Rattle.lane_work.proofs.PermitLaws.{sender_here, senders_length, senders_set}
 use Rattle.lane_work.proofs.answering.serve_copy.Goals as goal
 
 pub returns-then-position-len-clause-served : goal.returns-then-position-len-clause-served
@@ -21,8 +21,8 @@ answer-requires g c =
 pub returns-clause-senders : goal.returns-clause-senders
 returns-clause-senders g c =
     let was = sender_here c.args.depot.now.channels.items c.args.shard c.args.senders.now.items c.requires.senders c.from-position.result (search rules) c.index.result.now c.index_mut.result.now c.index_mut.ensures.value in
-    senders_set c.args.depot.now.channels.items c.args.shard c.args.senders.now.items c.requires.senders c.from-position.result c.index.result.now c.answer.new.seat
-    (subst (λ q. IsSender q c.answer.new.seat) c.index.ensures c.answer.ensures.seat.0) (c.answer.ensures.seat.1 ∙ was.1)
+    senders_set c.args.depot.now.channels.items c.args.shard c.args.senders.now.items c.requires.senders c.from-position.result c.index.result.now c.answer.new.permit
+    (subst (λ q. IsSender q c.answer.new.permit) c.index.ensures c.answer.ensures.permit.0) (c.answer.ensures.permit.1 ∙ was.1)
 
 pub returns-clause-served : goal.returns-clause-served
 returns-clause-served g c =
@@ -31,6 +31,6 @@ returns-clause-served g c =
     let was = sender_here channels c.args.shard senders c.requires.senders c.from-position.result (search rules) c.index.result.now c.index_mut.result.now c.index_mut.ensures.value in
     let n = senders_length channels c.args.shard senders c.requires.senders in
     let at : c.from-position.result < length senders = omega (arith, n, c.if-position-len.false, c.len.ensures) in
-    let done = serves_at (length c.args.depot.now.mailboxes.items) (length channels) c.args.shard c.from-position.result senders c.index_mut.result.now c.answer.new.seat c.args.job.now c.judge-verdict.result
+    let done = serves_at (length c.args.depot.now.mailboxes.items) (length channels) c.args.shard c.from-position.result senders c.index_mut.result.now c.answer.new.permit c.args.job.now c.judge-verdict.result
     (search rules) at c.index_mut.ensures.value was.1 c.answer.ensures.sent (subst (λ m. IsVerdict (length m) c.args.job.now c.judge-verdict.result) c.deref.ensures.value c.judge-verdict.ensures) in
     search rules

@@ -1,8 +1,8 @@
 use Rattle.std.proofs.Common.{subst, length, map}
 use Rattle.shard_queue.specs.Reply.{said_on, sent_on}
-use Rattle.shard_queue.specs.Seats.{got}
+use Rattle.shard_queue.specs.Permits.{got}
 use Rattle.lane_work.specs.Answering.{HaveClosed}
-use Rattle.lane_work.specs.Seats.{AreSendersEnded}
+use Rattle.lane_work.specs.Permits.{AreSendersEnded}
 use Rattle.lane_work.proofs.AnswerLaws.{answers_close}
 use Rattle.lane_work.proofs.consumer.consume.Goals as goal
 
@@ -13,10 +13,10 @@ returns-clause-consumed g c =
     let ended = c.end_senders-senders.result.items in
     let left = c.serve_all-tally.new.stall in
     record {
-      seat = served.seat;
+      permit = served.permit;
       senders = subst (λ n. AreSendersEnded channels n ended) served.shard (subst (λ cs. AreSendersEnded cs left.shard ended) c.deref.ensures.value c.end_senders-senders.ensures.ended);
       kept = served.kept;
       torn = served.torn;
-      said = answers_close (length c.args.depot.now.mailboxes.items) c.args.stall.shard (got left.seat) channels left.senders.items (map sent_on c.args.stall.senders.items) (map said_on ended) served.senders
+      said = answers_close (length c.args.depot.now.mailboxes.items) c.args.stall.shard (got left.permit) channels left.senders.items (map sent_on c.args.stall.senders.items) (map said_on ended) served.senders
           (subst (λ n. HaveClosed n (map sent_on left.senders.items) (map said_on ended)) served.shard c.end_senders-senders.ensures.said) served.answered;
     }

@@ -2,8 +2,8 @@ use Rattle.std.proofs.Common.{rules, ◌+◌, ◌∙◌, sym, subst, map, take, 
 use Rattle.delivery_token.specs.declared.log.Noted.{Noted}
 use Rattle.shard_queue.specs.declared.ends.ReplyChannel.{ReplyChannel}
 use Rattle.shard_queue.specs.Reply.{IsSenderEnded, sent_on}
-use Rattle.lane_work.specs.Seats.{AreSenders, AreSendersEnded}
-use Rattle.lane_work.proofs.SeatLaws.{first_sender, sender_ended_next, senders_length, told_next}
+use Rattle.lane_work.specs.Permits.{AreSenders, AreSendersEnded}
+use Rattle.lane_work.proofs.PermitLaws.{first_sender, sender_ended_next, senders_length, told_next}
 use Rattle.lane_work.proofs.ending.end_senders.Goals as goal
 
 pub remove-sender-requires : goal.remove-sender-requires

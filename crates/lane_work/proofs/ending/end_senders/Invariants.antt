@@ -1,7 +1,7 @@
 use Rattle.std.proofs.Common.{◌≡◌, ◌≤◌, ◌++◌, ◌∷◌, [], map, take, drop, length, vec_len, vec_capacity}
 use Rattle.shard_queue.specs.declared.lane.Entry.TheVariants.{End}
 use Rattle.shard_queue.specs.Reply.{sent_on, said_on}
-use Rattle.lane_work.specs.Seats.{AreSenders, AreSendersEnded}
+use Rattle.lane_work.specs.Permits.{AreSenders, AreSendersEnded}
 use Rattle.lane_work.proofs.ending.end_senders.Given as goal
 
 abbrev pub invariant-loop-channel : goal.invariant-loop-channel

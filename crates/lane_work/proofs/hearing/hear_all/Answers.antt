@@ -4,7 +4,7 @@ use Rattle.shard_queue.specs.declared.lane.Entry.TheVariants.{Item, End}
 use Rattle.shard_queue.specs.Reply.{received}
 use Rattle.lane_work.specs.Copies.{copies_of}
 use Rattle.lane_work.specs.Ends.{ends_in}
-use Rattle.lane_work.proofs.SeatLaws.{ends_next, not_live}
+use Rattle.lane_work.proofs.PermitLaws.{ends_next, not_live}
 use Rattle.delivery_token.specs.declared.CopyKey.{CopyKey}
 use Rattle.submission.specs.Verdicts.{FillsIn}
 use Rattle.submission.proofs.Fills.{fills_same, fills_on, none_unknown}
@@ -31,47 +31,47 @@ returns-then-not-hear_awaited-clause-fills g c = fills_on c.args.verdicts.now.sl
 pub returns-then-not-hear_awaited-clause-ends : goal.returns-then-not-hear_awaited-clause-ends
 returns-then-not-hear_awaited-clause-ends g c =
     let old = received c.loop.desk.receiver in
-    let grew : received c.recv_as.new.seat ≡ old ++ c.recv_as.result ∷ [] = search rules in
+    let grew : received c.recv_as.new.permit ≡ old ++ c.recv_as.result ∷ [] = search rules in
     let e = ap ends_in grew ∙ ends_next old c.recv_as.result in
     omega (arith, e, c.loop.invariant.2)
 
 pub returns-then-not-hear_awaited-clause-grew : goal.returns-then-not-hear_awaited-clause-grew
 returns-then-not-hear_awaited-clause-grew g c =
     let old = received c.loop.desk.receiver in
-    let grew : received c.recv_as.new.seat ≡ old ++ c.recv_as.result ∷ [] = search rules in
-    start_on (received c.args.desk.now.receiver) old (received c.recv_as.new.seat) c.loop.invariant.4 (c.recv_as.result ∷ [], grew)
+    let grew : received c.recv_as.new.permit ≡ old ++ c.recv_as.result ∷ [] = search rules in
+    start_on (received c.args.desk.now.receiver) old (received c.recv_as.new.permit) c.loop.invariant.4 (c.recv_as.result ∷ [], grew)
 
 pub returns-then-not-hear_awaited-clause-heard : goal.returns-then-not-hear_awaited-clause-heard
 returns-then-not-hear_awaited-clause-heard g c =
     let old = received c.loop.desk.receiver in
-    let grew : received c.recv_as.new.seat ≡ old ++ c.recv_as.result ∷ [] = search rules in
-    heard_still old (received c.recv_as.new.seat) (copies_of (submission_of c.args.message.now)) c.args.verdicts.now.slots c.loop.verdicts.slots c.hear_awaited.new.self.slots (c.recv_as.result ∷ [], grew)
+    let grew : received c.recv_as.new.permit ≡ old ++ c.recv_as.result ∷ [] = search rules in
+    heard_still old (received c.recv_as.new.permit) (copies_of (submission_of c.args.message.now)) c.args.verdicts.now.slots c.loop.verdicts.slots c.hear_awaited.new.self.slots (c.recv_as.result ∷ [], grew)
     (search rules) c.loop.invariant.6
 
 pub returns-then-not-is_over_at-clause-ends : goal.returns-then-not-is_over_at-clause-ends
 returns-then-not-is_over_at-clause-ends g c =
     let old = received c.loop.desk.receiver in
-    let grew : received c.recv_as.new.seat ≡ old ++ End c.in-End.shard ∷ [] = search rules in
+    let grew : received c.recv_as.new.permit ≡ old ++ End c.in-End.shard ∷ [] = search rules in
     let e = ap ends_in grew ∙ ends_next old (End c.in-End.shard) in
     search rules
 
 pub returns-then-not-is_over_at-clause-grew : goal.returns-then-not-is_over_at-clause-grew
 returns-then-not-is_over_at-clause-grew g c =
     let old = received c.loop.desk.receiver in
-    let grew : received c.recv_as.new.seat ≡ old ++ c.recv_as.result ∷ [] = search rules in
-    start_on (received c.args.desk.now.receiver) old (received c.recv_as.new.seat) c.loop.invariant.4 (c.recv_as.result ∷ [], grew)
+    let grew : received c.recv_as.new.permit ≡ old ++ c.recv_as.result ∷ [] = search rules in
+    start_on (received c.args.desk.now.receiver) old (received c.recv_as.new.permit) c.loop.invariant.4 (c.recv_as.result ∷ [], grew)
 
 pub returns-then-not-is_over_at-clause-heard : goal.returns-then-not-is_over_at-clause-heard
 returns-then-not-is_over_at-clause-heard g c =
     let old = received c.loop.desk.receiver in
-    let grew : received c.recv_as.new.seat ≡ old ++ c.recv_as.result ∷ [] = search rules in
-    heard_still old (received c.recv_as.new.seat) (copies_of (submission_of c.args.message.now)) c.args.verdicts.now.slots c.loop.verdicts.slots c.loop.verdicts.slots (c.recv_as.result ∷ [], grew)
+    let grew : received c.recv_as.new.permit ≡ old ++ c.recv_as.result ∷ [] = search rules in
+    heard_still old (received c.recv_as.new.permit) (copies_of (submission_of c.args.message.now)) c.args.verdicts.now.slots c.loop.verdicts.slots c.loop.verdicts.slots (c.recv_as.result ∷ [], grew)
     refl c.loop.invariant.6
 
 pub returns-then-not-hear_awaited-clause-torn : goal.returns-then-not-hear_awaited-clause-torn
 returns-then-not-hear_awaited-clause-torn g c =
     let old = received c.loop.desk.receiver in
-    let grew : received c.recv_as.new.seat ≡ old ++ c.recv_as.result ∷ [] = search rules in
+    let grew : received c.recv_as.new.permit ≡ old ++ c.recv_as.result ∷ [] = search rules in
     let n = ap length grew ∙ length-append old (c.recv_as.result ∷ []) in
     let l = ap length c.loop.invariant.4.1 ∙ length-append (received c.args.desk.now.receiver) c.loop.invariant.4.0 in
     omega (arith, n, l)
@@ -79,7 +79,7 @@ returns-then-not-hear_awaited-clause-torn g c =
 pub returns-then-not-is_over_at-clause-torn : goal.returns-then-not-is_over_at-clause-torn
 returns-then-not-is_over_at-clause-torn g c =
     let old = received c.loop.desk.receiver in
-    let grew : received c.recv_as.new.seat ≡ old ++ c.recv_as.result ∷ [] = search rules in
+    let grew : received c.recv_as.new.permit ≡ old ++ c.recv_as.result ∷ [] = search rules in
     let n = ap length grew ∙ length-append old (c.recv_as.result ∷ []) in
     let l = ap length c.loop.invariant.4.1 ∙ length-append (received c.args.desk.now.receiver) c.loop.invariant.4.0 in
     omega (arith, n, l)
@@ -87,38 +87,38 @@ returns-then-not-is_over_at-clause-torn g c =
 pub loop-preserved-else-not-hear_awaited : goal.loop-preserved-else-not-hear_awaited
 loop-preserved-else-not-hear_awaited g c =
     let old = received c.loop.desk.receiver in
-    let grew : received c.recv_as.new.seat ≡ old ++ c.recv_as.result ∷ [] = search rules in
-    let came : received c.recv_as.new.seat ≡ old ++ Item c.in-Item.field-0 c.in-Item.noted ∷ [] = search rules in (
-      c.recv_as.ensures.seat,
+    let grew : received c.recv_as.new.permit ≡ old ++ c.recv_as.result ∷ [] = search rules in
+    let came : received c.recv_as.new.permit ≡ old ++ Item c.in-Item.field-0 c.in-Item.noted ∷ [] = search rules in (
+      c.recv_as.ensures.permit,
       c.loop.invariant.1,
       (let e = ap ends_in grew ∙ ends_next old c.recv_as.result in omega (arith, e, c.loop.invariant.2)),
       fills_on c.args.verdicts.now.slots c.loop.verdicts.slots c.hear_awaited.new.self.slots c.loop.invariant.3 c.hear_awaited.ensures.fills,
-      start_on (received c.args.desk.now.receiver) old (received c.recv_as.new.seat) c.loop.invariant.4 (c.recv_as.result ∷ [], grew),
+      start_on (received c.args.desk.now.receiver) old (received c.recv_as.new.permit) c.loop.invariant.4 (c.recv_as.result ∷ [], grew),
       (let n = ap length grew ∙ length-append old (c.recv_as.result ∷ []) in
           let e = ap ends_in came ∙ ends_next old (Item c.in-Item.field-0 c.in-Item.noted) in
           let f = c.hear_awaited.ensures.noted (search rules) in omega (arith, n, e, f.awaited, c.loop.invariant.5)),
-      heard_next old (received c.recv_as.new.seat) c.args.message.now.keys.items c.args.message.now.mailboxes.items c.args.message.now.text c.args.verdicts.now.slots c.loop.verdicts.slots c.hear_awaited.new.self.slots c.in-Item.field-0 c.in-Item.noted came
+      heard_next old (received c.recv_as.new.permit) c.args.message.now.keys.items c.args.message.now.mailboxes.items c.args.message.now.text c.args.verdicts.now.slots c.loop.verdicts.slots c.hear_awaited.new.self.slots c.in-Item.field-0 c.in-Item.noted came
           (subst (λ (keys : List CopyKey). FillsIn keys c.args.message.now.mailboxes.items c.in-Item.noted c.loop.verdicts.slots c.hear_awaited.new.self.slots) c.as_slice-keys.ensures.value
           (subst (λ (mailboxes : List ℕ). FillsIn c.as_slice-keys.result.now mailboxes c.in-Item.noted c.loop.verdicts.slots c.hear_awaited.new.self.slots) c.as_slice-mailboxes.ensures.value
           (c.hear_awaited.ensures.noted (search rules)))) c.loop.invariant.6,
       (λ live. let e = ap ends_in came ∙ ends_next old (Item c.in-Item.field-0 c.in-Item.noted) in let h = c.loop.invariant.7 live in omega (arith, e, h)),
     )
 
--- the end of a shard on which the seat is over
+-- the end of a shard on which the permit is over
 pub loop-preserved : goal.loop-preserved
 loop-preserved g c =
     let old = received c.loop.desk.receiver in
-    let grew : received c.recv_as.new.seat ≡ old ++ c.recv_as.result ∷ [] = search rules in
-    let came : received c.recv_as.new.seat ≡ old ++ End c.in-End.shard ∷ [] = search rules in
+    let grew : received c.recv_as.new.permit ≡ old ++ c.recv_as.result ∷ [] = search rules in
+    let came : received c.recv_as.new.permit ≡ old ++ End c.in-End.shard ∷ [] = search rules in
     let e = ap ends_in came ∙ ends_next old (End c.in-End.shard) in (
-      c.recv_as.ensures.seat,
+      c.recv_as.ensures.permit,
       c.loop.invariant.1,
       search rules,
       c.loop.invariant.3,
-      start_on (received c.args.desk.now.receiver) old (received c.recv_as.new.seat) c.loop.invariant.4 (c.recv_as.result ∷ [], grew),
+      start_on (received c.args.desk.now.receiver) old (received c.recv_as.new.permit) c.loop.invariant.4 (c.recv_as.result ∷ [], grew),
       (let n = ap length came ∙ length-append old (End c.in-End.shard ∷ []) in omega (arith, n, e, c.loop.invariant.5)),
-      heard_still old (received c.recv_as.new.seat) (copies_of (submission_of c.args.message.now)) c.args.verdicts.now.slots c.loop.verdicts.slots c.loop.verdicts.slots (c.recv_as.result ∷ [], grew) refl c.loop.invariant.6,
-      (λ live. absurd (not_live c.loop.desk.seats.items c.args.desk.now.seats.items c.in-End.shard (search rules) live (search rules))),
+      heard_still old (received c.recv_as.new.permit) (copies_of (submission_of c.args.message.now)) c.args.verdicts.now.slots c.loop.verdicts.slots c.loop.verdicts.slots (c.recv_as.result ∷ [], grew) refl c.loop.invariant.6,
+      (λ live. absurd (not_live c.loop.desk.permits.items c.args.desk.now.permits.items c.in-End.shard (search rules) live (search rules))),
     )
 
 -- where each is known, none is awaited

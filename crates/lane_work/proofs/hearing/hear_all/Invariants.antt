@@ -7,7 +7,7 @@ use Rattle.submission.specs.Verdicts.{Fills, unknown}
 use Rattle.lane_work.specs.inner.Copies.{WereHeard}
 use Rattle.lane_work.specs.inner.Desk.{SameButReceiver}
 use Rattle.lane_work.specs.Ends.{CountsEnds, ends_in}
-use Rattle.lane_work.specs.Seats.{AreLive}
+use Rattle.lane_work.specs.Permits.{AreLive}
 use Rattle.lane_work.proofs.hearing.hear_all.Given as goal
 
 abbrev pub invariant-loop : goal.invariant-loop
@@ -15,4 +15,4 @@ invariant-loop g l = IsReceiver l.channel l.desk.receiver × SameButReceiver l.f
     × IsStartOf (received l.fn.desk.receiver) (received l.desk.receiver)
     × (length (received l.desk.receiver) + unknown l.verdicts.slots + ends_in (received l.fn.desk.receiver) ≡ length (received l.fn.desk.receiver) + unknown l.fn.verdicts.slots + ends_in (received l.desk.receiver))
     × WereHeard (received l.desk.receiver) (copies_of (submission_of l.message)) l.fn.verdicts.slots l.verdicts.slots
-    × (AreLive l.fn.desk.seats.items → ends_in (received l.desk.receiver) ≡ ends_in (received l.fn.desk.receiver))
+    × (AreLive l.fn.desk.permits.items → ends_in (received l.desk.receiver) ≡ ends_in (received l.fn.desk.receiver))

@@ -5,44 +5,44 @@ use Rattle.shard_queue.specs.declared.lane.Entry.TheVariants.{Item, End}
 use Rattle.shard_queue.specs.Reply.{received}
 use Rattle.lane_work.specs.Copies.{IsHeard}
 use Rattle.lane_work.specs.Ends.{ends_in}
-use Rattle.lane_work.proofs.SeatLaws.{ends_next}
+use Rattle.lane_work.proofs.PermitLaws.{ends_next}
 use Rattle.lane_work.proofs.hearing.hear_one.Goals as goal
 
 pub returns-then-ne-clause-ends : goal.returns-then-ne-clause-ends
 returns-then-ne-clause-ends g c =
     let old = received c.args.desk.now.receiver in
-    let grew : received c.recv_as.new.seat ≡ old ++ Item c.in-Item.field-0 c.in-Item.noted ∷ [] = search rules in
+    let grew : received c.recv_as.new.permit ≡ old ++ Item c.in-Item.field-0 c.in-Item.noted ∷ [] = search rules in
     let e = ap ends_in grew ∙ ends_next old (Item c.in-Item.field-0 c.in-Item.noted) in
     omega (arith, e)
 
 pub returns-then-noted-mailbox-clause-ends : goal.returns-then-noted-mailbox-clause-ends
 returns-then-noted-mailbox-clause-ends g c =
     let old = received c.args.desk.now.receiver in
-    let grew : received c.recv_as.new.seat ≡ old ++ Item c.in-Item.field-0 c.in-Item.noted ∷ [] = search rules in
+    let grew : received c.recv_as.new.permit ≡ old ++ Item c.in-Item.field-0 c.in-Item.noted ∷ [] = search rules in
     let e = ap ends_in grew ∙ ends_next old (Item c.in-Item.field-0 c.in-Item.noted) in
     omega (arith, e)
 
 pub returns-else-noted-mailbox-clause-ends : goal.returns-else-noted-mailbox-clause-ends
 returns-else-noted-mailbox-clause-ends g c =
     let old = received c.args.desk.now.receiver in
-    let grew : received c.recv_as.new.seat ≡ old ++ Item c.in-Item.field-0 c.in-Item.noted ∷ [] = search rules in
+    let grew : received c.recv_as.new.permit ≡ old ++ Item c.in-Item.field-0 c.in-Item.noted ∷ [] = search rules in
     let e = ap ends_in grew ∙ ends_next old (Item c.in-Item.field-0 c.in-Item.noted) in
     omega (arith, e)
 
 pub returns-else-noted-mailbox-clause-heard : goal.returns-else-noted-mailbox-clause-heard
 returns-else-noted-mailbox-clause-heard g c =
     let old = received c.args.desk.now.receiver in
-    let grew : received c.recv_as.new.seat ≡ old ++ Item c.in-Item.field-0 c.in-Item.noted ∷ [] = search rules in
+    let grew : received c.recv_as.new.permit ≡ old ++ Item c.in-Item.field-0 c.in-Item.noted ∷ [] = search rules in
     let ke : c.in-Item.noted.key ≡ c.args.key = search rules in
     let me : c.in-Item.noted.mailbox ≡ c.args.mailbox = c.if-noted-mailbox.false in
     let is : c.in-Item.noted ≡ record { key = c.args.key; mailbox = c.args.mailbox; verdict = c.in-Item.noted.verdict } =
     ap (λ (z : CopyKey). let x : Noted = record { key = z; mailbox = c.in-Item.noted.mailbox; verdict = c.in-Item.noted.verdict } in x) ke
     ∙ ap (λ m. let x : Noted = record { key = c.args.key; mailbox = m; verdict = c.in-Item.noted.verdict } in x) me in
-    subst (IsHeard (received c.recv_as.new.seat)) is (c.in-Item.field-0, old, [], grew)
+    subst (IsHeard (received c.recv_as.new.permit)) is (c.in-Item.field-0, old, [], grew)
 
 pub returns-in-End-clause-ends : goal.returns-in-End-clause-ends
 returns-in-End-clause-ends g c =
     let old = received c.args.desk.now.receiver in
-    let grew : received c.recv_as.new.seat ≡ old ++ End c.in-End.field-0 ∷ [] = search rules in
+    let grew : received c.recv_as.new.permit ≡ old ++ End c.in-End.field-0 ∷ [] = search rules in
     let e = ap ends_in grew ∙ ends_next old (End c.in-End.field-0) in
     search rules

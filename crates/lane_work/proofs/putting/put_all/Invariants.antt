@@ -1,19 +1,19 @@
 use Rattle.std.proofs.Common.{◌≡◌, ◌≤◌, length, map, take, vec_len}
-use Rattle.lane_work.specs.Seats.{put_by}
-use Rattle.lane_work.specs.inner.Seats.{AreOpenTo}
-use Rattle.lane_work.specs.Seats.{AreSeats}
-use Rattle.lane_work.specs.inner.Desk.{SameButSeats}
+use Rattle.lane_work.specs.Permits.{put_by}
+use Rattle.lane_work.specs.inner.Permits.{AreOpenTo}
+use Rattle.lane_work.specs.Permits.{ArePermits}
+use Rattle.lane_work.specs.inner.Desk.{SameButPermits}
 use Rattle.lane_work.specs.Copies.{copies, rooms_of}
 use Rattle.lane_work.specs.inner.Copies.{HavePut, WereTried}
 use Rattle.lane_work.proofs.putting.put_all.Given as goal
 
 abbrev pub invariant-loop-i : goal.invariant-loop-i
 invariant-loop-i g l =
-    AreSeats l.office.lanes.items l.fn.desk.number l.desk.seats.items
-    × SameButSeats l.fn.desk l.desk
+    ArePermits l.office.lanes.items l.fn.desk.number l.desk.permits.items
+    × SameButPermits l.fn.desk l.desk
     × (length l.verdicts.slots ≡ l.i)
-    × (AreOpenTo l.office.directory l.message.mailboxes.items l.fn.desk.seats.items → WereTried l.office.directory (rooms_of l.office.lanes.items) l.fn.desk.number (copies (take l.i l.message.keys.items) (take l.i l.message.mailboxes.items) l.message.text) l.verdicts.slots
-    (map put_by l.fn.desk.seats.items))
+    × (AreOpenTo l.office.directory l.message.mailboxes.items l.fn.desk.permits.items → WereTried l.office.directory (rooms_of l.office.lanes.items) l.fn.desk.number (copies (take l.i l.message.keys.items) (take l.i l.message.mailboxes.items) l.message.text) l.verdicts.slots
+    (map put_by l.fn.desk.permits.items))
     × (vec_len l.message.keys ≤ l.verdicts.most)
-    × (AreOpenTo l.office.directory l.message.mailboxes.items l.fn.desk.seats.items → HavePut l.office.directory l.fn.desk.number (copies (take l.i l.message.keys.items) (take l.i l.message.mailboxes.items) l.message.text) l.verdicts.slots
-    (map put_by l.fn.desk.seats.items) (map put_by l.desk.seats.items))
+    × (AreOpenTo l.office.directory l.message.mailboxes.items l.fn.desk.permits.items → HavePut l.office.directory l.fn.desk.number (copies (take l.i l.message.keys.items) (take l.i l.message.mailboxes.items) l.message.text) l.verdicts.slots
+    (map put_by l.fn.desk.permits.items) (map put_by l.desk.permits.items))

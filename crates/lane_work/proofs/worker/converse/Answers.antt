@@ -6,7 +6,7 @@ use Rattle.lmtp_machine.specs.Dialogue as on
 use Rattle.lmtp_machine.specs.Dialogue.{Setting}
 use Rattle.lmtp_machine.specs.LmtpMachine.{StandsFor}
 use Rattle.shard_queue.specs.Reply.{received}
-use Rattle.lane_work.specs.Seats.{put_by}
+use Rattle.lane_work.specs.Permits.{put_by}
 use Rattle.lane_work.specs.Copies.{rooms_of}
 use Rattle.lane_work.specs.Speaking.{premises_of}
 use Rattle.lane_work.specs.inner.Speaking.{Spoke}
@@ -22,8 +22,8 @@ returns-in-Ok-speak-clause-spoke g c done books =
     let after = c.greet.new.self in
     let out = c.greet.new.out.items in
     let greets = subst (λ (old : List ℕ). (x : Directory) (k : Conversation) → StandsFor m k → Happens (StandsFor after) m.setting m.host x k on.Opened old out) c.new-out.ensures.items c.in-Ok-greet.ensures.ok in
-    let begun = begins c.args.directory.now d (rooms_of c.args.office.now.lanes.items) p done m after out (notes_tell c.args.log.now.notes) (received c.args.desk.now.receiver) (map put_by c.args.desk.now.seats.items) c.in-Ok-greet.ensures.same.0 c.in-Ok-greet.ensures.same.1 c.in-Ok.ensures.stands greets books in
+    let begun = begins c.args.directory.now d (rooms_of c.args.office.now.lanes.items) p done m after out (notes_tell c.args.log.now.notes) (received c.args.desk.now.receiver) (map put_by c.args.desk.now.permits.items) c.in-Ok-greet.ensures.same.0 c.in-Ok-greet.ensures.same.1 c.in-Ok.ensures.stands greets books in
     let all = c.in-Ok-speak.ensures.spoke done begun in
-    let set = subst (λ (x : Setting). Spoke c.args.directory.now d (rooms_of c.args.office.now.lanes.items) p done c.args.bytes.now x after.host c.speak.new.out.items (notes_tell c.speak.new.log.notes) (received c.speak.new.desk.receiver) (map put_by c.speak.new.desk.seats.items))
+    let set = subst (λ (x : Setting). Spoke c.args.directory.now d (rooms_of c.args.office.now.lanes.items) p done c.args.bytes.now x after.host c.speak.new.out.items (notes_tell c.speak.new.log.notes) (received c.speak.new.desk.receiver) (map put_by c.speak.new.desk.permits.items))
     (c.in-Ok-greet.ensures.same.0 ∙ c.in-Ok.ensures.setting) all in
-    subst (λ (h : List ℕ). Spoke c.args.directory.now d (rooms_of c.args.office.now.lanes.items) p done c.args.bytes.now (setting_at (premises_of c.args.office.now) p c.args.serial) h c.speak.new.out.items (notes_tell c.speak.new.log.notes) (received c.speak.new.desk.receiver) (map put_by c.speak.new.desk.seats.items)) (c.in-Ok-greet.ensures.same.1 ∙ c.in-Ok.ensures.host ∙ c.as_slice.ensures.value) set
+    subst (λ (h : List ℕ). Spoke c.args.directory.now d (rooms_of c.args.office.now.lanes.items) p done c.args.bytes.now (setting_at (premises_of c.args.office.now) p c.args.serial) h c.speak.new.out.items (notes_tell c.speak.new.log.notes) (received c.speak.new.desk.receiver) (map put_by c.speak.new.desk.permits.items)) (c.in-Ok-greet.ensures.same.1 ∙ c.in-Ok.ensures.host ∙ c.as_slice.ensures.value) set

@@ -6,13 +6,13 @@ use Rattle.delivery_token.specs.declared.Job.{Job}
 use Rattle.delivery_token.specs.declared.log.Noted.{Noted}
 use Rattle.envelope.specs.Directory.{Directory}
 use Rattle.shard_queue.specs.declared.lane.Entry.{Entry}
-use Rattle.shard_queue.specs.declared.reply.ReceiverSeat.{ReceiverSeat}
+use Rattle.shard_queue.specs.declared.reply.ReceiverPermit.{ReceiverPermit}
 use Rattle.lane_work.specs.Ends.{ends_in}
-use Rattle.lane_work.specs.Seats.{AreSeated, put_by}
+use Rattle.lane_work.specs.Permits.{AreInForce, put_by}
 use Rattle.lane_work.specs.inner.Account.{HasServed}
 use Rattle.lane_work.specs.inner.Closing.{Marks, closings_at}
 use Rattle.lane_work.proofs.ClosingLaws.{marked_at, marked_first, marked_next}
-use Rattle.lane_work.proofs.SeatLaws.{new_live, not_over}
+use Rattle.lane_work.proofs.PermitLaws.{new_live, not_over}
 use Rattle.lane_work.specs.Speaking.{premises_of}
 use Rattle.lane_work.specs.inner.Speaking.{Spoke}
 use Rattle.lane_work.specs.Talk.{Judged}
@@ -21,25 +21,25 @@ use Rattle.lane_work.proofs.worker.go_through.Goals as goal
 
 pub loop-i-init : goal.loop-i-init
 loop-i-init g c = (
-  (c.requires.seats.0, not_over c.in-Ok.directory c.args.desk.now.seats.items (new_live c.args.desk.now.seats.items c.requires.seats.1)),
+  (c.requires.permits.0, not_over c.in-Ok.directory c.args.desk.now.permits.items (new_live c.args.desk.now.permits.items c.requires.permits.1)),
   c.requires.receiver,
   refl,
   omega arith,
   refl,
-  served_begin (premises_of c.args.office.now) c.args.desk.now.number c.args.replies.now.items (notes_tell c.args.log.now.notes) (received c.args.desk.now.receiver) (map put_by c.args.desk.now.seats.items) c.requires.begun.0 c.requires.begun.1,
+  served_begin (premises_of c.args.office.now) c.args.desk.now.number c.args.replies.now.items (notes_tell c.args.log.now.notes) (received c.args.desk.now.receiver) (map put_by c.args.desk.now.permits.items) c.requires.begun.0 c.requires.begun.1,
   marked_first (closings_at c.args.office.now c.args.desk.now.number) c.args.office.now.directory c.in-Ok.directory c.in-Ok.ensures.same c.in-Ok.ensures.marks,
 )
 
-pub close_due-requires-clause-seats : goal.close_due-requires-clause-seats
-close_due-requires-clause-seats g c =
-    subst (λ n. AreSeated c.loop-i.directory c.args.office.now.lanes.items n c.loop-i.desk.seats.items) (sym c.loop-i.invariant.2) c.loop-i.invariant.0
+pub close_due-requires-clause-permits : goal.close_due-requires-clause-permits
+close_due-requires-clause-permits g c =
+    subst (λ n. AreInForce c.loop-i.directory c.args.office.now.lanes.items n c.loop-i.desk.permits.items) (sym c.loop-i.invariant.2) c.loop-i.invariant.0
 
 pub close_due-requires-clause-lanes : goal.close_due-requires-clause-lanes
 close_due-requires-clause-lanes g c = ap (λ (d : Directory). d.shards) c.loop-i.invariant.6.same ∙ c.requires.lanes
 
-pub converse-requires-clause-seats : goal.converse-requires-clause-seats
-converse-requires-clause-seats g c =
-    subst (λ n. AreSeated c.close_due.new.directory c.args.office.now.lanes.items n c.close_due.new.desk.seats.items) (sym c.close_due.ensures.kept.0) c.close_due.ensures.seats
+pub converse-requires-clause-permits : goal.converse-requires-clause-permits
+converse-requires-clause-permits g c =
+    subst (λ n. AreInForce c.close_due.new.directory c.args.office.now.lanes.items n c.close_due.new.desk.permits.items) (sym c.close_due.ensures.kept.0) c.close_due.ensures.permits
 
 pub converse-requires-clause-marks : goal.converse-requires-clause-marks
 converse-requires-clause-marks g c =
@@ -58,16 +58,16 @@ loop-i-preserved g c =
     let closed = c.close_due.new.desk in
     let kept = c.close_due.ensures.kept in
     let number : closed.number ≡ p = kept.0 ∙ v.2 in
-    let before = map put_by closed.seats.items in
-    let after = map put_by c.converse.new.desk.seats.items in
+    let before = map put_by closed.permits.items in
+    let after = map put_by c.converse.new.desk.permits.items in
     let closings = closings_at c.args.office.now p in
     let marks = subst (λ n. Marks c.loop-i.i (closings_at c.args.office.now n) c.loop-i.directory own) v.2 c.close_due.ensures.marks in
-    let served = subst (λ (r : ReceiverSeat Noted). HasServed house p (map (λ b. b.items) (take c.loop-i.i c.args.connections.now)) (map (λ b. b.items) c.loop-i.replies.items) (notes_tell c.loop-i.log.notes) (received r) before) (sym kept.1)
+    let served = subst (λ (r : ReceiverPermit Noted). HasServed house p (map (λ b. b.items) (take c.loop-i.i c.args.connections.now)) (map (λ b. b.items) c.loop-i.replies.items) (notes_tell c.loop-i.log.notes) (received r) before) (sym kept.1)
     (subst (λ (l : List (List (Entry Job))). HasServed house p (map (λ b. b.items) (take c.loop-i.i c.args.connections.now)) (map (λ b. b.items) c.loop-i.replies.items) (notes_tell c.loop-i.log.notes) (received c.loop-i.desk.receiver) l) (sym kept.3) v.5) in (
-      subst (λ n. AreSeated own lanes n c.converse.new.desk.seats.items) number c.in-Ok-converse.ensures.seats,
+      subst (λ n. AreInForce own lanes n c.converse.new.desk.permits.items) number c.in-Ok-converse.ensures.permits,
       c.in-Ok-converse.ensures.receiver,
       c.in-Ok-converse.ensures.number ∙ number,
-      (let e = c.in-Ok-converse.ensures.ends in let r = ap (λ (x : ReceiverSeat Noted). ends_in (received x)) kept.1 in omega (arith, e, r, v.3, kept.2)),
+      (let e = c.in-Ok-converse.ensures.ends in let r = ap (λ (x : ReceiverPermit Noted). ends_in (received x)) kept.1 in omega (arith, e, r, v.3, kept.2)),
       c.in-Ok-converse.ensures.seat ∙ v.4,
       served_step house p c.args.connections.now c.loop-i.i c.index-connections-i.result c.as_slice.result.now c.loop-i.replies.items c.push.new.self.items c.in-Ok-converse.reply
           (notes_tell c.loop-i.log.notes) (notes_tell c.converse.new.log.notes) (received closed.receiver) (received c.converse.new.desk.receiver) before after c.loop-i-test.true c.index-connections-i.is (search rules) c.in-Ok-push.ensures.items served

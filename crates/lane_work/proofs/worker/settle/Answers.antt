@@ -2,17 +2,17 @@ use Rattle.std.proofs.Common.{rules, ◌∙◌, ap, sym, subst, length, map, Vec
 use Rattle.std.specs.Global.{Global}
 use Rattle.std.proofs.lemmas.List.{length-map}
 use Rattle.lmtp_machine.specs.Calls.{submission_of}
-use Rattle.lane_work.specs.declared.desk.LaneSeat.{LaneSeat}
+use Rattle.lane_work.specs.declared.desk.LanePermit.{LanePermit}
 use Rattle.delivery_token.specs.declared.log.Noted.{Noted}
-use Rattle.shard_queue.specs.declared.reply.ReceiverSeat.{ReceiverSeat}
+use Rattle.shard_queue.specs.declared.reply.ReceiverPermit.{ReceiverPermit}
 use Rattle.shard_queue.specs.Reply.{received}
 use Rattle.shard_queue.specs.Shared.{IsStartOf}
-use Rattle.lane_work.specs.Seats.{put_by}
+use Rattle.lane_work.specs.Permits.{put_by}
 use Rattle.lane_work.specs.Copies.{copies_of, rooms_of}
 use Rattle.lane_work.specs.inner.Copies.{HavePut}
 use Rattle.submission.proofs.Fills.{fills_length, known_length}
 use Rattle.lane_work.proofs.CopyLaws.{books_more}
-use Rattle.lane_work.proofs.SeatLaws.{overs_length}
+use Rattle.lane_work.proofs.PermitLaws.{overs_length}
 use Rattle.lane_work.proofs.worker.settle.Goals as goal
 
 pub note_all-requires-clause-verdicts : goal.note_all-requires-clause-verdicts
@@ -49,14 +49,14 @@ returns-clause-verdicts g c =
 
 pub returns-clause-books : goal.returns-clause-books
 returns-clause-books g c open_to judged books =
-    let kept = ap (λ (v : Vec LaneSeat Global). map put_by v.items) (sym c.hear_all.ensures.same.1) in
+    let kept = ap (λ (v : Vec LanePermit Global). map put_by v.items) (sym c.hear_all.ensures.same.1) in
     let p = c.args.desk.now.number in
     let d = c.args.office.now.directory in
     let m = submission_of c.args.message.now in
-    let before = map put_by c.args.desk.now.seats.items in
-    let mid = c.put_all.new.desk.seats.items in
-    books_more d (rooms_of c.args.office.now.lanes.items) p judged (g.N.Notebook.tells c.args.book.now) (g.N.Notebook.tells c.note_all.new.self) (received c.args.desk.now.receiver) (received c.hear_all.new.desk.receiver) m c.put_all.new.verdicts.slots c.hear_all.new.verdicts.slots c.known_in-verdicts.result.items before (map put_by c.hear_all.new.desk.seats.items)
+    let before = map put_by c.args.desk.now.permits.items in
+    let mid = c.put_all.new.desk.permits.items in
+    books_more d (rooms_of c.args.office.now.lanes.items) p judged (g.N.Notebook.tells c.args.book.now) (g.N.Notebook.tells c.note_all.new.self) (received c.args.desk.now.receiver) (received c.hear_all.new.desk.receiver) m c.put_all.new.verdicts.slots c.hear_all.new.verdicts.slots c.known_in-verdicts.result.items before (map put_by c.hear_all.new.desk.permits.items)
     (search rules) (search rules) (c.put_all.ensures.tried open_to) c.hear_all.ensures.fills c.known_in-verdicts.ensures.each
     (subst (HavePut d p (copies_of m) c.put_all.new.verdicts.slots before) kept (c.put_all.ensures.put open_to))
-    (ap length (sym kept) ∙ length-map mid put_by ∙ overs_length mid c.args.desk.now.seats.items c.put_all.ensures.same.3 ∙ sym (length-map c.args.desk.now.seats.items put_by))
-    (search rules) (subst (λ (r : ReceiverSeat Noted). IsStartOf (received r) (received c.hear_all.new.desk.receiver)) c.put_all.ensures.same.1 c.hear_all.ensures.grew) c.hear_all.ensures.heard books
+    (ap length (sym kept) ∙ length-map mid put_by ∙ overs_length mid c.args.desk.now.permits.items c.put_all.ensures.same.3 ∙ sym (length-map c.args.desk.now.permits.items put_by))
+    (search rules) (subst (λ (r : ReceiverPermit Noted). IsStartOf (received r) (received c.hear_all.new.desk.receiver)) c.put_all.ensures.same.1 c.hear_all.ensures.grew) c.hear_all.ensures.heard books

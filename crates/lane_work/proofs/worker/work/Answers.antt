@@ -2,11 +2,11 @@ use Rattle.std.proofs.Common.{◌∙◌, ap, sym, subst, map, ℕ, Vec}
 use Rattle.std.specs.Global.{Global}
 use Rattle.delivery_token.specs.WorkerLog.{WorkerLog}
 use Rattle.shard_queue.specs.Reply.{received}
-use Rattle.shard_queue.specs.Seats.{said}
-use Rattle.lane_work.specs.Seats.{put_by}
+use Rattle.shard_queue.specs.Permits.{said}
+use Rattle.lane_work.specs.Permits.{put_by}
 use Rattle.lane_work.specs.Copies.{rooms_of}
 use Rattle.lane_work.specs.Account.{Account, HaveEnded}
-use Rattle.lane_work.specs.Seats.{AreEnded}
+use Rattle.lane_work.specs.Permits.{AreEnded}
 use Rattle.lane_work.specs.Speaking.{premises_of}
 use Rattle.lane_work.proofs.ServedLaws.{account_of, books_begin}
 use Rattle.lane_work.proofs.worker.work.Goals as goal
@@ -14,14 +14,14 @@ use Rattle.lane_work.proofs.worker.work.Goals as goal
 pub go_through-fate-requires-clause-begun : goal.go_through-fate-requires-clause-begun
 go_through-fate-requires-clause-begun g c = (
   c.new-replies.ensures.items,
-  books_begin c.args.office.now.directory (rooms_of c.args.office.now.lanes.items) c.args.desk.number c.new-log.result.notes (received c.args.desk.receiver) c.args.desk.seats.items c.new-log.ensures.notes c.requires.seats.1,
+  books_begin c.args.office.now.directory (rooms_of c.args.office.now.lanes.items) c.args.desk.number c.new-log.result.notes (received c.args.desk.receiver) c.args.desk.permits.items c.new-log.ensures.notes c.requires.permits.1,
 )
 
 pub returns-clause-worked : goal.returns-clause-worked
 returns-clause-worked g c =
     let number = c.go_through-fate.ensures.number in
     let f = c.finish.ensures in
-    let before = map put_by c.go_through-fate.new.desk.seats.items in
+    let before = map put_by c.go_through-fate.new.desk.permits.items in
     let after = map said c.finish.result.ended.items in (
       subst (λ n. AreEnded c.args.office.now.lanes.items n c.finish.result.ended.items) number f.ended,
       f.receiver,

@@ -1,7 +1,7 @@
 use Rattle.std.proofs.Common.{rules, inl, inr, ◌+◌, ◌++◌, ◌∙◌, ◌≡◌, ap, sym, subst, map, take, false, arith}
 use Rattle.shard_queue.specs.Reply.{received}
 use Rattle.lane_work.specs.Copies.{rooms_of}
-use Rattle.lane_work.specs.Seats.{AreSeated, put_by}
+use Rattle.lane_work.specs.Permits.{AreInForce, put_by}
 use Rattle.lane_work.specs.Speaking.{Stands, is_quit}
 use Rattle.lane_work.specs.declared.worker.Stop.TheVariants.{NoMemory, Torn}
 use Rattle.lane_work.proofs.SlotLaws.{start_on}
@@ -13,7 +13,7 @@ use Rattle.lmtp_stream.proofs.piece.take_piece.Goals as goal
 pub returns-then-load-clause-took : goal.returns-then-load-clause-took
 returns-then-load-clause-took g c done bytes told begun =
     took_none c.args.office.now.directory (rooms_of c.args.office.now.lanes.items) c.args.desk.now.number done bytes c.args.piece.now c.args.machine.now (told ++ c.args.out.now.items) (g.N.Notebook.tells c.args.book.now)
-    (received c.args.desk.now.receiver) (map put_by c.args.desk.now.seats.items) begun
+    (received c.args.desk.now.receiver) (map put_by c.args.desk.now.permits.items) begun
 
 pub returns-in-Err-clause-no_memory : goal.returns-in-Err-clause-no_memory
 returns-in-Err-clause-no_memory g c why done bytes told begun =
@@ -22,18 +22,18 @@ returns-in-Err-clause-no_memory g c why done bytes told begun =
     let p = c.args.desk.now.number in
     let so_far = bytes ++ take c.loop-used.used c.args.piece.now in
     let before = v.9 done bytes told begun in
-    let here = subst (λ n. Stands d d (rooms_of c.args.office.now.lanes.items) n done so_far false c.loop-used.machine (told ++ c.loop-used.out.items) (g.N.Notebook.tells c.loop-used.book) (received c.loop-used.desk.receiver) (map put_by c.loop-used.desk.seats.items)) (sym v.2) before in
+    let here = subst (λ n. Stands d d (rooms_of c.args.office.now.lanes.items) n done so_far false c.loop-used.machine (told ++ c.loop-used.out.items) (g.N.Notebook.tells c.loop-used.book) (received c.loop-used.desk.receiver) (map put_by c.loop-used.desk.permits.items)) (sym v.2) before in
     let starts = c.in-Err.ensures.kept done so_far told here in
     let kept : c.truncate.new.self.items ≡ c.loop-used.out.items = c.truncate.ensures.items ∙ ap (λ n. take n c.turn.new.out.items) (c.len-said.ensures ∙ c.loop-used.out.ok.0) ∙ starts in
-    wanted d (rooms_of c.args.office.now.lanes.items) p done bytes c.args.piece.now c.loop-used.machine (told ++ c.loop-used.out.items) (g.N.Notebook.tells c.loop-used.book) (received c.loop-used.desk.receiver) (map put_by c.loop-used.desk.seats.items)
-    c.loop-used.used c.args.machine.now.setting c.args.machine.now.host (told ++ c.truncate.new.self.items) (g.N.Notebook.tells c.turn.new.book) (received c.turn.new.desk.receiver) (map put_by c.turn.new.desk.seats.items)
+    wanted d (rooms_of c.args.office.now.lanes.items) p done bytes c.args.piece.now c.loop-used.machine (told ++ c.loop-used.out.items) (g.N.Notebook.tells c.loop-used.book) (received c.loop-used.desk.receiver) (map put_by c.loop-used.desk.permits.items)
+    c.loop-used.used c.args.machine.now.setting c.args.machine.now.host (told ++ c.truncate.new.self.items) (g.N.Notebook.tells c.turn.new.book) (received c.turn.new.desk.receiver) (map put_by c.turn.new.desk.permits.items)
     v.6 v.7 (ap (λ l. told ++ l) kept) (c.in-Err.ensures.noted (same_fault c.in-Err.why NoMemory why)) (c.in-Err.ensures.err (same_fault c.in-Err.why NoMemory why)).0 (c.in-Err.ensures.err (same_fault c.in-Err.why NoMemory why)).1 before
 
 pub loop-used-preserved-in-More : goal.loop-used-preserved-in-More
 loop-used-preserved-in-More g c =
     let v = c.loop-used.invariant in
     let lanes = c.args.office.now.lanes.items in (
-      subst (λ n. AreSeated c.args.office.now.directory lanes n c.turn.new.desk.seats.items) v.2 c.in-Ok.ensures.seats,
+      subst (λ n. AreInForce c.args.office.now.directory lanes n c.turn.new.desk.permits.items) v.2 c.in-Ok.ensures.permits,
       c.in-Ok.ensures.receiver,
       c.in-Ok.ensures.number ∙ v.2,
       (let e = c.in-Ok.ensures.ends in omega (arith, e, v.3)),
@@ -45,11 +45,11 @@ loop-used-preserved-in-More g c =
       λ done bytes told begun.
           let d = c.args.office.now.directory in
           let so_far = bytes ++ take c.loop-used.used c.args.piece.now in
-          let at_number = subst (λ n. Stands d d (rooms_of lanes) n done so_far false c.loop-used.machine (told ++ c.loop-used.out.items) (g.N.Notebook.tells c.loop-used.book) (received c.loop-used.desk.receiver) (map put_by c.loop-used.desk.seats.items)) (sym v.2) (v.9 done bytes told begun) in
+          let at_number = subst (λ n. Stands d d (rooms_of lanes) n done so_far false c.loop-used.machine (told ++ c.loop-used.out.items) (g.N.Notebook.tells c.loop-used.book) (received c.loop-used.desk.receiver) (map put_by c.loop-used.desk.permits.items)) (sym v.2) (v.9 done bytes told begun) in
           let after = c.in-Ok.ensures.stands done so_far told at_number in
-          let here = turned d (rooms_of lanes) c.loop-used.desk.number done bytes c.args.piece.now c.turn.new.machine (told ++ c.turn.new.out.items) (g.N.Notebook.tells c.turn.new.book) (received c.turn.new.desk.receiver) (map put_by c.turn.new.desk.seats.items) c.loop-used.used c.in-Ok.fed.used (is_quit c.in-Ok.fed.what) after in
-          let named = subst (λ n. Stands d d (rooms_of lanes) n done (bytes ++ take (c.loop-used.used + c.in-Ok.fed.used) c.args.piece.now) (is_quit c.in-Ok.fed.what) c.turn.new.machine (told ++ c.turn.new.out.items) (g.N.Notebook.tells c.turn.new.book) (received c.turn.new.desk.receiver) (map put_by c.turn.new.desk.seats.items)) v.2 here in
-          subst (λ b. Stands d d (rooms_of lanes) c.args.desk.now.number done (bytes ++ take (c.loop-used.used + c.in-Ok.fed.used) c.args.piece.now) b c.turn.new.machine (told ++ c.turn.new.out.items) (g.N.Notebook.tells c.turn.new.book) (received c.turn.new.desk.receiver) (map put_by c.turn.new.desk.seats.items))
+          let here = turned d (rooms_of lanes) c.loop-used.desk.number done bytes c.args.piece.now c.turn.new.machine (told ++ c.turn.new.out.items) (g.N.Notebook.tells c.turn.new.book) (received c.turn.new.desk.receiver) (map put_by c.turn.new.desk.permits.items) c.loop-used.used c.in-Ok.fed.used (is_quit c.in-Ok.fed.what) after in
+          let named = subst (λ n. Stands d d (rooms_of lanes) n done (bytes ++ take (c.loop-used.used + c.in-Ok.fed.used) c.args.piece.now) (is_quit c.in-Ok.fed.what) c.turn.new.machine (told ++ c.turn.new.out.items) (g.N.Notebook.tells c.turn.new.book) (received c.turn.new.desk.receiver) (map put_by c.turn.new.desk.permits.items)) v.2 here in
+          subst (λ b. Stands d d (rooms_of lanes) c.args.desk.now.number done (bytes ++ take (c.loop-used.used + c.in-Ok.fed.used) c.args.piece.now) b c.turn.new.machine (told ++ c.turn.new.out.items) (g.N.Notebook.tells c.turn.new.book) (received c.turn.new.desk.receiver) (map put_by c.turn.new.desk.permits.items))
           (ap is_quit c.in-More.is) named,
       start_on (received c.args.desk.now.receiver) (received c.loop-used.desk.receiver) (received c.turn.new.desk.receiver) v.10 c.in-Ok.ensures.grew,
     )
@@ -58,7 +58,7 @@ pub loop-used-preserved : goal.loop-used-preserved
 loop-used-preserved g c =
     let v = c.loop-used.invariant in
     let lanes = c.args.office.now.lanes.items in (
-      subst (λ n. AreSeated c.args.office.now.directory lanes n c.turn.new.desk.seats.items) v.2 c.in-Ok.ensures.seats,
+      subst (λ n. AreInForce c.args.office.now.directory lanes n c.turn.new.desk.permits.items) v.2 c.in-Ok.ensures.permits,
       c.in-Ok.ensures.receiver,
       c.in-Ok.ensures.number ∙ v.2,
       (let e = c.in-Ok.ensures.ends in omega (arith, e, v.3)),
@@ -70,11 +70,11 @@ loop-used-preserved g c =
       λ done bytes told begun.
           let d = c.args.office.now.directory in
           let so_far = bytes ++ take c.loop-used.used c.args.piece.now in
-          let at_number = subst (λ n. Stands d d (rooms_of lanes) n done so_far false c.loop-used.machine (told ++ c.loop-used.out.items) (g.N.Notebook.tells c.loop-used.book) (received c.loop-used.desk.receiver) (map put_by c.loop-used.desk.seats.items)) (sym v.2) (v.9 done bytes told begun) in
+          let at_number = subst (λ n. Stands d d (rooms_of lanes) n done so_far false c.loop-used.machine (told ++ c.loop-used.out.items) (g.N.Notebook.tells c.loop-used.book) (received c.loop-used.desk.receiver) (map put_by c.loop-used.desk.permits.items)) (sym v.2) (v.9 done bytes told begun) in
           let after = c.in-Ok.ensures.stands done so_far told at_number in
-          let here = turned d (rooms_of lanes) c.loop-used.desk.number done bytes c.args.piece.now c.turn.new.machine (told ++ c.turn.new.out.items) (g.N.Notebook.tells c.turn.new.book) (received c.turn.new.desk.receiver) (map put_by c.turn.new.desk.seats.items) c.loop-used.used c.in-Ok.fed.used (is_quit c.in-Ok.fed.what) after in
-          let named = subst (λ n. Stands d d (rooms_of lanes) n done (bytes ++ take (c.loop-used.used + c.in-Ok.fed.used) c.args.piece.now) (is_quit c.in-Ok.fed.what) c.turn.new.machine (told ++ c.turn.new.out.items) (g.N.Notebook.tells c.turn.new.book) (received c.turn.new.desk.receiver) (map put_by c.turn.new.desk.seats.items)) v.2 here in
-          subst (λ b. Stands d d (rooms_of lanes) c.args.desk.now.number done (bytes ++ take (c.loop-used.used + c.in-Ok.fed.used) c.args.piece.now) b c.turn.new.machine (told ++ c.turn.new.out.items) (g.N.Notebook.tells c.turn.new.book) (received c.turn.new.desk.receiver) (map put_by c.turn.new.desk.seats.items))
+          let here = turned d (rooms_of lanes) c.loop-used.desk.number done bytes c.args.piece.now c.turn.new.machine (told ++ c.turn.new.out.items) (g.N.Notebook.tells c.turn.new.book) (received c.turn.new.desk.receiver) (map put_by c.turn.new.desk.permits.items) c.loop-used.used c.in-Ok.fed.used (is_quit c.in-Ok.fed.what) after in
+          let named = subst (λ n. Stands d d (rooms_of lanes) n done (bytes ++ take (c.loop-used.used + c.in-Ok.fed.used) c.args.piece.now) (is_quit c.in-Ok.fed.what) c.turn.new.machine (told ++ c.turn.new.out.items) (g.N.Notebook.tells c.turn.new.book) (received c.turn.new.desk.receiver) (map put_by c.turn.new.desk.permits.items)) v.2 here in
+          subst (λ b. Stands d d (rooms_of lanes) c.args.desk.now.number done (bytes ++ take (c.loop-used.used + c.in-Ok.fed.used) c.args.piece.now) b c.turn.new.machine (told ++ c.turn.new.out.items) (g.N.Notebook.tells c.turn.new.book) (received c.turn.new.desk.receiver) (map put_by c.turn.new.desk.permits.items))
           (ap is_quit c.in-Submit.is) named,
       start_on (received c.args.desk.now.receiver) (received c.loop-used.desk.receiver) (received c.turn.new.desk.receiver) v.10 c.in-Ok.ensures.grew,
     )
@@ -85,11 +85,11 @@ returns-in-Quit-clause-took g c done bytes told begun =
     let lanes = c.args.office.now.lanes.items in
     let d = c.args.office.now.directory in
     let so_far = bytes ++ take c.loop-used.used c.args.piece.now in
-    let at_number = subst (λ n. Stands d d (rooms_of lanes) n done so_far false c.loop-used.machine (told ++ c.loop-used.out.items) (g.N.Notebook.tells c.loop-used.book) (received c.loop-used.desk.receiver) (map put_by c.loop-used.desk.seats.items)) (sym v.2) (v.9 done bytes told begun) in
+    let at_number = subst (λ n. Stands d d (rooms_of lanes) n done so_far false c.loop-used.machine (told ++ c.loop-used.out.items) (g.N.Notebook.tells c.loop-used.book) (received c.loop-used.desk.receiver) (map put_by c.loop-used.desk.permits.items)) (sym v.2) (v.9 done bytes told begun) in
     let after = c.in-Ok.ensures.stands done so_far told at_number in
-    let here = turned d (rooms_of lanes) c.loop-used.desk.number done bytes c.args.piece.now c.turn.new.machine (told ++ c.turn.new.out.items) (g.N.Notebook.tells c.turn.new.book) (received c.turn.new.desk.receiver) (map put_by c.turn.new.desk.seats.items) c.loop-used.used c.in-Ok.fed.used (is_quit c.in-Ok.fed.what) after in
-    let named = subst (λ n. Stands d d (rooms_of lanes) n done (bytes ++ take (c.loop-used.used + c.in-Ok.fed.used) c.args.piece.now) (is_quit c.in-Ok.fed.what) c.turn.new.machine (told ++ c.turn.new.out.items) (g.N.Notebook.tells c.turn.new.book) (received c.turn.new.desk.receiver) (map put_by c.turn.new.desk.seats.items)) v.2 here in
-    took d (rooms_of lanes) c.args.desk.now.number done bytes c.args.piece.now c.turn.new.machine (told ++ c.turn.new.out.items) (g.N.Notebook.tells c.turn.new.book) (received c.turn.new.desk.receiver) (map put_by c.turn.new.desk.seats.items)
+    let here = turned d (rooms_of lanes) c.loop-used.desk.number done bytes c.args.piece.now c.turn.new.machine (told ++ c.turn.new.out.items) (g.N.Notebook.tells c.turn.new.book) (received c.turn.new.desk.receiver) (map put_by c.turn.new.desk.permits.items) c.loop-used.used c.in-Ok.fed.used (is_quit c.in-Ok.fed.what) after in
+    let named = subst (λ n. Stands d d (rooms_of lanes) n done (bytes ++ take (c.loop-used.used + c.in-Ok.fed.used) c.args.piece.now) (is_quit c.in-Ok.fed.what) c.turn.new.machine (told ++ c.turn.new.out.items) (g.N.Notebook.tells c.turn.new.book) (received c.turn.new.desk.receiver) (map put_by c.turn.new.desk.permits.items)) v.2 here in
+    took d (rooms_of lanes) c.args.desk.now.number done bytes c.args.piece.now c.turn.new.machine (told ++ c.turn.new.out.items) (g.N.Notebook.tells c.turn.new.book) (received c.turn.new.desk.receiver) (map put_by c.turn.new.desk.permits.items)
     (c.loop-used.used + c.in-Ok.fed.used) (is_quit c.in-Ok.fed.what) nexts.Read (λ e. inr (ap is_quit c.in-Quit.is)) named
 
 pub returns-then-load-2-clause-took : goal.returns-then-load-2-clause-took
@@ -98,17 +98,17 @@ returns-then-load-2-clause-took g c done bytes told begun =
     let lanes = c.args.office.now.lanes.items in
     let d = c.args.office.now.directory in
     let so_far = bytes ++ take c.loop-used.used c.args.piece.now in
-    let at_number = subst (λ n. Stands d d (rooms_of lanes) n done so_far false c.loop-used.machine (told ++ c.loop-used.out.items) (g.N.Notebook.tells c.loop-used.book) (received c.loop-used.desk.receiver) (map put_by c.loop-used.desk.seats.items)) (sym v.2) (v.9 done bytes told begun) in
+    let at_number = subst (λ n. Stands d d (rooms_of lanes) n done so_far false c.loop-used.machine (told ++ c.loop-used.out.items) (g.N.Notebook.tells c.loop-used.book) (received c.loop-used.desk.receiver) (map put_by c.loop-used.desk.permits.items)) (sym v.2) (v.9 done bytes told begun) in
     let after = c.in-Ok.ensures.stands done so_far told at_number in
-    let here = turned d (rooms_of lanes) c.loop-used.desk.number done bytes c.args.piece.now c.turn.new.machine (told ++ c.turn.new.out.items) (g.N.Notebook.tells c.turn.new.book) (received c.turn.new.desk.receiver) (map put_by c.turn.new.desk.seats.items) c.loop-used.used c.in-Ok.fed.used (is_quit c.in-Ok.fed.what) after in
-    let named = subst (λ n. Stands d d (rooms_of lanes) n done (bytes ++ take (c.loop-used.used + c.in-Ok.fed.used) c.args.piece.now) (is_quit c.in-Ok.fed.what) c.turn.new.machine (told ++ c.turn.new.out.items) (g.N.Notebook.tells c.turn.new.book) (received c.turn.new.desk.receiver) (map put_by c.turn.new.desk.seats.items)) v.2 here in
-    took d (rooms_of lanes) c.args.desk.now.number done bytes c.args.piece.now c.turn.new.machine (told ++ c.turn.new.out.items) (g.N.Notebook.tells c.turn.new.book) (received c.turn.new.desk.receiver) (map put_by c.turn.new.desk.seats.items)
+    let here = turned d (rooms_of lanes) c.loop-used.desk.number done bytes c.args.piece.now c.turn.new.machine (told ++ c.turn.new.out.items) (g.N.Notebook.tells c.turn.new.book) (received c.turn.new.desk.receiver) (map put_by c.turn.new.desk.permits.items) c.loop-used.used c.in-Ok.fed.used (is_quit c.in-Ok.fed.what) after in
+    let named = subst (λ n. Stands d d (rooms_of lanes) n done (bytes ++ take (c.loop-used.used + c.in-Ok.fed.used) c.args.piece.now) (is_quit c.in-Ok.fed.what) c.turn.new.machine (told ++ c.turn.new.out.items) (g.N.Notebook.tells c.turn.new.book) (received c.turn.new.desk.receiver) (map put_by c.turn.new.desk.permits.items)) v.2 here in
+    took d (rooms_of lanes) c.args.desk.now.number done bytes c.args.piece.now c.turn.new.machine (told ++ c.turn.new.out.items) (g.N.Notebook.tells c.turn.new.book) (received c.turn.new.desk.receiver) (map put_by c.turn.new.desk.permits.items)
     (c.loop-used.used + c.in-Ok.fed.used) (is_quit c.in-Ok.fed.what) nexts.Shut (λ e. absurd (let x : nexts.Shut ≡ nexts.Read = e in cc)) named
 
 pub returns-clause-took : goal.returns-clause-took
 returns-clause-took g c done bytes told begun =
     let v = c.loop-used.invariant in
-    took c.args.office.now.directory (rooms_of c.args.office.now.lanes.items) c.args.desk.now.number done bytes c.args.piece.now c.loop-used.machine (told ++ c.loop-used.out.items) (g.N.Notebook.tells c.loop-used.book) (received c.loop-used.desk.receiver) (map put_by c.loop-used.desk.seats.items)
+    took c.args.office.now.directory (rooms_of c.args.office.now.lanes.items) c.args.desk.now.number done bytes c.args.piece.now c.loop-used.machine (told ++ c.loop-used.out.items) (g.N.Notebook.tells c.loop-used.book) (received c.loop-used.desk.receiver) (map put_by c.loop-used.desk.permits.items)
     c.loop-used.used false nexts.Read (λ e. inl (none_left c.args.piece.now c.loop-used.used (search rules))) (v.9 done bytes told begun)
 
 pub returns-in-Err-clause-grew : goal.returns-in-Err-clause-grew

@@ -4,14 +4,14 @@ use Rattle.shard_queue.specs.Shared.{IsStartOf}
 use Rattle.lane_work.specs.Copies.{rooms_of}
 use Rattle.lane_work.specs.Talk.{Judged}
 use Rattle.lane_work.specs.Ends.{CountsEnds}
-use Rattle.lane_work.specs.Seats.{AreSeated, put_by}
+use Rattle.lane_work.specs.Permits.{AreInForce, put_by}
 use Rattle.lane_work.specs.Speaking.{Stands, premises_of}
 use Rattle.lmtp_stream.proofs.Going.{Goes}
 use Rattle.lmtp_stream.proofs.talk.go_on.Given as goal
 
 abbrev pub invariant-loop : goal.invariant-loop
 invariant-loop g l =
-    AreSeated l.office.directory l.office.lanes.items l.fn.desk.number l.desk.seats.items
+    AreInForce l.office.directory l.office.lanes.items l.fn.desk.number l.desk.permits.items
     × IsReceiver l.channel l.desk.receiver
     × (l.desk.number ≡ l.fn.desk.number)
     × CountsEnds l.fn.desk l.desk
@@ -21,6 +21,6 @@ invariant-loop g l =
     × (g.O.Sink.failed l.output ≡ false)
     × (length l.buffer ≡ length l.fn.buffer)
     × ((done : List Judged)
-    → Stands l.office.directory l.office.directory (rooms_of l.office.lanes.items) l.fn.desk.number done [] false l.fn.machine l.fn.out.items (g.N.Notebook.tells l.fn.book) (received l.fn.desk.receiver) (map put_by l.fn.desk.seats.items)
-    → Goes (premises_of l.office) l.fn.desk.number done (g.I.Read.remaining l.fn.input) (g.I.Read.remaining l.input) (g.O.Sink.taken l.fn.output) (g.O.Sink.taken l.output) l.machine l.out.items (g.N.Notebook.tells l.book) (received l.desk.receiver) (map put_by l.desk.seats.items))
+    → Stands l.office.directory l.office.directory (rooms_of l.office.lanes.items) l.fn.desk.number done [] false l.fn.machine l.fn.out.items (g.N.Notebook.tells l.fn.book) (received l.fn.desk.receiver) (map put_by l.fn.desk.permits.items)
+    → Goes (premises_of l.office) l.fn.desk.number done (g.I.Read.remaining l.fn.input) (g.I.Read.remaining l.input) (g.O.Sink.taken l.fn.output) (g.O.Sink.taken l.output) l.machine l.out.items (g.N.Notebook.tells l.book) (received l.desk.receiver) (map put_by l.desk.permits.items))
     × IsStartOf (received l.fn.desk.receiver) (received l.desk.receiver)

@@ -4,17 +4,17 @@ use Rattle.house_floor.specs.declared.floor.Post.{Post}
 use Rattle.house_floor.specs.declared.floor.Stand.{Stand}
 use Rattle.lane_work.specs.declared.consumer.Consumed.{Consumed}
 use Rattle.lane_work.specs.declared.worker.Worked.{Worked}
-use Rattle.reckoning.proofs.Spent.{fits, fits_behind, no_more, seats_of_posts, senders_of_stands}
+use Rattle.reckoning.proofs.Spent.{fits, fits_behind, no_more, permits_of_posts, senders_of_stands}
 use Rattle.reckoning.proofs.abandoning.abandon.Goals as goal
 
-pub clear_posts-requires-clause-seats : goal.clear_posts-requires-clause-seats
-clear_posts-requires-clause-seats c =
+pub clear_posts-requires-clause-permits : goal.clear_posts-requires-clause-permits
+clear_posts-requires-clause-permits c =
     let lanes = length c.args.floor.office.lanes.items in
     let channels = length c.args.floor.depot.channels.items in
     let spares = c.ends_of-consumers.result.spares in
     let room : AreSpares (channels * lanes) spares = subst (AreSpares (channels * lanes)) (sym c.ends_of-consumers.ensures.spares) c.requires.baskets.spares in
     let few : length c.args.ran.posts.items ≤ channels = omega (arith, c.requires.left.each_producer, c.args.ran.posts.ok.0) in
-    fits (λ (p : Post). vec_len p.desk.seats) lanes channels c.args.ran.posts.items spares.seats room.empty.0 room.seats (seats_of_posts lanes c.args.ran.posts.items c.requires.left.posts) few
+    fits (λ (p : Post). vec_len p.desk.permits) lanes channels c.args.ran.posts.items spares.permits room.empty.0 room.permits (permits_of_posts lanes c.args.ran.posts.items c.requires.left.posts) few
 
 pub clear_posts-requires-clause-ended : goal.clear_posts-requires-clause-ended
 clear_posts-requires-clause-ended c =
@@ -23,7 +23,7 @@ clear_posts-requires-clause-ended c =
     let spares = c.ends_of-consumers.result.spares in
     let room : AreSpares (channels * lanes) spares = subst (AreSpares (channels * lanes)) (sym c.ends_of-consumers.ensures.spares) c.requires.baskets.spares in
     let few : length c.args.ran.posts.items ≤ channels = omega (arith, c.requires.left.each_producer, c.args.ran.posts.ok.0) in
-    fits (λ (p : Post). vec_len p.desk.seats + vec_len p.room) lanes channels c.args.ran.posts.items spares.ended room.empty.1 room.ended c.requires.left.posts few
+    fits (λ (p : Post). vec_len p.desk.permits + vec_len p.room) lanes channels c.args.ran.posts.items spares.ended room.empty.1 room.ended c.requires.left.posts few
 
 pub clear_workers-requires-clause-ended : goal.clear_workers-requires-clause-ended
 clear_workers-requires-clause-ended c =
@@ -34,7 +34,7 @@ clear_workers-requires-clause-ended c =
     let worked = c.args.ran.worked in
     let room : AreSpares (channels * lanes) spares = subst (AreSpares (channels * lanes)) (sym c.ends_of-consumers.ensures.spares) c.requires.baskets.spares in
     let all : length posts.items + length worked.items ≡ channels = omega (arith, c.requires.left.each_producer, posts.ok.0, worked.ok.0) in
-    fits_behind (λ (p : Post). vec_len p.desk.seats + vec_len p.room) (λ (w : Worked). vec_len w.ended) lanes channels posts.items worked.items spares.ended c.clear_posts.new.ended room.empty.1 room.ended
+    fits_behind (λ (p : Post). vec_len p.desk.permits + vec_len p.room) (λ (w : Worked). vec_len w.ended) lanes channels posts.items worked.items spares.ended c.clear_posts.new.ended room.empty.1 room.ended
     c.clear_posts.ensures.ended c.requires.left.posts (no_more (λ (w : Worked). vec_len w.ended) lanes worked.items c.requires.worked) all
 
 pub clear_stands-requires-clause-senders : goal.clear_stands-requires-clause-senders

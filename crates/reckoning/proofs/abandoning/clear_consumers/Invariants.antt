@@ -3,7 +3,7 @@ use Rattle.reckoning.proofs.abandoning.clear_consumers.Given as goal
 
 abbrev pub invariant-loop-one : goal.invariant-loop-one
 invariant-loop-one l =
-    (vec_len l.seats + vec_len l.consumed ≡ vec_len l.fn.seats + vec_len l.fn.consumed) × (vec_capacity l.seats ≡ vec_capacity l.fn.seats)
+    (vec_len l.permits + vec_len l.consumed ≡ vec_len l.fn.permits + vec_len l.fn.consumed) × (vec_capacity l.permits ≡ vec_capacity l.fn.permits)
     × (vec_len l.ended + sum_by (λ x. vec_len x.senders) l.consumed.items ≡ vec_len l.fn.ended + sum_by (λ x. vec_len x.senders) l.fn.consumed.items)
     × (vec_capacity l.ended ≡ vec_capacity l.fn.ended)
 

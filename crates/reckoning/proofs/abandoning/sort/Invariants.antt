@@ -3,7 +3,7 @@ use Rattle.reckoning.proofs.abandoning.sort.Given as goal
 
 abbrev pub invariant-loop-one : goal.invariant-loop-one
 invariant-loop-one l =
-    (vec_len l.seats + vec_len l.from ≤ vec_len l.fn.seats + vec_len l.fn.from) × (vec_capacity l.seats ≡ vec_capacity l.fn.seats)
+    (vec_len l.permits + vec_len l.from ≤ vec_len l.fn.permits + vec_len l.fn.from) × (vec_capacity l.permits ≡ vec_capacity l.fn.permits)
     × (vec_len l.ended + vec_len l.from ≤ vec_len l.fn.ended + vec_len l.fn.from) × (vec_capacity l.ended ≡ vec_capacity l.fn.ended)
 
 abbrev pub decreases-loop-one : goal.decreases-loop-one

@@ -14,7 +14,7 @@ returns-clause-parts c =
     let v = c.loop.invariant in
     let none : length c.loop.consumed.items ≡ 0 = omega (arith, v.10, c.loop-test.false, c.len-end.ensures, c.loop.auto.counter-end, c.loop.consumed.ok.0) in
     record {
-      seats = all_laid (λ w. w.seat) c.loop.into.seats.items _ c.loop.consumed.items none v.0;
+      permits = all_laid (λ w. w.permit) c.loop.into.permits.items _ c.loop.consumed.items none v.0;
       hands = all_laid (λ w. w.senders.items) (map (λ h. h.items) c.loop.into.hands.items) _ c.loop.consumed.items none v.1;
       copies = all_laid (λ w. w.copies) c.loop.into.copies.items _ c.loop.consumed.items none v.2;
     }

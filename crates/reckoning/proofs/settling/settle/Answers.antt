@@ -33,8 +33,8 @@ returns-clause-settled c =
       replies = c.gather_all-workers.ensures.of_workers.replies;
       logs = c.gather_all-workers.ensures.of_workers.logs;
       copies = c.gather_all-workers.ensures.of_consumers.copies;
-      lanes_closed = subst (λ hs. AreClosedWith c.args.lanes.items hs (map (λ (d : Consumed). d.seat) c.args.consumed.items) c.in-Some-lanes.lanes.items) hands
-          (subst (λ ss. AreClosedWith c.args.lanes.items (map (λ h. h.items) c.gather_all-workers.result.workers.hands.items) ss c.in-Some-lanes.lanes.items) c.gather_all-workers.ensures.of_consumers.seats
+      lanes_closed = subst (λ hs. AreClosedWith c.args.lanes.items hs (map (λ (d : Consumed). d.permit) c.args.consumed.items) c.in-Some-lanes.lanes.items) hands
+          (subst (λ ss. AreClosedWith c.args.lanes.items (map (λ h. h.items) c.gather_all-workers.result.workers.hands.items) ss c.in-Some-lanes.lanes.items) c.gather_all-workers.ensures.of_consumers.permits
           c.in-Some-lanes.ensures);
       channels_closed = subst (λ hs. AreChannelsClosedWith c.args.channels.items hs (map (λ (w : Worked). w.receiver) c.args.worked.items) c.in-Some-channels.channels.items) sender_hands
           (subst (λ rs. AreChannelsClosedWith c.args.channels.items (map (λ h. h.items) c.gather_all-workers.result.consumers.hands.items) rs c.in-Some-channels.channels.items)

@@ -2,8 +2,8 @@ use Rattle.std.proofs.Common.{◌==◌, ◌∙◌, map, length, refl, sym, ap, s
 use Rattle.std.proofs.lemmas.List.{length-map}
 use Rattle.lane_work.specs.declared.consumer.Consumed.{Consumed}
 use Rattle.lane_work.specs.declared.worker.Worked.{Worked}
-use Rattle.lane_seats.specs.rows.Rows as rows
-use Rattle.lane_seats.specs.rows.SenderRows.{AreReceivers, AreSenderEndedHands}
+use Rattle.lane_permits.specs.rows.Rows as rows
+use Rattle.lane_permits.specs.rows.SenderRows.{AreReceivers, AreSenderEndedHands}
 use Rattle.reckoning.proofs.Parts.{consumers_of, ended_of, receivers_of, sender_hands_of}
 use Rattle.agreement.specs.Lists.{ListsAgree}
 use Rattle.reckoning.specs.Settling.{IsSettled}
@@ -34,7 +34,7 @@ settle-requires-clause-consumers c =
     let cs = c.args.ran.consumed in
     let count = c.requires.all.consumed in
     let ok = cs.ok.0 in
-    subst (λ v. rows.AreConsumers v.items (map (λ (d : Consumed). d.seat) cs.items)) (sym c.remains_of-directory.ensures.lanes)
+    subst (λ v. rows.AreConsumers v.items (map (λ (d : Consumed). d.permit) cs.items)) (sym c.remains_of-directory.ensures.lanes)
     (consumers_of c.args.floor 0 cs.items c.requires.consumed (omega (arith, count, ok)))
 
 pub settle-requires-clause-senders : goal.settle-requires-clause-senders

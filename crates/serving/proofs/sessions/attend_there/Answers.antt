@@ -2,8 +2,8 @@ use Rattle.std.proofs.Common.{rules, ◌≡◌, ◌∙◌, ℕ, sym, subst}
 use Rattle.delivery_token.specs.declared.log.Noted.{Noted}
 use Rattle.shard_queue.specs.declared.ends.ReplyChannel.{ReplyChannel}
 use Rattle.shard_queue.specs.Reply.{IsReceiver}
-use Rattle.lane_work.specs.Seats.{AreSeats}
-use Rattle.lane_work.proofs.SeatLaws.{new_live}
+use Rattle.lane_work.specs.Permits.{ArePermits}
+use Rattle.lane_work.proofs.PermitLaws.{new_live}
 use Rattle.house_floor.specs.Crew.{IsPost}
 use Rattle.serving_workers.specs.declared.accepting.Served.{Served}
 use Rattle.serving_workers.proofs.Lives.{here_at, served_by}
@@ -16,11 +16,11 @@ answer_clients-requires g c =
     let is : IsPost floor c.args.number post = subst (IsPost floor c.args.number) (sym c.into_inner-desk.ensures) c.requires.post in
     let same : c.from.result ≡ c.args.number = search rules in record {
       ready = (
-        subst (λ (n : ℕ). AreSeats floor.office.lanes.items n post.desk.seats.items) (sym is.number) is.seats,
+        subst (λ (n : ℕ). ArePermits floor.office.lanes.items n post.desk.permits.items) (sym is.number) is.permits,
         subst (λ (x : ReplyChannel Noted). IsReceiver x post.desk.receiver) (sym c.index.ensures)
             (is.receiver _ (here_at floor.depot.channels.items c.from.result c.args.number c.index.result.now same c.requires.number)),
         c.requires.house.shards,
-        new_live post.desk.seats.items is.fresh,
+        new_live post.desk.permits.items is.fresh,
       );
     }
 

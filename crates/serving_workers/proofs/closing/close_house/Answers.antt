@@ -1,7 +1,7 @@
 use Rattle.std.proofs.Common.{◌≡◌, ◌+◌, map, sym, subst, arith}
 use Rattle.lane_work.specs.declared.worker.Worked.{Worked}
-use Rattle.lane_seats.specs.rows.Rows.{AreEndedHands}
-use Rattle.lane_seats.specs.rows.SenderRows.{AreReceivers}
+use Rattle.lane_permits.specs.rows.Rows.{AreEndedHands}
+use Rattle.lane_permits.specs.rows.SenderRows.{AreReceivers}
 use Rattle.serving_workers.proofs.Heard.{ended_of, lengths_of, receivers_of}
 use Rattle.serving_workers.proofs.closing.close_house.Goals as goal
 

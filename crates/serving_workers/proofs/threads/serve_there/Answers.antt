@@ -2,19 +2,19 @@ use Rattle.std.proofs.Common.{rules, ◌≡◌, ℕ, sym, subst}
 use Rattle.delivery_token.specs.declared.log.Noted.{Noted}
 use Rattle.shard_queue.specs.declared.ends.ReplyChannel.{ReplyChannel}
 use Rattle.shard_queue.specs.Reply.{IsReceiver}
-use Rattle.lane_work.specs.Seats.{AreSeats}
-use Rattle.lane_work.proofs.SeatLaws.{new_live, not_over}
+use Rattle.lane_work.specs.Permits.{ArePermits}
+use Rattle.lane_work.proofs.PermitLaws.{new_live, not_over}
 use Rattle.house_floor.specs.Crew.{IsPost}
 use Rattle.serving_workers.proofs.Lives.{here_at, served_by}
 use Rattle.serving_workers.proofs.threads.serve_there.Goals as goal
 
-pub serve_until_stopped-requires-clause-seats : goal.serve_until_stopped-requires-clause-seats
-serve_until_stopped-requires-clause-seats g c =
+pub serve_until_stopped-requires-clause-permits : goal.serve_until_stopped-requires-clause-permits
+serve_until_stopped-requires-clause-permits g c =
     let floor = c.args.floor.now in
     let post = c.into_inner-desk.result in
     let is : IsPost floor c.args.number post = subst (IsPost floor c.args.number) (sym c.into_inner-desk.ensures) c.requires.post in
-    let seats = post.desk.seats.items in
-    (subst (λ (n : ℕ). AreSeats floor.office.lanes.items n seats) (sym is.number) is.seats, not_over floor.office.directory seats (new_live seats is.fresh))
+    let permits = post.desk.permits.items in
+    (subst (λ (n : ℕ). ArePermits floor.office.lanes.items n permits) (sym is.number) is.permits, not_over floor.office.directory permits (new_live permits is.fresh))
 
 pub serve_until_stopped-requires-clause-receiver : goal.serve_until_stopped-requires-clause-receiver
 serve_until_stopped-requires-clause-receiver g c =

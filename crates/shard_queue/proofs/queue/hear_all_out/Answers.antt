@@ -4,7 +4,7 @@ use Rattle.crossbeam_queue.specs.Passes.{view, IsPassOf}
 use Rattle.shard_queue.specs.declared.queue.Ended.{Ended}
 use Rattle.shard_queue.specs.Lane.{of, has_end}
 use Rattle.shard_queue.specs.Shared.{list_of, sender}
-use Rattle.shard_queue.specs.Seats.{end_seen, said}
+use Rattle.shard_queue.specs.Permits.{end_seen, said}
 use Rattle.shard_queue.proofs.ClosingLaws.{all_left}
 use Rattle.shard_queue.proofs.queue.hear_all_out.Goals as goal
 

@@ -4,7 +4,7 @@ use Rattle.shard_queue.specs.declared.queue.Ended.{Ended}
 use Rattle.shard_queue.specs.Lane.{of, has_end}
 use Rattle.shard_queue.specs.Shared.{list_of, sender}
 use Rattle.shard_queue.specs.Closing.{HasAllEnds}
-use Rattle.shard_queue.specs.Seats.{end_seen, said}
+use Rattle.shard_queue.specs.Permits.{end_seen, said}
 use Rattle.shard_queue.proofs.queue.hear_all_out.Given as goal
 
 abbrev pub invariant-loop-e : goal.invariant-loop-e

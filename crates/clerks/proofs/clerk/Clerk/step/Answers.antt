@@ -1,7 +1,7 @@
 use Rattle.std.proofs.Common.{◌≡◌, ◌++◌, ◌∷◌, [], ◌∙◌, ap, sym, subst, length, slice_get, Some}
 use Rattle.std.specs.List.{list_any}
 use Rattle.shard_queue.specs.declared.lane.Entry.TheVariants.{Item, End}
-use Rattle.shard_queue.specs.Seats.{WasEmpty, capacity_of, got, producers_of, take_seen}
+use Rattle.shard_queue.specs.Permits.{WasEmpty, capacity_of, got, producers_of, take_seen}
 use Rattle.lane_work.specs.Answering.{is_nobodys}
 use Rattle.lane_work.specs.Ends.{ends_in}
 use Rattle.lane_work.proofs.AnswerLaws.{torn_end}
@@ -24,9 +24,9 @@ invariant_of-self g c =
     let turned = c.in-Copy.ensures.turned in
     let here = lane_at c.args.lanes.now c.from.result old.shard c.index-lanes-from.result c.from.ensures (c.self.invariant.on_lane c.args.lanes.now c.requires.lanes).there c.index-lanes-from.is in
     keeps_next g.H.Hall.lanes g.H.Hall.depot c.args.lanes.now d old new c.index-lanes-from.result c.self.inside.ends _ c.self.inside.torn _ c.requires.lanes c.requires.depot here c.self.invariant
-    took.shard took.seat took.senders took.answered
-    (torn_copy m n turned.0 turned.1 (got old.seat) (got new.seat) c.self.inside.torn c.in-Copy.ours turned.2 turned.3 (c.self.invariant.answering d c.requires.depot).torn)
-    (ends_copy turned.0 turned.1 (got old.seat) (got new.seat) c.self.inside.ends turned.2 c.self.invariant.ends_are)
+    took.shard took.permit took.senders took.answered
+    (torn_copy m n turned.0 turned.1 (got old.permit) (got new.permit) c.self.inside.torn c.in-Copy.ours turned.2 turned.3 (c.self.invariant.answering d c.requires.depot).torn)
+    (ends_copy turned.0 turned.1 (got old.permit) (got new.permit) c.self.inside.ends turned.2 c.self.invariant.ends_are)
 
 pub invariant_of-self-in-End : goal.invariant_of-self-in-End
 invariant_of-self-in-End g c =
@@ -39,9 +39,9 @@ invariant_of-self-in-End g c =
     let turned = c.in-End.ensures.turned in
     let here = lane_at c.args.lanes.now c.from.result old.shard c.index-lanes-from.result c.from.ensures (c.self.invariant.on_lane c.args.lanes.now c.requires.lanes).there c.index-lanes-from.is in
     keeps_next g.H.Hall.lanes g.H.Hall.depot c.args.lanes.now d old new c.index-lanes-from.result c.self.inside.ends _ c.self.inside.torn _ c.requires.lanes c.requires.depot here c.self.invariant
-    took.shard took.seat took.senders took.answered
-    ((c.self.invariant.answering d c.requires.depot).torn ∙ torn_end m n (got old.seat) (got new.seat) turned.0 turned.1)
-    (c.saturating_add-self-inside.ensures ∙ ends_end turned.0 (got old.seat) (got new.seat) c.self.inside.ends turned.1 c.self.invariant.ends_are)
+    took.shard took.permit took.senders took.answered
+    ((c.self.invariant.answering d c.requires.depot).torn ∙ torn_end m n (got old.permit) (got new.permit) turned.0 turned.1)
+    (c.saturating_add-self-inside.ensures ∙ ends_end turned.0 (got old.permit) (got new.permit) c.self.inside.ends turned.1 c.self.invariant.ends_are)
 
 pub invariant_of-self-in-Empty : goal.invariant_of-self-in-Empty
 invariant_of-self-in-Empty g c =
@@ -54,7 +54,7 @@ invariant_of-self-in-Empty g c =
     let same = c.in-Empty.ensures.turned.0 in
     let here = lane_at c.args.lanes.now c.from.result old.shard c.index-lanes-from.result c.from.ensures (c.self.invariant.on_lane c.args.lanes.now c.requires.lanes).there c.index-lanes-from.is in
     keeps_next g.H.Hall.lanes g.H.Hall.depot c.args.lanes.now d old new c.index-lanes-from.result c.self.inside.ends _ c.self.inside.torn _ c.requires.lanes c.requires.depot here c.self.invariant
-    took.shard took.seat took.senders took.answered
+    took.shard took.permit took.senders took.answered
     ((c.self.invariant.answering d c.requires.depot).torn ∙ ap (list_any (is_nobodys m n)) (sym same))
     (c.self.invariant.ends_are ∙ ap (λ l. counted (ends_in l)) (sym same))
 
@@ -75,6 +75,6 @@ returns-in-Empty-clause-empty g c now lane is =
     let turned = c.in-Empty.ensures.turned in
     let here = lane_at c.args.lanes.now c.from.result old.shard c.index-lanes-from.result c.from.ensures (c.self.invariant.on_lane c.args.lanes.now c.requires.lanes).there c.index-lanes-from.is in
     let same = one_inside (slice_get c.args.lanes.now old.shard) c.index-lanes-from.result lane here (subst (λ n. slice_get c.args.lanes.now n ≡ Some lane) c.take_turn.ensures.shard is) in
-    subst (λ l. WasEmpty (producers_of lane) (capacity_of lane) l (take_seen new.seat)) (sym turned.0)
-    (subst (λ l. WasEmpty (producers_of lane) (capacity_of lane) (got old.seat) l) (sym turned.1)
-    (subst (λ q. WasEmpty (producers_of q) (capacity_of q) (got old.seat) (take_seen old.seat)) same turned.2))
+    subst (λ l. WasEmpty (producers_of lane) (capacity_of lane) l (take_seen new.permit)) (sym turned.0)
+    (subst (λ l. WasEmpty (producers_of lane) (capacity_of lane) (got old.permit) l) (sym turned.1)
+    (subst (λ q. WasEmpty (producers_of q) (capacity_of q) (got old.permit) (take_seen old.permit)) same turned.2))

@@ -2,8 +2,8 @@ use Rattle.std.proofs.Common.{◌∙◌, sym, refl, ap, subst, arith, set, lengt
 use Rattle.delivery_core.specs.DeliveryCore.{DeliveryCore}
 use Rattle.delivery_core.specs.Stands.{StandsFor}
 use Rattle.delivery_core.proofs.Boxes.{kept_set, same_boxes}
-use Rattle.delivery_core.proofs.SeatedLaws.{cursors_same}
-use Rattle.delivery_core.specs.Seated.{AreSeated}
+use Rattle.delivery_core.proofs.AttachedLaws.{cursors_same}
+use Rattle.delivery_core.specs.Attached.{AreAttached}
 use Rattle.delivery_core.proofs.Delivers.{job_within, deliver_follows}
 use Rattle.delivery_core.proofs.steps.DeliveryCore.deliver.Goals as goal
 
@@ -27,7 +27,7 @@ pub invariant_of-self : goal.invariant_of-self
 invariant_of-self c =
     let i = c.self.inside in
     let kept = cursors_same i.boxes.items c.from-position.result c.index_mut.result.now c.deliver_to-verdict.new.mailbox (omega (arith, c.len-2.ensures, c.if-position-len.false)) c.index_mut.ensures.value c.deliver_to-verdict.ensures.cursors in
-    (length-set i.hands.items c.from-at.result _ ∙ c.self.invariant.0, c.self.invariant.1, c.self.invariant.2, subst (λ cs. AreSeated cs i.clients.items) (sym kept) c.self.invariant.3, kept_set i.boxes.items c.from-position.result c.index_mut.result.now c.deliver_to-verdict.new.mailbox c.self.invariant.4 c.index_mut.ensures.value c.deliver_to-verdict.ensures.same.history)
+    (length-set i.hands.items c.from-at.result _ ∙ c.self.invariant.0, c.self.invariant.1, c.self.invariant.2, subst (λ cs. AreAttached cs i.clients.items) (sym kept) c.self.invariant.3, kept_set i.boxes.items c.from-position.result c.index_mut.result.now c.deliver_to-verdict.new.mailbox c.self.invariant.4 c.index_mut.ensures.value c.deliver_to-verdict.ensures.same.history)
 
 pub returns-clause-cursors : goal.returns-clause-cursors
 returns-clause-cursors c =

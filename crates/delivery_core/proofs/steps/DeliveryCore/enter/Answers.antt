@@ -7,7 +7,7 @@ use Rattle.delivery_core.specs.DeliveryCore.{DeliveryCore}
 use Rattle.delivery_core.specs.Stands.{StandsFor}
 use Rattle.delivery_core.proofs.Follow.{set_back}
 use Rattle.delivery_core.proofs.Boxes.{kept_set, same_boxes, same_rest}
-use Rattle.delivery_core.proofs.Gone.{enter_follows, enter_refused, enter_seated, none_left, place_free, waits_memory, waits_spent}
+use Rattle.delivery_core.proofs.Gone.{enter_follows, enter_refused, enter_attached, none_left, place_free, waits_memory, waits_spent}
 use Rattle.delivery_core.proofs.Mailed.{opened_at}
 use Rattle.delivery_core.proofs.steps.DeliveryCore.enter.Goals as goal
 
@@ -44,7 +44,7 @@ invariant_of-self-2 c =
       c.self.invariant.0,
       c.self.invariant.1,
       c.self.invariant.2,
-      enter_seated i.boxes.items i.clients.items c.args.session c.from-place.result c.args.mailbox c.from-number.result c.index_mut.result.now c.open_cursor.new.self c.in-Ok.handle _ c.self.invariant.3 c.from-place.ensures c.from-number.ensures number
+      enter_attached i.boxes.items i.clients.items c.args.session c.from-place.result c.args.mailbox c.from-number.result c.index_mut.result.now c.open_cursor.new.self c.in-Ok.handle _ c.self.invariant.3 c.from-place.ensures c.from-number.ensures number
           c.index_mut.ensures.value e.opened e.vacant e.known,
       kept_set i.boxes.items c.from-number.result c.index_mut.result.now c.open_cursor.new.self c.self.invariant.4 c.index_mut.ensures.value (ap (λ (z : Mailbox). z.history) e.rest),
     )

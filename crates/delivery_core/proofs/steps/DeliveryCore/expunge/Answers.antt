@@ -5,7 +5,7 @@ use Rattle.delivery_core.specs.DeliveryCore.{DeliveryCore}
 use Rattle.delivery_core.specs.Stands.{StandsFor}
 use Rattle.delivery_core.proofs.Calls.{not_strange}
 use Rattle.delivery_core.proofs.Boxes.{history_stays, kept_set, rest_ok, same_ok}
-use Rattle.delivery_core.proofs.Mailed.{client_here, known_at, mailbox_within, moved_seated, nothing_moved}
+use Rattle.delivery_core.proofs.Mailed.{client_here, known_at, mailbox_within, moved_attached, nothing_moved}
 use Rattle.delivery_core.proofs.Shown.{expunge_done, expunge_memory, expunge_saw, expunge_follows, expunge_moves, expunge_refused}
 use Rattle.delivery_core.proofs.steps.DeliveryCore.expunge.Goals as goal
 
@@ -27,7 +27,7 @@ invariant_of-self-2 c =
       c.self.invariant.0,
       c.self.invariant.1,
       c.self.invariant.2,
-      moved_seated i.boxes.items i.clients.items c.args.session c.from-place.result c.from.result c.in-Some.client b c.expunge-gone.new.self c.expunge-gone.new.handle c.take.new.self c.self.invariant.3 here c.from-place.ensures c.from.ensures there moves,
+      moved_attached i.boxes.items i.clients.items c.args.session c.from-place.result c.from.result c.in-Some.client b c.expunge-gone.new.self c.expunge-gone.new.handle c.take.new.self c.self.invariant.3 here c.from-place.ensures c.from.ensures there moves,
       kept_set i.boxes.items c.from.result b c.expunge-gone.new.self c.self.invariant.4 there (history_stays c.expunge-gone.result b c.expunge-gone.new.self c.in-Some.client.handle c.expunge-gone.new.handle c.args.out.now.items c.expunge-gone.new.out.items e.err (rest_ok c.expunge-gone.result b c.expunge-gone.new.self c.expunge-gone.new.self.messages c.expunge-gone.new.self.window c.expunge-gone.new.self.cursors e.rest)),
     )
 

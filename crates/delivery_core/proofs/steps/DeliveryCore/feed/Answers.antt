@@ -7,7 +7,7 @@ use Rattle.delivery_core.specs.Stands.{StandsFor}
 use Rattle.delivery_core.proofs.Calls.{not_strange}
 use Rattle.delivery_core.proofs.Behind.{feed_less}
 use Rattle.delivery_core.proofs.Boxes.{kept_set, rest_always, same_ok}
-use Rattle.delivery_core.proofs.Mailed.{client_here, known_at, mailbox_within, moved_seated, nothing_moved}
+use Rattle.delivery_core.proofs.Mailed.{client_here, known_at, mailbox_within, moved_attached, nothing_moved}
 use Rattle.delivery_core.proofs.Shown.{by_answer, feed_count, feed_done, feed_memory, feed_saw, feed_follows, feed_moves, feed_refused, feed_strange, never_spent}
 use Rattle.delivery_core.proofs.steps.DeliveryCore.feed.Goals as goal
 
@@ -29,7 +29,7 @@ invariant_of-self-2 c =
       c.self.invariant.0,
       c.self.invariant.1,
       c.self.invariant.2,
-      moved_seated i.boxes.items i.clients.items c.args.session c.from-place.result c.from.result c.in-Some.client b c.feed-fed.new.self c.feed-fed.new.handle c.take.new.self c.self.invariant.3 here c.from-place.ensures c.from.ensures there moves,
+      moved_attached i.boxes.items i.clients.items c.args.session c.from-place.result c.from.result c.in-Some.client b c.feed-fed.new.self c.feed-fed.new.handle c.take.new.self c.self.invariant.3 here c.from-place.ensures c.from.ensures there moves,
       kept_set i.boxes.items c.from.result b c.feed-fed.new.self c.self.invariant.4 there (ap (λ (z : Mailbox). z.history) e.rest),
     )
 

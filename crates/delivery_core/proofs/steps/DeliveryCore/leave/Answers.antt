@@ -4,9 +4,9 @@ use Rattle.mailbox.specs.declared.clients.MailFault.TheVariants.{Spent}
 use Rattle.mailbox.specs.Mailbox.{Mailbox}
 use Rattle.delivery_core.specs.DeliveryCore.{DeliveryCore}
 use Rattle.delivery_core.specs.inner.DeliveryCore.{AreKept}
-use Rattle.delivery_core.specs.Seated.{AreSeated, cursors_of}
+use Rattle.delivery_core.specs.Attached.{AreAttached, cursors_of}
 use Rattle.delivery_core.specs.Stands.{StandsFor}
-use Rattle.delivery_core.proofs.Gone.{leave_fault, leave_follows, leave_refused, leave_seated, leave_stays, left_only}
+use Rattle.delivery_core.proofs.Gone.{leave_fault, leave_follows, leave_refused, leave_attached, leave_stays, left_only}
 use Rattle.delivery_core.proofs.Boxes.{kept_set, same_boxes, same_rest}
 use Rattle.delivery_core.proofs.Mailed.{client_here, known_at, mailbox_within, nothing_moved}
 use Rattle.delivery_core.proofs.steps.DeliveryCore.leave.Goals as goal
@@ -24,7 +24,7 @@ invariant_of-self-in-Ok c =
       c.self.invariant.0,
       c.self.invariant.1,
       c.self.invariant.2,
-      leave_seated i.boxes.items i.clients.items c.args.session c.from-place.result c.from.result c.in-Some.client c.index_mut-mailbox.result.now c.close_cursor.new.self c.take.new.self c.self.invariant.3 here c.from-place.ensures c.from.ensures c.index_mut-mailbox.ensures.value
+      leave_attached i.boxes.items i.clients.items c.args.session c.from-place.result c.from.result c.in-Some.client c.index_mut-mailbox.result.now c.close_cursor.new.self c.take.new.self c.self.invariant.3 here c.from-place.ensures c.from.ensures c.index_mut-mailbox.ensures.value
           c.take.ensures.after c.in-Ok.ensures.closed,
       kept_set i.boxes.items c.from.result c.index_mut-mailbox.result.now c.close_cursor.new.self c.self.invariant.4 c.index_mut-mailbox.ensures.value (ap (λ (z : Mailbox). z.history) c.in-Ok.ensures.rest),
     )
@@ -44,7 +44,7 @@ invariant_of-self-2 c =
     let here = client_here i.clients.items c.from-place.result c.args.session c.index_mut.result.now c.in-Some.client c.from-place.ensures (omega (arith, c.if-place-len.false, c.len.ensures)) c.index_mut.ensures.value (sym c.take.ensures.value ∙ c.in-Some.is) in
     let h : DeliveryCore = record { lanes = i.lanes.items; hands = i.hands.items; replies = i.replies.items; heard = i.heard.items; boxes = i.boxes.items; next = i.next.items; clients = i.clients.items } in
     let same = nothing_moved h c.args.session c.from-place.result c.from.result c.in-Some.client c.index_mut-mailbox.result.now c.close_cursor.new.self c.in-Err.refused.0 c.take.new.self c.self.invariant.3 here c.from-place.ensures c.from.ensures c.index_mut-mailbox.ensures.value e.only.2 e.only.0 in
-    (c.self.invariant.0, c.self.invariant.1, c.self.invariant.2, subst (λ (x : DeliveryCore). AreSeated (cursors_of x.boxes) x.clients) (sym same) c.self.invariant.3, subst (λ (x : DeliveryCore). AreKept x.boxes) (sym same) c.self.invariant.4)
+    (c.self.invariant.0, c.self.invariant.1, c.self.invariant.2, subst (λ (x : DeliveryCore). AreAttached (cursors_of x.boxes) x.clients) (sym same) c.self.invariant.3, subst (λ (x : DeliveryCore). AreKept x.boxes) (sym same) c.self.invariant.4)
 
 pub returns-clause-refused : goal.returns-clause-refused
 returns-clause-refused c =

@@ -4,9 +4,9 @@ use Rattle.delivery_core.specs.DeliveryCore.{DeliveryCore, view_of}
 use Rattle.delivery_core.specs.Stands.{StandsFor}
 use Rattle.delivery_core.proofs.Calls.{not_strange, store_done, store_follows}
 use Rattle.delivery_core.proofs.Looks.{same_view}
-use Rattle.delivery_core.proofs.SeatedLaws.{cursors_same}
+use Rattle.delivery_core.proofs.AttachedLaws.{cursors_same}
 use Rattle.delivery_core.proofs.Boxes.{kept_set, rest_always, same_ok}
-use Rattle.delivery_core.proofs.Mailed.{client_here, mailbox_within, still_seated}
+use Rattle.delivery_core.proofs.Mailed.{client_here, mailbox_within, still_attached}
 use Rattle.delivery_core.proofs.steps.DeliveryCore.store.Goals as goal
 
 pub index_mut-mailbox-requires : goal.index_mut-mailbox-requires
@@ -22,7 +22,7 @@ invariant_of-self c =
       c.self.invariant.0,
       c.self.invariant.1,
       c.self.invariant.2,
-      still_seated i.boxes.items i.clients.items c.args.session c.from.result c.in-Some.client c.index_mut-mailbox.result.now c.store.new.self c.self.invariant.3 here c.from.ensures c.index_mut-mailbox.ensures.value
+      still_attached i.boxes.items i.clients.items c.args.session c.from.result c.in-Some.client c.index_mut-mailbox.result.now c.store.new.self c.self.invariant.3 here c.from.ensures c.index_mut-mailbox.ensures.value
           (ap (λ (m : Mailbox). m.cursors) c.store.ensures.rest),
       kept_set i.boxes.items c.from.result c.index_mut-mailbox.result.now c.store.new.self c.self.invariant.4 c.index_mut-mailbox.ensures.value (ap (λ (m : Mailbox). m.history) c.store.ensures.rest),
     )

@@ -1,7 +1,7 @@
 use Rattle.std.proofs.Common.{rules, ◌++◌, ◌∷◌, [], ◌∙◌, sym, ap, subst, set, true}
 use Rattle.crossbeam_channel.specs.Claims.{view, IsSeatAt}
 use Rattle.shard_queue.specs.Shared.{list_of}
-use Rattle.shard_queue.specs.Seats.{AreMarks}
+use Rattle.shard_queue.specs.Permits.{AreMarks}
 use Rattle.shard_queue.specs.Reply.{received}
 use Rattle.shard_queue.proofs.SharedLaws.{takes, learns}
 use Rattle.shard_queue.proofs.ClosingLaws.{took_one, marks_item, marks_end}
@@ -10,14 +10,14 @@ use Rattle.shard_queue.proofs.ends.ReplyChannel.recv_as.Goals as goal
 pub recv_as-requires-clause-rule : goal.recv_as-requires-clause-rule
 recv_as-requires-clause-rule g c = (takes _ _ _ _ _ _ _ c.loop.invariant.0.1, learns _ _)
 
-pub returns-in-Ok-Item-clause-seat : goal.returns-in-Ok-Item-clause-seat
-returns-in-Ok-Item-clause-seat g c = let r = c.loop.invariant.0 in let a = c.in-Ok-Item in let t = took_one _ _ _ _ _ _ _ _ r.1 a.ensures.rule in
-    (subst (λ r. IsSeatAt r c.recv_as.new.pass) c.args.self.now.both a.ensures.channel.0, t.0, marks_item _ _ _ _ _ _ (t.1 ∙ ap (λ e. received c.loop.seat ++ e ∷ []) a.field-0-is) r.2)
+pub returns-in-Ok-Item-clause-permit : goal.returns-in-Ok-Item-clause-permit
+returns-in-Ok-Item-clause-permit g c = let r = c.loop.invariant.0 in let a = c.in-Ok-Item in let t = took_one _ _ _ _ _ _ _ _ r.1 a.ensures.rule in
+    (subst (λ r. IsSeatAt r c.recv_as.new.pass) c.args.self.now.both a.ensures.channel.0, t.0, marks_item _ _ _ _ _ _ (t.1 ∙ ap (λ e. received c.loop.permit ++ e ∷ []) a.field-0-is) r.2)
 
-pub returns-in-Ok-End-clause-seat : goal.returns-in-Ok-End-clause-seat
-returns-in-Ok-End-clause-seat g c = let r = c.loop.invariant.0 in let a = c.in-Ok-End in let t = took_one _ _ _ _ _ _ _ _ r.1 a.ensures.rule in (
+pub returns-in-Ok-End-clause-permit : goal.returns-in-Ok-End-clause-permit
+returns-in-Ok-End-clause-permit g c = let r = c.loop.invariant.0 in let a = c.in-Ok-End in let t = took_one _ _ _ _ _ _ _ _ r.1 a.ensures.rule in (
   subst (λ r. IsSeatAt r c.recv_as.new.pass) c.args.self.now.both a.ensures.channel.0,
   t.0,
-  subst (λ n. AreMarks c.args.self.now.senders (set c.loop.seat.ended n true) (list_of (view c.recv_as.new.pass))) (sym c.from.ensures)
-      (marks_end _ _ _ _ _ (t.1 ∙ ap (λ e. received c.loop.seat ++ e ∷ []) a.field-0-is) (search rules) r.2),
+  subst (λ n. AreMarks c.args.self.now.senders (set c.loop.permit.ended n true) (list_of (view c.recv_as.new.pass))) (sym c.from.ensures)
+      (marks_end _ _ _ _ _ (t.1 ∙ ap (λ e. received c.loop.permit ++ e ∷ []) a.field-0-is) (search rules) r.2),
 )

@@ -4,4 +4,4 @@ use Rattle.shard_queue.specs.Reply.{IsSender, sent_on, send_seen}
 use Rattle.shard_queue.proofs.ends.ReplyChannel.send_as.Given as goal
 
 abbrev pub invariant-loop : goal.invariant-loop
-invariant-loop g l = IsSender l.self l.seat × (l.seat.number ≡ l.fn.seat.number) × (sent_on l.seat ≡ sent_on l.fn.seat) × (l.entry ≡ Item l.fn.seat.number l.fn.item) × (send_seen l.seat ≡ send_seen l.fn.seat)
+invariant-loop g l = IsSender l.self l.permit × (l.permit.number ≡ l.fn.permit.number) × (sent_on l.permit ≡ sent_on l.fn.permit) × (l.entry ≡ Item l.fn.permit.number l.fn.item) × (send_seen l.permit ≡ send_seen l.fn.permit)

@@ -1,6 +1,6 @@
 use Rattle.std.proofs.Common.{◌≡◌, ◌∙◌, ap, sym, refl, Any, true, false, slice_index_or, lt_of_lt_of_le, arith}
 use Rattle.shard_queue.specs.Lane.{of, has_end}
-use Rattle.shard_queue.specs.Seats.{got, ended_number}
+use Rattle.shard_queue.specs.Permits.{got, ended_number}
 use Rattle.shard_queue.proofs.ClosingLaws.{below_suc, some_numbered}
 use Rattle.shard_queue.proofs.queue.ShardQueue.are_all.Goals as goal
 
@@ -8,9 +8,9 @@ pub loop-p-preserved : goal.loop-p-preserved
 loop-p-preserved g c = (
   (let h = c.loop-p-test.true in omega arith),
   refl,
-  below_suc (λ p. Any (λ e. ended_number e ≡ p) c.args.ended.now × (has_end (of p (got c.args.seat.now)) ≡ true)) c.loop-p.p c.loop-p.invariant.2 (
+  below_suc (λ p. Any (λ e. ended_number e ≡ p) c.args.ended.now × (has_end (of p (got c.args.permit.now)) ≡ true)) c.loop-p.p c.loop-p.invariant.2 (
     some_numbered ended_number c.loop-p.p c.args.ended.now (sym c.has_ended.ensures ∙ c.if-not-has_ended.false),
-    sym (c.requires.2 c.loop-p.p c.loop-p-test.true) ∙ ap (λ i. slice_index_or c.args.seat.now.ended i false) (sym c.from.ensures) ∙ c.if-not-seat-from.false,
+    sym (c.requires.2 c.loop-p.p c.loop-p-test.true) ∙ ap (λ i. slice_index_or c.args.permit.now.ended i false) (sym c.from.ensures) ∙ c.if-not-permit-from.false,
   ),
 )
 

@@ -1,6 +1,6 @@
 use Rattle.std.proofs.Common.{subst}
 use Rattle.shard_queue.specs.Closing.{IsAll}
-use Rattle.shard_queue.specs.Seats.{got, ended_number}
+use Rattle.shard_queue.specs.Permits.{got, ended_number}
 use Rattle.shard_queue.proofs.SharedLaws.{learns}
 use Rattle.shard_queue.proofs.ClosingLaws.{whole}
 use Rattle.shard_queue.proofs.queue.ShardQueue.close.Goals as goal
@@ -9,7 +9,7 @@ pub learn_as-requires-clause-rule : goal.learn_as-requires-clause-rule
 learn_as-requires-clause-rule g c = learns _ _
 
 pub returns-clause-all : goal.returns-clause-all
-returns-clause-all g c = subst (λ es. IsAll ended_number c.args.self.producers es (got c.args.seat)) c.as_slice.ensures.value (c.are_all.ensures.all c.if-not-are_all.false)
+returns-clause-all g c = subst (λ es. IsAll ended_number c.args.self.producers es (got c.args.permit)) c.as_slice.ensures.value (c.are_all.ensures.all c.if-not-are_all.false)
 
 pub returns-clause-whole : goal.returns-clause-whole
 returns-clause-whole g c = let heard = c.hear_all_out.ensures.pass in let h = c.learn_as.ensures.rule in whole _ _ _ h.0 _ heard.1 heard.2 h.1

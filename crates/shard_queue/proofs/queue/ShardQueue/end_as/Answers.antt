@@ -1,13 +1,13 @@
 use Rattle.std.proofs.Common.{◌∙◌, ap, refl}
 use Rattle.shard_queue.specs.Lane.{has_end}
-use Rattle.shard_queue.specs.Seats.{sent}
+use Rattle.shard_queue.specs.Permits.{sent}
 use Rattle.shard_queue.proofs.SharedLaws.{puts, learns}
 use Rattle.shard_queue.proofs.ClosingLaws.{sent_more, end_has_end}
 use Rattle.shard_queue.proofs.queue.ShardQueue.end_as.Goals as goal
 
 pub push_as-requires-clause-rule : goal.push_as-requires-clause-rule
-push_as-requires-clause-rule g c = (puts _ _ _ _ _ _ _ _ c.requires.seat.1 refl c.requires.seat.2, learns _ _)
+push_as-requires-clause-rule g c = (puts _ _ _ _ _ _ _ _ c.requires.permit.1 refl c.requires.permit.2, learns _ _)
 
 pub returns-clause-ended : goal.returns-clause-ended
-returns-clause-ended g c = let r = c.requires.seat in let e = c.in-Ok.ensures in let t = sent_more _ _ _ _ _ _ _ r.1 e.rule in
-    (((e.queue.0 ∙ r.0.0, e.queue.2 ∙ r.0.1), t.0, ap has_end t.1 ∙ end_has_end (sent c.args.seat) c.args.seat.number), refl, t.1, t.2)
+returns-clause-ended g c = let r = c.requires.permit in let e = c.in-Ok.ensures in let t = sent_more _ _ _ _ _ _ _ r.1 e.rule in
+    (((e.queue.0 ∙ r.0.0, e.queue.2 ∙ r.0.1), t.0, ap has_end t.1 ∙ end_has_end (sent c.args.permit) c.args.permit.number), refl, t.1, t.2)
