@@ -17,6 +17,8 @@ from talks import Over, Wrong, data_of, envelope, mail, name_of, opening, read_m
 EACH_REFUSED, MOST_REFUSED = 400, 2000
 # So many lives that fail are enough.
 ENOUGH = 10
+# A server that can't start ends within so many seconds; and one that lost a connection for want of memory is looked at for so long, since there are many.
+ENDS_WITHIN, LOOKED_AT = 6, 1
 
 NO_MEMORY, NO_MEMORY_LINE = b"NO Out of memory", b"451 4.3.0 Out of memory"
 
@@ -256,10 +258,10 @@ class RefusingHouse:
             pair.run()
         except Wrong:
             # One that doesn't start may say so to clients who came early.
-            if self.kept.rows or not self.has_ended():
+            if self.kept.rows or not self.has_ended(ENDS_WITHIN):
                 raise
             raise DoesNotServe(self.house) from None
-        if pair.gone and not self.kept.rows and self.has_ended():
+        if pair.gone and not self.kept.rows and self.has_ended(ENDS_WITHIN if self.kind == "SPAWN_AT" else LOOKED_AT):
             raise DoesNotServe(self.house)
         self.losses += pair.losses
         if pair.losses and (was_met or not self.was_met() or self.losses[1:]):
@@ -271,10 +273,10 @@ class RefusingHouse:
         if self.come(Look):
             self.come(Look)
 
-    def has_ended(self):
-        """Whether it has ended by itself."""
+    def has_ended(self, within):
+        """Whether it ends by itself within so many seconds."""
         try:
-            return self.house.process.wait(1) is not None
+            return self.house.process.wait(within) is not None
         except subprocess.TimeoutExpired:
             return False
 
