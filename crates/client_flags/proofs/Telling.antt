@@ -6,7 +6,7 @@ use Rattle.std.proofs.lemmas.Bool.{false≢true}
 use Rattle.change_ring.specs.declared.change.Flags.{Flags}
 use Rattle.cursor_set.specs.Lines.{flag_words, position, spaced}
 use Rattle.mailbox.specs.declared.clients.Row.{Row}
-use Rattle.imap_grammar.specs.Answers.{answered, fetch_answer, item_text, part, row_answer, section}
+use Rattle.imap_answers.specs.Answers.{answered, fetch_answer, item_text, part, row_answer, section}
 use Rattle.imap_grammar.specs.declared.items.FetchItem.{FetchItem}
 use Rattle.imap_grammar.specs.declared.items.FetchItem.TheVariants as fetch
 use Rattle.imap_session.specs.Commands.{flags_answer}

@@ -8,7 +8,7 @@ use Rattle.std.proofs.lemmas.List.Folds.{list_all-append}
 use Rattle.change_ring.specs.declared.change.Flags.{Flags}
 use Rattle.cursor_set.specs.Lines.{flag_words, spaced}
 use Rattle.mailbox.specs.declared.clients.Row.{Row}
-use Rattle.imap_grammar.specs.Answers.{origin_text, part, section}
+use Rattle.imap_answers.specs.Answers.{origin_text, part, section}
 use Rattle.imap_grammar.specs.Grammar.{section_word}
 use Rattle.imap_grammar.specs.declared.items.FetchItem.{FetchItem}
 use Rattle.imap_grammar.specs.declared.items.FetchItem.TheVariants as fetch

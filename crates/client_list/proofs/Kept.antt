@@ -7,7 +7,7 @@ use Rattle.std.proofs.lemmas.List.{append-nil, length-drop, reverse-append, reve
 use Rattle.std.proofs.lemmas.List.Folds.{list_all-append}
 use Rattle.cursor_set.specs.Lines.{spaced}
 use Rattle.mailbox.specs.declared.clients.Row.{Row}
-use Rattle.imap_grammar.specs.Answers.{crlf, is_crlf, flags_text, header, header_from, item_text, literal, origin_text, part, section}
+use Rattle.imap_answers.specs.Answers.{crlf, is_crlf, flags_text, header, header_from, item_text, literal, origin_text, part, section}
 use Rattle.imap_grammar.specs.Grammar.{section_word}
 use Rattle.imap_grammar.specs.declared.items.FetchItem.{FetchItem}
 use Rattle.imap_grammar.specs.declared.items.FetchItem.TheVariants as fetch

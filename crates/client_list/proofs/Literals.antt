@@ -5,7 +5,7 @@ use Rattle.std.specs.List.{list_all}
 use Rattle.std.proofs.lemmas.Grind.{reverse_onto}
 use Rattle.std.proofs.lemmas.List.{reverse-reverse, reverse-append, append-nil}
 use Rattle.std.proofs.lemmas.List.Folds.{list_all-append}
-use Rattle.imap_grammar.specs.Answers.{literal}
+use Rattle.imap_answers.specs.Answers.{literal}
 use Rattle.client_list.specs.Client.{Client, Messages, knowing, within, reads, literal_of, count_of, number, is_digit, told, words, in_words, into_first, line_ends}
 use Rattle.client_list.specs.Turns.{is_inner}
 use Rattle.client_list.specs.Laws.{LiteralLeavesItsCount, LiteralsAreAlike}

@@ -7,7 +7,7 @@ use Rattle.cursor_set.specs.Lines.{lines, position}
 use Rattle.mailbox.specs.declared.clients.Opening.{Opening}
 use Rattle.mailbox.specs.declared.clients.Row.{Row}
 use Rattle.mailbox.specs.declared.clients.MailFault.{MailFault}
-use Rattle.imap_grammar.specs.Answers.{literal, row_answer}
+use Rattle.imap_answers.specs.Answers.{literal, row_answer}
 use Rattle.imap_grammar.specs.declared.items.FetchItem.{FetchItem}
 use Rattle.imap_grammar.specs.Reading.{read}
 use Rattle.imap_grammar.specs.declared.command.Command.{Command}

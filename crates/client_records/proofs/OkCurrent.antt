@@ -16,7 +16,7 @@ use Rattle.mailbox.specs.declared.mailbox.Status.{Status}
 use Rattle.world.specs.World.{Config, World}
 use Rattle.world.proofs.Always.{kept_always}
 use Rattle.world.proofs.Kept.{Kept}
-use Rattle.imap_grammar.specs.Answers.{marks_seen}
+use Rattle.imap_grammar.specs.Items.{marks_seen}
 use Rattle.imap_grammar.specs.Verbs.{verb_of}
 use Rattle.imap_grammar.specs.Reading.{read}
 use Rattle.imap_grammar.specs.declared.command.ImapFault.{ImapFault}

@@ -15,7 +15,7 @@ use Rattle.mailbox.specs.declared.clients.MailFault.TheVariants.{Stranger, Lappe
 use Rattle.mailbox.specs.declared.clients.Opening.{Opening}
 use Rattle.mailbox.specs.declared.clients.Row.{Row}
 use Rattle.mailbox.specs.declared.mailbox.Status.{Status}
-use Rattle.imap_grammar.specs.Answers.{answered, asks_for_root, item_text, is_listed, list_answer, listed, name_answer, root_answer, status_text}
+use Rattle.imap_answers.specs.Answers.{answered, asks_for_root, item_text, is_listed, list_answer, listed, name_answer, root_answer, status_text}
 use Rattle.imap_grammar.specs.Reading.{is_done, read}
 use Rattle.imap_grammar.specs.declared.command.Append.{Append}
 use Rattle.imap_grammar.specs.declared.command.Command.{Command}

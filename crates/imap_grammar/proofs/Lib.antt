@@ -7,8 +7,7 @@ pub mod ChosenAt
 pub mod Rising
 pub mod Viewing
 pub mod WordLaws
-pub mod Headers
-pub mod JoinedLaws
+pub mod ItemSteps
 pub mod Tokens
 pub mod Separated
 pub mod Parens
@@ -21,5 +20,4 @@ pub mod AppendLaw
 pub mod CommandLaw
 pub mod VerbLaw
 pub mod LineLaw
-pub mod GlobLaw
 pub mod DoneLaw

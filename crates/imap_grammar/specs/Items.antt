@@ -69,6 +69,11 @@ fetch_item_of word =
 abbrev pub fetch_items_of : List ℕ → List FetchItem
 fetch_items_of text = filter_map fetch_item_of (words text)
 
+-- the read of this item sets \Seen
+abbrev pub marks_seen : FetchItem → Bool
+marks_seen (fetch.Body peek which span) = not peek
+marks_seen _ = false
+
 -- ---- STATUS
 
 abbrev pub status_item_of : List ℕ → Option StatusItem

@@ -6,6 +6,5 @@ pub mod Items
 pub mod Verbs
 pub mod Grammar
 pub mod Reading
-pub mod Answers
 pub mod inner
 pub mod rows

@@ -1,3 +1,1 @@
 pub mod Choosing
-pub mod Globs
-pub mod Joined

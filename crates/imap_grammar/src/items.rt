@@ -1,10 +1,10 @@
 //! What FETCH and STATUS ask for (RFC 9051, 6.4.5 and 6.3.11): the items, and how their words are read.
-//! How they are answered is told in `answers`.
+//! How they are answered is told in `imap_answers`.
 
-ghost use Rattle.std.specs.Prelude.{◌≡◌, ◌++◌, IfOk, OnOk, is_some, option_to_list};
-ghost use Rattle.std.specs.List.{list_all};
+ghost use Rattle.std.specs.Prelude.{◌≡◌, ◌++◌, ◌∷◌, [], IfOk, MatchOption, OnOk, is_some, option_to_list};
+ghost use Rattle.std.specs.List.{list_all, list_any};
 ghost use Rattle.envelope.specs.Reading.{words};
-ghost use Rattle.imap_grammar.specs.Items.{section_of, span_between, span_of, partial_of, body_of, fetch_item_of, fetch_items_of, status_item_of};
+ghost use Rattle.imap_grammar.specs.Items.{section_of, span_between, span_of, partial_of, body_of, fetch_item_of, fetch_items_of, marks_seen, status_item_of, status_items_of};
 
 use crate::bytes::{past_byte, past_keyword};
 use crate::cut::cut_at;
@@ -158,7 +158,7 @@ fn body_of(peek: bool, text: &[u8]) -> Option<FetchItem>
 }
 
 /// The item of FETCH that a word is.
-pub(crate) fn fetch_item(word: &[u8]) -> Option<FetchItem>
+fn fetch_item(word: &[u8]) -> Option<FetchItem>
     ensures { result ≡ fetch_item_of word.now }
 {
     if word.eq_ignore_ascii_case(b"UID") {
@@ -180,7 +180,7 @@ pub(crate) fn fetch_item(word: &[u8]) -> Option<FetchItem>
 }
 
 /// The item of STATUS that a word is.
-pub(crate) fn status_item(word: &[u8]) -> Option<StatusItem>
+fn status_item(word: &[u8]) -> Option<StatusItem>
     ensures { result ≡ status_item_of word.now }
 {
     if word.eq_ignore_ascii_case(b"MESSAGES") {
@@ -227,7 +227,7 @@ fn push_item(word: &[u8], items: &mut Vec<FetchItem>) -> Result<(), AllocError>
 }
 
 // The items that the words of a text are.
-#[tactic(auto, using(crate::proofs::JoinedLaws::items_end))]
+#[tactic(auto, using(crate::proofs::ItemSteps::items_end))]
 fn items_in(alloc: Global, text: &[u8]) -> Result<Vec<FetchItem>, AllocError>
     ensures { IfOk result (λ items. items.items ≡ fetch_items_of text.now) }
 {
@@ -240,16 +240,62 @@ fn items_in(alloc: Global, text: &[u8]) -> Result<Vec<FetchItem>, AllocError>
     Ok(items)
 }
 
+fn marks_seen(item: FetchItem) -> bool
+    ensures { result ≡ marks_seen item }
+{
+    match item {
+        FetchItem::Body { peek, .. } => !peek,
+        _ => false,
+    }
+}
+
+fn word_marks_seen(word: &[u8]) -> bool
+    ensures { result ≡ list_any marks_seen (option_to_list (fetch_item_of word.now)) }
+{
+    match fetch_item(word) {
+        Some(item) => marks_seen(item),
+        None => false,
+    }
+}
+
+fn items_mark_seen(text: &[u8]) -> bool
+    ensures { result ≡ list_any marks_seen (fetch_items_of text.now) }
+{
+    let mut rest = text;
+    while let Some((word, others)) = next_word(rest) {
+        if word_marks_seen(word) {
+            return true;
+        }
+        rest = others;
+    }
+    false
+}
+
+// The first item that the words of a text are, and what stands behind its word.
+fn first_status_item(text: &[u8]) -> Option<(StatusItem, &[u8])>
+    ensures { MatchOption result (status_items_of text.now ≡ []) (λ found. status_items_of text.now ≡ found.0 ∷ status_items_of found.1.now) }
+{
+    let mut rest = text;
+    while let Some((word, others)) = next_word(rest) {
+        if let Some(item) = status_item(word) {
+            return Some((item, others));
+        }
+        rest = others;
+    }
+    None
+}
+
 impl<'a> FetchItems<'a> {
-    ghost use Rattle.std.specs.Prelude.{IfOk};
-    ghost use Rattle.imap_grammar.specs.Items.{fetch_items_of};
+    ghost use Rattle.std.specs.Prelude.{◌≡◌, IfOk};
+    ghost use Rattle.std.specs.List.{list_any};
+    ghost use Rattle.imap_grammar.specs.Items.{marks_seen};
     ghost use Rattle.imap_grammar.specs.Reading.{fetch_items_in};
 
-    /// The words as they stand in the line.
-    pub(crate) fn spelled(&self) -> &[u8]
-        ensures { self.now ≡ fetch_items_of result.now }
+    /// Whether the read that answers these sets \Seen: a BODY without PEEK is among them (RFC 9051, 6.4.5).
+    pub fn mark_seen(&self) -> bool
+        ensures { result ≡ list_any marks_seen self.now }
     {
-        self.spelled
+        items_mark_seen(self.spelled)
     }
 
     /// The items, in the order in which they were asked. An error where memory is refused.
@@ -272,14 +318,15 @@ impl<'a> FetchItems<'a> {
 }
 
 impl<'a> StatusItems<'a> {
-    ghost use Rattle.imap_grammar.specs.Items.{status_items_of};
+    ghost use Rattle.std.specs.Prelude.{◌≡◌, ◌∷◌, [], MatchOption};
     ghost use Rattle.imap_grammar.specs.Reading.{status_items_in};
 
-    /// The words as they stand in the line.
-    pub(crate) fn spelled(&self) -> &[u8]
-        ensures { self.now ≡ status_items_of result.now }
+    /// The first item in the order in which they were asked, and those behind it. It takes no memory.
+    pub fn split_first(&self) -> Option<(StatusItem, StatusItems<'a>)>
+        ensures { MatchOption result (self.now ≡ []) (λ found. self.now ≡ found.0 ∷ found.1) }
     {
-        self.spelled
+        let (item, others) = first_status_item(self.spelled)?;
+        Some((item, StatusItems { spelled: others }))
     }
 
     /// The items that the words of a text say, one at least.

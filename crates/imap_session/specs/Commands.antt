@@ -25,7 +25,8 @@ use Rattle.imap_grammar.specs.declared.command.ImapFault.TheVariants as faults
 use Rattle.imap_grammar.specs.Sets.{named_in}
 use Rattle.imap_grammar.specs.Verbs.{word_of, stands_behind_uid, verb_of}
 use Rattle.imap_grammar.specs.Reading.{is_done, read}
-use Rattle.imap_grammar.specs.Answers.{crlf, row_answer, status_answer, list_answer, is_inbox, marks_seen}
+use Rattle.imap_grammar.specs.Items.{marks_seen}
+use Rattle.imap_answers.specs.Answers.{crlf, row_answer, status_answer, list_answer, is_inbox}
 use Rattle.imap_session.specs.declared.standing.After.TheVariants.{Go, Bye}
 use Rattle.imap_session.specs.declared.standing.After.TheVariants as afters
 use Rattle.imap_session.specs.declared.standing.Selected.{Selected}

@@ -1,6 +1,7 @@
 //! Names that no mailbox of a house has: with a quote or a backslash, or with a slash in them. What is expected is what RFC 9051 says of them.
 
-use imap_grammar::{Command, Name, patterns_match_what_they_stand_for, read_line, write_list};
+use imap_answers::{patterns_match_what_they_stand_for, write_list};
+use imap_grammar::{Command, Name, read_line};
 use std::alloc::{AllocError, Global};
 
 // The name that a SELECT says.

@@ -1,5 +1,5 @@
 use Rattle.imap_grammar.specs.Items.{fetch_item_of}
-use Rattle.imap_grammar.proofs.JoinedLaws.{items_step}
+use Rattle.imap_grammar.proofs.ItemSteps.{items_step}
 use Rattle.imap_grammar.proofs.items.items_in.Goals as goal
 
 pub loop-word-preserved : goal.loop-word-preserved

@@ -1,0 +1,165 @@
+-- The answers that tell of messages and mailboxes (RFC 9051, 7).
+use Rattle.std.specs.Prelude.{◌≡◌, ◌≢◌, ℕ, Bool, true, false, codes, decimal, List, [], ◌∷◌, ◌++◌, length, take, drop, map, flat_map, Option, Some, None, ◌==◌, ◌&&◌, ◌||◌, not, if◌then◌else◌}
+use Rattle.std.specs.List.{list_any}
+use Rattle.std.specs.Str.{str_to_ascii_lowercase as lowercase, str_eq_ignore_ascii_case as is_same}
+use Rattle.change_ring.specs.declared.change.Flags.{Flags}
+use Rattle.mailbox.specs.declared.clients.Row.{Row}
+use Rattle.mailbox.specs.declared.mailbox.Status.{Status}
+use Rattle.cursor_set.specs.Lines.{flag_words, spaced}
+use Rattle.envelope.specs.Bytes.{is_not_slash}
+use Rattle.envelope.specs.Grammar.{Many}
+use Rattle.envelope.specs.Reading.{first_is}
+use Rattle.imap_grammar.specs.Grammar.{section_word, status_word}
+use Rattle.imap_grammar.specs.declared.items.Section.{Section}
+use Rattle.imap_grammar.specs.declared.items.Section.TheVariants.{Whole, Header, Text}
+use Rattle.imap_grammar.specs.declared.items.Span.{Span}
+use Rattle.imap_grammar.specs.declared.items.FetchItem.{FetchItem}
+use Rattle.imap_grammar.specs.declared.items.FetchItem.TheVariants as fetch
+use Rattle.imap_grammar.specs.declared.items.StatusItem.{StatusItem}
+use Rattle.imap_grammar.specs.declared.items.StatusItem.TheVariants as status
+
+abbrev pub crlf : List ℕ
+crlf = 13 ∷ 10 ∷ []
+
+-- ---- parts of a text
+
+-- a line ends here
+abbrev pub is_crlf : List ℕ → Bool
+is_crlf text = first_is 13 text && first_is 10 (drop 1 text)
+
+-- a text up to and with its first empty line, or all of it; `fresh` where a line begins
+abbrev pub header_from : Bool → List ℕ → List ℕ
+header_from fresh [] = []
+header_from fresh (b ∷ []) = b ∷ []
+header_from fresh (b ∷ c ∷ bs) =
+    if is_crlf (b ∷ c ∷ bs)
+    then (if fresh then crlf else 13 ∷ 10 ∷ header_from true bs)
+    else b ∷ header_from false (c ∷ bs)
+
+abbrev pub header : List ℕ → List ℕ
+header text = header_from true text
+
+abbrev pub section : Section → List ℕ → List ℕ
+section Whole text = text
+section Header text = header text
+section Text text = drop (length (header text)) text
+
+abbrev pub part : Option Span → List ℕ → List ℕ
+part None bytes = bytes
+part (Some span) bytes = take span.count (drop span.origin bytes)
+
+abbrev pub origin_text : Option Span → List ℕ
+origin_text None = []
+origin_text (Some span) = codes "<" ++ decimal span.origin ++ codes ">"
+
+-- a literal (RFC 9051, 4.3)
+abbrev pub literal : List ℕ → List ℕ
+literal bytes = codes "{" ++ decimal (length bytes) ++ codes "}\r\n" ++ bytes
+
+-- ---- FETCH
+
+abbrev pub flags_text : Flags → List ℕ
+flags_text flags = codes "FLAGS (" ++ spaced (flag_words flags) ++ codes ")"
+
+abbrev pub body_text : Section → Option Span → List ℕ → List ℕ
+body_text which span text =
+    codes "BODY[" ++ section_word which ++ codes "]" ++ origin_text span ++ codes " " ++ literal (part span (section which text))
+
+abbrev pub item_text : Row → FetchItem → List ℕ
+item_text row fetch.Uid = codes "UID " ++ decimal row.uid
+item_text row fetch.Flags = flags_text row.flags
+item_text row fetch.Size = codes "RFC822.SIZE " ++ decimal (length row.text)
+item_text row (fetch.Body peek which span) = body_text which span row.text
+
+abbrev pub is_uid : FetchItem → Bool
+is_uid fetch.Uid = true
+is_uid _ = false
+
+abbrev pub is_flags : FetchItem → Bool
+is_flags fetch.Flags = true
+is_flags _ = false
+
+-- UID is answered too under UID FETCH, and FLAGS too where \Seen is newly set
+abbrev pub uid_first : Bool → List FetchItem → List FetchItem
+uid_first by_uid items = if by_uid && not (list_any is_uid items) then fetch.Uid ∷ [] else []
+
+abbrev pub flags_last : Bool → List FetchItem → List FetchItem
+flags_last newly_seen items = if newly_seen && not (list_any is_flags items) then fetch.Flags ∷ [] else []
+
+abbrev pub answered : Bool → Bool → List FetchItem → List FetchItem
+answered by_uid newly_seen items = uid_first by_uid items ++ (items ++ flags_last newly_seen items)
+
+abbrev pub fetch_answer : ℕ → List (List ℕ) → List ℕ
+fetch_answer k texts = codes "* " ++ decimal k ++ codes " FETCH (" ++ spaced texts ++ codes ")\r\n"
+
+-- the answer for the message at this position
+abbrev pub row_answer : ℕ → Bool → List FetchItem → Row → List ℕ
+row_answer k by_uid items row = fetch_answer k (map (item_text row) (answered by_uid row.newly_seen items))
+
+-- ---- STATUS
+
+abbrev pub status_number : Status → StatusItem → ℕ
+status_number s status.Messages = s.messages
+status_number s status.UidNext = s.uidnext
+status_number s status.UidValidity = s.uidvalidity
+status_number s status.Unseen = s.unseen
+status_number s status.Deleted = s.deleted
+status_number s status.Size = s.size
+
+abbrev pub status_text : Status → StatusItem → List ℕ
+status_text s item = status_word item ++ codes " " ++ decimal (status_number s item)
+
+abbrev pub status_answer : List ℕ → List StatusItem → Status → List ℕ
+status_answer name items s =
+    codes "* STATUS " ++ name ++ codes " (" ++ spaced (map (status_text s) items) ++ codes ")\r\n"
+
+-- ---- LIST
+
+-- the names that a pattern stands for: `*` stands for any bytes, and `%` for any but `/`
+pub data Glob : List ℕ → List ℕ → Type 0 where
+  end : Glob [] []
+  any : {pattern rest : List ℕ} (front : List ℕ) {name : List ℕ} → name ≡ front ++ rest → Glob pattern rest → Glob (42 ∷ pattern) name
+  level : {pattern rest : List ℕ} (front : List ℕ) {name : List ℕ} → name ≡ front ++ rest → Many is_not_slash front → Glob pattern rest → Glob (37 ∷ pattern) name
+  same : {b : ℕ} {pattern name : List ℕ} → b ≢ 42 → b ≢ 37 → Glob pattern name → Glob (b ∷ pattern) (b ∷ name)
+
+-- the test passes on what is left after some bytes of the class
+abbrev pub some_rest : (ℕ → Bool) → (List ℕ → Bool) → List ℕ → Bool
+some_rest class test [] = test []
+some_rest class test (b ∷ bs) = test (b ∷ bs) || (class b && some_rest class test bs)
+
+abbrev pub after_byte : ℕ → (List ℕ → Bool) → List ℕ → Bool
+after_byte p test [] = false
+after_byte p test (b ∷ bs) = (b == p) && test bs
+
+-- the same as a test
+abbrev pub matches : List ℕ → List ℕ → Bool
+matches [] name = length name == 0
+matches (p ∷ ps) name =
+    if p == 42 then some_rest (λ b. true) (matches ps) name
+    else if p == 37 then some_rest is_not_slash (matches ps) name
+    else after_byte p (matches ps) name
+
+abbrev pub is_inbox : List ℕ → Bool
+is_inbox name = is_same name (codes "INBOX")
+
+-- INBOX is matched whatever the case
+abbrev pub is_listed : List ℕ → List ℕ → Bool
+is_listed pattern name = if is_inbox name then matches (lowercase pattern) (lowercase name) else matches pattern name
+
+abbrev pub name_answer : List ℕ → List ℕ
+name_answer name = codes "* LIST () \"/\" " ++ name ++ crlf
+
+abbrev pub listed : List ℕ → List ℕ → List ℕ
+listed pattern name = if is_listed pattern name then name_answer name else []
+
+-- the question what separates levels
+abbrev pub asks_for_root : List ℕ → List ℕ → Bool
+asks_for_root reference pattern = (length reference == 0) && (length pattern == 0)
+
+abbrev pub root_answer : List ℕ
+root_answer = codes "* LIST (\\Noselect) \"/\" \"\"\r\n"
+
+-- what LIST answers about these names
+abbrev pub list_answer : List ℕ → List ℕ → List (List ℕ) → List ℕ
+list_answer reference pattern names =
+    if asks_for_root reference pattern then root_answer else flat_map (listed (reference ++ pattern)) names
