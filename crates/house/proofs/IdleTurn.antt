@@ -15,8 +15,8 @@ use Rattle.imap_session.specs.Exchange.{Answer, Entered, Looked, Found, Counted,
 use Rattle.imap_session.specs.Exchange as calls
 use Rattle.imap_session.specs.Commands.{count_shown, idle_turn, idle_turn_in, most_changes}
 use Rattle.imap_session.specs.Store.{IdleTurns, Met, Starves}
-use Rattle.session_store.specs.declared.desk.Desk.{Desk}
-use Rattle.session_store.specs.Desk.{CatchesUp, Serves}
+use Rattle.session_store.specs.declared.core_store.CoreStore.{CoreStore}
+use Rattle.session_store.specs.CoreStore.{CatchesUp, Serves}
 use Rattle.session_store.specs.Meets.{Meets}
 use Rattle.session_store.proofs.Served.{IsServing, carries, met_delivery}
 use Rattle.session_store.proofs.Serving.{same_delivery}
@@ -95,20 +95,20 @@ lives_of a false e = refl
 lives : (now : Standing) → is_idling now ≡ true → now.ended ≡ false
 lives now e = lives_of (is_some now.idling) now.ended e
 
--- ---- at the desk
+-- ---- at the store
 
 -- something was shown, and the session is less behind; or it has ended
-abbrev Gains : Desk → Desk → ℕ → Standing → Type 0
+abbrev Gains : CoreStore → CoreStore → ℕ → Standing → Type 0
 Gains old new count next = ((0 < count) × (behind new.core old.session < behind old.core old.session)) ⊎ (next.ended ≡ true)
 
-pub gains : (now : Standing) (old new : Desk) (before after : List ℕ) (count : ℕ) (next : Standing) → IdleTurns Serves now old new before after count next → is_idling now ≡ true → IsSome now.selected
+pub gains : (now : Standing) (old new : CoreStore) (before after : List ℕ) (count : ℕ) (next : Standing) → IdleTurns Serves now old new before after count next → is_idling now ≡ true → IsSome now.selected
     → (IsSome (client_of old.core old.session) → behind old.core old.session ≡ 0 → ⊥) → Gains old new count next
 gains now old new before after count next t idles some news = go (case_of now t.answers (record { events = t.events; bytes = t.bytes; after = t.how; standing = next }) t.played idles some)
   where
     go : IdleCase now t.answers (record { events = t.events; bytes = t.bytes; after = t.how; standing = next }) → Gains old new count next
     go (is_shown view changes a e) =
         let met = subst (λ (es : List Event). Met Serves old es new) (ap (λ (x : Turn). x.events) e) t.met in
-        let less = subst (λ (d : Desk). CatchesUp old.session old.core (Feed most_changes) (Fed view changes) d.core) (sym met.2) met.1.behind in
+        let less = subst (λ (d : CoreStore). CatchesUp old.session old.core (Feed most_changes) (Fed view changes) d.core) (sym met.2) met.1.behind in
         let counted : count ≡ length changes + 0 = t.shown ∙ ap count_shown a in
         elim (cases_lt 0 (behind old.core old.session)) [
           | inl l ↦ inl (omega (arith, counted, less.1, l), omega (arith, less.1, less.2, l))
@@ -190,17 +190,17 @@ none_new p place h some current k next heard w v b o printed stands there i =
 
 -- ---- one turn
 
--- what it does over the desk is what it does in the world
-record Turned (k : Setup) (place number : ℕ) (b : SeatedVisitor) (after : Visitor) (count : ℕ) (w : World) (old desk : Desk) (printed : List ℕ) : Type 0 where
+-- what it does over the store is what it does in the world
+record Turned (k : Setup) (place number : ℕ) (b : SeatedVisitor) (after : Visitor) (count : ℕ) (w : World) (old store : CoreStore) (printed : List ℕ) : Type 0 where
   pub mid : World
   pub idles : Idles (λ (x : World) call answer y. Meets k.config place x call answer y) number b.session w mid after count printed
-  pub serving : IsServing k.config place desk mid
-  pub rest : SameDelivery old.core desk.core
+  pub serving : IsServing k.config place store mid
+  pub rest : SameDelivery old.core store.core
   pub is_read : b.gone ≡ false
   pub idling : is_idling b.session.standing ≡ true
   pub something : (0 < count) ⊎ (after.standing.ended ≡ true)
 
-turned : (k : Setup) (number count : ℕ) (next : CopyKey) (heard : List Noted) (b : SeatedVisitor) (after : Visitor) (old new : Desk) (printed : List ℕ) (w : World) (p : SeatedSession) → Idles Serves number b.session old new after count printed → old.session ≡ number - 1
+turned : (k : Setup) (number count : ℕ) (next : CopyKey) (heard : List Noted) (b : SeatedVisitor) (after : Visitor) (old new : CoreStore) (printed : List ℕ) (w : World) (p : SeatedSession) → Idles Serves number b.session old new after count printed → old.session ≡ number - 1
     → core.StandsFor k.config old.core w → StandsForSeated (session_seat k (number - 1)) next heard p b → MayIdle p (number - 1) old.core → Turned k (number - 1) number b after count w old new printed
 turned k number count next heard b after old new printed w p i at stands there may =
     let c = idles_carried Serves (λ x call answer v. Meets k.config (number - 1) x call answer v) (IsServing k.config (number - 1)) (carries k.config (number - 1)) number b.session old new after count printed w i (record { session = at; stands = stands }) in
@@ -222,7 +222,7 @@ turned k number count next heard b after old new printed w p i at stands there m
     }
 
 -- it remains at its place
-pub idled : (k : Setup) (whole : Bool) (number count : ℕ) (next : CopyKey) (heard : List Noted) (b : SeatedVisitor) (old new : Desk) (w : World) (p q : SeatedSession) (before after : List ℕ) → 0 < number → old.session ≡ number - 1 → core.StandsFor k.config old.core w
+pub idled : (k : Setup) (whole : Bool) (number count : ℕ) (next : CopyKey) (heard : List Noted) (b : SeatedVisitor) (old new : CoreStore) (w : World) (p q : SeatedSession) (before after : List ℕ) → 0 < number → old.session ≡ number - 1 → core.StandsFor k.config old.core w
     → StandsForSeated (session_seat k (number - 1)) next heard p b → MayIdle p (number - 1) old.core → Idled Serves whole (session_seat k (number - 1)) number count next heard b old new before after q → q.gone ≡ false → (whole ≡ true → q.place.link.session.ended ≡ false)
     → PlaceIdled k whole (number - 1) next heard w b old.core (Some q) new.core before after
 idled k whole number count next heard b old new w p q before after some at stands there may o live going =
@@ -250,7 +250,7 @@ idled k whole number count next heard b old new w p q before after some at stand
     }
 
 -- it has parted, and left its mailbox
-pub idled_out : (k : Setup) (number count : ℕ) (next : CopyKey) (heard : List Noted) (b : SeatedVisitor) (old mid new : Desk) (answer : Answer) (w : World) (p q : SeatedSession) (before after : List ℕ) → 0 < number → old.session ≡ number - 1 → core.StandsFor k.config old.core w
+pub idled_out : (k : Setup) (number count : ℕ) (next : CopyKey) (heard : List Noted) (b : SeatedVisitor) (old mid new : CoreStore) (answer : Answer) (w : World) (p q : SeatedSession) (before after : List ℕ) → 0 < number → old.session ≡ number - 1 → core.StandsFor k.config old.core w
     → StandsForSeated (session_seat k (number - 1)) next heard p b → MayIdle p (number - 1) old.core → Idled Serves true (session_seat k (number - 1)) number count next heard b old mid before after q → q.gone ≡ false → q.place.link.session.ended ≡ true
     → Serves mid (calls.Leave false) answer new → PlaceIdled k true (number - 1) next heard w b old.core None new.core before after
 idled_out k number count next heard b old mid new answer w p q before after some at stands there may o live over leaves =
@@ -279,15 +279,15 @@ idled_out k number count next heard b old mid new answer w p q before after some
     }
 
 -- memory was refused before anything was done
-missed : (k : Setup) (number : ℕ) (next : CopyKey) (heard : List Noted) (b : SeatedVisitor) (old new : Desk) (w : World) (q : SeatedSession) (before after : List ℕ) → old.session ≡ number - 1 → core.StandsFor k.config old.core w
+missed : (k : Setup) (number : ℕ) (next : CopyKey) (heard : List Noted) (b : SeatedVisitor) (old new : CoreStore) (w : World) (q : SeatedSession) (before after : List ℕ) → old.session ≡ number - 1 → core.StandsFor k.config old.core w
     → Missed Serves (session_seat k (number - 1)) next heard b old new before after q → PlaceKept k (number - 1) next heard w b old.core (Some q) new.core before after
 missed k number next heard b old new w q before after at stands m = go m.starves
   where
     go : Starves Serves old new → PlaceKept k (number - 1) next heard w b old.core (Some q) new.core before after
     go (inl same) = record {
       there = m.stands;
-      core = subst (λ (d : Desk). core.StandsFor k.config d.core w) (sym same) stands;
-      rest = subst (λ (d : Desk). SameDelivery old.core d.core) (sym same) (same_delivery old.core);
+      core = subst (λ (d : CoreStore). core.StandsFor k.config d.core w) (sym same) stands;
+      rest = subst (λ (d : CoreStore). SameDelivery old.core d.core) (sym same) (same_delivery old.core);
       out = m.out;
     }
     go (inr starved) =
@@ -299,7 +299,7 @@ missed k number next heard b old new w q before after at stands m = go m.starves
           out = m.out;
         }
 
-pub idled_in_part : (k : Setup) (number : ℕ) (next : CopyKey) (heard : List Noted) (b : SeatedVisitor) (old new : Desk) (w : World) (p q : SeatedSession) (before after : List ℕ) → 0 < number → old.session ≡ number - 1 → core.StandsFor k.config old.core w
+pub idled_in_part : (k : Setup) (number : ℕ) (next : CopyKey) (heard : List Noted) (b : SeatedVisitor) (old new : CoreStore) (w : World) (p q : SeatedSession) (before after : List ℕ) → 0 < number → old.session ≡ number - 1 → core.StandsFor k.config old.core w
     → StandsForSeated (session_seat k (number - 1)) next heard p b → MayIdle p (number - 1) old.core → IdledInPart Serves (session_seat k (number - 1)) number next heard b old new before after q → q.gone ≡ false
     → PlaceIdledInPart k (number - 1) next heard w b old.core (Some q) new.core before after
 idled_in_part k number next heard b old new w p q before after some at stands there may (inl m) live = inr (missed k number next heard b old new w q before after at stands m)
@@ -307,7 +307,7 @@ idled_in_part k number next heard b old new w p q before after some at stands th
     inl (idled k false number count next heard b old new w p q before after some at stands there may o live (λ e. absurd (let f : false ≡ true = e in cc)))
 
 -- one that remains is less behind
-pub turns_fewer : (p q : SeatedSession) (number count : ℕ) (said : List ℕ) (old new : Desk) → old.session ≡ number - 1 → MayIdle p (number - 1) old.core → IdleTurns Serves p.place.link.session old new [] said count q.place.link.session → q.place.link.session.ended ≡ false
+pub turns_fewer : (p q : SeatedSession) (number count : ℕ) (said : List ℕ) (old new : CoreStore) → old.session ≡ number - 1 → MayIdle p (number - 1) old.core → IdleTurns Serves p.place.link.session old new [] said count q.place.link.session → q.place.link.session.ended ≡ false
     → turns_left (Some q) (behind new.core (number - 1)) < turns_left (Some p) (behind old.core (number - 1))
 turns_fewer p q number count said old new at may t live =
     elim (gains p.place.link.session old new [] said count q.place.link.session t may.idling may.selected (subst (λ (n : ℕ). IsSome (client_of old.core n) → behind old.core n ≡ 0 → ⊥) (sym at) may.news)) [

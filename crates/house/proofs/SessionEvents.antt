@@ -20,8 +20,8 @@ use Rattle.delivery_core.specs.New.{first_key}
 use Rattle.delivery_core.specs.Stands as core
 use Rattle.imap_session.specs.Exchange.{Answer}
 use Rattle.imap_session.specs.Exchange as calls
-use Rattle.session_store.specs.declared.desk.Desk.{Desk}
-use Rattle.session_store.specs.Desk.{Serves}
+use Rattle.session_store.specs.declared.core_store.CoreStore.{CoreStore}
+use Rattle.session_store.specs.CoreStore.{Serves}
 use Rattle.session_store.proofs.Served.{carries}
 use Rattle.house_session.specs.Folders.{folders_of, has_user}
 use Rattle.house_session.specs.Visitor.{more_waits}
@@ -135,7 +135,7 @@ entered k whole h s place seat serial most user p q c old new st within at free 
 
 -- ---- who leaves
 
-pub left_place : (k : Setup) (h : House) (s : Scene) (place : ℕ) (p : SeatedSession) (q : Option SeatedSession) (new : Desk) (answer : Answer) → StandsFor k h s → place < length h.visitors → get_or h.visitors place None ≡ Some p → p.gone ≡ false
+pub left_place : (k : Setup) (h : House) (s : Scene) (place : ℕ) (p : SeatedSession) (q : Option SeatedSession) (new : CoreStore) (answer : Answer) → StandsFor k h s → place < length h.visitors → get_or h.visitors place None ≡ Some p → p.gone ≡ false
     → Serves (record { core = h.core; session = place }) (calls.Leave false) answer new
     → ((seat : ℕ) (next : CopyKey) (heard : List Noted) (b : SeatedVisitor) → StandsForSomebody seat next heard (Some (with_nobody_there p)) (Some b) → HasLingered seat next heard b q)
     → (t : Scene) × LeavePlay k s place t [] × StandsFor k (with_visits h new.core place q h.entered) t

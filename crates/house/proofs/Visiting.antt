@@ -14,8 +14,8 @@ use Rattle.delivery_core.proofs.Follow.{get_or-any}
 use Rattle.house.specs.Setup.{Setup, session_seat}
 use Rattle.imap_session.specs.Exchange.{Answer, Sent, Standing}
 use Rattle.imap_session.specs.Exchange as calls
-use Rattle.session_store.specs.declared.desk.Desk.{Desk}
-use Rattle.session_store.specs.Desk.{Serves}
+use Rattle.session_store.specs.declared.core_store.CoreStore.{CoreStore}
+use Rattle.session_store.specs.CoreStore.{Serves}
 use Rattle.session_store.specs.Meets.{Meets}
 use Rattle.session_store.proofs.Served.{IsServing, carries}
 use Rattle.shard_queue.specs.At.{set_at}
@@ -40,13 +40,13 @@ delivery_then a b c p q = record { lanes = q.lanes ∙ p.lanes; hands = q.hands 
 
 -- ---- one that talks
 
--- the session went on over the desk, and so it did in the world
-record Went (k : Setup) (whole : Bool) (place number : ℕ) (heard : List Noted) (b after : SeatedVisitor) (w : World) (desk : Desk) (printed : List ℕ) : Type 0 where
+-- the session went on over the store, and so it did in the world
+record Went (k : Setup) (whole : Bool) (place number : ℕ) (heard : List Noted) (b after : SeatedVisitor) (w : World) (store : CoreStore) (printed : List ℕ) : Type 0 where
   pub mid : World
   pub speaks : Speaks (Meets k.config place) whole (session_seat k place) number heard b w mid after printed
-  pub serving : IsServing k.config place desk mid
+  pub serving : IsServing k.config place store mid
 
-went : (k : Setup) (whole : Bool) (place number : ℕ) (heard : List Noted) (b after : SeatedVisitor) (old new : Desk) (printed : List ℕ) (w : World) → Speaks Serves whole (session_seat k place) number heard b old new after printed → old.session ≡ place
+went : (k : Setup) (whole : Bool) (place number : ℕ) (heard : List Noted) (b after : SeatedVisitor) (old new : CoreStore) (printed : List ℕ) (w : World) → Speaks Serves whole (session_seat k place) number heard b old new after printed → old.session ≡ place
     → core.StandsFor k.config old.core w → Went k whole place number heard b after w new printed
 went k whole place number heard b after old new printed w s at stands =
     let c = speaks_carried Serves (λ w call answer v. Meets k.config place w call answer v) (IsServing k.config place) (carries k.config place) whole (session_seat k place) number heard b old new after printed w s (record { session = at; stands = stands }) in
@@ -57,7 +57,7 @@ ended_is : (seat : ℕ) (next : CopyKey) (heard : List Noted) (p : SeatedSession
 ended_is seat next heard p v s live = ap (λ (x : Standing). x.ended) (s.place live).connection.session
 
 -- it remains at its place
-pub talked : (k : Setup) (whole : Bool) (number : ℕ) (next : CopyKey) (heard : List Noted) (b : SeatedVisitor) (old new : Desk) (w : World) (p : SeatedSession) (before after : List ℕ) → 0 < number → old.session ≡ number - 1 → core.StandsFor k.config old.core w
+pub talked : (k : Setup) (whole : Bool) (number : ℕ) (next : CopyKey) (heard : List Noted) (b : SeatedVisitor) (old new : CoreStore) (w : World) (p : SeatedSession) (before after : List ℕ) → 0 < number → old.session ≡ number - 1 → core.StandsFor k.config old.core w
     → WentOn Serves whole (session_seat k (number - 1)) number next heard b old new before after p → p.gone ≡ false → (whole ≡ true → p.place.link.session.ended ≡ false)
     → PlaceTalked k whole (number - 1) next heard w b (Some p) new.core before after
 talked k whole number next heard b old new w p before after some at stands o there live =
@@ -80,7 +80,7 @@ talked k whole number next heard b old new w p before after some at stands o the
     }
 
 -- it has parted, and left its mailbox
-pub parted : (k : Setup) (number : ℕ) (next : CopyKey) (heard : List Noted) (b : SeatedVisitor) (old mid new : Desk) (answer : Answer) (w : World) (p : SeatedSession) (before after : List ℕ) → 0 < number → old.session ≡ number - 1 → core.StandsFor k.config old.core w
+pub parted : (k : Setup) (number : ℕ) (next : CopyKey) (heard : List Noted) (b : SeatedVisitor) (old mid new : CoreStore) (answer : Answer) (w : World) (p : SeatedSession) (before after : List ℕ) → 0 < number → old.session ≡ number - 1 → core.StandsFor k.config old.core w
     → WentOn Serves true (session_seat k (number - 1)) number next heard b old mid before after p → p.gone ≡ false → p.place.link.session.ended ≡ true → Serves mid (calls.Leave false) answer new
     → PlaceTalked k true (number - 1) next heard w b None new.core before after
 parted k number next heard b old mid new answer w p before after some at stands o there over leaves =

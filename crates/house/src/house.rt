@@ -30,7 +30,7 @@ use envelope::Directory;
 use house_connection::HouseConnection;
 use house_session::SeatedSession;
 use lmtp_machine::{Limits, What};
-use session_store::Desk;
+use session_store::CoreStore;
 use std::alloc::{AllocError, Global};
 use std::marker::Model;
 use submission::NextCopy;
@@ -38,7 +38,7 @@ use submission::NextCopy;
 /// A house on one thread.
 #[derive(Drop)]
 pub struct House {
-    pub(crate) desk: Desk,
+    pub(crate) store: CoreStore,
     pub(crate) callers: Vec<Option<HouseConnection>>,
     pub(crate) serials: Vec<u64>,
     pub(crate) visitors: Vec<Option<SeatedSession>>,
@@ -55,7 +55,7 @@ impl Model for House {
     ghost Value = { House };
 
     ghost view = { λ h. record {
-      core = h.desk.core;
+      core = h.store.core;
       callers = h.callers.items;
       serials = h.serials.items;
       visitors = h.visitors.items;
@@ -299,7 +299,7 @@ impl House {
         ensures refused { result ≢ Err HouseFault.NoMemory → OnErr result ((self.new ≡ self.old) × (out.new.items ≡ out.old.items)) }
     {
         let seat = index_of(connection);
-        let why = match put_next(&mut self.desk.core, &self.callers[seat]) {
+        let why = match put_next(&mut self.store.core, &self.callers[seat]) {
             Ok(why) => why,
             Err(fault) => return Err(fault),
         };
@@ -329,7 +329,7 @@ impl House {
         if self.callers[seat].is_none() {
             return Err(HouseFault::Nobody);
         }
-        let noted = match self.desk.core.hear(connection - 1) {
+        let noted = match self.store.core.hear(connection - 1) {
             Ok(noted) => noted,
             Err(HearFault::NoMemory) => return Err(HouseFault::NoMemory),
             Err(HearFault::Nothing) => return Err(HouseFault::Nothing),
@@ -354,7 +354,7 @@ impl House {
         ensures only { IfErr result (λ e. (e ≡ HouseFault.Nobody) ⊎ (e ≡ HouseFault.Nothing)) }
         ensures refused { OnErr result (self.new ≡ self.old) }
     {
-        if let Err(fault) = self.desk.core.take(shard) {
+        if let Err(fault) = self.store.core.take(shard) {
             return Err(fault_of(fault));
         }
         Ok(())
@@ -371,7 +371,7 @@ impl House {
         ensures only { IfErr result (λ e. (e ≡ HouseFault.Nobody) ⊎ (e ≡ HouseFault.Nothing)) }
         ensures refused { OnErr result (self.new ≡ self.old) }
     {
-        if let Err(fault) = self.desk.core.deliver(shard) {
+        if let Err(fault) = self.store.core.deliver(shard) {
             return Err(fault_of(fault));
         }
         Ok(())
@@ -388,7 +388,7 @@ impl House {
         ensures only { IfErr result (λ e. (e ≡ HouseFault.Nobody) ⊎ (e ≡ HouseFault.Nothing)) }
         ensures refused { OnErr result (self.new ≡ self.old) }
     {
-        if let Err(fault) = self.desk.core.answer(shard) {
+        if let Err(fault) = self.store.core.answer(shard) {
             return Err(fault_of(fault));
         }
         Ok(())
@@ -494,7 +494,7 @@ impl House {
         let number = usize::from(number);
         number == 0
             || number > self.callers.len() + self.visitors.len()
-            || number > self.desk.core.seats()
+            || number > self.store.core.seats()
     }
 
     // A shard is marked as shut, where it wasn't.
@@ -532,10 +532,10 @@ impl House {
         if self.has_no_number(number) {
             return Err(HouseFault::Nobody);
         }
-        if usize::from(shard) >= self.desk.core.shards() {
+        if usize::from(shard) >= self.store.core.shards() {
             return Err(HouseFault::Nobody);
         }
-        match self.desk.core.end(number - 1, shard) {
+        match self.store.core.end(number - 1, shard) {
             Ok(()) => {}
             Err(Fault::Nothing) => return Err(HouseFault::Nothing),
             Err(Fault::Nobody) => return Err(HouseFault::Nobody),

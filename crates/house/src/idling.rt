@@ -23,7 +23,7 @@ use crate::printing::take_turn;
 use delivery_core::DeliveryCore;
 use house_session::SeatedSession;
 use imap_session::Store;
-use session_store::Desk;
+use session_store::CoreStore;
 use std::alloc::AllocError;
 
 // Whether the session at a place, counted from 0, has something to do in a turn: its client is there, it idles in a mailbox and wasn't shown all of its log.
@@ -47,29 +47,29 @@ fn has_turn(visitor: &SeatedSession, place: u8, core: &DeliveryCore) -> bool
 fn turn_at(
     place: &mut Option<SeatedSession>,
     number: u8,
-    desk: &mut Desk,
+    store: &mut CoreStore,
     out: &mut Vec<u8>,
 ) -> Result<(), AllocError>
     requires counted { 0 < number }
-    requires idles { IfSome place.old (λ p. MayIdle p (number - 1) desk.old.core) }
+    requires idles { IfSome place.old (λ p. MayIdle p (number - 1) store.old.core) }
     ensures ok { OnOk result ((k : Setup) (next : CopyKey) (heard : List Noted) (w : World) (b : spec.SeatedVisitor) →
-        core.StandsFor k.config desk.old.core w → StandsForSomebody (session_seat k (number - 1)) next heard place.old (Some b) →
-        PlaceIdled k true (number - 1) next heard w b desk.old.core place.new desk.new.core out.old.items out.new.items) }
+        core.StandsFor k.config store.old.core w → StandsForSomebody (session_seat k (number - 1)) next heard place.old (Some b) →
+        PlaceIdled k true (number - 1) next heard w b store.old.core place.new store.new.core out.old.items out.new.items) }
     ensures less { OnOk result (IfSome place.old (λ p.
-        turns_left place.new (behind desk.new.core (number - 1)) < turns_left (Some p) (behind desk.old.core (number - 1)))) }
+        turns_left place.new (behind store.new.core (number - 1)) < turns_left (Some p) (behind store.old.core (number - 1)))) }
     ensures err { OnErr result ((k : Setup) (next : CopyKey) (heard : List Noted) (w : World) (b : spec.SeatedVisitor) →
-        core.StandsFor k.config desk.old.core w → StandsForSomebody (session_seat k (number - 1)) next heard place.old (Some b) →
-        PlaceIdledInPart k (number - 1) next heard w b desk.old.core place.new desk.new.core out.old.items out.new.items) }
+        core.StandsFor k.config store.old.core w → StandsForSomebody (session_seat k (number - 1)) next heard place.old (Some b) →
+        PlaceIdledInPart k (number - 1) next heard w b store.old.core place.new store.new.core out.old.items out.new.items) }
 {
     let Some(visitor) = place else {
         return Ok(());
     };
-    desk.session = number - 1;
-    let Ok(_shown) = take_turn(visitor, number, desk, out) else {
+    store.session = number - 1;
+    let Ok(_shown) = take_turn(visitor, number, store, out) else {
         return Err(AllocError);
     };
     if visitor.has_ended() {
-        let _ = desk.leave(false);
+        let _ = store.leave(false);
         *place = None;
     }
     Ok(())
@@ -97,10 +97,10 @@ impl House {
         if visitor.is_gone() {
             return Err(HouseFault::Busy);
         }
-        if !has_turn(visitor, session - 1, &self.desk.core) {
+        if !has_turn(visitor, session - 1, &self.store.core) {
             return Err(HouseFault::Nothing);
         }
-        let Ok(()) = turn_at(place, session, &mut self.desk, out) else {
+        let Ok(()) = turn_at(place, session, &mut self.store, out) else {
             return Err(HouseFault::NoMemory);
         };
         Ok(())

@@ -17,7 +17,7 @@ use envelope::{Directory, is_name};
 use house_connection::HouseConnection;
 use house_session::SeatedSession;
 use mailbox::Limits;
-use session_store::Desk;
+use session_store::CoreStore;
 use std::alloc::{AllocError, Global};
 
 /// So many connections may stand at a time. Their seats come first.
@@ -195,7 +195,7 @@ impl House {
             },
         };
         Ok(House {
-            desk: Desk {
+            store: CoreStore {
                 core: DeliveryCore::new(alloc, settings)?,
                 session: 0,
             },

@@ -15,7 +15,7 @@ ghost use Rattle.house_session.specs.HouseSession.{HadTurn, with_all_said};
 ghost use Rattle.house_session.specs.SeatedSession.{StandsForSeated, seat_effort, with_place};
 ghost use Rattle.house_session.specs.SeatedVisitor as session;
 ghost use Rattle.delivery_core.specs.Changes.{SameDelivery};
-ghost use Rattle.session_store.specs.Desk.{Serves};
+ghost use Rattle.session_store.specs.CoreStore.{Serves};
 ghost use Rattle.house.specs.Printing.{of_connection, of_session};
 ghost use Rattle.house.specs.inner.Printing.{Idled, IdledInPart, WentOn};
 ghost use Rattle.house.specs.inner.Steps.{ConnectionWent, IsOf};
@@ -25,7 +25,7 @@ use house_connection::HouseConnection;
 use house_session::SeatedSession;
 use line_io::append_marked;
 use lmtp_machine::What;
-use session_store::Desk;
+use session_store::CoreStore;
 use std::alloc::{AllocError, Global};
 
 // Prints each line of the words, with a mark and a number before it. Where there are none no memory is asked for.
@@ -109,21 +109,21 @@ pub(crate) fn go_on(
     visitor: &mut SeatedSession,
     alloc: Global,
     number: u8,
-    desk: &mut Desk,
+    store: &mut CoreStore,
     out: &mut Vec<u8>,
 ) -> Result<(), AllocError>
     requires there { visitor.old.gone ≡ false }
     ensures less { seat_effort visitor.new ≤ seat_effort visitor.old }
-    ensures delivery { SameDelivery desk.old.core desk.new.core }
+    ensures delivery { SameDelivery store.old.core store.new.core }
     ensures gone { visitor.new.gone ≡ false }
     ensures ok { OnOk result ((seat : ℕ) (next : CopyKey) (heard : List Noted) (v : session.SeatedVisitor) →
         StandsForSeated seat next heard visitor.old v
-        → WentOn Serves true seat number next heard v desk.old desk.new out.old.items out.new.items visitor.new) }
+        → WentOn Serves true seat number next heard v store.old store.new out.old.items out.new.items visitor.new) }
     ensures err { OnErr result ((seat : ℕ) (next : CopyKey) (heard : List Noted) (v : session.SeatedVisitor) →
         StandsForSeated seat next heard visitor.old v
-        → WentOn Serves false seat number next heard v desk.old desk.new out.old.items out.new.items visitor.new) }
+        → WentOn Serves false seat number next heard v store.old store.new out.old.items out.new.items visitor.new) }
 {
-    let Ok(()) = visitor.proceed(alloc, desk) else {
+    let Ok(()) = visitor.proceed(alloc, store) else {
         let _ = print_session(visitor, number, out);
         return Err(AllocError);
     };
@@ -137,20 +137,20 @@ pub(crate) fn go_on(
 pub(crate) fn take_turn(
     visitor: &mut SeatedSession,
     number: u8,
-    desk: &mut Desk,
+    store: &mut CoreStore,
     out: &mut Vec<u8>,
 ) -> Result<usize, AllocError>
     requires there { visitor.old.gone ≡ false }
     ensures gone { visitor.new.gone ≡ false }
     ensures ok { IfOk result (λ count. (seat : ℕ) (next : CopyKey) (heard : List Noted) (v : session.SeatedVisitor) →
         StandsForSeated seat next heard visitor.old v
-        → Idled Serves true seat number count next heard v desk.old desk.new out.old.items out.new.items visitor.new) }
-    ensures session { IfOk result (λ count. HadTurn Serves visitor.old.place desk.old desk.new count visitor.new.place) }
+        → Idled Serves true seat number count next heard v store.old store.new out.old.items out.new.items visitor.new) }
+    ensures session { IfOk result (λ count. HadTurn Serves visitor.old.place store.old store.new count visitor.new.place) }
     ensures err { OnErr result ((seat : ℕ) (next : CopyKey) (heard : List Noted) (v : session.SeatedVisitor) →
         StandsForSeated seat next heard visitor.old v
-        → IdledInPart Serves seat number next heard v desk.old desk.new out.old.items out.new.items visitor.new) }
+        → IdledInPart Serves seat number next heard v store.old store.new out.old.items out.new.items visitor.new) }
 {
-    let Ok(count) = visitor.idle_turn(desk) else {
+    let Ok(count) = visitor.idle_turn(store) else {
         return Err(AllocError);
     };
     let Ok(()) = print_session(visitor, number, out) else {

@@ -27,7 +27,7 @@ use delivery_core::{DeliveryCore, HearFault};
 use delivery_token::{Noted, Refusal, Verdict};
 use house_session::{SeatedSession, folders_of, has_user};
 use imap_session::{Folder, Store};
-use session_store::Desk;
+use session_store::CoreStore;
 use std::alloc::{AllocError, Global};
 
 // Whether a session is at a place whose client is gone.
@@ -45,29 +45,29 @@ fn visitor_talks(
     place: &mut Option<SeatedSession>,
     alloc: Global,
     number: u8,
-    desk: &mut Desk,
+    store: &mut CoreStore,
     out: &mut Vec<u8>,
 ) -> Result<(), AllocError>
     requires counted { 0 < number }
     requires there { is_left place.old ≡ false }
     ensures less { visit_effort place.new ≤ visit_effort place.old }
-    ensures delivery { SameDelivery desk.old.core desk.new.core }
+    ensures delivery { SameDelivery store.old.core store.new.core }
     ensures ok { OnOk result ((k : Setup) (next : CopyKey) (heard : List NotedSpec) (w : World) (b : spec.SeatedVisitor) →
-        core.StandsFor k.config desk.old.core w → StandsForSomebody (session_seat k (number - 1)) next heard place.old (Some b) →
-        PlaceTalked k true (number - 1) next heard w b place.new desk.new.core out.old.items out.new.items) }
+        core.StandsFor k.config store.old.core w → StandsForSomebody (session_seat k (number - 1)) next heard place.old (Some b) →
+        PlaceTalked k true (number - 1) next heard w b place.new store.new.core out.old.items out.new.items) }
     ensures err { OnErr result ((k : Setup) (next : CopyKey) (heard : List NotedSpec) (w : World) (b : spec.SeatedVisitor) →
-        core.StandsFor k.config desk.old.core w → StandsForSomebody (session_seat k (number - 1)) next heard place.old (Some b) →
-        PlaceTalked k false (number - 1) next heard w b place.new desk.new.core out.old.items out.new.items) }
+        core.StandsFor k.config store.old.core w → StandsForSomebody (session_seat k (number - 1)) next heard place.old (Some b) →
+        PlaceTalked k false (number - 1) next heard w b place.new store.new.core out.old.items out.new.items) }
 {
     let Some(visitor) = place else {
         return Ok(());
     };
-    desk.session = number - 1;
-    let Ok(()) = go_on(visitor, alloc, number, desk, out) else {
+    store.session = number - 1;
+    let Ok(()) = go_on(visitor, alloc, number, store, out) else {
         return Err(AllocError);
     };
     if visitor.has_ended() {
-        let _ = desk.leave(false);
+        let _ = store.leave(false);
         *place = None;
     }
     Ok(())
@@ -92,24 +92,24 @@ fn visitor_goes_on(
     place: &mut Option<SeatedSession>,
     alloc: Global,
     number: u8,
-    desk: &mut Desk,
+    store: &mut CoreStore,
     out: &mut Vec<u8>,
 ) -> Result<(), AllocError>
     requires counted { 0 < number }
     ensures less { visit_effort place.new ≤ visit_effort place.old }
-    ensures delivery { SameDelivery desk.old.core desk.new.core }
+    ensures delivery { SameDelivery store.old.core store.new.core }
     ensures ok { OnOk result ((k : Setup) (next : CopyKey) (heard : List NotedSpec) (w : World) (b : spec.SeatedVisitor) →
-        core.StandsFor k.config desk.old.core w → StandsForSomebody (session_seat k (number - 1)) next heard place.old (Some b) →
-        PlaceVisited k true (number - 1) next heard w b place.new desk.new.core out.old.items out.new.items) }
+        core.StandsFor k.config store.old.core w → StandsForSomebody (session_seat k (number - 1)) next heard place.old (Some b) →
+        PlaceVisited k true (number - 1) next heard w b place.new store.new.core out.old.items out.new.items) }
     ensures err { OnErr result ((k : Setup) (next : CopyKey) (heard : List NotedSpec) (w : World) (b : spec.SeatedVisitor) →
-        core.StandsFor k.config desk.old.core w → StandsForSomebody (session_seat k (number - 1)) next heard place.old (Some b) →
-        PlaceVisited k false (number - 1) next heard w b place.new desk.new.core out.old.items out.new.items) }
+        core.StandsFor k.config store.old.core w → StandsForSomebody (session_seat k (number - 1)) next heard place.old (Some b) →
+        PlaceVisited k false (number - 1) next heard w b place.new store.new.core out.old.items out.new.items) }
 {
     if is_left(place) {
         visitor_lingers(place);
         return Ok(());
     }
-    visitor_talks(place, alloc, number, desk, out)
+    visitor_talks(place, alloc, number, store, out)
 }
 
 // A session that was just let in to a seat, with these of the user's mailboxes.
@@ -227,7 +227,7 @@ impl House {
         self.entered[place] = serial + 1;
         let here = &mut self.visitors[place];
         *here = Some(visitor);
-        let Ok(()) = visitor_talks(here, alloc, session, &mut self.desk, out) else {
+        let Ok(()) = visitor_talks(here, alloc, session, &mut self.store, out) else {
             return Err(HouseFault::NoMemory);
         };
         Ok(())
@@ -273,7 +273,7 @@ impl House {
             return Err(HouseFault::NoMemory);
         };
         let alloc = *self.host.allocator();
-        let Ok(()) = visitor_talks(place, alloc, session, &mut self.desk, out) else {
+        let Ok(()) = visitor_talks(place, alloc, session, &mut self.store, out) else {
             return Err(HouseFault::NoMemory);
         };
         Ok(())
@@ -312,8 +312,8 @@ impl House {
         requires there { IsTalking self.old session }
         ensures { (k : Setup) (s : scene.Scene) (old : List ℕ) → StandsFor k self.old s → Led k true s (events.Leave session) self.new old old }
     {
-        self.desk.session = session - 1;
-        let _ = self.desk.leave(false);
+        self.store.session = session - 1;
+        let _ = self.store.leave(false);
         let place = &mut self.visitors[index_of(session)];
         visitor_vanishes(place);
         visitor_lingers(place);
@@ -357,14 +357,14 @@ impl House {
     {
         let session = number - self.callers.len() as u8;
         let place = index_of(session);
-        let why = match put_next(&mut self.desk.core, &self.visitors[place]) {
+        let why = match put_next(&mut self.store.core, &self.visitors[place]) {
             Ok(why) => why,
             Err(fault) => return Err(fault),
         };
         let here = &mut self.visitors[place];
         visitor_notes_put(here, why);
         let alloc = *self.host.allocator();
-        let Ok(()) = visitor_goes_on(here, alloc, session, &mut self.desk, out) else {
+        let Ok(()) = visitor_goes_on(here, alloc, session, &mut self.store, out) else {
             return Err(HouseFault::NoMemory);
         };
         Ok(())
@@ -393,7 +393,7 @@ impl House {
         if self.visitors[place].is_none() {
             return Err(HouseFault::Nobody);
         }
-        let noted = match self.desk.core.hear(number - 1) {
+        let noted = match self.store.core.hear(number - 1) {
             Ok(noted) => noted,
             Err(HearFault::NoMemory) => return Err(HouseFault::NoMemory),
             Err(HearFault::Nothing) => return Err(HouseFault::Nothing),
@@ -402,7 +402,7 @@ impl House {
         let here = &mut self.visitors[place];
         visitor_hears(here, &noted);
         let alloc = *self.host.allocator();
-        let Ok(()) = visitor_goes_on(here, alloc, session, &mut self.desk, out) else {
+        let Ok(()) = visitor_goes_on(here, alloc, session, &mut self.store, out) else {
             return Err(HouseFault::NoMemory);
         };
         Ok(())

@@ -148,7 +148,7 @@ impl House {
         let Some(mailbox) = self.directory.number_of(word) else {
             return Err(HouseFault::Nobody);
         };
-        let Some((base, first, second)) = self.desk.core.tail(mailbox) else {
+        let Some((base, first, second)) = self.store.core.tail(mailbox) else {
             return Err(HouseFault::Nothing);
         };
         let Ok(()) = print_tail(word, base, first, second, out) else {

@@ -16,7 +16,7 @@ use Rattle.lane_work.specs.declared.desk.Desk.{Desk}
 use Rattle.lane_work.specs.declared.desk.Office.{Office}
 use Rattle.lane_work.proofs.ServedLaws.{accounted_of}
 use Rattle.session_thread.specs.Life.{Lives, greeted_at}
-use Rattle.session_thread.specs.Locks.{LockedDesk}
+use Rattle.session_thread.specs.Locks.{LockedStore}
 use Rattle.shard_queue.specs.Reply.{received}
 use Rattle.lane_work.specs.Permits.{put_by}
 use Rattle.shard_queue.specs.Shared.{IsStartOf}
@@ -33,7 +33,7 @@ same_books office now desk seat serial notes carried there own first books =
     (subst (λ (n : ℕ). AreBooksOf now.directory (rooms_of now.lanes.items) n (map (judged_of n 0) carried) (notes_tell notes) (received desk.receiver) (map put_by desk.permits.items)) own
     (subst (λ (s : ℕ). AreBooksOf now.directory (rooms_of now.lanes.items) desk.number (map (judged_of desk.number s) carried) (notes_tell notes) (received desk.receiver) (map put_by desk.permits.items)) first books))
 
-pub session_account : (floor : Floor) (now : Office) (desk : Desk) (seat serial : ℕ) (visit : Visit) (user : List ℕ) (selection : LockedDesk) (carried : List Carried) (text : List ℕ) (replies : List (List ℕ)) (notes kept : List Noted)
+pub session_account : (floor : Floor) (now : Office) (desk : Desk) (seat serial : ℕ) (visit : Visit) (user : List ℕ) (selection : LockedStore) (carried : List Carried) (text : List ℕ) (replies : List (List ℕ)) (notes kept : List Noted)
     (hears : List (Entry Noted)) (after : List (List (Entry Job)))
     → now ≡ floor.office → desk.number ≡ seat → serial ≡ 0 → kept ≡ notes
     → user_numbered visit.user floor.office.directory.homes ≡ Some user → selection ≡ record { mailboxes = length floor.depot.mailboxes.items; entered = None }
@@ -47,7 +47,7 @@ session_account floor now desk seat serial visit user selection carried text rep
     user = user;
     named = named;
     last = lived.last;
-    lives = subst (λ (p : LockedDesk). Lives floor.turns (greeted_at (Some (most_of floor.office.max_message)) (folders_of floor.office.directory user) p greeting) visit.steps.items carried lived.last) outside lived.lives;
+    lives = subst (λ (p : LockedStore). Lives floor.turns (greeted_at (Some (most_of floor.office.max_message)) (folders_of floor.office.directory user) p greeting) visit.steps.items carried lived.last) outside lived.lives;
     wrote = lived.wrote;
   };
   alone = one;

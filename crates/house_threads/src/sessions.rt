@@ -18,7 +18,7 @@ use house_floor::{Floor, Post, Visit, inbox_numbered};
 use house_session::folders_of;
 use lane_work::{Fate, LaneCourier, Worked, finish};
 use pace::Gate;
-use session_thread::{LockedDesk, live};
+use session_thread::{LockedStore, live};
 use shard_queue::ReplyChannel;
 use std::sync::Wait;
 
@@ -40,7 +40,7 @@ fn live_through<R: Wait, G: Gate>(
     floor: &Floor,
     user: &[u8],
     visit: &Visit,
-    locked: &mut LockedDesk<'_, R, G>,
+    locked: &mut LockedStore<'_, R, G>,
     courier: &mut LaneCourier<'_, R, Vec<Unparker>, WorkerLog>,
     replies: &mut Vec<Vec<u8>>,
 ) -> Fate
@@ -106,7 +106,7 @@ pub(crate) fn attend<R: Wait, G: Gate>(
     let Post { desk, room } = post;
     let mailboxes = &floor.depot.mailboxes;
     let bells = &floor.depot.sessions[usize::from(inbox)];
-    let mut locked = LockedDesk::new(rt, gate, session, mailboxes, bells);
+    let mut locked = LockedStore::new(rt, gate, session, mailboxes, bells);
     let mut courier = LaneCourier {
         rt,
         office: &floor.office,

@@ -4,7 +4,7 @@ use Rattle.imap_session.specs.Exchange.{Standing, is_idling}
 use Rattle.imap_session.specs.Store.{IdleTurns}
 use Rattle.imap_connection.specs.Dialogue as dialogue
 use Rattle.imap_connection.specs.Dialogue.{Dialogue, ImapConnection, StandsFor}
-use Rattle.session_thread.specs.Locks.{Holds, LockedDesk}
+use Rattle.session_thread.specs.Locks.{Holds, LockedStore}
 use Rattle.session_thread.specs.Life.{IsShort, Moment, moment}
 use Rattle.courier.specs.Carried.{Carried}
 use Rattle.courier.specs.declared.Lost.TheVariants as lost
@@ -18,7 +18,7 @@ idle_of d was s idles = subst (λ (x : Standing). is_idling x ≡ true) s.sessio
 pub awake_of : (d : Dialogue) (was : ImapConnection) → StandsFor was d → is_idling was.session ≡ false → is_idling d.standing ≡ false
 awake_of d was s idles = subst (λ (x : Standing). is_idling x ≡ false) s.session idles
 
-pub has_shown : (count : ℕ) (d : Dialogue) (old new : LockedDesk) (before middle after : List ℕ) (was link : ImapConnection) → StandsFor was d → is_idling was.session ≡ true → middle ≡ before → dialogue.Turns Holds d old new middle after count link
+pub has_shown : (count : ℕ) (d : Dialogue) (old new : LockedStore) (before middle after : List ℕ) (was link : ImapConnection) → StandsFor was d → is_idling was.session ≡ true → middle ≡ before → dialogue.Turns Holds d old new middle after count link
     → (next : Dialogue) × StandsFor link next × HasShown count (moment d old before) (moment next new after)
 has_shown count d old new before middle after was link s idles kept t = (
   record { standing = t.next; begun = d.begun },
@@ -36,7 +36,7 @@ has_shown count d old new before middle after was link s idles kept t = (
   ),
 )
 
-pub shows_in_part : (room : ℕ) (first : Moment) (d : Dialogue) (old new : LockedDesk) (before after : List ℕ) (was : ImapConnection) → StandsFor was d → is_idling was.session ≡ true → GoesOnShowing first (moment d old before)
+pub shows_in_part : (room : ℕ) (first : Moment) (d : Dialogue) (old new : LockedStore) (before after : List ℕ) (was : ImapConnection) → StandsFor was d → is_idling was.session ≡ true → GoesOnShowing first (moment d old before)
     → moment d new after ≡ moment d old before → IsShort room (moment d new after) → ShowsInPart room first (moment d new after)
 shows_in_part room first d old new before after was s idles showed same short = record {
   showed = subst (λ (m : Moment). GoesOnShowing first m) (sym same) showed;
@@ -49,7 +49,7 @@ shows_all count first now last showed had none = nothing_left now showed (subst 
 
 -- ---- turns behind a piece
 
-pub heard : (piece : List ℕ) (carried : List Carried) (old middle new : LockedDesk) (before between after : List ℕ) (was link last : ImapConnection)
+pub heard : (piece : List ℕ) (carried : List Carried) (old middle new : LockedStore) (before between after : List ℕ) (was link last : ImapConnection)
     → ((d : Dialogue) → StandsFor was d → (next : Dialogue) × StandsFor link next × Says piece carried (moment d old before) (moment next middle between))
     → ((d : Dialogue) → StandsFor link d → (next : Dialogue) × StandsFor last next × ShowsAll (moment d middle between) (moment next new after))
     → (d : Dialogue) → StandsFor was d → (next : Dialogue) × StandsFor last next × Hears piece carried (moment d old before) (moment next new after)
@@ -57,7 +57,7 @@ heard piece carried old middle new before between after was link last said shown
     let t = said d s in
     let n = shown t.0 t.1 in (n.0, n.1, record { between = moment t.0 middle between; says = t.2; shows = n.2 })
 
-pub heard_in_part : (room : ℕ) (piece : List ℕ) (carried : List Carried) (old middle new : LockedDesk) (before between after : List ℕ) (was link last : ImapConnection)
+pub heard_in_part : (room : ℕ) (piece : List ℕ) (carried : List Carried) (old middle new : LockedStore) (before between after : List ℕ) (was link last : ImapConnection)
     → ((d : Dialogue) → StandsFor was d → (next : Dialogue) × StandsFor link next × Says piece carried (moment d old before) (moment next middle between))
     → ((d : Dialogue) → StandsFor link d → (next : Dialogue) × StandsFor last next × ShowsInPart room (moment d middle between) (moment next new after))
     → (d : Dialogue) → StandsFor was d → (next : Dialogue) × StandsFor last next × HearsInPart room piece lost.NoMemory (moment d old before) (moment next new after)

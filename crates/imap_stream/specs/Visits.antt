@@ -6,7 +6,7 @@ use Rattle.imap_session.specs.declared.standing.After.TheVariants.{Bye}
 use Rattle.imap_session.specs.Exchange.{Folder, bye, is_idling, may_send, nothing_sent}
 use Rattle.imap_session.specs.Commands.{greeting}
 use Rattle.imap_connection.specs.Dialogue.{Dialogue, ImapConnection, StandsFor, may_follow}
-use Rattle.session_thread.specs.Locks.{LockedDesk}
+use Rattle.session_thread.specs.Locks.{LockedStore}
 use Rattle.session_thread.specs.Life.{HasTurn, IsShort, Moment, Says, SaysInPart, moment}
 use Rattle.courier.specs.Carried.{Carried}
 use Rattle.courier.specs.declared.Lost.{Lost}
@@ -15,7 +15,7 @@ use Rattle.courier.specs.declared.Lost.TheVariants as lost
 -- What is known of a visit. Between two calls nothing that was said is left unsent.
 pub record Visit : Type 0 where
   pub link : ImapConnection
-  pub selection : LockedDesk
+  pub selection : LockedStore
   -- the bytes that its output took, where that tells them
   pub taken : Option (List ℕ)
   -- the output failed
@@ -102,9 +102,9 @@ pub record Tells (P : Moment → Moment → Type 0) (Sends : Visit → List ℕ 
 -- ---- the first and the last words
 
 -- The client was greeted (RFC 9051, 7.1.4), and nothing else was done: its session is in no mailbox, it takes messages of at most so many bytes, or none, and its line has not begun.
-pub record IsGreeted (most : Option ℕ) (folders : List Folder) (selection : LockedDesk) (taken : Option (List ℕ)) (visit : Visit) : Type 0 where
+pub record IsGreeted (most : Option ℕ) (folders : List Folder) (selection : LockedStore) (taken : Option (List ℕ)) (visit : Visit) : Type 0 where
   pub stands : StandsFor visit.link (record { standing = record { folders = folders; selected = None; idling = None; ended = false; mailing = nothing_sent most }; begun = [] })
-  pub desk : visit.selection ≡ selection
+  pub store : visit.selection ≡ selection
   pub took : Appends taken visit.taken greeting
   pub live : visit.failed ≡ false
   pub goes_on : visit.closed ≡ false

@@ -12,7 +12,7 @@ ghost use Rattle.imap_stream.specs.Visits.{HasShown, Hears, HearsInPart, ShowsAl
 use courier::{Courier, Lost};
 use imap_connection::ImapConnection;
 use pace::Gate;
-use session_thread::{LockedDesk, answer};
+use session_thread::{LockedStore, answer};
 use std::alloc::{AllocError, Global};
 use std::sync::Wait;
 use std::sync::atomic::{AtomicBool, Ordering};
@@ -23,17 +23,17 @@ const TURN_ROOM: usize = 48;
 // The session has a turn while it idles: how many changes were shown.
 fn turn<R: Wait, G: Gate>(
     connection: &mut ImapConnection,
-    desk: &mut LockedDesk<'_, R, G>,
+    store: &mut LockedStore<'_, R, G>,
     out: &mut Vec<u8>,
 ) -> Result<usize, AllocError>
     requires { is_idling connection.old.session ≡ true }
     ensures ok { IfOk result (λ count. (d : Dialogue) → StandsFor connection.old d → (next : Dialogue) × StandsFor connection.new next
-        × HasShown count (moment d desk.old out.old.items) (moment next desk.new out.new.items)) }
+        × HasShown count (moment d store.old out.old.items) (moment next store.new out.new.items)) }
     ensures err { OnErr result ((d : Dialogue) → StandsFor connection.old d → StandsFor connection.new d
-        × (moment d desk.new out.new.items ≡ moment d desk.old out.old.items) × IsShort (vec_capacity out.new) (moment d desk.new out.new.items)) }
+        × (moment d store.new out.new.items ≡ moment d store.old out.old.items) × IsShort (vec_capacity out.new) (moment d store.new out.new.items)) }
 {
     out.reserve(TURN_ROOM)?;
-    let Ok(shown) = connection.idle_turn(desk, out) else {
+    let Ok(shown) = connection.idle_turn(store, out) else {
         return Err(AllocError);
     };
     Ok(shown)
@@ -45,19 +45,19 @@ fn turn<R: Wait, G: Gate>(
 pub(crate) fn show_all<R: Wait, G: Gate>(
     rt: &R,
     connection: &mut ImapConnection,
-    desk: &mut LockedDesk<'_, R, G>,
+    store: &mut LockedStore<'_, R, G>,
     out: &mut Vec<u8>,
 ) -> Result<(), AllocError>
     ensures ok { OnOk result ((d : Dialogue) → StandsFor connection.old d → (next : Dialogue) × StandsFor connection.new next
-        × ShowsAll (moment d desk.old out.old.items) (moment next desk.new out.new.items)) }
+        × ShowsAll (moment d store.old out.old.items) (moment next store.new out.new.items)) }
     ensures err { OnErr result ((d : Dialogue) → StandsFor connection.old d → (next : Dialogue) × StandsFor connection.new next
-        × ShowsInPart (vec_capacity out.new) (moment d desk.old out.old.items) (moment next desk.new out.new.items)) }
+        × ShowsInPart (vec_capacity out.new) (moment d store.old out.old.items) (moment next store.new out.new.items)) }
 {
     for _turn in rt.forever() {
         if !connection.is_idling() {
             return Ok(());
         }
-        let Ok(shown) = turn(connection, desk, out) else {
+        let Ok(shown) = turn(connection, store, out) else {
             return Err(AllocError);
         };
         if shown == 0 {
@@ -77,7 +77,7 @@ pub(crate) fn answer_and_show<R: Wait, G: Gate, C: Courier>(
     rt: &R,
     alloc: Global,
     connection: &mut ImapConnection,
-    desk: &mut LockedDesk<'_, R, G>,
+    store: &mut LockedStore<'_, R, G>,
     courier: &mut C,
     piece: &[u8],
     idles: &AtomicBool,
@@ -91,16 +91,16 @@ pub(crate) fn answer_and_show<R: Wait, G: Gate, C: Courier>(
     ensures ok { OnOk result ((carried : List Carried) ×
         ((done : List Carried) → C.carried courier.old done → C.carried courier.new (done ++ carried))
         × ((d : Dialogue) → StandsFor connection.old d → (next : Dialogue) × StandsFor connection.new next
-        × Hears piece.now carried (moment d desk.old out.old.items) (moment next desk.new out.new.items))) }
+        × Hears piece.now carried (moment d store.old out.old.items) (moment next store.new out.new.items))) }
     ensures err { IfErr result (λ why. (d : Dialogue) → StandsFor connection.old d → (next : Dialogue) × StandsFor connection.new next
-        × HearsInPart (vec_capacity out.new) piece.now why (moment d desk.old out.old.items) (moment next desk.new out.new.items)) }
+        × HearsInPart (vec_capacity out.new) piece.now why (moment d store.old out.old.items) (moment next store.new out.new.items)) }
 {
-    let answered = answer(alloc, connection, desk, courier, piece, out);
+    let answered = answer(alloc, connection, store, courier, piece, out);
     idles.store(connection.is_idling(), Ordering::SeqCst);
     if let Err(why) = answered {
         return Err(why);
     }
-    match show_all(rt, connection, desk, out) {
+    match show_all(rt, connection, store, out) {
         Ok(()) => Ok(()),
         Err(_) => Err(Lost::NoMemory),
     }

@@ -18,7 +18,7 @@ use imap_connection::ImapConnection;
 use imap_session::{After, Folder, Store};
 use line_io::{Sink, send};
 use pace::Gate;
-use session_thread::{LockedDesk, takes_more};
+use session_thread::{LockedStore, takes_more};
 use std::alloc::Global;
 use std::marker::Model;
 use std::sync::Wait;
@@ -106,7 +106,7 @@ fn fault_of(why: Lost) -> VisitFault
 pub struct Visit<'a, R: Wait, G: Gate, W: Sink> {
     rt: &'a R,
     connection: ImapConnection,
-    desk: LockedDesk<'a, R, G>,
+    store: LockedStore<'a, R, G>,
     // What is written before it is sent.
     out: Vec<u8>,
     output: W,
@@ -122,7 +122,7 @@ impl<'a, R: Wait, G: Gate, W: Sink> Model for Visit<'a, R, G, W> {
 
     ghost view = { λ v. record {
       link = v.connection;
-      selection = v.desk;
+      selection = v.store;
       taken = W.taken v.output;
       failed = W.failed v.output;
       closed = v.is_closed;
@@ -133,7 +133,7 @@ impl<'a, R: Wait, G: Gate, W: Sink> Model for Visit<'a, R, G, W> {
 }
 
 impl<'a, R: Wait, G: Gate, W: Sink> Visit<'a, R, G, W> {
-    /// Opens the visit of a client, and greets it (RFC 9051, 7.1.4): the greeting was sent. `desk` is
+    /// Opens the visit of a client, and greets it (RFC 9051, 7.1.4): the greeting was sent. `store` is
     /// its session's, which is in no mailbox, `folders` are its user's mailboxes, its answers go to
     /// `output`, and it may append messages of at most `most` bytes, or none.
     ///
@@ -142,14 +142,14 @@ impl<'a, R: Wait, G: Gate, W: Sink> Visit<'a, R, G, W> {
     pub fn open(
         rt: &'a R,
         alloc: Global,
-        desk: LockedDesk<'a, R, G>,
+        store: LockedStore<'a, R, G>,
         folders: Vec<Folder>,
         most: Option<u32>,
         mut output: W,
     ) -> Result<Visit<'a, R, G, W>, (W, VisitFault)>
         requires live { W.failed output ≡ false }
-        requires outside { desk.entered ≡ None }
-        ensures ok { IfOk result (λ visit. IsGreeted most folders.items desk.entry (W.taken output) visit) }
+        requires outside { store.entered ≡ None }
+        ensures ok { IfOk result (λ visit. IsGreeted most folders.items store.entry (W.taken output) visit) }
         ensures untorn { IfErr result (λ stop. stop.1 ≢ VisitFault.Torn) }
         ensures short { IfErr result (λ stop. stop.1 ≡ VisitFault.NoMemory → stop.0 ≡ output) }
         ensures cut { IfErr result (λ stop. stop.1 ≡ VisitFault.Write →
@@ -160,7 +160,7 @@ impl<'a, R: Wait, G: Gate, W: Sink> Visit<'a, R, G, W> {
             Ok((connection, out)) => Ok(Visit {
                 rt,
                 connection,
-                desk,
+                store,
                 out,
                 output,
                 is_closed: false,
@@ -240,7 +240,7 @@ impl<'a, R: Wait, G: Gate, W: Sink> Visit<'a, R, G, W> {
             self.rt,
             alloc,
             &mut self.connection,
-            &mut self.desk,
+            &mut self.store,
             courier,
             piece,
             idles,
@@ -281,7 +281,7 @@ impl<'a, R: Wait, G: Gate, W: Sink> Visit<'a, R, G, W> {
         if self.is_over() {
             return Ok(After::Bye);
         }
-        let shown = show_all(self.rt, &mut self.connection, &mut self.desk, &mut self.out);
+        let shown = show_all(self.rt, &mut self.connection, &mut self.store, &mut self.out);
         let Ok(()) = flush(&mut self.output, &mut self.out) else {
             self.is_closed = true;
             return Err(VisitFault::Write);
@@ -322,6 +322,6 @@ impl<'a, R: Wait, G: Gate, W: Sink> Visit<'a, R, G, W> {
         ensures rest { self.new ≡ record self.old { selection = self.new.selection; closed = true } }
     {
         self.is_closed = true;
-        let _ = self.desk.leave(false);
+        let _ = self.store.leave(false);
     }
 }

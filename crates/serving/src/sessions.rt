@@ -22,7 +22,7 @@ use loopback::{Patience, Slot, prepare};
 use pace::{Actor, Pace};
 use serving_workers::{Door, Hired, Served, Serves};
 use session_bells::Sleeper;
-use session_thread::LockedDesk;
+use session_thread::LockedStore;
 use std::mem::ManuallyDrop;
 use std::net::TcpStream;
 use std::sync::atomic::{AtomicBool, Ordering};
@@ -74,9 +74,9 @@ fn open_visit<'a, R: Wait>(
     let bells = floor.depot.sessions.get(usize::from(inbox))?;
     let folders = folders_of(floor.alloc, directory, directory.user_of(inbox)).ok()?;
     let output = Watched::new(stream.try_clone().ok()?);
-    let desk = LockedDesk::new(rt, gate, session, &floor.depot.mailboxes, bells);
+    let store = LockedStore::new(rt, gate, session, &floor.depot.mailboxes, bells);
     let most = Some(most_of(floor.office.max_message));
-    ClientVisit::open(rt, floor.alloc, desk, folders, most, output).ok()
+    ClientVisit::open(rt, floor.alloc, store, folders, most, output).ok()
 }
 
 // One client, from the greeting to its end.

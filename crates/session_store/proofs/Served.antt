@@ -7,17 +7,17 @@ use Rattle.world.specs.World.{Config, World}
 use Rattle.delivery_core.specs.Changes.{SameCounts, SameDelivery}
 use Rattle.delivery_core.specs.DeliveryCore.{DeliveryCore}
 use Rattle.delivery_core.specs.Stands.{StandsFor}
-use Rattle.session_store.specs.declared.desk.Desk.{Desk}
-use Rattle.session_store.specs.Desk.{Serves}
+use Rattle.session_store.specs.declared.core_store.CoreStore.{CoreStore}
+use Rattle.session_store.specs.CoreStore.{Serves}
 use Rattle.session_store.specs.Meets.{Meets}
 use Rattle.session_store.proofs.Serving.{same_counts, same_delivery}
 
--- a desk that serves session n, and stands for a world
-pub record IsServing (k : Config) (n : ℕ) (desk : Desk) (w : World) : Type 0 where
-  pub session : desk.session ≡ n
-  pub stands : StandsFor k desk.core w
+-- a store that serves session n, and stands for a world
+pub record IsServing (k : Config) (n : ℕ) (store : CoreStore) (w : World) : Type 0 where
+  pub session : store.session ≡ n
+  pub stands : StandsFor k store.core w
 
-pub carries : (k : Config) (n : ℕ) → Carries {S = Desk} {T = World} Serves (λ w call answer v. Meets k n w call answer v) (IsServing k n)
+pub carries : (k : Config) (n : ℕ) → Carries {S = CoreStore} {T = World} Serves (λ w call answer v. Meets k n w call answer v) (IsServing k n)
 carries k n old new call answer w served is =
     let m = served.meets k w is.stands in
     (m.0, subst (λ i. Meets k i w call answer m.0) is.session m.1, record { session = served.same ∙ is.session; stands = m.2 })
@@ -44,14 +44,14 @@ counts_then a b c p q = record {
   clients = q.clients ∙ p.clients;
 }
 
-pub met_delivery : (old new : Desk) (events : List Event) → Met Serves old events new → SameDelivery old.core new.core
-met_delivery old new [] met = subst (λ (d : Desk). SameDelivery old.core d.core) (sym met) (same_delivery old.core)
+pub met_delivery : (old new : CoreStore) (events : List Event) → Met Serves old events new → SameDelivery old.core new.core
+met_delivery old new [] met = subst (λ (d : CoreStore). SameDelivery old.core d.core) (sym met) (same_delivery old.core)
 met_delivery old new (e ∷ events) met = delivery_then old.core met.0.core new.core met.1.rest (met_delivery met.0 new events met.2)
 
-pub met_counts : (old new : Desk) (events : List Event) → Met Serves old events new → SameCounts old.core new.core
-met_counts old new [] met = subst (λ (d : Desk). SameCounts old.core d.core) (sym met) (same_counts old.core)
+pub met_counts : (old new : CoreStore) (events : List Event) → Met Serves old events new → SameCounts old.core new.core
+met_counts old new [] met = subst (λ (d : CoreStore). SameCounts old.core d.core) (sym met) (same_counts old.core)
 met_counts old new (e ∷ events) met = counts_then old.core met.0.core new.core met.1.counts (met_counts met.0 new events met.2)
 
-pub met_session : (old new : Desk) (events : List Event) → Met Serves old events new → new.session ≡ old.session
-met_session old new [] met = subst (λ (d : Desk). d.session ≡ old.session) (sym met) refl
+pub met_session : (old new : CoreStore) (events : List Event) → Met Serves old events new → new.session ≡ old.session
+met_session old new [] met = subst (λ (d : CoreStore). d.session ≡ old.session) (sym met) refl
 met_session old new (e ∷ events) met = met_session met.0 new events met.2 ∙ met.1.same

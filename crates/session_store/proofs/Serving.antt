@@ -26,13 +26,13 @@ use Rattle.delivery_core.proofs.Mailed.{session_at, there_at}
 use Rattle.imap_session.specs.Exchange.{Enter, Look, Read, Count, Alter, Expunge, Feed, Leave, Entered, Looked, Found, Counted, Altered, Left, Refused}
 use Rattle.imap_session.specs.Store.{answer}
 use Rattle.imap_session.specs.Store as store
-use Rattle.session_store.specs.declared.desk.Desk.{Desk}
-use Rattle.session_store.specs.Desk.{Serves}
+use Rattle.session_store.specs.declared.core_store.CoreStore.{CoreStore}
+use Rattle.session_store.specs.CoreStore.{Serves}
 use Rattle.session_store.specs.Meets.{IsDone, IsRefused, IsTurnedAway, Mails, Shows}
 use Rattle.session_store.proofs.Places.{no_session}
 
 -- the core that serves this session
-abbrev pub serving : DeliveryCore → ℕ → Desk
+abbrev pub serving : DeliveryCore → ℕ → CoreStore
 serving core n = record { core = core; session = n }
 
 -- ---- calls that change nothing

@@ -1,2 +1,2 @@
 pub mod Meets
-pub mod Desk
+pub mod CoreStore

@@ -2,6 +2,6 @@
 //! What a session asks, and what is answered to its client, stands in `imap_session`.
 #![tactic(auto)]
 
-mod desk;
+mod core_store;
 
-pub use desk::Desk;
+pub use core_store::CoreStore;

@@ -1,11 +1,11 @@
 //! What a connection answers to whoever brings its bytes: how many it took, and what its client may send next. What it says is shown by scripts.
 
-use crate::desks::desk;
+use crate::stores::store;
 use crate::sessions::folders;
 use delivery_token::{Refusal, Verdict};
 use imap_connection::{ImapConnection, Progress};
 use imap_session::After;
-use session_store::Desk;
+use session_store::CoreStore;
 use std::alloc::{AllocError, Global};
 
 fn connection(alloc: Global) -> Result<ImapConnection, AllocError> {
@@ -29,7 +29,7 @@ enum Step {
 fn takes(
     alloc: Global,
     connection: &mut ImapConnection,
-    desk: &mut Desk,
+    store: &mut CoreStore,
     piece: &[u8],
     wanted: Progress,
     out: &mut Vec<u8>,
@@ -37,13 +37,13 @@ fn takes(
     if connection.has_ended() || connection.awaits_verdict() {
         return false;
     }
-    connection.take(alloc, piece, desk, out) == wanted
+    connection.take(alloc, piece, store, out) == wanted
 }
 
 // Refuses the message that was submitted, which is to have this text.
 fn refuses(
     connection: &mut ImapConnection,
-    desk: &mut Desk,
+    store: &mut CoreStore,
     text: &[u8],
     out: &mut Vec<u8>,
 ) -> bool {
@@ -54,7 +54,7 @@ fn refuses(
     let refused = Verdict::Refused(Refusal::Full);
     is_as_sent
         && connection.awaits_verdict()
-        && connection.appended(refused, desk, out) == Ok(After::Go)
+        && connection.appended(refused, store, out) == Ok(After::Go)
 }
 
 // What was said since this was last asked.
@@ -68,7 +68,7 @@ fn said(out: &mut Vec<u8>, wanted: &[u8]) -> bool {
 fn goes(
     alloc: Global,
     connection: &mut ImapConnection,
-    desk: &mut Desk,
+    store: &mut CoreStore,
     step: Step,
     out: &mut Vec<u8>,
 ) -> bool {
@@ -78,9 +78,9 @@ fn goes(
                 used,
                 after: Some(after),
             };
-            takes(alloc, connection, desk, piece, wanted, out)
+            takes(alloc, connection, store, piece, wanted, out)
         }
-        Step::Refuses(text) => refuses(connection, desk, text, out),
+        Step::Refuses(text) => refuses(connection, store, text, out),
         Step::Said(wanted) => said(out, wanted),
         Step::HasEnded(wanted) => connection.has_ended() == wanted,
         Step::HasSelectedNone => connection.selected().is_none(),
@@ -91,12 +91,12 @@ fn goes(
 fn first_unlike(
     alloc: Global,
     connection: &mut ImapConnection,
-    desk: &mut Desk,
+    store: &mut CoreStore,
     steps: &[Step],
     out: &mut Vec<u8>,
 ) -> Option<usize> {
     for (position, step) in steps.iter().enumerate() {
-        if !goes(alloc, connection, desk, *step, out) {
+        if !goes(alloc, connection, store, *step, out) {
             return Some(position);
         }
     }
@@ -134,8 +134,8 @@ fn played_with(
     connection: &mut ImapConnection,
     steps: &[Step],
 ) -> Result<Option<usize>, AllocError> {
-    let mut desk = desk(alloc)?;
-    Ok(first_unlike(alloc, connection, &mut desk, steps, &mut Vec::new(alloc)))
+    let mut store = store(alloc)?;
+    Ok(first_unlike(alloc, connection, &mut store, steps, &mut Vec::new(alloc)))
 }
 
 #[test]

@@ -5,7 +5,7 @@ use delivery_core::{DeliveryCore, Settings};
 use delivery_token::{CopyKey, Text};
 use imap_session::Store;
 use mailbox::{Limits, MailFault, Opening, Status};
-use session_store::Desk;
+use session_store::CoreStore;
 use std::alloc::{AllocError, Global};
 
 const SMALL: Settings = Settings {
@@ -23,9 +23,9 @@ const SMALL: Settings = Settings {
     sessions: 2,
 };
 
-/// A desk over a core with nothing in it: two mailboxes, which keep four changes.
-pub fn desk(alloc: Global) -> Result<Desk, AllocError> {
-    Ok(Desk {
+/// A store over a core with nothing in it: two mailboxes, which keep four changes.
+pub fn store(alloc: Global) -> Result<CoreStore, AllocError> {
+    Ok(CoreStore {
         core: DeliveryCore::new(alloc, SMALL)?,
         session: 0,
     })
@@ -78,11 +78,11 @@ fn leave<S: Store>(store: &mut S) -> Result<usize, MailFault> {
 const STRANGER: MailFault = MailFault::Stranger;
 
 // It has entered no mailbox, and there are none but 0 and 1.
-fn is_stranger(desk: &mut Desk, out: &mut Vec<u8>) -> bool {
-    feed(desk, 64, out) == Err(STRANGER)
-        && leave(desk) == Err(STRANGER)
-        && enter(desk, 2) == Err(STRANGER)
-        && count(desk, 2) == Err(STRANGER)
+fn is_stranger(store: &mut CoreStore, out: &mut Vec<u8>) -> bool {
+    feed(store, 64, out) == Err(STRANGER)
+        && leave(store) == Err(STRANGER)
+        && enter(store, 2) == Err(STRANGER)
+        && count(store, 2) == Err(STRANGER)
 }
 
 const EMPTY: Opening = Opening {
@@ -92,24 +92,24 @@ const EMPTY: Opening = Opening {
 };
 
 // It enters a mailbox once, is shown what comes there, once, and leaves it once.
-fn is_served(alloc: Global, desk: &mut Desk, out: &mut Vec<u8>) -> bool {
-    enter(desk, 1) == Ok(EMPTY)
-        && enter(desk, 0) == Err(STRANGER)
-        && deliver(alloc, &mut desk.core, 1)
-        && feed(desk, 0, out) == Ok(0)
-        && feed(desk, 64, out) == Ok(1)
-        && feed(desk, 64, out) == Ok(0)
+fn is_served(alloc: Global, store: &mut CoreStore, out: &mut Vec<u8>) -> bool {
+    enter(store, 1) == Ok(EMPTY)
+        && enter(store, 0) == Err(STRANGER)
+        && deliver(alloc, &mut store.core, 1)
+        && feed(store, 0, out) == Ok(0)
+        && feed(store, 64, out) == Ok(1)
+        && feed(store, 64, out) == Ok(0)
         && out.as_slice() == b"* 1 EXISTS\r\n".as_slice()
-        && leave(desk) == Ok(0)
+        && leave(store) == Ok(0)
 }
 
 #[test]
 fn a_stranger_is_turned_away(rt: HostRuntime) -> Result<(), AllocError> {
-    let mut desk = desk(rt.alloc())?;
+    let mut store = store(rt.alloc())?;
     let mut out = Vec::new(rt.alloc());
-    let is_as_wanted = is_stranger(&mut desk, &mut out)
-        && is_served(rt.alloc(), &mut desk, &mut out)
-        && is_stranger(&mut desk, &mut out);
+    let is_as_wanted = is_stranger(&mut store, &mut out)
+        && is_served(rt.alloc(), &mut store, &mut out)
+        && is_stranger(&mut store, &mut out);
     assert!(rt; is_as_wanted);
     Ok(())
 }

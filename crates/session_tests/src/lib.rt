@@ -5,7 +5,7 @@
 #[cfg(test)]
 mod connections;
 #[cfg(test)]
-mod desks;
+mod stores;
 #[cfg(test)]
 mod names;
 #[cfg(test)]

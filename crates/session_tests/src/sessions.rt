@@ -1,14 +1,14 @@
 //! What a session answers to whoever calls it, beside what it says: what its client may send next, which mailbox is selected, the message that it submits, and
 //! that it has ended. What it says is shown by scripts, but where no message is taken, and where its store or memory refuses.
 
-use crate::desks::{deliver, desk};
+use crate::stores::{deliver, store};
 use change_ring::{Flags, NO_FLAGS};
 use delivery_token::{Refusal, Verdict};
 use imap_session::{
     After, Folder, Selected, Session, SessionFault, changes_are_shown_in_order,
     done_shows_in_order, literals_may_be_cut, rest_shows_none, verdicts_show_in_order,
 };
-use session_store::Desk;
+use session_store::CoreStore;
 use std::alloc::{AllocError, Global};
 
 /// The mailboxes of a user with one, the second of the store's.
@@ -74,18 +74,18 @@ fn said(out: &mut Vec<u8>, wanted: &[u8]) -> bool {
 fn goes(
     alloc: Global,
     session: &mut Session,
-    desk: &mut Desk,
+    store: &mut CoreStore,
     step: Step,
     out: &mut Vec<u8>,
 ) -> bool {
     match step {
-        Step::Delivered => deliver(alloc, &mut desk.core, 1),
+        Step::Delivered => deliver(alloc, &mut store.core, 1),
         Step::Sits(position) => {
-            desk.session = position;
+            store.session = position;
             true
         }
         Step::Line(line, wanted) => {
-            !session.awaits_verdict() && session.line(alloc, line, desk, out) == wanted
+            !session.awaits_verdict() && session.line(alloc, line, store, out) == wanted
         }
         Step::LongLine(wanted) => session.long_line(out) == wanted,
         Step::Literal(piece, taken, due) => {
@@ -93,9 +93,9 @@ fn goes(
         }
         Step::Submitted(message, text, flags) => is_submitted(session, message, text, flags),
         Step::Hears(verdict) => {
-            session.awaits_verdict() && session.appended(verdict, desk, out) == Ok(After::Go)
+            session.awaits_verdict() && session.appended(verdict, store, out) == Ok(After::Go)
         }
-        Step::IdleTurn(wanted) => session.idle_turn(desk, out) == wanted,
+        Step::IdleTurn(wanted) => session.idle_turn(store, out) == wanted,
         Step::Said(wanted) => said(out, wanted),
         Step::Forget => {
             out.clear();
@@ -112,12 +112,12 @@ fn goes(
 fn first_unlike(
     alloc: Global,
     session: &mut Session,
-    desk: &mut Desk,
+    store: &mut CoreStore,
     steps: &[Step],
     out: &mut Vec<u8>,
 ) -> Option<usize> {
     for (position, step) in steps.iter().enumerate() {
-        if !goes(alloc, session, desk, *step, out) {
+        if !goes(alloc, session, store, *step, out) {
             return Some(position);
         }
     }
@@ -130,8 +130,8 @@ fn played_with(
     session: &mut Session,
     steps: &[Step],
 ) -> Result<Option<usize>, AllocError> {
-    let mut desk = desk(alloc)?;
-    Ok(first_unlike(alloc, session, &mut desk, steps, &mut Vec::new(alloc)))
+    let mut store = store(alloc)?;
+    Ok(first_unlike(alloc, session, &mut store, steps, &mut Vec::new(alloc)))
 }
 
 fn played(alloc: Global, most: Option<u32>, steps: &[Step]) -> Result<Option<usize>, AllocError> {
@@ -307,23 +307,23 @@ fn laws_of_what_is_shown(_rt: HostRuntime) {
 fn is_answered_again(
     alloc: Global,
     session: &mut Session,
-    desk: &mut Desk,
+    store: &mut CoreStore,
     out: &mut Vec<u8>,
 ) -> bool {
     if session.awaits_verdict() {
         return false;
     }
-    let mut after = session.line(alloc, b"a1 LOGOUT", desk, out);
+    let mut after = session.line(alloc, b"a1 LOGOUT", store, out);
     if after == Err(SessionFault::NoMemory) && out.is_empty() && !session.ended() {
-        after = session.line(alloc, b"a1 LOGOUT", desk, out);
+        after = session.line(alloc, b"a1 LOGOUT", store, out);
     }
     after == Ok(After::Bye)
         && out.as_slice() == b"* BYE Logging out\r\na1 OK LOGOUT completed\r\n".as_slice()
 }
 
 fn answers_again(alloc: Global, session: &mut Session) -> Result<bool, AllocError> {
-    let mut desk = desk(alloc)?;
-    Ok(is_answered_again(alloc, session, &mut desk, &mut Vec::new(alloc)))
+    let mut store = store(alloc)?;
+    Ok(is_answered_again(alloc, session, &mut store, &mut Vec::new(alloc)))
 }
 
 // To be run with each allocation refused in turn, too.

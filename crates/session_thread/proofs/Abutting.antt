@@ -6,35 +6,35 @@ use Rattle.cursor_set.specs.Cursors.{CursorHandle}
 use Rattle.mailbox.specs.Mailbox.{Mailbox}
 use Rattle.mailbox_holds.specs.Holds.{Expunges}
 use Rattle.imap_session.specs.Exchange.{Call, Answer, Enter, Look, Read, Count, Alter, Expunge, Feed, Leave, Entered, Looked, Found, Counted, Altered, Expunged, Fed, Left, Refused, Starved, Event}
-use Rattle.session_thread.specs.declared.desk.Entry.{Entry}
-use Rattle.session_thread.specs.Locks.{Holds, In, LockedDesk}
+use Rattle.session_thread.specs.declared.store.Entry.{Entry}
+use Rattle.session_thread.specs.Locks.{Holds, In, LockedStore}
 use Rattle.session_thread.specs.Locks.{entered_at}
 use Rattle.session_thread.specs.Abut.{Abut, BeginsAt, Joins, shown_by, shown_by_all, stays}
 
 -- the session is in the same mailbox, and was shown so many changes more
-abbrev pub On : Entry → ℕ → LockedDesk → Type 0
+abbrev pub On : Entry → ℕ → LockedStore → Type 0
 On here n selection = In selection (λ there. (there.mailbox ≡ here.mailbox) × (there.start ≡ here.start) × (there.handle ≡ record here.handle { at = here.handle.at + n }))
 
 same_handle : (handle : CursorHandle) → handle ≡ record handle { at = handle.at + 0 }
 same_handle handle = ap (λ (n : ℕ). let s : CursorHandle = record { number = handle.number; slot = handle.slot; serial = handle.serial; at = n } in s) (omega arith)
 
-rests : (here : Entry) (old new : LockedDesk) → old.entered ≡ Some here → new ≡ old → On here 0 new
-rests here old new there same = (here, ap (λ (p : LockedDesk). p.entered) same ∙ there, (refl, refl, same_handle here.handle))
+rests : (here : Entry) (old new : LockedStore) → old.entered ≡ Some here → new ≡ old → On here 0 new
+rests here old new there same = (here, ap (λ (p : LockedStore). p.entered) same ∙ there, (refl, refl, same_handle here.handle))
 
 same_entry : {a b : Entry} → Some a ≡ Some b → a ≡ b
 same_entry e = cc
 
-moves : (here was : Entry) (old new : LockedDesk) (next : CursorHandle) (n : ℕ) → old.entered ≡ Some here → old.entered ≡ Some was → next ≡ record was.handle { at = was.handle.at + n } → new ≡ entered_at old was next → On here n new
+moves : (here was : Entry) (old new : LockedStore) (next : CursorHandle) (n : ℕ) → old.entered ≡ Some here → old.entered ≡ Some was → next ≡ record was.handle { at = was.handle.at + n } → new ≡ entered_at old was next → On here n new
 moves here was old new next n there also goes is =
     let same : was ≡ here = same_entry (sym also ∙ there) in
-    subst (λ (e : Entry). On e n new) same (record { mailbox = was.mailbox; start = was.start; handle = next }, ap (λ (p : LockedDesk). p.entered) is, (refl, refl, goes))
+    subst (λ (e : Entry). On e n new) same (record { mailbox = was.mailbox; start = was.start; handle = next }, ap (λ (p : LockedStore). p.entered) is, (refl, refl, goes))
 
 all_shown : (found left : Mailbox) (handle next : CursorHandle) (uids : Option (List ℕ)) (view : List ℕ) (changes : List Change) (gone : ℕ) → Expunges found handle uids view changes gone left next → next ≡ record handle { at = handle.at + length changes }
 all_shown found left handle next uids view changes gone e =
     e.goes_on ∙ ap (λ (n : ℕ). let s : CursorHandle = record { number = handle.number; slot = handle.slot; serial = handle.serial; at = n } in s)
     (omega (arith, length-drop (handle.at - found.window.base) found.window.changes, ap (length {A = Change}) e.shown, e.current, e.known.within))
 
-step_on : (here : Entry) (old new : LockedDesk) (call : Call) (answer : Answer) → old.entered ≡ Some here → stays answer ≡ true → Holds old call answer new → On here (shown_by answer) new
+step_on : (here : Entry) (old new : LockedStore) (call : Call) (answer : Answer) → old.entered ≡ Some here → stays answer ≡ true → Holds old call answer new → On here (shown_by answer) new
 step_on here old new (Enter m) (Entered opening) there s h = cc
 step_on here old new (Enter m) (Looked view) there s h = elim h [ ]
 step_on here old new (Enter m) (Found row) there s h = elim h [ ]
@@ -118,7 +118,7 @@ step_on here old new (Leave remove) (Starved n) there s h = elim h [ ]
 
 -- ---- where a piece begins
 
-begins : (here : Entry) (old new : LockedDesk) (call : Call) (answer : Answer) → old.entered ≡ Some here → Holds old call answer new → BeginsAt here.handle.at answer
+begins : (here : Entry) (old new : LockedStore) (call : Call) (answer : Answer) → old.entered ≡ Some here → Holds old call answer new → BeginsAt here.handle.at answer
 begins here old new call (Entered opening) there h = tt
 begins here old new call (Looked view) there h = tt
 begins here old new call (Found row) there h = tt
@@ -154,7 +154,7 @@ both : (a b : Bool) → (a && b) ≡ true → (a ≡ true) × (b ≡ true)
 both true b e = (refl, e)
 both false b e = cc
 
-joined : (here mid : Entry) (n m : ℕ) (selection : LockedDesk) → mid.mailbox ≡ here.mailbox → mid.start ≡ here.start → mid.handle ≡ record here.handle { at = here.handle.at + n } → On mid m selection → On here (n + m) selection
+joined : (here mid : Entry) (n m : ℕ) (selection : LockedStore) → mid.mailbox ≡ here.mailbox → mid.start ≡ here.start → mid.handle ≡ record here.handle { at = here.handle.at + n } → On mid m selection → On here (n + m) selection
 joined here mid n m selection mailbox start handle h = (
   h.0,
   h.1,

@@ -13,7 +13,7 @@ use Rattle.mailbox.specs.declared.clients.MailFault.TheVariants.{NoMemory}
 use Rattle.imap_connection.specs.Dialogue.{Dialogue, ImapConnection, StandsFor}
 use Rattle.session_thread.specs.declared.life.Step.{Step}
 use Rattle.session_thread.specs.declared.life.Step.TheVariants.{Say, Await}
-use Rattle.session_thread.specs.Locks.{Holds, LockedDesk, shown_in}
+use Rattle.session_thread.specs.Locks.{Holds, LockedStore, shown_in}
 use Rattle.session_thread.specs.Life.{Awaits, Departs, Does, HasTurn, IsOver, IsShort, Lives, LivesInPart, Moment, Says, SaysInPart, Steps, StopsIn, Turns, another, goes_on, greeted_at, moment, takes_more}
 use Rattle.courier.specs.Carried.{Carried}
 use Rattle.courier.specs.declared.Lost.{Lost}
@@ -28,12 +28,12 @@ true_false : {b : Bool} → b ≡ true → b ≡ false → ⊥
 true_false e f = let g = sym e ∙ f in cc
 
 -- there is something to wait for
-pub not_over : (count : ℕ) (d : Dialogue) (selection : LockedDesk) (text : List ℕ) (was : ImapConnection) → StandsFor was d → shown_in selection.entered < count → is_idling was.session ≡ true → IsOver count (moment d selection text) → ⊥
+pub not_over : (count : ℕ) (d : Dialogue) (selection : LockedStore) (text : List ℕ) (was : ImapConnection) → StandsFor was d → shown_in selection.entered < count → is_idling was.session ≡ true → IsOver count (moment d selection text) → ⊥
 not_over count d selection text was stands few idles (inl enough) = absurd (omega (arith, few, enough))
 not_over count d selection text was stands few idles (inr awake) = true_false (subst (λ (s : Standing). is_idling s ≡ true) stands.session idles) awake
 
 -- a turn more
-pub turned_on : (count k : ℕ) (first : Moment) (d next : Dialogue) (old new : LockedDesk) (before after : List ℕ) (was : ImapConnection) → StandsFor was d → shown_in old.entered < count → is_idling was.session ≡ true
+pub turned_on : (count k : ℕ) (first : Moment) (d next : Dialogue) (old new : LockedStore) (before after : List ℕ) (was : ImapConnection) → StandsFor was d → shown_in old.entered < count → is_idling was.session ≡ true
     → Turns count first k (moment d old before) → HasTurn (moment d old before) (moment next new after) → Turns count first (k + 1) (moment next new after)
 turned_on count k first d next old new before after was stands few idles had t =
     subst (λ (j : ℕ). Turns count first j (moment next new after)) (one_more k)
@@ -48,7 +48,7 @@ abbrev failed : SessionFault → Result ℕ SessionFault
 failed fault = Err fault
 
 -- no turn: the session stands where it stood, and its mailbox refused it memory
-pub no_turn : (d : Dialogue) (old new : LockedDesk) (before middle after : List ℕ) (room : ℕ) (was link : ImapConnection) (fault : SessionFault) → StandsFor was d → is_idling was.session ≡ true → middle ≡ before
+pub no_turn : (d : Dialogue) (old new : LockedStore) (before middle after : List ℕ) (room : ℕ) (was link : ImapConnection) (fault : SessionFault) → StandsFor was d → is_idling was.session ≡ true → middle ≡ before
     → (failed fault ≡ failed Ended → was.session.ended ≡ true) → (failed fault ≡ failed faults.NoMemory → Holds old (Feed most_changes) (Refused NoMemory) new) → (link ≡ was) × (after ≡ middle)
     → StandsFor link d × (moment d new after ≡ moment d old before) × IsShort room (moment d new after)
 no_turn d old new before middle after room was link Ended stands idles kept over starved same = absurd (awake (is_some was.session.idling) was.session.ended idles (over refl))
@@ -56,7 +56,7 @@ no_turn d old new before middle after room was link faults.NoMemory stands idles
     let h : Holds old (Feed most_changes) (Refused NoMemory) new = starved refl in (
       subst (λ (l : ImapConnection). StandsFor l d) (sym same.0) stands,
       ap₂ (moment d) h.0 (same.1 ∙ kept),
-      inr (subst (λ (p : LockedDesk). Holds p (Feed most_changes) (Refused NoMemory) new) (sym h.0) h),
+      inr (subst (λ (p : LockedStore). Holds p (Feed most_changes) (Refused NoMemory) new) (sym h.0) h),
     )
 
 -- ---- steps
@@ -67,15 +67,15 @@ lived_on turns first steps i step carried more now next l is lives does =
     subst (λ (xs : List Step). Lives turns first xs (carried ++ more) next) (sym (take_more steps i step l ∙ ap (λ (s : Step). take i steps ++ s ∷ []) (sym is))) (goes_on (take i steps) step carried more now next lives does)
 
 -- a session that takes nothing more does nothing
-pub rested : (turns : ℕ) (step : Step) (d : Dialogue) (selection : LockedDesk) (text : List ℕ) (was : ImapConnection) → takes_more was.session ≡ false → StandsFor was d
+pub rested : (turns : ℕ) (step : Step) (d : Dialogue) (selection : LockedStore) (text : List ℕ) (was : ImapConnection) → takes_more was.session ≡ false → StandsFor was d
     → (next : Dialogue) × StandsFor was next × Steps turns step [] (moment d selection text) (moment next selection text)
 rested turns step d selection text was over stands = (d, stands, inl (subst (λ (s : Standing). takes_more s ≡ false) stands.session over, refl, refl))
 
 -- what a step of this kind does
-abbrev Leads : (Moment → Moment → Type 0) → ImapConnection → LockedDesk → List ℕ → ImapConnection → LockedDesk → List ℕ → Type 0
+abbrev Leads : (Moment → Moment → Type 0) → ImapConnection → LockedStore → List ℕ → ImapConnection → LockedStore → List ℕ → Type 0
 Leads P was old before link new after = (d : Dialogue) → StandsFor was d → (next : Dialogue) × StandsFor link next × P (moment d old before) (moment next new after)
 
-did : (turns : ℕ) (step kind : Step) (carried : List Carried) (old new : LockedDesk) (before after : List ℕ) (was link : ImapConnection) → takes_more was.session ≡ true → step ≡ kind
+did : (turns : ℕ) (step kind : Step) (carried : List Carried) (old new : LockedStore) (before after : List ℕ) (was link : ImapConnection) → takes_more was.session ≡ true → step ≡ kind
     → Leads (Does turns kind carried) was old before link new after → Leads (Steps turns step carried) was old before link new after
 did turns step kind carried old new before after was link goes is does d stands =
     let t = does d stands in (
@@ -84,34 +84,34 @@ did turns step kind carried old new before after was link goes is does d stands 
       inr (subst (λ (s : Standing). takes_more s ≡ true) stands.session goes, subst (λ (s : Step). Does turns s carried (moment d old before) (moment t.0 new after)) (sym is) t.2),
     )
 
-pub said_step : {A E : Type 0} (r : Result A E) (Was Now : List Carried → Type 0) (turns : ℕ) (step : Step) (v : Vec ℕ Global) (bytes : List ℕ) (old new : LockedDesk) (before after : List ℕ) (was link : ImapConnection) → takes_more was.session ≡ true → step ≡ Say v → bytes ≡ v.items
+pub said_step : {A E : Type 0} (r : Result A E) (Was Now : List Carried → Type 0) (turns : ℕ) (step : Step) (v : Vec ℕ Global) (bytes : List ℕ) (old new : LockedStore) (before after : List ℕ) (was link : ImapConnection) → takes_more was.session ≡ true → step ≡ Say v → bytes ≡ v.items
     → OnOk r ((carried : List Carried) × ((done : List Carried) → Was done → Now (done ++ carried)) × Leads (Says bytes carried) was old before link new after)
     → OnOk r ((carried : List Carried) × ((done : List Carried) → Was done → Now (done ++ carried)) × Leads (Steps turns step carried) was old before link new after)
 said_step (Ok x) Was Now turns step v bytes old new before after was link goes is items h =
     (h.0, h.1, did turns step (Say v) h.0 old new before after was link goes is (subst (λ (b : List ℕ). Leads (Says b h.0) was old before link new after) items h.2))
 said_step (Err e) Was Now turns step v bytes old new before after was link goes is items h = h
 
-pub awaited_step : (turns : ℕ) (step : Step) (count : ℕ) (old new : LockedDesk) (before after : List ℕ) (was link : ImapConnection) → takes_more was.session ≡ true → step ≡ Await count
+pub awaited_step : (turns : ℕ) (step : Step) (count : ℕ) (old new : LockedStore) (before after : List ℕ) (was link : ImapConnection) → takes_more was.session ≡ true → step ≡ Await count
     → Leads (Awaits turns count) was old before link new after → Leads (Steps turns step []) was old before link new after
 awaited_step turns step count old new before after was link goes is h =
     did turns step (Await count) [] old new before after was link goes is (λ d stands. let t = h d stands in (t.0, t.1, (refl, t.2)))
 
 -- a step was begun by a session whose client may send more, and the session stopped in it
-abbrev Stops : ℕ → ℕ → Step → Lost → ImapConnection → LockedDesk → List ℕ → ImapConnection → LockedDesk → List ℕ → Type 0
+abbrev Stops : ℕ → ℕ → Step → Lost → ImapConnection → LockedStore → List ℕ → ImapConnection → LockedStore → List ℕ → Type 0
 Stops turns room step why was old before link new after = (d : Dialogue) → StandsFor was d → (x : Dialogue) × StandsFor link x × (takes_more d.standing ≡ true) × StopsIn turns room step why (moment d old before) (moment x new after)
 
-stopped : (turns room : ℕ) (step kind : Step) (why : Lost) (old new : LockedDesk) (before after : List ℕ) (was link : ImapConnection) → takes_more was.session ≡ true → step ≡ kind
+stopped : (turns room : ℕ) (step kind : Step) (why : Lost) (old new : LockedStore) (before after : List ℕ) (was link : ImapConnection) → takes_more was.session ≡ true → step ≡ kind
     → Leads (StopsIn turns room kind why) was old before link new after → Stops turns room step why was old before link new after
 stopped turns room step kind why old new before after was link goes is h d stands =
     let t = h d stands in (t.0, t.1, subst (λ (s : Standing). takes_more s ≡ true) stands.session goes, subst (λ (s : Step). StopsIn turns room s why (moment d old before) (moment t.0 new after)) (sym is) t.2)
 
-pub said_in_part : {A : Type 0} (r : Result A Lost) (turns room : ℕ) (step : Step) (v : Vec ℕ Global) (bytes : List ℕ) (old new : LockedDesk) (before after : List ℕ) (was link : ImapConnection) → takes_more was.session ≡ true → step ≡ Say v → bytes ≡ v.items
+pub said_in_part : {A : Type 0} (r : Result A Lost) (turns room : ℕ) (step : Step) (v : Vec ℕ Global) (bytes : List ℕ) (old new : LockedStore) (before after : List ℕ) (was link : ImapConnection) → takes_more was.session ≡ true → step ≡ Say v → bytes ≡ v.items
     → IfErr r (λ why. Leads (SaysInPart room bytes why) was old before link new after) → IfErr r (λ why. Stops turns room step why was old before link new after)
 said_in_part (Ok x) turns room step v bytes old new before after was link goes is items h = h
 said_in_part (Err why) turns room step v bytes old new before after was link goes is items h =
     stopped turns room step (Say v) why old new before after was link goes is (subst (λ (b : List ℕ). Leads (SaysInPart room b why) was old before link new after) items h)
 
-pub awaited_in_part : (turns room : ℕ) (step : Step) (count : ℕ) (old new : LockedDesk) (before after : List ℕ) (was link : ImapConnection) → takes_more was.session ≡ true → step ≡ Await count
+pub awaited_in_part : (turns room : ℕ) (step : Step) (count : ℕ) (old new : LockedStore) (before after : List ℕ) (was link : ImapConnection) → takes_more was.session ≡ true → step ≡ Await count
     → ((d : Dialogue) → StandsFor was d → (next : Dialogue) × StandsFor link next × ((had : ℕ) × (had < turns) × Turns count (moment d old before) had (moment next new after) × (IsOver count (moment next new after) → ⊥)) × IsShort room (moment next new after))
     → Stops turns room step lost.NoMemory was old before link new after
 awaited_in_part turns room step count old new before after was link goes is h =
@@ -138,14 +138,14 @@ lived_in_part turns room first steps i step carried why now last l is lives goes
 abbrev pub first_dialogue : Option ℕ → List Folder → Dialogue
 first_dialogue most folders = record { standing = record { folders = folders; selected = None; idling = None; ended = false; mailing = nothing_sent most }; begun = [] }
 
-pub lived : {A E : Type 0} (r : Result A E) (Was Now : List Carried → Type 0) (turns : ℕ) (most : Option ℕ) (folders : List Folder) (steps : List Step) (old new end : LockedDesk) (before text after : List ℕ) (link last : ImapConnection) → StandsFor link (first_dialogue most folders) → text ≡ before ++ greeting
+pub lived : {A E : Type 0} (r : Result A E) (Was Now : List Carried → Type 0) (turns : ℕ) (most : Option ℕ) (folders : List Folder) (steps : List Step) (old new end : LockedStore) (before text after : List ℕ) (link last : ImapConnection) → StandsFor link (first_dialogue most folders) → text ≡ before ++ greeting
     → OnOk r ((carried : List Carried) × ((done : List Carried) → Was done → Now (done ++ carried)) × ((d : Dialogue) → StandsFor link d → (next : Dialogue) × StandsFor last next × Lives turns (moment d old text) steps carried (moment next new after))) → Departs new end
     → OnOk r ((carried : List Carried) × ((done : List Carried) → Was done → Now (done ++ carried)) × ((x : Moment) × Lives turns (greeted_at most folders old (before ++ greeting)) steps carried x × (after ≡ x.text) × Departs x.selection end))
 lived (Ok x) Was Now turns most folders steps old new end before text after link last stands greets h goes =
     let t = h.2 (first_dialogue most folders) stands in (h.0, h.1, (moment t.0 new after, subst (λ (w : List ℕ). Lives turns (greeted_at most folders old w) steps h.0 (moment t.0 new after)) greets t.2, refl, goes))
 lived (Err e) Was Now turns most folders steps old new end before text after link last stands greets h goes = h
 
-pub lived_some : {A : Type 0} (r : Result A Lost) (turns room : ℕ) (most : Option ℕ) (folders : List Folder) (steps : List Step) (old new end : LockedDesk) (before text after : List ℕ) (link last : ImapConnection) → StandsFor link (first_dialogue most folders) → text ≡ before ++ greeting
+pub lived_some : {A : Type 0} (r : Result A Lost) (turns room : ℕ) (most : Option ℕ) (folders : List Folder) (steps : List Step) (old new end : LockedStore) (before text after : List ℕ) (link last : ImapConnection) → StandsFor link (first_dialogue most folders) → text ≡ before ++ greeting
     → IfErr r (λ why. (d : Dialogue) → StandsFor link d → (next : Dialogue) × StandsFor last next × LivesInPart turns room (moment d old text) steps why (moment next new after)) → Departs new end
     → IfErr r (λ why. (end ≡ old) × (after ≡ before) × (why ≡ lost.NoMemory) ⊎ (x : Moment) × LivesInPart turns room (greeted_at most folders old (before ++ greeting)) steps why x × (after ≡ x.text) × Departs x.selection end)
 lived_some (Ok x) turns room most folders steps old new end before text after link last stands greets h goes = h

@@ -15,8 +15,8 @@ use Rattle.mailbox.specs.Stands.{Stands, next_of}
 use Rattle.mailbox_holds.specs.Holds.{DoesAlter, DoesExpunge, DoesFeed, DoesRead, Expunges as DidExpunge, Feeds as DidFeed, HasCursor}
 use Rattle.imap_session.specs.Exchange.{Alter, Altered, Answer, Feed, Expunge, Found, Read}
 use Rattle.imap_session.specs.Store.{Feeds, Expunges, answer}
-use Rattle.session_thread.specs.declared.desk.Entry.{Entry}
-use Rattle.session_thread.specs.Locks.{Holds, LockedDesk, UnderLock}
+use Rattle.session_thread.specs.declared.store.Entry.{Entry}
+use Rattle.session_thread.specs.Locks.{Holds, LockedStore, UnderLock}
 use Rattle.session_thread.specs.Locks.{ShowsOf, refused_here, entered_at}
 
 -- ---- of the log
@@ -44,29 +44,29 @@ is_nowhere None b e f = refl
 is_nowhere (Some here) b e f = let g = sym e ∙ f in cc
 
 -- where the handle stays, the session does
-stays : (old new : LockedDesk) (here : Entry) (next : CursorHandle) → old.entered ≡ Some here → new ≡ entered_at old here next → next ≡ here.handle → new ≡ old
-stays old new here next there is still = is ∙ ap (entered_at old here) still ∙ ap (λ (x : Option Entry). let p : LockedDesk = record { mailboxes = old.mailboxes; entered = x } in p) (sym there)
+stays : (old new : LockedStore) (here : Entry) (next : CursorHandle) → old.entered ≡ Some here → new ≡ entered_at old here next → next ≡ here.handle → new ≡ old
+stays old new here next there is still = is ∙ ap (entered_at old here) still ∙ ap (λ (x : Option Entry). let p : LockedStore = record { mailboxes = old.mailboxes; entered = x } in p) (sym there)
 
-pub feeds : (old : LockedDesk) (here : Entry) (next : CursorHandle) (limit : ℕ) (before after : List ℕ) (r : Result ℕ MailFault) (new : LockedDesk) → old.entered ≡ Some here → new ≡ entered_at old here next
+pub feeds : (old : LockedStore) (here : Entry) (next : CursorHandle) (limit : ℕ) (before after : List ℕ) (r : Result ℕ MailFault) (new : LockedStore) → old.entered ≡ Some here → new ≡ entered_at old here next
     → UnderLock (λ found left. DoesFeed found here.handle limit before after r left next) → IfOk r (λ n. n ≤ limit) → Feeds (λ (a : Answer). Holds old (Feed limit) a new) limit before after r
 feeds old here next limit before after (Ok n) new there is u few =
     let s = u.2 in (s.view, s.changes, (here, there, (next, (u.0, u.1, (s.does, fed_of u.0 u.1 here.handle next limit s.view s.changes s.does)), is)), s.counted, few, s.wrote)
 feeds old here next limit before after (Err fault) new there is u few =
     let s = u.2 in ((stays old new here next there is s.still, refused_here here u.0 u.1 there s.refused), s.wrote)
 
-pub expunges : (old : LockedDesk) (here : Entry) (next : CursorHandle) (uids : Option (List ℕ)) (before after : List ℕ) (r : Result ℕ MailFault) (new : LockedDesk) → old.entered ≡ Some here → new ≡ entered_at old here next
+pub expunges : (old : LockedStore) (here : Entry) (next : CursorHandle) (uids : Option (List ℕ)) (before after : List ℕ) (r : Result ℕ MailFault) (new : LockedStore) → old.entered ≡ Some here → new ≡ entered_at old here next
     → UnderLock (λ found left. DoesExpunge found here.handle uids before after r left next) → Expunges (λ (a : Answer). Holds old (Expunge uids) a new) before after r
 expunges old here next uids before after (Ok gone) new there is u =
     let s = u.2 in (s.view, s.changes, (here, there, (next, (u.0, u.1, (s.does, expunged_of u.0 u.1 here.handle next uids s.view s.changes gone s.does)), is)), s.wrote)
 expunges old here next uids before after (Err fault) new there is u =
     let s = u.2 in ((stays old new here next there is s.still, refused_here here u.0 u.1 there s.refused), s.wrote)
 
-pub reads : (old new : LockedDesk) (here : Entry) (uid : ℕ) (mark_seen : Bool) (r : Result (Option Row) MailFault) → old.entered ≡ Some here → new ≡ old
+pub reads : (old new : LockedStore) (here : Entry) (uid : ℕ) (mark_seen : Bool) (r : Result (Option Row) MailFault) → old.entered ≡ Some here → new ≡ old
     → UnderLock (λ found left. DoesRead found here.handle uid mark_seen r left) → Holds old (Read uid mark_seen) (answer Found r) new
 reads old new here uid mark_seen (Ok row) there same u = (same, (here, there, u))
 reads old new here uid mark_seen (Err fault) there same u = (same, refused_here here u.0 u.1 there u.2)
 
-pub alters : (old new : LockedDesk) (here : Entry) (uid : ℕ) (op : FlagOp) (r : Result (Option Flags) MailFault) → old.entered ≡ Some here → new ≡ old
+pub alters : (old new : LockedStore) (here : Entry) (uid : ℕ) (op : FlagOp) (r : Result (Option Flags) MailFault) → old.entered ≡ Some here → new ≡ old
     → UnderLock (λ found left. DoesAlter found here.handle uid op r left) → Holds old (Alter uid op) (answer Altered r) new
 alters old new here uid op (Ok flags) there same u = (same, (here, there, u))
 alters old new here uid op (Err fault) there same u = (same, refused_here here u.0 u.1 there u.2)

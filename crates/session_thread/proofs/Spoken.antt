@@ -16,7 +16,7 @@ use Rattle.imap_session.specs.Store.{AnswersVerdict}
 use Rattle.imap_connection.specs.declared.connection.Progress.{Progress}
 use Rattle.imap_connection.specs.Dialogue as dialogue
 use Rattle.imap_connection.specs.Dialogue.{Dialogue, ImapConnection, StandsFor, Took, may_follow, tag_len}
-use Rattle.session_thread.specs.Locks.{Holds, LockedDesk}
+use Rattle.session_thread.specs.Locks.{Holds, LockedStore}
 use Rattle.session_thread.specs.Life.{Says, SaysInPart, Speaks, TellsVerdict, carried_of, hears, moment, short, takes, takes_more, unheard}
 
 -- ---- what was carried
@@ -74,12 +74,12 @@ pub sent_of : (sent : Option Sent) (append : Append) → Some append ≡ option_
 sent_of None append is = cc
 sent_of (Some s) append is = (s, refl, cc)
 
-pub told_verdict : (d : Dialogue) (append : Append) (verdict : Verdict) (old middle new : LockedDesk) (before between after : List ℕ) (how : After) (was link : ImapConnection) → StandsFor was d → Some append ≡ option_map (λ (s : Sent). s.append) was.session.mailing.sent
+pub told_verdict : (d : Dialogue) (append : Append) (verdict : Verdict) (old middle new : LockedStore) (before between after : List ℕ) (how : After) (was link : ImapConnection) → StandsFor was d → Some append ≡ option_map (λ (s : Sent). s.append) was.session.mailing.sent
     → middle ≡ old → between ≡ before → dialogue.Hears Holds d verdict middle new between after how link
     → (next : Dialogue) × StandsFor link next × TellsVerdict (carried_of append verdict) (moment d old before) (moment next new after)
-told_verdict d append verdict old middle new before between after how was link stands is desk text h =
+told_verdict d append verdict old middle new before between after how was link stands is store text h =
     let s = sent_of was.session.mailing.sent append is in
-    let selection = subst (λ (p : LockedDesk). AnswersVerdict Holds d.standing verdict p new between after how h.next) desk h.answered in (
+    let selection = subst (λ (p : LockedStore). AnswersVerdict Holds d.standing verdict p new between after how h.next) store h.answered in (
       record { standing = h.next; begun = d.begun },
       h.stands,
       record {
@@ -95,11 +95,11 @@ told_verdict d append verdict old middle new before between after how was link s
 -- ---- bytes
 
 -- So each dialogue was led on, by so many of the bytes, with these verdicts.
-abbrev pub Spoken : List ℕ → ℕ → List Carried → ImapConnection → LockedDesk → List ℕ → ImapConnection → LockedDesk → List ℕ → Type 0
+abbrev pub Spoken : List ℕ → ℕ → List Carried → ImapConnection → LockedStore → List ℕ → ImapConnection → LockedStore → List ℕ → Type 0
 Spoken bytes used carried was old before link new after = (d : Dialogue) → StandsFor was d → (now : Dialogue) × StandsFor link now × Speaks bytes (moment d old before) used carried (moment now new after)
 
 -- bytes more, which the session took from the rest
-pub said_more : (bytes : List ℕ) (used : ℕ) (carried : List Carried) (old middle new : LockedDesk) (before between after : List ℕ) (progress : Progress) (was mid link : ImapConnection) → mid.session.ended ≡ false → mid.session.mailing.sent ≡ None
+pub said_more : (bytes : List ℕ) (used : ℕ) (carried : List Carried) (old middle new : LockedStore) (before between after : List ℕ) (progress : Progress) (was mid link : ImapConnection) → mid.session.ended ≡ false → mid.session.mailing.sent ≡ None
     → progress.used ≤ length (take (length bytes - used) (drop used bytes)) → ((d : Dialogue) → StandsFor mid d → Took Holds d (take (length bytes - used) (drop used bytes)) middle new between after progress link)
     → Spoken bytes used carried was old before mid middle between → Spoken bytes (used + progress.used) carried was old before link new after
 said_more bytes used carried old middle new before between after progress was mid link going unsent few takes_some spoken d stands =
@@ -114,7 +114,7 @@ said_more bytes used carried old middle new before between after progress was mi
     )
 
 -- a verdict more, which was answered
-pub heard_more : (bytes : List ℕ) (used : ℕ) (carried : List Carried) (one : Carried) (old middle new : LockedDesk) (before between after : List ℕ) (was mid link : ImapConnection)
+pub heard_more : (bytes : List ℕ) (used : ℕ) (carried : List Carried) (one : Carried) (old middle new : LockedStore) (before between after : List ℕ) (was mid link : ImapConnection)
     → ((d : Dialogue) → StandsFor mid d → (next : Dialogue) × StandsFor link next × TellsVerdict one (moment d middle between) (moment next new after))
     → Spoken bytes used carried was old before mid middle between → Spoken bytes used (carried ++ one ∷ []) was old before link new after
 heard_more bytes used carried one old middle new before between after was mid link tells spoken d stands =
@@ -145,19 +145,19 @@ was_all bytes used progress now within some is all not = of progress.after withi
   of (Some after) w s i a = took_all bytes used progress.used now after w i a (goes_or_ended now not)
 
 -- all was said
-pub said_all : (bytes : List ℕ) (used : ℕ) (carried : List Carried) (old new : LockedDesk) (before after : List ℕ) (was link : ImapConnection) → WasAll used bytes link.session → Spoken bytes used carried was old before link new after
+pub said_all : (bytes : List ℕ) (used : ℕ) (carried : List Carried) (old new : LockedStore) (before after : List ℕ) (was link : ImapConnection) → WasAll used bytes link.session → Spoken bytes used carried was old before link new after
     → (d : Dialogue) → StandsFor was d → (next : Dialogue) × StandsFor link next × Says bytes carried (moment d old before) (moment next new after)
 said_all bytes used carried old new before after was link whole spoken d stands =
     let n = spoken d stands in (n.0, n.1, record { used = used; speaks = n.2; all = subst (λ (s : Standing). WasAll used bytes s) n.1.session whole })
 
 -- memory was refused before the next line
-pub said_short : (room : ℕ) (bytes : List ℕ) (used : ℕ) (carried : List Carried) (old new : LockedDesk) (before after : List ℕ) (was link : ImapConnection) → room < length after + (8272 + tag_len (kept_tag link.session)) → Spoken bytes used carried was old before link new after
+pub said_short : (room : ℕ) (bytes : List ℕ) (used : ℕ) (carried : List Carried) (old new : LockedStore) (before after : List ℕ) (was link : ImapConnection) → room < length after + (8272 + tag_len (kept_tag link.session)) → Spoken bytes used carried was old before link new after
     → (d : Dialogue) → StandsFor was d → (next : Dialogue) × StandsFor link next × SaysInPart room bytes lost.NoMemory (moment d old before) (moment next new after)
 said_short room bytes used carried old new before after was link full spoken d stands =
     let n = spoken d stands in (n.0, n.1, short used carried n.2 (inl (subst (λ (s : Standing). room < length after + (8272 + tag_len (kept_tag s))) n.1.session full)) refl)
 
 -- no verdict came on the message that was submitted
-pub said_unheard : (room : ℕ) (bytes : List ℕ) (used : ℕ) (carried : List Carried) (why : Lost) (old middle new : LockedDesk) (before between after : List ℕ) (was mid link : ImapConnection) → may_send mid.session ≡ Submit → (link ≡ mid) × (new ≡ middle) × (after ≡ between)
+pub said_unheard : (room : ℕ) (bytes : List ℕ) (used : ℕ) (carried : List Carried) (why : Lost) (old middle new : LockedStore) (before between after : List ℕ) (was mid link : ImapConnection) → may_send mid.session ≡ Submit → (link ≡ mid) × (new ≡ middle) × (after ≡ between)
     → Spoken bytes used carried was old before mid middle between
     → (d : Dialogue) → StandsFor was d → (next : Dialogue) × StandsFor link next × SaysInPart room bytes why (moment d old before) (moment next new after)
 said_unheard room bytes used carried why old middle new before between after was mid link awaits same spoken d stands =

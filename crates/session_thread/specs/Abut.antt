@@ -6,8 +6,8 @@ use Rattle.cursor_set.specs.Cursors.{next_changes}
 use Rattle.mailbox.specs.Mailbox.{Mailbox}
 use Rattle.imap_session.specs.Exchange.{Answer, Entered, Expunged, Fed, Left, Event}
 use Rattle.imap_session.specs.Store.{Met}
-use Rattle.session_thread.specs.declared.desk.Entry.{Entry}
-use Rattle.session_thread.specs.Locks.{Holds, In, LockedDesk}
+use Rattle.session_thread.specs.declared.store.Entry.{Entry}
+use Rattle.session_thread.specs.Locks.{Holds, In, LockedStore}
 
 -- how many changes an answer showed
 abbrev pub shown_by : Answer → ℕ
@@ -40,5 +40,5 @@ Joins at (event ∷ events) = BeginsAt at event.answer × Joins (at + shown_by e
 -- While a session stays in its mailbox, the pieces that it is shown abut: they begin where its handle stood, and the handle is the one that was made as
 -- it entered, and has gone on by as many changes as were shown.
 abbrev pub Abut : Type 0
-Abut = (old new : LockedDesk) (events : List Event) (here : Entry) → Met Holds old events new → list_all (λ (e : Event). stays e.answer) events ≡ true → old.entered ≡ Some here
+Abut = (old new : LockedStore) (events : List Event) (here : Entry) → Met Holds old events new → list_all (λ (e : Event). stays e.answer) events ≡ true → old.entered ≡ Some here
     → Joins here.handle.at events × In new (λ there. (there.mailbox ≡ here.mailbox) × (there.start ≡ here.start) × (there.handle ≡ record here.handle { at = here.handle.at + shown_by_all events }))

@@ -14,19 +14,19 @@ use Rattle.imap_session.specs.Store.{AnswersVerdict, IdleTurns}
 use Rattle.imap_connection.specs.Dialogue.{Answered, Dialogue, may_follow, tag_len}
 use Rattle.session_thread.specs.declared.life.Step.{Step}
 use Rattle.session_thread.specs.declared.life.Step.TheVariants.{Say, Await}
-use Rattle.session_thread.specs.Locks.{Holds, LockedDesk, shown_in}
+use Rattle.session_thread.specs.Locks.{Holds, LockedStore, shown_in}
 
 -- where a session stands: its client's dialogue, its handle, and all that was written
 pub record Moment : Type 0 where
   pub dialogue : Dialogue
-  pub selection : LockedDesk
+  pub selection : LockedStore
   pub text : List ℕ
 
-abbrev pub moment : Dialogue → LockedDesk → List ℕ → Moment
+abbrev pub moment : Dialogue → LockedStore → List ℕ → Moment
 moment dialogue selection text = record { dialogue = dialogue; selection = selection; text = text }
 
 -- the first moment of a session with these mailboxes, which has been greeted, and takes messages of at most so many bytes, or none
-abbrev pub greeted_at : Option ℕ → List Folder → LockedDesk → List ℕ → Moment
+abbrev pub greeted_at : Option ℕ → List Folder → LockedStore → List ℕ → Moment
 greeted_at most folders selection text = record {
   dialogue = record { standing = record { folders = folders; selected = None; idling = None; ended = false; mailing = nothing_sent most }; begun = [] };
   selection = selection;
@@ -152,5 +152,5 @@ pub record LivesInPart (turns room : ℕ) (first : Moment) (steps : List Step) (
 
 -- How a session goes: it leaves the mailbox that it is in, without removal, in one hold, or is refused. Where it is in none it is refused as a stranger, and no
 -- lock is taken.
-abbrev pub Departs : LockedDesk → LockedDesk → Type 0
+abbrev pub Departs : LockedStore → LockedStore → Type 0
 Departs old new = (answer : Answer) × Holds old (Leave false) answer new

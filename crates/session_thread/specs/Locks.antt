@@ -12,10 +12,10 @@ use Rattle.mailbox.specs.declared.clients.MailFault.{MailFault}
 use Rattle.mailbox.specs.declared.clients.MailFault.TheVariants.{Stranger}
 use Rattle.mailbox_holds.specs.Holds.{Alters, Counts, DoesLook, Enters, EntersNot, Expunges, Feeds, IsRefused, HasCursor, Leaves, LeavesNot, Reads}
 use Rattle.imap_session.specs.Exchange.{Call, Answer, Enter, Look, Read, Count, Alter, Expunge, Feed, Leave, Entered, Looked, Found, Counted, Altered, Expunged, Fed, Left, Refused}
-use Rattle.session_thread.specs.declared.desk.Entry.{Entry}
+use Rattle.session_thread.specs.declared.store.Entry.{Entry}
 
 -- What a session knows between two calls: how many mailboxes there are, and the handle that it has in one of them.
-pub record LockedDesk : Type 0 where
+pub record LockedStore : Type 0 where
   pub mailboxes : ℕ
   pub entered : Option Entry
 
@@ -24,15 +24,15 @@ abbrev pub UnderLock : (Mailbox → Mailbox → Type 0) → Type 0
 UnderLock P = (found : Mailbox) × (left : Mailbox) × P found left
 
 -- The session is in a mailbox, and this holds of its handle there.
-abbrev pub In : LockedDesk → (Entry → Type 0) → Type 0
+abbrev pub In : LockedStore → (Entry → Type 0) → Type 0
 In selection P = (here : Entry) × (selection.entered ≡ Some here) × P here
 
 -- the session with this handle, in the mailbox that it had entered
-abbrev pub entered_at : LockedDesk → Entry → CursorHandle → LockedDesk
+abbrev pub entered_at : LockedStore → Entry → CursorHandle → LockedStore
 entered_at selection here handle = record { mailboxes = selection.mailboxes; entered = Some (record { mailbox = here.mailbox; start = here.start; handle = handle }) }
 
 -- the session in no mailbox
-abbrev pub outside : LockedDesk → LockedDesk
+abbrev pub outside : LockedStore → LockedStore
 outside selection = record { mailboxes = selection.mailboxes; entered = None }
 
 -- What a client was shown is the log's, for each log for which the mailbox that was found stood: what it counted is what the log's first changes
@@ -42,19 +42,19 @@ ShowsOf found handle view changes due = (log : List Change) → Stands found log
 
 -- Why a call on the mailbox that was entered was refused: there is none, and no lock was taken; or the one that was found refused it, and was left
 -- as it was. Where `spent`, its log has no room for what the call would log; and memory is wanted only where `wants`.
-pub data TurnsAway (selection : LockedDesk) (spent wants : Mailbox → CursorHandle → Type 0) (fault : MailFault) : Type 0 where
+pub data TurnsAway (selection : LockedStore) (spent wants : Mailbox → CursorHandle → Type 0) (fault : MailFault) : Type 0 where
   nowhere : selection.entered ≡ None → fault ≡ Stranger → TurnsAway selection spent wants fault
   refused_here : (here : Entry) (found left : Mailbox) → selection.entered ≡ Some here → IsRefused found here.handle (spent found here.handle) (wants found here.handle) fault left
       → TurnsAway selection spent wants fault
 
 -- Why a session doesn't enter: it is in a mailbox or there is none of this number, and no lock was taken; or the one that was found didn't let it in,
 -- and was left as it was.
-pub data StaysOut (selection : LockedDesk) (mailbox : ℕ) (fault : MailFault) : Type 0 where
+pub data StaysOut (selection : LockedStore) (mailbox : ℕ) (fault : MailFault) : Type 0 where
   no_door : (selection.entered ≡ None → ⊥) ⊎ (selection.mailboxes ≤ mailbox) → fault ≡ Stranger → StaysOut selection mailbox fault
   not_let_in : (found left : Mailbox) → selection.entered ≡ None → mailbox < selection.mailboxes → IsKept found → left ≡ found → EntersNot fault found → StaysOut selection mailbox fault
 
 -- One call of a session over locks, with its answer. Of the mailbox nothing is known but what the call finds.
-abbrev pub Holds : LockedDesk → Call → Answer → LockedDesk → Type 0
+abbrev pub Holds : LockedStore → Call → Answer → LockedStore → Type 0
 Holds old (Enter m) (Entered opening) new =
     (old.entered ≡ None) × (m < old.mailboxes)
     × ((handle : CursorHandle) × UnderLock (λ found left. Enters found opening left handle) × (new ≡ record { mailboxes = old.mailboxes; entered = Some (record { mailbox = m; start = handle.at; handle = handle }) }))

@@ -9,7 +9,7 @@ ghost use Rattle.imap_connection.specs.Dialogue.{Dialogue, StandsFor};
 ghost use Rattle.courier.specs.Carried.{Carried};
 ghost use Rattle.session_thread.specs.Life.{Awaits, Departs, HasTurn, IsOver, IsShort, Lives, LivesInPart, Moment, Steps, StopsIn, Turns, greeted_at, moment, takes_more};
 
-use crate::desk::LockedDesk;
+use crate::locked_store::LockedStore;
 use crate::speaking::answer;
 use courier::{Courier, Lost};
 use imap_connection::ImapConnection;
@@ -44,17 +44,17 @@ pub fn takes_more(connection: &ImapConnection) -> bool
 // The session has a turn while it idles, and lets others go on where it showed nothing.
 fn turn<R: Wait, G: Gate>(
     connection: &mut ImapConnection,
-    desk: &mut LockedDesk<'_, R, G>,
+    store: &mut LockedStore<'_, R, G>,
     out: &mut Vec<u8>,
 ) -> Result<(), AllocError>
     requires { is_idling connection.old.session ≡ true }
     ensures ok { OnOk result ((d : Dialogue) → StandsFor connection.old d → (next : Dialogue) × StandsFor connection.new next
-        × HasTurn (moment d desk.old out.old.items) (moment next desk.new out.new.items)) }
+        × HasTurn (moment d store.old out.old.items) (moment next store.new out.new.items)) }
     ensures err { OnErr result ((d : Dialogue) → StandsFor connection.old d → StandsFor connection.new d
-        × (moment d desk.new out.new.items ≡ moment d desk.old out.old.items) × IsShort (vec_capacity out.new) (moment d desk.new out.new.items)) }
+        × (moment d store.new out.new.items ≡ moment d store.old out.old.items) × IsShort (vec_capacity out.new) (moment d store.new out.new.items)) }
 {
     out.reserve(TURN_ROOM)?;
-    let Ok(shown) = connection.idle_turn(desk, out) else {
+    let Ok(shown) = connection.idle_turn(store, out) else {
         return Err(AllocError);
     };
     if shown == 0 {
@@ -66,26 +66,26 @@ fn turn<R: Wait, G: Gate>(
 // The session has turns while it idles, until so many changes were shown or so many turns are spent.
 fn wait_for<R: Wait, G: Gate>(
     connection: &mut ImapConnection,
-    desk: &mut LockedDesk<'_, R, G>,
+    store: &mut LockedStore<'_, R, G>,
     count: u64,
     turns: u64,
     out: &mut Vec<u8>,
 ) -> Result<(), AllocError>
     ensures ok { OnOk result ((d : Dialogue) → StandsFor connection.old d → (next : Dialogue) × StandsFor connection.new next
-        × Awaits turns count (moment d desk.old out.old.items) (moment next desk.new out.new.items)) }
+        × Awaits turns count (moment d store.old out.old.items) (moment next store.new out.new.items)) }
     ensures err { OnErr result ((d : Dialogue) → StandsFor connection.old d → (next : Dialogue) × StandsFor connection.new next
-        × ((had : ℕ) × (had < turns) × Turns count (moment d desk.old out.old.items) had (moment next desk.new out.new.items)
-        × (IsOver count (moment next desk.new out.new.items) → ⊥))
-        × IsShort (vec_capacity out.new) (moment next desk.new out.new.items)) }
+        × ((had : ℕ) × (had < turns) × Turns count (moment d store.old out.old.items) had (moment next store.new out.new.items)
+        × (IsOver count (moment next store.new out.new.items) → ⊥))
+        × IsShort (vec_capacity out.new) (moment next store.new out.new.items)) }
 {
     for _turn in 0..turns {
-        if desk.shown() >= count {
+        if store.shown() >= count {
             return Ok(());
         }
         if !connection.is_idling() {
             return Ok(());
         }
-        let Ok(()) = turn(connection, desk, out) else {
+        let Ok(()) = turn(connection, store, out) else {
             return Err(AllocError);
         };
     }
@@ -96,7 +96,7 @@ fn wait_for<R: Wait, G: Gate>(
 fn make<R: Wait, G: Gate, C: Courier>(
     alloc: Global,
     connection: &mut ImapConnection,
-    desk: &mut LockedDesk<'_, R, G>,
+    store: &mut LockedStore<'_, R, G>,
     courier: &mut C,
     step: &Step,
     turns: u64,
@@ -108,17 +108,17 @@ fn make<R: Wait, G: Gate, C: Courier>(
     ensures ok { OnOk result ((carried : List Carried) ×
         ((done : List Carried) → C.carried courier.old done → C.carried courier.new (done ++ carried))
         × ((d : Dialogue) → StandsFor connection.old d → (next : Dialogue) × StandsFor connection.new next
-        × Steps turns step.now carried (moment d desk.old out.old.items) (moment next desk.new out.new.items))) }
+        × Steps turns step.now carried (moment d store.old out.old.items) (moment next store.new out.new.items))) }
     ensures err { IfErr result (λ why. (d : Dialogue) → StandsFor connection.old d → (next : Dialogue) × StandsFor connection.new next
         × (takes_more d.standing ≡ true)
-        × StopsIn turns (vec_capacity out.new) step.now why (moment d desk.old out.old.items) (moment next desk.new out.new.items)) }
+        × StopsIn turns (vec_capacity out.new) step.now why (moment d store.old out.old.items) (moment next store.new out.new.items)) }
 {
     if !takes_more(connection) {
         return Ok(());
     }
     match step {
-        Step::Say(bytes) => answer(alloc, connection, desk, courier, bytes, out),
-        Step::Await(count) => match wait_for(connection, desk, *count, turns, out) {
+        Step::Say(bytes) => answer(alloc, connection, store, courier, bytes, out),
+        Step::Await(count) => match wait_for(connection, store, *count, turns, out) {
             Ok(()) => Ok(()),
             Err(_) => Err(Lost::NoMemory),
         },
@@ -129,7 +129,7 @@ fn make<R: Wait, G: Gate, C: Courier>(
 fn make_all<R: Wait, G: Gate, C: Courier>(
     alloc: Global,
     connection: &mut ImapConnection,
-    desk: &mut LockedDesk<'_, R, G>,
+    store: &mut LockedStore<'_, R, G>,
     courier: &mut C,
     steps: &[Step],
     turns: u64,
@@ -141,12 +141,12 @@ fn make_all<R: Wait, G: Gate, C: Courier>(
     ensures ok { OnOk result ((carried : List Carried) ×
         ((done : List Carried) → C.carried courier.old done → C.carried courier.new (done ++ carried))
         × ((d : Dialogue) → StandsFor connection.old d → (next : Dialogue) × StandsFor connection.new next
-        × Lives turns (moment d desk.old out.old.items) steps.now carried (moment next desk.new out.new.items))) }
+        × Lives turns (moment d store.old out.old.items) steps.now carried (moment next store.new out.new.items))) }
     ensures err { IfErr result (λ why. (d : Dialogue) → StandsFor connection.old d → (next : Dialogue) × StandsFor connection.new next
-        × LivesInPart turns (vec_capacity out.new) (moment d desk.old out.old.items) steps.now why (moment next desk.new out.new.items)) }
+        × LivesInPart turns (vec_capacity out.new) (moment d store.old out.old.items) steps.now why (moment next store.new out.new.items)) }
 {
     for step in steps {
-        if let Err(why) = make(alloc, connection, desk, courier, step, turns, out) {
+        if let Err(why) = make(alloc, connection, store, courier, step, turns, out) {
             return Err(why);
         }
     }
@@ -168,7 +168,7 @@ fn make_all<R: Wait, G: Gate, C: Courier>(
 /// error.
 pub fn live<R: Wait, G: Gate, C: Courier>(
     alloc: Global,
-    desk: &mut LockedDesk<'_, R, G>,
+    store: &mut LockedStore<'_, R, G>,
     courier: &mut C,
     folders: Vec<Folder>,
     most: Option<u32>,
@@ -181,12 +181,12 @@ pub fn live<R: Wait, G: Gate, C: Courier>(
     ensures kept { (first : C) → C.kept first courier.old → C.kept first courier.new }
     ensures ok { OnOk result ((carried : List Carried) ×
         ((done : List Carried) → C.carried courier.old done → C.carried courier.new (done ++ carried))
-        × ((last : Moment) × Lives turns (greeted_at most folders.items desk.old (out.old.items ++ greeting)) steps.now carried last
-        × (out.new.items ≡ last.text) × Departs last.selection desk.new)) }
-    ensures err { IfErr result (λ why. (desk.new ≡ desk.old) × (out.new.items ≡ out.old.items) × (why ≡ Lost.NoMemory)
-        ⊎ (last : Moment) × LivesInPart turns (vec_capacity out.new) (greeted_at most folders.items desk.old (out.old.items ++ greeting))
+        × ((last : Moment) × Lives turns (greeted_at most folders.items store.old (out.old.items ++ greeting)) steps.now carried last
+        × (out.new.items ≡ last.text) × Departs last.selection store.new)) }
+    ensures err { IfErr result (λ why. (store.new ≡ store.old) × (out.new.items ≡ out.old.items) × (why ≡ Lost.NoMemory)
+        ⊎ (last : Moment) × LivesInPart turns (vec_capacity out.new) (greeted_at most folders.items store.old (out.old.items ++ greeting))
         steps.now why last
-        × (out.new.items ≡ last.text) × Departs last.selection desk.new) }
+        × (out.new.items ≡ last.text) × Departs last.selection store.new) }
 {
     let Ok(mut connection) = ImapConnection::new(alloc, folders, most) else {
         return Err(Lost::NoMemory);
@@ -194,7 +194,7 @@ pub fn live<R: Wait, G: Gate, C: Courier>(
     let Ok(()) = connection.greet(out) else {
         return Err(Lost::NoMemory);
     };
-    let lived = make_all(alloc, &mut connection, desk, courier, steps, turns, out);
-    let _ = desk.leave(false);
+    let lived = make_all(alloc, &mut connection, store, courier, steps, turns, out);
+    let _ = store.leave(false);
     lived
 }

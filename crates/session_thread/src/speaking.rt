@@ -10,7 +10,7 @@ ghost use Rattle.imap_session.specs.declared.standing.After.TheVariants as after
 ghost use Rattle.courier.specs.Carried.{Carried};
 ghost use Rattle.session_thread.specs.Life.{Says, SaysInPart, TellsVerdict, moment};
 
-use crate::desk::LockedDesk;
+use crate::locked_store::LockedStore;
 use courier::{Courier, Lost};
 use imap_connection::ImapConnection;
 use imap_session::After;
@@ -30,7 +30,7 @@ fn awaits_verdict(connection: &ImapConnection) -> bool
 // first: behind the carrying nothing is refused.
 fn hear_verdict<R: Wait, G: Gate, C: Courier>(
     connection: &mut ImapConnection,
-    desk: &mut LockedDesk<'_, R, G>,
+    store: &mut LockedStore<'_, R, G>,
     courier: &mut C,
     out: &mut Vec<u8>,
 ) -> Result<(), Lost>
@@ -41,8 +41,8 @@ fn hear_verdict<R: Wait, G: Gate, C: Courier>(
     ensures unsent { OnOk result (connection.new.session.mailing.sent ≡ None) }
     ensures told { OnOk result ((one : Carried) × ((done : List Carried) → C.carried courier.old done → C.carried courier.new (done ++ one ∷ []))
         × ((d : Dialogue) → StandsFor connection.old d → (next : Dialogue) × StandsFor connection.new next
-        × TellsVerdict one (moment d desk.old out.old.items) (moment next desk.new out.new.items))) }
-    ensures same { OnErr result ((connection.new ≡ connection.old) × (desk.new ≡ desk.old) × (out.new.items ≡ out.old.items)) }
+        × TellsVerdict one (moment d store.old out.old.items) (moment next store.new out.new.items))) }
+    ensures same { OnErr result ((connection.new ≡ connection.old) × (store.new ≡ store.old) × (out.new.items ≡ out.old.items)) }
 {
     let Ok(()) = out.reserve(connection.verdict_room()) else {
         return Err(Lost::NoMemory);
@@ -50,11 +50,11 @@ fn hear_verdict<R: Wait, G: Gate, C: Courier>(
     let Some(append) = connection.submission() else {
         unreachable!()
     };
-    let verdict = match desk.carry(courier, append) {
+    let verdict = match store.carry(courier, append) {
         Ok(verdict) => verdict,
         Err(why) => return Err(why),
     };
-    let Ok(_) = connection.appended(verdict, desk, out) else {
+    let Ok(_) = connection.appended(verdict, store, out) else {
         unreachable!()
     };
     Ok(())
@@ -70,7 +70,7 @@ fn hear_verdict<R: Wait, G: Gate, C: Courier>(
 pub fn answer<R: Wait, G: Gate, C: Courier>(
     alloc: Global,
     connection: &mut ImapConnection,
-    desk: &mut LockedDesk<'_, R, G>,
+    store: &mut LockedStore<'_, R, G>,
     courier: &mut C,
     bytes: &[u8],
     out: &mut Vec<u8>,
@@ -83,13 +83,13 @@ pub fn answer<R: Wait, G: Gate, C: Courier>(
     ensures ok { OnOk result ((carried : List Carried) ×
         ((done : List Carried) → C.carried courier.old done → C.carried courier.new (done ++ carried))
         × ((d : Dialogue) → StandsFor connection.old d → (next : Dialogue) × StandsFor connection.new next
-        × Says bytes.now carried (moment d desk.old out.old.items) (moment next desk.new out.new.items))) }
+        × Says bytes.now carried (moment d store.old out.old.items) (moment next store.new out.new.items))) }
     ensures err { IfErr result (λ why. (d : Dialogue) → StandsFor connection.old d → (next : Dialogue) × StandsFor connection.new next
-        × SaysInPart (vec_capacity out.new) bytes.now why (moment d desk.old out.old.items) (moment next desk.new out.new.items)) }
+        × SaysInPart (vec_capacity out.new) bytes.now why (moment d store.old out.old.items) (moment next store.new out.new.items)) }
 {
     let mut used = 0;
     loop {
-        let progress = connection.take(alloc, &bytes[used..], desk, out);
+        let progress = connection.take(alloc, &bytes[used..], store, out);
         used += progress.used;
         if progress.after.is_none() {
             return Err(Lost::NoMemory);
@@ -97,7 +97,7 @@ pub fn answer<R: Wait, G: Gate, C: Courier>(
         if !awaits_verdict(connection) {
             return Ok(());
         }
-        if let Err(why) = hear_verdict(connection, desk, courier, out) {
+        if let Err(why) = hear_verdict(connection, store, courier, out) {
             return Err(why);
         }
         if connection.has_ended() {

@@ -13,7 +13,7 @@ use line_io::{Sink, Watched};
 use mailbox::{History, Limits, Mailbox};
 use pace::{Actor, Gate};
 use session_bells::{SessionBell, Sleeper};
-use session_thread::LockedDesk;
+use session_thread::LockedStore;
 use std::alloc::{AllocError, Global};
 use std::io::{self, Error, ErrorKind, Read};
 use std::sync::atomic::{AtomicBool, AtomicU64, Ordering};
@@ -289,8 +289,8 @@ pub(crate) fn open<'x, R: Wait>(
     let Ok(folders) = folders(alloc) else {
         return None;
     };
-    let desk = LockedDesk::new(rt, tally, 0, mailboxes, &[]);
-    match Visit::open(rt, alloc, desk, folders, most, wire) {
+    let store = LockedStore::new(rt, tally, 0, mailboxes, &[]);
+    match Visit::open(rt, alloc, store, folders, most, wire) {
         Ok(visit) => Some(visit),
         Err(_) => None,
     }
@@ -707,8 +707,8 @@ fn each_call_says_what_came_of_it(rt: HostRuntime) -> Result<(), AllocError> {
 fn greeted<R: Wait>(rt: &R, alloc: Global, told: &mut Vec<u8>) -> Result<bool, AllocError> {
     let mailboxes = a_mailbox(rt, alloc, false)?;
     let tally = Tally::new();
-    let desk = LockedDesk::new(rt, &tally, 0, &mailboxes, &[]);
-    let visit = Visit::open(rt, alloc, desk, folders(alloc)?, None, Watched::new(told));
+    let store = LockedStore::new(rt, &tally, 0, &mailboxes, &[]);
+    let visit = Visit::open(rt, alloc, store, folders(alloc)?, None, Watched::new(told));
     Ok(visit.is_ok())
 }
 

@@ -8,7 +8,7 @@ use delivery_token::{CopyKey, Job, Refusal, Text, Verdict};
 use imap_session::Store;
 use mailbox::{MailFault, Mailbox};
 use pace::{Gate, Pace};
-use session_thread::{LockedDesk, Step, live};
+use session_thread::{LockedStore, Step, live};
 use std::alloc::{AllocError, Global};
 use std::sync::{Mutex, Wait};
 
@@ -271,10 +271,10 @@ fn ending_of<R: Wait>(
     };
     let tally = Tally::new();
     let mut courier = TestCourier::new(rt, mailboxes, case.way);
-    let mut desk = LockedDesk::new(rt, &tally, 0, mailboxes, &[]);
+    let mut store = LockedStore::new(rt, &tally, 0, mailboxes, &[]);
     let lived = live(
         alloc,
-        &mut desk,
+        &mut store,
         &mut courier,
         folders,
         case.most,
@@ -283,7 +283,7 @@ fn ending_of<R: Wait>(
         said,
     );
     let passes = tally.asked();
-    if !courier.are_in_order || desk.leave(false) != Err(MailFault::Stranger) {
+    if !courier.are_in_order || store.leave(false) != Err(MailFault::Stranger) {
         return None;
     }
     Some(Ending {

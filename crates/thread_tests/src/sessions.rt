@@ -11,7 +11,7 @@ use imap_session::{Folder, Store};
 use mailbox::{History, Limits, MailFault, Mailbox};
 use pace::{Actor, Gate};
 use session_bells::{SessionBell, Sleeper, ring_each};
-use session_thread::{LockedDesk, Step, live, takes_more};
+use session_thread::{LockedStore, Step, live, takes_more};
 use std::alloc::{AllocError, Global};
 use std::mem;
 use std::sync::atomic::{AtomicBool, AtomicU64, Ordering};
@@ -135,12 +135,12 @@ fn session<R: Wait>(
         return None;
     };
     let mut said = Vec::new(alloc);
-    let mut desk = LockedDesk::new(rt, order, 0, mailboxes, bells);
+    let mut store = LockedStore::new(rt, order, 0, mailboxes, bells);
     // It takes no message, so nobody is asked to carry one.
     let mut courier = TestCourier::new(rt, mailboxes, Way::Loses(Lost::Torn));
     let lived = live(
         alloc,
-        &mut desk,
+        &mut store,
         &mut courier,
         folders,
         None,
@@ -281,13 +281,13 @@ fn sleep_and_look<R: Wait>(
     bell: Sleeper,
 ) -> Option<Vec<u8>> {
     let mut said = Vec::new(alloc);
-    let mut desk = LockedDesk::new(rt, order, 0, mailboxes, bells);
-    if desk.enter(0).is_err() || desk.feed(64, &mut said).is_err() {
+    let mut store = LockedStore::new(rt, order, 0, mailboxes, bells);
+    if store.enter(0).is_err() || store.feed(64, &mut said).is_err() {
         return None;
     }
     bell.sleep(rt);
-    let fed = desk.feed(64, &mut said);
-    if fed.is_err() || desk.shown() != 1 {
+    let fed = store.feed(64, &mut said);
+    if fed.is_err() || store.shown() != 1 {
         return None;
     }
     Some(said)
@@ -388,51 +388,51 @@ fn with_a_message<R: Wait>(rt: &R, alloc: Global) -> Result<Vec<Mutex<Mailbox>>,
 }
 
 // Whether a session can look at its view.
-fn has_chosen<R: Wait>(desk: &LockedDesk<'_, R, Tally>, alloc: Global) -> Option<bool> {
+fn has_chosen<R: Wait>(store: &LockedStore<'_, R, Tally>, alloc: Global) -> Option<bool> {
     let Ok((_tag, command)) = read_line(b"a UID FETCH 1:* UID") else {
         return None;
     };
     match command {
-        Command::Fetch(fetch) => Some(desk.choose(alloc, &fetch.set, true).is_ok()),
+        Command::Fetch(fetch) => Some(store.choose(alloc, &fetch.set, true).is_ok()),
         _ => None,
     }
 }
 
 // Each call of a session that is in no mailbox, or of one that isn't there: all are refused.
 fn calls_outside<R: Wait>(
-    desk: &mut LockedDesk<'_, R, Tally>,
+    store: &mut LockedStore<'_, R, Tally>,
     alloc: Global,
     out: &mut Vec<u8>,
 ) -> bool {
-    desk.enter(2).is_err()
-        && has_chosen(desk, alloc) == Some(false)
-        && desk.read(1, false).is_err()
-        && desk.status(2).is_err()
-        && desk.store(1, FlagOp::Insert(FLAGGED)).is_err()
-        && desk.expunge(None, out).is_err()
-        && desk.feed(64, out).is_err()
-        && desk.leave(true).is_err()
+    store.enter(2).is_err()
+        && has_chosen(store, alloc) == Some(false)
+        && store.read(1, false).is_err()
+        && store.status(2).is_err()
+        && store.store(1, FlagOp::Insert(FLAGGED)).is_err()
+        && store.expunge(None, out).is_err()
+        && store.feed(64, out).is_err()
+        && store.leave(true).is_err()
 }
 
 // Each call of a session that enters a mailbox and leaves it: a look, and seven events.
 fn calls_inside<R: Wait>(
-    desk: &mut LockedDesk<'_, R, Tally>,
+    store: &mut LockedStore<'_, R, Tally>,
     alloc: Global,
     out: &mut Vec<u8>,
 ) -> bool {
-    desk.enter(0).is_ok()
-        && has_chosen(desk, alloc) == Some(true)
-        && desk.read(1, false).is_ok()
-        && desk.status(0).is_ok()
-        && desk.store(1, FlagOp::Insert(FLAGGED)).is_ok()
-        && desk.expunge(None, out).is_ok()
-        && desk.feed(64, out).is_ok()
-        && desk.leave(false).is_ok()
+    store.enter(0).is_ok()
+        && has_chosen(store, alloc) == Some(true)
+        && store.read(1, false).is_ok()
+        && store.status(0).is_ok()
+        && store.store(1, FlagOp::Insert(FLAGGED)).is_ok()
+        && store.expunge(None, out).is_ok()
+        && store.feed(64, out).is_ok()
+        && store.leave(false).is_ok()
 }
 
 // How many messages two mailboxes tell, and with which UIDVALIDITY.
-fn counted<R: Wait>(desk: &mut LockedDesk<'_, R, Tally>) -> Option<(usize, u32, usize, u32)> {
-    let (Ok(first), Ok(second)) = (desk.status(0), desk.status(1)) else {
+fn counted<R: Wait>(store: &mut LockedStore<'_, R, Tally>) -> Option<(usize, u32, usize, u32)> {
+    let (Ok(first), Ok(second)) = (store.status(0), store.status(1)) else {
         return None;
     };
     Some((
@@ -444,11 +444,11 @@ fn counted<R: Wait>(desk: &mut LockedDesk<'_, R, Tally>) -> Option<(usize, u32, 
 }
 
 // A session that logs more changes than the window has, and is shown each itself.
-fn change_much<R: Wait>(desk: &mut LockedDesk<'_, R, Tally>, out: &mut Vec<u8>) -> bool {
+fn change_much<R: Wait>(store: &mut LockedStore<'_, R, Tally>, out: &mut Vec<u8>) -> bool {
     for _ in 0..9 {
-        let set = desk.store(1, FlagOp::Insert(FLAGGED));
-        let unset = desk.store(1, FlagOp::Remove(FLAGGED));
-        if set.is_err() || unset.is_err() || desk.feed(64, out).is_err() {
+        let set = store.store(1, FlagOp::Insert(FLAGGED));
+        let unset = store.store(1, FlagOp::Remove(FLAGGED));
+        if set.is_err() || unset.is_err() || store.feed(64, out).is_err() {
             return false;
         }
     }
@@ -463,12 +463,12 @@ fn passes_of_one_that_lapsed<R: Wait>(
 ) -> Option<u64> {
     let (others, tally) = (Tally::new(), Tally::new());
     let mut out = Vec::new(alloc);
-    let mut other = LockedDesk::new(rt, &others, 0, mailboxes, &[]);
-    let mut desk = LockedDesk::new(rt, &tally, 1, mailboxes, &[]);
-    if desk.enter(0).is_err() || other.enter(0).is_err() || !change_much(&mut other, &mut out) {
+    let mut other = LockedStore::new(rt, &others, 0, mailboxes, &[]);
+    let mut store = LockedStore::new(rt, &tally, 1, mailboxes, &[]);
+    if store.enter(0).is_err() || other.enter(0).is_err() || !change_much(&mut other, &mut out) {
         return None;
     }
-    match desk.read(1, false) {
+    match store.read(1, false) {
         Err(MailFault::Lapped) => Some(tally.asked()),
         _ => None,
     }
@@ -480,10 +480,10 @@ fn each_event_asks_to_pass(rt: HostRuntime) -> Result<(), AllocError> {
     let mailboxes = with_a_message(&rt, alloc)?;
     let tally = Tally::new();
     let mut out = Vec::new(alloc);
-    let mut desk = LockedDesk::new(&rt, &tally, 0, &mailboxes, &[]);
-    assert!(rt; calls_outside(&mut desk, alloc, &mut out));
+    let mut store = LockedStore::new(&rt, &tally, 0, &mailboxes, &[]);
+    assert!(rt; calls_outside(&mut store, alloc, &mut out));
     assert_eq!(rt; tally.asked(), 0);
-    assert!(rt; calls_inside(&mut desk, alloc, &mut out));
+    assert!(rt; calls_inside(&mut store, alloc, &mut out));
     assert_eq!(rt; tally.asked(), 7);
     assert_eq!(rt; passes_of_one_that_lapsed(&rt, alloc, &mailboxes), Some(2));
     Ok(())
@@ -495,13 +495,13 @@ fn each_call_takes_the_lock_of_its_mailbox(rt: HostRuntime) -> Result<(), AllocE
     let alloc = rt.alloc();
     let mailboxes = with_a_message(&rt, alloc)?;
     let tally = Tally::new();
-    let mut desk = LockedDesk::new(&rt, &tally, 0, &mailboxes, &[]);
-    assert_eq!(rt; counted(&mut desk), Some((1, 7, 0, 8)));
-    assert_eq!(rt; desk.enter(1).map(|opening| opening.uidvalidity), Ok(8));
-    assert_eq!(rt; desk.store(1, FlagOp::Insert(FLAGGED)), Ok(None));
-    assert_eq!(rt; desk.leave(false), Ok(0));
-    assert_eq!(rt; desk.enter(0).map(|opening| opening.uidvalidity), Ok(7));
-    assert_eq!(rt; desk.store(1, FlagOp::Insert(FLAGGED)), Ok(Some(FLAGGED)));
+    let mut store = LockedStore::new(&rt, &tally, 0, &mailboxes, &[]);
+    assert_eq!(rt; counted(&mut store), Some((1, 7, 0, 8)));
+    assert_eq!(rt; store.enter(1).map(|opening| opening.uidvalidity), Ok(8));
+    assert_eq!(rt; store.store(1, FlagOp::Insert(FLAGGED)), Ok(None));
+    assert_eq!(rt; store.leave(false), Ok(0));
+    assert_eq!(rt; store.enter(0).map(|opening| opening.uidvalidity), Ok(7));
+    assert_eq!(rt; store.store(1, FlagOp::Insert(FLAGGED)), Ok(Some(FLAGGED)));
     Ok(())
 }
 
@@ -515,16 +515,16 @@ fn wakes_each_time<R: Wait>(
 ) -> bool {
     let tally = Tally::new();
     let mut out = Vec::new(alloc);
-    let mut desk = LockedDesk::new(rt, &tally, 0, mailboxes, bells);
-    if desk.enter(0).is_err() || desk.read(1, true).is_err() {
+    let mut store = LockedStore::new(rt, &tally, 0, mailboxes, bells);
+    if store.enter(0).is_err() || store.read(1, true).is_err() {
         return false;
     }
     bell.sleep(rt);
-    if desk.store(1, FlagOp::Insert(DELETED)).is_err() {
+    if store.store(1, FlagOp::Insert(DELETED)).is_err() {
         return false;
     }
     bell.sleep(rt);
-    let gone = desk.expunge(None, &mut out);
+    let gone = store.expunge(None, &mut out);
     bell.sleep(rt);
     gone == Ok(1)
 }
@@ -563,18 +563,18 @@ fn told_by_another<R: Wait>(
 ) -> Result<(Vec<u8>, bool), AllocError> {
     let tally = Tally::new();
     let mut said = Vec::new(alloc);
-    let mut desk = LockedDesk::new(rt, &tally, 0, mailboxes, &[]);
+    let mut store = LockedStore::new(rt, &tally, 0, mailboxes, &[]);
     let mut connection = ImapConnection::new(alloc, folders(alloc)?, None)?;
-    let _ = connection.take(alloc, b"a1 SELECT INBOX\r\n", &mut desk, &mut said);
+    let _ = connection.take(alloc, b"a1 SELECT INBOX\r\n", &mut store, &mut said);
     if !takes_more(&connection) {
         return Err(AllocError);
     }
     said.clear();
     exchange(rt, mailboxes);
-    let _ = connection.take(alloc, line, &mut desk, &mut said);
+    let _ = connection.take(alloc, line, &mut store, &mut said);
     exchange(rt, mailboxes);
     let has_ended = connection.has_ended();
-    let _ = desk.leave(false);
+    let _ = store.leave(false);
     Ok((said, has_ended))
 }
 
@@ -599,32 +599,32 @@ fn a_session_of_another_mailbox_is_told_so_and_ends(rt: HostRuntime) -> Result<(
 // The handle of a mailbox is a stranger to each call on another, and still its own mailbox's afterwards.
 // Whether each call with a handle of another mailbox is a stranger's.
 fn is_a_stranger<R: Wait>(
-    desk: &mut LockedDesk<'_, R, Tally>,
+    store: &mut LockedStore<'_, R, Tally>,
     alloc: Global,
     out: &mut Vec<u8>,
 ) -> bool {
-    has_chosen(desk, alloc) == Some(false)
-        && desk.read(1, true).err() == Some(MailFault::Stranger)
-        && desk.store(1, FlagOp::Insert(FLAGGED)) == Err(MailFault::Stranger)
-        && desk.expunge(None, out) == Err(MailFault::Stranger)
-        && desk.feed(64, out) == Err(MailFault::Stranger)
-        && desk.leave(true) == Err(MailFault::Stranger)
+    has_chosen(store, alloc) == Some(false)
+        && store.read(1, true).err() == Some(MailFault::Stranger)
+        && store.store(1, FlagOp::Insert(FLAGGED)) == Err(MailFault::Stranger)
+        && store.expunge(None, out) == Err(MailFault::Stranger)
+        && store.feed(64, out) == Err(MailFault::Stranger)
+        && store.leave(true) == Err(MailFault::Stranger)
         && out.is_empty()
 }
 
 // Whether it is so while another mailbox stands behind its lock, and no longer.
 fn is_a_stranger_meanwhile<R: Wait>(rt: &R, alloc: Global, mailboxes: &[Mutex<Mailbox>]) -> bool {
     let tally = Tally::new();
-    let mut desk = LockedDesk::new(rt, &tally, 0, mailboxes, &[]);
-    if desk.enter(0).is_err() {
+    let mut store = LockedStore::new(rt, &tally, 0, mailboxes, &[]);
+    if store.enter(0).is_err() {
         return false;
     }
     exchange(rt, mailboxes);
-    let is_refused = is_a_stranger(&mut desk, alloc, &mut Vec::new(alloc));
+    let is_refused = is_a_stranger(&mut store, alloc, &mut Vec::new(alloc));
     exchange(rt, mailboxes);
     is_refused
-        && desk.store(1, FlagOp::Insert(FLAGGED)) == Ok(Some(FLAGGED))
-        && desk.leave(false) == Ok(0)
+        && store.store(1, FlagOp::Insert(FLAGGED)) == Ok(Some(FLAGGED))
+        && store.leave(false) == Ok(0)
 }
 
 #[test]

@@ -12,7 +12,7 @@ use Rattle.house_threads.specs.declared.consumers.Kept.TheVariants as kept
 use Rattle.courier.specs.Carried.{Carried}
 use Rattle.imap_session.specs.Commands.{greeting}
 use Rattle.session_thread.specs.Life.{Lives, Moment, greeted_at}
-use Rattle.session_thread.specs.Locks.{LockedDesk}
+use Rattle.session_thread.specs.Locks.{LockedStore}
 use Rattle.house_session.specs.Folders.{folders_of}
 use Rattle.delivery_token.specs.declared.log.Noted.{Noted}
 use Rattle.lane_work.specs.declared.worker.Fate.TheVariants.{Whole}
@@ -45,7 +45,7 @@ IsKept floor n (kept.Here c) = IsServiceOf floor n (manually_drop_value c)
 -- ---- a session
 
 -- the session that had this selection, of a user with this name, lived through these steps, and said this
-pub record HasLived (floor : Floor) (user : List ℕ) (selection : LockedDesk) (visit : Visit) (carried : List Carried) (text : List ℕ) : Type 0 where
+pub record HasLived (floor : Floor) (user : List ℕ) (selection : LockedStore) (visit : Visit) (carried : List Carried) (text : List ℕ) : Type 0 where
   pub last : Moment
   pub lives : Lives floor.turns (greeted_at (Some (most_of floor.office.max_message)) (folders_of floor.office.directory user) selection greeting) visit.steps.items carried last
   pub wrote : text ≡ last.text

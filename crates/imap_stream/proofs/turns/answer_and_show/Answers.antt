@@ -13,7 +13,7 @@ returns-in-Ok-clause-ok g c =
     let s = c.in_default.ensures.ok in (
       s.0,
       s.1,
-      heard c.args.piece.now s.0 c.args.desk.now a.desk t.desk c.args.out.now.items a.out.items t.out.items c.args.connection.now a.connection t.connection s.2 c.in-Ok.ensures.ok,
+      heard c.args.piece.now s.0 c.args.store.now a.store t.store c.args.out.now.items a.out.items t.out.items c.args.connection.now a.connection t.connection s.2 c.in-Ok.ensures.ok,
     )
 
 pub returns-in-Err-show_all-clause-err : goal.returns-in-Err-show_all-clause-err
@@ -21,4 +21,4 @@ returns-in-Err-show_all-clause-err g c =
     let a = c.answer-answered.new in
     let t = c.show_all.new in
     let s = c.in_default.ensures.ok in
-    heard_in_part (vec_capacity t.out) c.args.piece.now s.0 c.args.desk.now a.desk t.desk c.args.out.now.items a.out.items t.out.items c.args.connection.now a.connection t.connection s.2 c.in-Err-show_all.ensures.err
+    heard_in_part (vec_capacity t.out) c.args.piece.now s.0 c.args.store.now a.store t.store c.args.out.now.items a.out.items t.out.items c.args.connection.now a.connection t.connection s.2 c.in-Err-show_all.ensures.err

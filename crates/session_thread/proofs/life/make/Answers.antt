@@ -8,19 +8,19 @@ pub returns-then-not-takes_more-clause-ok : goal.returns-then-not-takes_more-cla
 returns-then-not-takes_more-clause-ok g c = (
   [],
   none_more (g.C.Courier.carried c.args.courier.now),
-  λ d s. rested c.args.turns c.args.step.now d c.args.desk.now c.args.out.now.items c.args.connection.now (sym c.takes_more.ensures.is ∙ c.if-not-takes_more.true) s,
+  λ d s. rested c.args.turns c.args.step.now d c.args.store.now c.args.out.now.items c.args.connection.now (sym c.takes_more.ensures.is ∙ c.if-not-takes_more.true) s,
 )
 
 pub returns-in-Say-clause-ok : goal.returns-in-Say-clause-ok
 returns-in-Say-clause-ok g c =
     let a = c.answer in
-    said_step a.result (g.C.Courier.carried c.args.courier.now) (g.C.Courier.carried a.new.courier) c.args.turns c.args.step.now c.in-Say.bytes c.deref.result.now c.args.desk.now a.new.desk c.args.out.now.items a.new.out.items c.args.connection.now a.new.connection
+    said_step a.result (g.C.Courier.carried c.args.courier.now) (g.C.Courier.carried a.new.courier) c.args.turns c.args.step.now c.in-Say.bytes c.deref.result.now c.args.store.now a.new.store c.args.out.now.items a.new.out.items c.args.connection.now a.new.connection
     (sym c.takes_more.ensures.is ∙ c.if-not-takes_more.false) c.in-Say.is c.deref.ensures.value a.ensures.ok
 
 pub returns-in-Say-clause-err : goal.returns-in-Say-clause-err
 returns-in-Say-clause-err g c =
     let a = c.answer in
-    said_in_part a.result c.args.turns (vec_capacity a.new.out) c.args.step.now c.in-Say.bytes c.deref.result.now c.args.desk.now a.new.desk c.args.out.now.items a.new.out.items c.args.connection.now a.new.connection
+    said_in_part a.result c.args.turns (vec_capacity a.new.out) c.args.step.now c.in-Say.bytes c.deref.result.now c.args.store.now a.new.store c.args.out.now.items a.new.out.items c.args.connection.now a.new.connection
     (sym c.takes_more.ensures.is ∙ c.if-not-takes_more.false) c.in-Say.is c.deref.ensures.value a.ensures.err
 
 pub returns-in-Ok-clause-ok : goal.returns-in-Ok-clause-ok
@@ -28,11 +28,11 @@ returns-in-Ok-clause-ok g c =
     let w = c.wait_for.new in (
       [],
       none_more (g.C.Courier.carried c.args.courier.now),
-      awaited_step c.args.turns c.args.step.now c.in-Await.count c.args.desk.now w.desk c.args.out.now.items w.out.items c.args.connection.now w.connection (sym c.takes_more.ensures.is ∙ c.if-not-takes_more.false) c.in-Await.is c.in-Ok.ensures.ok,
+      awaited_step c.args.turns c.args.step.now c.in-Await.count c.args.store.now w.store c.args.out.now.items w.out.items c.args.connection.now w.connection (sym c.takes_more.ensures.is ∙ c.if-not-takes_more.false) c.in-Await.is c.in-Ok.ensures.ok,
     )
 
 pub returns-in-Err-clause-err : goal.returns-in-Err-clause-err
 returns-in-Err-clause-err g c =
     let w = c.wait_for.new in
-    awaited_in_part c.args.turns (vec_capacity w.out) c.args.step.now c.in-Await.count c.args.desk.now w.desk c.args.out.now.items w.out.items c.args.connection.now w.connection (sym c.takes_more.ensures.is ∙ c.if-not-takes_more.false) c.in-Await.is
+    awaited_in_part c.args.turns (vec_capacity w.out) c.args.step.now c.in-Await.count c.args.store.now w.store c.args.out.now.items w.out.items c.args.connection.now w.connection (sym c.takes_more.ensures.is ∙ c.if-not-takes_more.false) c.in-Await.is
     c.in-Err.ensures.err

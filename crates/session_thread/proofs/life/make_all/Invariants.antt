@@ -9,4 +9,4 @@ invariant-loop-step g l =
     g.C.Courier.ready l.courier
     × ((first : g.row.C.Denot) → g.C.Courier.kept first l.fn.courier → g.C.Courier.kept first l.courier)
     × ((carried : List Carried) × ((done : List Carried) → g.C.Courier.carried l.fn.courier done → g.C.Courier.carried l.courier (done ++ carried))
-    × ((d : Dialogue) → StandsFor l.fn.connection d → (now : Dialogue) × StandsFor l.connection now × Lives l.turns (moment d l.fn.desk l.fn.out.items) (take l.step-index l.steps) carried (moment now l.desk l.out.items)))
+    × ((d : Dialogue) → StandsFor l.fn.connection d → (now : Dialogue) × StandsFor l.connection now × Lives l.turns (moment d l.fn.store l.fn.out.items) (take l.step-index l.steps) carried (moment now l.store l.out.items)))

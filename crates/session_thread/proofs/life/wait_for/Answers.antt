@@ -10,8 +10,8 @@ pub returns-in_default-clause-err : goal.returns-in_default-clause-err
 returns-in_default-clause-err g c d s =
     let t = c.loop-turn.invariant d s in
     let e = c.in_default.ensures.err t.0 t.1 in
-    let first : Moment = moment d c.args.desk.now c.args.out.now.items in
-    let due = not_over c.args.count t.0 c.loop-turn.desk c.loop-turn.out.items c.loop-turn.connection t.1 (omega (arith, c.shown.ensures, c.if-shown-count.false)) (sym c.is_idling.ensures ∙ c.if-not-is_idling.false) in
+    let first : Moment = moment d c.args.store.now c.args.out.now.items in
+    let due = not_over c.args.count t.0 c.loop-turn.store c.loop-turn.out.items c.loop-turn.connection t.1 (omega (arith, c.shown.ensures, c.if-shown-count.false)) (sym c.is_idling.ensures ∙ c.if-not-is_idling.false) in
     let had = subst (λ (m : Moment). Turns c.args.count first c.loop-turn._turn m × (IsOver c.args.count m → ⊥)) (sym e.1) (t.2, due) in
     (t.0, e.0, (c.loop-turn._turn, c.loop-turn-test.true, had.0, had.1), e.2)
 
@@ -21,6 +21,6 @@ loop-turn-preserved g c d s =
     let n = c.in-Ok.ensures.ok t.0 t.1 in (
       n.0,
       n.1,
-      turned_on c.args.count c.loop-turn._turn (moment d c.args.desk.now c.args.out.now.items) t.0 n.0 c.loop-turn.desk c.turn.new.desk c.loop-turn.out.items c.turn.new.out.items c.loop-turn.connection t.1
+      turned_on c.args.count c.loop-turn._turn (moment d c.args.store.now c.args.out.now.items) t.0 n.0 c.loop-turn.store c.turn.new.store c.loop-turn.out.items c.turn.new.out.items c.loop-turn.connection t.1
           (omega (arith, c.shown.ensures, c.if-shown-count.false)) (sym c.is_idling.ensures ∙ c.if-not-is_idling.false) t.2 n.2,
     )

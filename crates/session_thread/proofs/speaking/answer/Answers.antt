@@ -20,8 +20,8 @@ returns-then-is_none-clause-err g c =
     let l = c.loop-alloc in
     let t = c.take-progress in
     let full = t.ensures.full (search rules) in
-    said_short (vec_capacity t.new.out) c.args.bytes.now (l.used + t.result.used) v.5.0 c.args.desk.now t.new.store c.args.out.now.items t.new.out.items c.args.connection.now t.new.self (omega (arith, full, t.new.out.ok.0))
-    (said_more c.args.bytes.now l.used v.5.0 c.args.desk.now l.desk t.new.store c.args.out.now.items l.out.items t.new.out.items t.result c.args.connection.now l.connection t.new.self v.3 v.4 t.ensures.used t.ensures.took v.5.2)
+    said_short (vec_capacity t.new.out) c.args.bytes.now (l.used + t.result.used) v.5.0 c.args.store.now t.new.store c.args.out.now.items t.new.out.items c.args.connection.now t.new.self (omega (arith, full, t.new.out.ok.0))
+    (said_more c.args.bytes.now l.used v.5.0 c.args.store.now l.store t.new.store c.args.out.now.items l.out.items t.new.out.items t.result c.args.connection.now l.connection t.new.self v.3 v.4 t.ensures.used t.ensures.took v.5.2)
 
 pub returns-then-not-awaits_verdict-clause-ok : goal.returns-then-not-awaits_verdict-clause-ok
 returns-then-not-awaits_verdict-clause-ok g c =
@@ -31,9 +31,9 @@ returns-then-not-awaits_verdict-clause-ok g c =
     let some : t.result.after ≡ None → ⊥ = search rules in (
       v.5.0,
       v.5.1,
-      said_all c.args.bytes.now (l.used + t.result.used) v.5.0 c.args.desk.now t.new.store c.args.out.now.items t.new.out.items c.args.connection.now t.new.self
+      said_all c.args.bytes.now (l.used + t.result.used) v.5.0 c.args.store.now t.new.store c.args.out.now.items t.new.out.items c.args.connection.now t.new.self
           (was_all c.args.bytes.now l.used t.result t.new.self.session v.2 some t.ensures.sends t.ensures.all (c.awaits_verdict.ensures.no c.if-not-awaits_verdict.true))
-          (said_more c.args.bytes.now l.used v.5.0 c.args.desk.now l.desk t.new.store c.args.out.now.items l.out.items t.new.out.items t.result c.args.connection.now l.connection t.new.self v.3 v.4 t.ensures.used t.ensures.took v.5.2),
+          (said_more c.args.bytes.now l.used v.5.0 c.args.store.now l.store t.new.store c.args.out.now.items l.out.items t.new.out.items t.result c.args.connection.now l.connection t.new.self v.3 v.4 t.ensures.used t.ensures.took v.5.2),
     )
 
 pub returns-in-Err-clause-err : goal.returns-in-Err-clause-err
@@ -42,9 +42,9 @@ returns-in-Err-clause-err g c =
     let l = c.loop-alloc in
     let t = c.take-progress in
     let h = c.hear_verdict.new in
-    said_unheard (vec_capacity h.out) c.args.bytes.now (l.used + t.result.used) v.5.0 c.in-Err.why c.args.desk.now t.new.store h.desk c.args.out.now.items t.new.out.items h.out.items c.args.connection.now t.new.self h.connection
+    said_unheard (vec_capacity h.out) c.args.bytes.now (l.used + t.result.used) v.5.0 c.in-Err.why c.args.store.now t.new.store h.store c.args.out.now.items t.new.out.items h.out.items c.args.connection.now t.new.self h.connection
     (c.awaits_verdict.ensures.yes c.if-not-awaits_verdict.false) c.in-Err.ensures.same
-    (said_more c.args.bytes.now l.used v.5.0 c.args.desk.now l.desk t.new.store c.args.out.now.items l.out.items t.new.out.items t.result c.args.connection.now l.connection t.new.self v.3 v.4 t.ensures.used t.ensures.took v.5.2)
+    (said_more c.args.bytes.now l.used v.5.0 c.args.store.now l.store t.new.store c.args.out.now.items l.out.items t.new.out.items t.result c.args.connection.now l.connection t.new.self v.3 v.4 t.ensures.used t.ensures.took v.5.2)
 
 pub returns-then-has_ended-clause-ok : goal.returns-then-has_ended-clause-ok
 returns-then-has_ended-clause-ok g c =
@@ -55,9 +55,9 @@ returns-then-has_ended-clause-ok g c =
     let one = c.in_default.ensures.told in (
       v.5.0 ++ one.0 ∷ [],
       more_carried (g.C.Courier.carried c.args.courier.now) (g.C.Courier.carried l.courier) (g.C.Courier.carried h.courier) v.5.0 (one.0 ∷ []) v.5.1 one.1,
-      said_all c.args.bytes.now (l.used + t.result.used) (v.5.0 ++ one.0 ∷ []) c.args.desk.now h.desk c.args.out.now.items h.out.items c.args.connection.now h.connection (inr (sym c.has_ended.ensures ∙ c.if-has_ended.true))
-          (heard_more c.args.bytes.now (l.used + t.result.used) v.5.0 one.0 c.args.desk.now t.new.store h.desk c.args.out.now.items t.new.out.items h.out.items c.args.connection.now t.new.self h.connection one.2
-          (said_more c.args.bytes.now l.used v.5.0 c.args.desk.now l.desk t.new.store c.args.out.now.items l.out.items t.new.out.items t.result c.args.connection.now l.connection t.new.self v.3 v.4 t.ensures.used t.ensures.took v.5.2)),
+      said_all c.args.bytes.now (l.used + t.result.used) (v.5.0 ++ one.0 ∷ []) c.args.store.now h.store c.args.out.now.items h.out.items c.args.connection.now h.connection (inr (sym c.has_ended.ensures ∙ c.if-has_ended.true))
+          (heard_more c.args.bytes.now (l.used + t.result.used) v.5.0 one.0 c.args.store.now t.new.store h.store c.args.out.now.items t.new.out.items h.out.items c.args.connection.now t.new.self h.connection one.2
+          (said_more c.args.bytes.now l.used v.5.0 c.args.store.now l.store t.new.store c.args.out.now.items l.out.items t.new.out.items t.result c.args.connection.now l.connection t.new.self v.3 v.4 t.ensures.used t.ensures.took v.5.2)),
     )
 
 pub returns-then-used-bytes-clause-ok : goal.returns-then-used-bytes-clause-ok
@@ -69,10 +69,10 @@ returns-then-used-bytes-clause-ok g c =
     let one = c.in_default.ensures.told in (
       v.5.0 ++ one.0 ∷ [],
       more_carried (g.C.Courier.carried c.args.courier.now) (g.C.Courier.carried l.courier) (g.C.Courier.carried h.courier) v.5.0 (one.0 ∷ []) v.5.1 one.1,
-      said_all c.args.bytes.now (l.used + t.result.used) (v.5.0 ++ one.0 ∷ []) c.args.desk.now h.desk c.args.out.now.items h.out.items c.args.connection.now h.connection
+      said_all c.args.bytes.now (l.used + t.result.used) (v.5.0 ++ one.0 ∷ []) c.args.store.now h.store c.args.out.now.items h.out.items c.args.connection.now h.connection
           (inl (c.if-used-bytes.true, takes_more_now h.connection.session (sym c.has_ended.ensures ∙ c.if-has_ended.false) c.in_default.ensures.unsent))
-          (heard_more c.args.bytes.now (l.used + t.result.used) v.5.0 one.0 c.args.desk.now t.new.store h.desk c.args.out.now.items t.new.out.items h.out.items c.args.connection.now t.new.self h.connection one.2
-          (said_more c.args.bytes.now l.used v.5.0 c.args.desk.now l.desk t.new.store c.args.out.now.items l.out.items t.new.out.items t.result c.args.connection.now l.connection t.new.self v.3 v.4 t.ensures.used t.ensures.took v.5.2)),
+          (heard_more c.args.bytes.now (l.used + t.result.used) v.5.0 one.0 c.args.store.now t.new.store h.store c.args.out.now.items t.new.out.items h.out.items c.args.connection.now t.new.self h.connection one.2
+          (said_more c.args.bytes.now l.used v.5.0 c.args.store.now l.store t.new.store c.args.out.now.items l.out.items t.new.out.items t.result c.args.connection.now l.connection t.new.self v.3 v.4 t.ensures.used t.ensures.took v.5.2)),
     )
 
 pub loop-alloc-preserved : goal.loop-alloc-preserved
@@ -90,7 +90,7 @@ loop-alloc-preserved g c =
       (
         v.5.0 ++ one.0 ∷ [],
         more_carried (g.C.Courier.carried c.args.courier.now) (g.C.Courier.carried l.courier) (g.C.Courier.carried h.courier) v.5.0 (one.0 ∷ []) v.5.1 one.1,
-        heard_more c.args.bytes.now (l.used + t.result.used) v.5.0 one.0 c.args.desk.now t.new.store h.desk c.args.out.now.items t.new.out.items h.out.items c.args.connection.now t.new.self h.connection one.2
-            (said_more c.args.bytes.now l.used v.5.0 c.args.desk.now l.desk t.new.store c.args.out.now.items l.out.items t.new.out.items t.result c.args.connection.now l.connection t.new.self v.3 v.4 t.ensures.used t.ensures.took v.5.2),
+        heard_more c.args.bytes.now (l.used + t.result.used) v.5.0 one.0 c.args.store.now t.new.store h.store c.args.out.now.items t.new.out.items h.out.items c.args.connection.now t.new.self h.connection one.2
+            (said_more c.args.bytes.now l.used v.5.0 c.args.store.now l.store t.new.store c.args.out.now.items l.out.items t.new.out.items t.result c.args.connection.now l.connection t.new.self v.3 v.4 t.ensures.used t.ensures.took v.5.2),
       ),
     )

@@ -12,7 +12,7 @@ invariant-loop-alloc g l =
     × (l.connection.session.ended ≡ false)
     × (l.connection.session.mailing.sent ≡ None)
     × ((carried : List Carried) × ((done : List Carried) → g.C.Courier.carried l.fn.courier done → g.C.Courier.carried l.courier (done ++ carried))
-    × ((d : Dialogue) → StandsFor l.fn.connection d → (now : Dialogue) × StandsFor l.connection now × Speaks l.bytes (moment d l.fn.desk l.fn.out.items) l.used carried (moment now l.desk l.out.items)))
+    × ((d : Dialogue) → StandsFor l.fn.connection d → (now : Dialogue) × StandsFor l.connection now × Speaks l.bytes (moment d l.fn.store l.fn.out.items) l.used carried (moment now l.store l.out.items)))
 
 abbrev pub decreases-loop-alloc : goal.decreases-loop-alloc
 decreases-loop-alloc g l = length l.bytes - l.used

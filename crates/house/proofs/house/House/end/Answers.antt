@@ -9,7 +9,7 @@ use Rattle.house.proofs.house.House.end.Goals as goal
 pub returns-clause-follows : goal.returns-clause-follows
 returns-clause-follows c k s old st =
     let i = c.self.inside in
-    let h : House = record { core = i.desk.core; callers = i.callers.items; serials = i.serials.items; visitors = i.visitors.items; entered = i.entered.items; directory = i.directory; host = i.host.items; max_message = i.max_message } in
+    let h : House = record { core = i.store.core; callers = i.callers.items; serials = i.serials.items; visitors = i.visitors.items; entered = i.entered.items; directory = i.directory; host = i.host.items; max_message = i.max_message } in
     let st1 = subst (λ (x : House). StandsFor k x s) (sym c.self.view_is) st in
     let seat = c.args.number - 1 in
     let r = end_led k h s c.end.new.self seat c.args.shard old st1 c.in-Ok.ensures.follows c.in-Ok.ensures.heard c.in-Ok.ensures.next in
@@ -18,6 +18,6 @@ returns-clause-follows c k s old st =
 pub returns-in-Err-Nothing-clause-changes_nothing : goal.returns-in-Err-Nothing-clause-changes_nothing
 returns-in-Err-Nothing-clause-changes_nothing c x k s st t printed p =
     let i = c.self.inside in
-    let h : House = record { core = i.desk.core; callers = i.callers.items; serials = i.serials.items; visitors = i.visitors.items; entered = i.entered.items; directory = i.directory; host = i.host.items; max_message = i.max_message } in
+    let h : House = record { core = i.store.core; callers = i.callers.items; serials = i.serials.items; visitors = i.visitors.items; entered = i.entered.items; directory = i.directory; host = i.host.items; max_message = i.max_message } in
     let st1 = subst (λ (x : House). StandsFor k x s) (sym c.self.view_is) st in
     nothing_changes k h s (world.PutEnd (c.args.number - 1) c.args.shard) st1 (c.in-Err-Nothing.ensures.changes_nothing (ap (λ x. Err x) c.in-Err-Nothing.field-0-is)) t printed p

@@ -16,7 +16,7 @@ use Rattle.house.proofs.house.House.hear_of_session.Goals as goal
 pub returns-in_default-clause-no_memory : goal.returns-in_default-clause-no_memory
 returns-in_default-clause-no_memory c e k s st =
     let i = c.self.inside in
-    let h : House = record { core = i.desk.core; callers = i.callers.items; serials = i.serials.items; visitors = i.visitors.items; entered = i.entered.items; directory = i.directory; host = i.host.items; max_message = i.max_message } in
+    let h : House = record { core = i.store.core; callers = i.callers.items; serials = i.serials.items; visitors = i.visitors.items; entered = i.entered.items; directory = i.directory; host = i.host.items; max_message = i.max_message } in
     let st1 = subst (λ (x : House). StandsFor k x s) (sym c.self.view_is) st in
     let many = ap (λ (x : House). length x.visitors) c.self.view_is in
     let first = ap (λ (x : House). length x.callers) c.self.view_is in
@@ -30,16 +30,16 @@ returns-in_default-clause-no_memory c e k s st =
     let some : ◌≡◌ {A = Option SeatedSession} (get_or i.visitors.items place None) (Some g.0) = get_or-any i.visitors.items place None c.index.result.now lt ∙ sym c.index.ensures ∙ g.1 in
     let q = heard_at c.index_mut-here.result.now c.visitor_hears.new.place c.in-Ok.noted g.0 (c.index_mut-here.ensures.value ∙ get_or-any i.visitors.items place _ None lt ∙ some) c.visitor_hears.ensures in
     let f = c.in-Ok.ensures in
-    let r = heard_led k false h s place g.0 c.hear.new.self c.visitor_goes_on.new.desk.core c.in-Ok.noted q.0 c.visitor_goes_on.new.place c.args.out.now.items c.visitor_goes_on.new.out.items st1 lt some
-    (subst (λ (n : ℕ). (x : world.Config) → core.Follows x i.desk.core (world.Hear n ∷ []) c.hear.new.self) mine f.follows) (subst (λ (n : ℕ). Hears i.desk.core c.hear.new.self n (c.in-Ok.noted ∷ [])) mine f.heard) f.next q.2 c.visitor_goes_on.ensures.delivery
-    (λ next heard w b stands is. subst (λ (n : ℕ). PlaceVisited k false n next heard w b c.visitor_goes_on.new.place c.visitor_goes_on.new.desk.core c.args.out.now.items c.visitor_goes_on.new.out.items) (sym number)
+    let r = heard_led k false h s place g.0 c.hear.new.self c.visitor_goes_on.new.store.core c.in-Ok.noted q.0 c.visitor_goes_on.new.place c.args.out.now.items c.visitor_goes_on.new.out.items st1 lt some
+    (subst (λ (n : ℕ). (x : world.Config) → core.Follows x i.store.core (world.Hear n ∷ []) c.hear.new.self) mine f.follows) (subst (λ (n : ℕ). Hears i.store.core c.hear.new.self n (c.in-Ok.noted ∷ [])) mine f.heard) f.next q.2 c.visitor_goes_on.ensures.delivery
+    (λ next heard w b stands is. subst (λ (n : ℕ). PlaceVisited k false n next heard w b c.visitor_goes_on.new.place c.visitor_goes_on.new.store.core c.args.out.now.items c.visitor_goes_on.new.out.items) (sym number)
     (c.in_default.ensures.err k next heard w b stands (subst (λ (n : ℕ). StandsForSomebody (session_seat k n) next heard c.visitor_hears.new.place (Some b)) number (subst (λ (o : Option SeatedSession). StandsForSomebody (session_seat k place) next heard o (Some b)) (sym q.1) is)))) in
     inl (record { after = r.0; printed = r.1; plays = session_hears place mine r.2; stands = r.3; out = r.4 })
 
 pub returns-clause-follows : goal.returns-clause-follows
 returns-clause-follows c k s st =
     let i = c.self.inside in
-    let h : House = record { core = i.desk.core; callers = i.callers.items; serials = i.serials.items; visitors = i.visitors.items; entered = i.entered.items; directory = i.directory; host = i.host.items; max_message = i.max_message } in
+    let h : House = record { core = i.store.core; callers = i.callers.items; serials = i.serials.items; visitors = i.visitors.items; entered = i.entered.items; directory = i.directory; host = i.host.items; max_message = i.max_message } in
     let st1 = subst (λ (x : House). StandsFor k x s) (sym c.self.view_is) st in
     let many = ap (λ (x : House). length x.visitors) c.self.view_is in
     let first = ap (λ (x : House). length x.callers) c.self.view_is in
@@ -53,16 +53,16 @@ returns-clause-follows c k s st =
     let some : ◌≡◌ {A = Option SeatedSession} (get_or i.visitors.items place None) (Some g.0) = get_or-any i.visitors.items place None c.index.result.now lt ∙ sym c.index.ensures ∙ g.1 in
     let q = heard_at c.index_mut-here.result.now c.visitor_hears.new.place c.in-Ok.noted g.0 (c.index_mut-here.ensures.value ∙ get_or-any i.visitors.items place _ None lt ∙ some) c.visitor_hears.ensures in
     let f = c.in-Ok.ensures in
-    let r = heard_led k true h s place g.0 c.hear.new.self c.visitor_goes_on.new.desk.core c.in-Ok.noted q.0 c.visitor_goes_on.new.place c.args.out.now.items c.visitor_goes_on.new.out.items st1 lt some
-    (subst (λ (n : ℕ). (x : world.Config) → core.Follows x i.desk.core (world.Hear n ∷ []) c.hear.new.self) mine f.follows) (subst (λ (n : ℕ). Hears i.desk.core c.hear.new.self n (c.in-Ok.noted ∷ [])) mine f.heard) f.next q.2 c.visitor_goes_on.ensures.delivery
-    (λ next heard w b stands is. subst (λ (n : ℕ). PlaceVisited k true n next heard w b c.visitor_goes_on.new.place c.visitor_goes_on.new.desk.core c.args.out.now.items c.visitor_goes_on.new.out.items) (sym number)
+    let r = heard_led k true h s place g.0 c.hear.new.self c.visitor_goes_on.new.store.core c.in-Ok.noted q.0 c.visitor_goes_on.new.place c.args.out.now.items c.visitor_goes_on.new.out.items st1 lt some
+    (subst (λ (n : ℕ). (x : world.Config) → core.Follows x i.store.core (world.Hear n ∷ []) c.hear.new.self) mine f.follows) (subst (λ (n : ℕ). Hears i.store.core c.hear.new.self n (c.in-Ok.noted ∷ [])) mine f.heard) f.next q.2 c.visitor_goes_on.ensures.delivery
+    (λ next heard w b stands is. subst (λ (n : ℕ). PlaceVisited k true n next heard w b c.visitor_goes_on.new.place c.visitor_goes_on.new.store.core c.args.out.now.items c.visitor_goes_on.new.out.items) (sym number)
     (c.in-Ok-visitor_goes_on.ensures.ok k next heard w b stands (subst (λ (n : ℕ). StandsForSomebody (session_seat k n) next heard c.visitor_hears.new.place (Some b)) number (subst (λ (o : Option SeatedSession). StandsForSomebody (session_seat k place) next heard o (Some b)) (sym q.1) is)))) in
     record { after = r.0; printed = r.1; plays = session_hears place mine r.2; stands = r.3; out = r.4 }
 
 pub returns-in-Err-Nothing-clause-changes_nothing : goal.returns-in-Err-Nothing-clause-changes_nothing
 returns-in-Err-Nothing-clause-changes_nothing c e k s st t printed p =
     let i = c.self.inside in
-    let h : House = record { core = i.desk.core; callers = i.callers.items; serials = i.serials.items; visitors = i.visitors.items; entered = i.entered.items; directory = i.directory; host = i.host.items; max_message = i.max_message } in
+    let h : House = record { core = i.store.core; callers = i.callers.items; serials = i.serials.items; visitors = i.visitors.items; entered = i.entered.items; directory = i.directory; host = i.host.items; max_message = i.max_message } in
     let st1 = subst (λ (x : House). StandsFor k x s) (sym c.self.view_is) st in
     let many = ap (λ (x : House). length x.visitors) c.self.view_is in
     let first = ap (λ (x : House). length x.callers) c.self.view_is in
@@ -72,5 +72,5 @@ returns-in-Err-Nothing-clause-changes_nothing c e k s st t printed p =
     let at : c.args.number - 1 ≡ length i.callers.items + place = let b = c.requires.number.behind in omega (arith, b, first, counted, number) in
     let lt : place < length i.visitors.items = let b = c.requires.number.behind in let w = c.requires.number.within in omega (arith, b, w, first, many, counted, number) in
     let mine : c.args.number - 1 ≡ session_seat k place = at ∙ ap (λ (n : ℕ). n + place) st1.connections in
-    absurd (hears_none k h s place t printed st1 (subst (λ (n : ℕ). (x : world.Config) → core.ChangesNothing x i.desk.core (world.Hear n)) mine (c.in-Err-Nothing.ensures.changes_nothing (ap (λ x. Err x) c.in-Err-Nothing.field-0-is)))
+    absurd (hears_none k h s place t printed st1 (subst (λ (n : ℕ). (x : world.Config) → core.ChangesNothing x i.store.core (world.Hear n)) mine (c.in-Err-Nothing.ensures.changes_nothing (ap (λ x. Err x) c.in-Err-Nothing.field-0-is)))
     (subst (λ (x : ℕ). HearPlay k true s x t printed) mine p))

@@ -16,7 +16,7 @@ use Rattle.house.proofs.house.House.put_of_session.Goals as goal
 pub returns-in_default-clause-no_memory : goal.returns-in_default-clause-no_memory
 returns-in_default-clause-no_memory c e k s st =
     let i = c.self.inside in
-    let h : House = record { core = i.desk.core; callers = i.callers.items; serials = i.serials.items; visitors = i.visitors.items; entered = i.entered.items; directory = i.directory; host = i.host.items; max_message = i.max_message } in
+    let h : House = record { core = i.store.core; callers = i.callers.items; serials = i.serials.items; visitors = i.visitors.items; entered = i.entered.items; directory = i.directory; host = i.host.items; max_message = i.max_message } in
     let st1 = subst (λ (x : House). StandsFor k x s) (sym c.self.view_is) st in
     let many = ap (λ (x : House). length x.visitors) c.self.view_is in
     let first = ap (λ (x : House). length x.callers) c.self.view_is in
@@ -29,15 +29,15 @@ returns-in_default-clause-no_memory c e k s st =
     let p = c.in-Ok.ensures.puts in
     let some : ◌≡◌ {A = Option SeatedSession} (get_or i.visitors.items place None) (Some p.0) = get_or-any i.visitors.items place None c.index.result.now lt ∙ sym c.index.ensures ∙ p.1 in
     let here = c.visitor_notes_put.ensures ∙ ap (option_map (noted_put (heard_verdict c.in-Ok.why))) (c.index_mut-here.ensures.value ∙ get_or-any i.visitors.items place _ None lt ∙ some) in
-    let r = put_led k false h s place p.0 c.put_next.new.core c.visitor_goes_on.new.desk.core c.in-Ok.why c.visitor_notes_put.new.place c.visitor_goes_on.new.place c.args.out.now.items c.visitor_goes_on.new.out.items st1 lt some p.2 here c.visitor_goes_on.ensures.delivery
-    (λ next heard w b stands is. subst (λ (n : ℕ). PlaceVisited k false n next heard w b c.visitor_goes_on.new.place c.visitor_goes_on.new.desk.core c.args.out.now.items c.visitor_goes_on.new.out.items) (sym number)
+    let r = put_led k false h s place p.0 c.put_next.new.core c.visitor_goes_on.new.store.core c.in-Ok.why c.visitor_notes_put.new.place c.visitor_goes_on.new.place c.args.out.now.items c.visitor_goes_on.new.out.items st1 lt some p.2 here c.visitor_goes_on.ensures.delivery
+    (λ next heard w b stands is. subst (λ (n : ℕ). PlaceVisited k false n next heard w b c.visitor_goes_on.new.place c.visitor_goes_on.new.store.core c.args.out.now.items c.visitor_goes_on.new.out.items) (sym number)
     (c.in_default.ensures.err k next heard w b stands (subst (λ (n : ℕ). StandsForSomebody (session_seat k n) next heard c.visitor_notes_put.new.place (Some b)) number is))) in
     inl (record { after = r.0; printed = r.1; plays = session_puts place mine r.2; stands = r.3; out = r.4 })
 
 pub returns-clause-follows : goal.returns-clause-follows
 returns-clause-follows c k s st =
     let i = c.self.inside in
-    let h : House = record { core = i.desk.core; callers = i.callers.items; serials = i.serials.items; visitors = i.visitors.items; entered = i.entered.items; directory = i.directory; host = i.host.items; max_message = i.max_message } in
+    let h : House = record { core = i.store.core; callers = i.callers.items; serials = i.serials.items; visitors = i.visitors.items; entered = i.entered.items; directory = i.directory; host = i.host.items; max_message = i.max_message } in
     let st1 = subst (λ (x : House). StandsFor k x s) (sym c.self.view_is) st in
     let many = ap (λ (x : House). length x.visitors) c.self.view_is in
     let first = ap (λ (x : House). length x.callers) c.self.view_is in
@@ -50,15 +50,15 @@ returns-clause-follows c k s st =
     let p = c.in-Ok.ensures.puts in
     let some : ◌≡◌ {A = Option SeatedSession} (get_or i.visitors.items place None) (Some p.0) = get_or-any i.visitors.items place None c.index.result.now lt ∙ sym c.index.ensures ∙ p.1 in
     let here = c.visitor_notes_put.ensures ∙ ap (option_map (noted_put (heard_verdict c.in-Ok.why))) (c.index_mut-here.ensures.value ∙ get_or-any i.visitors.items place _ None lt ∙ some) in
-    let r = put_led k true h s place p.0 c.put_next.new.core c.visitor_goes_on.new.desk.core c.in-Ok.why c.visitor_notes_put.new.place c.visitor_goes_on.new.place c.args.out.now.items c.visitor_goes_on.new.out.items st1 lt some p.2 here c.visitor_goes_on.ensures.delivery
-    (λ next heard w b stands is. subst (λ (n : ℕ). PlaceVisited k true n next heard w b c.visitor_goes_on.new.place c.visitor_goes_on.new.desk.core c.args.out.now.items c.visitor_goes_on.new.out.items) (sym number)
+    let r = put_led k true h s place p.0 c.put_next.new.core c.visitor_goes_on.new.store.core c.in-Ok.why c.visitor_notes_put.new.place c.visitor_goes_on.new.place c.args.out.now.items c.visitor_goes_on.new.out.items st1 lt some p.2 here c.visitor_goes_on.ensures.delivery
+    (λ next heard w b stands is. subst (λ (n : ℕ). PlaceVisited k true n next heard w b c.visitor_goes_on.new.place c.visitor_goes_on.new.store.core c.args.out.now.items c.visitor_goes_on.new.out.items) (sym number)
     (c.in-Ok-visitor_goes_on.ensures.ok k next heard w b stands (subst (λ (n : ℕ). StandsForSomebody (session_seat k n) next heard c.visitor_notes_put.new.place (Some b)) number is))) in
     record { after = r.0; printed = r.1; plays = session_puts place mine r.2; stands = r.3; out = r.4 }
 
 pub returns-in-Err-clause-changes_nothing : goal.returns-in-Err-clause-changes_nothing
 returns-in-Err-clause-changes_nothing c e k s st t printed p =
     let i = c.self.inside in
-    let h : House = record { core = i.desk.core; callers = i.callers.items; serials = i.serials.items; visitors = i.visitors.items; entered = i.entered.items; directory = i.directory; host = i.host.items; max_message = i.max_message } in
+    let h : House = record { core = i.store.core; callers = i.callers.items; serials = i.serials.items; visitors = i.visitors.items; entered = i.entered.items; directory = i.directory; host = i.host.items; max_message = i.max_message } in
     let st1 = subst (λ (x : House). StandsFor k x s) (sym c.self.view_is) st in
     let many = ap (λ (x : House). length x.visitors) c.self.view_is in
     let first = ap (λ (x : House). length x.callers) c.self.view_is in
@@ -76,7 +76,7 @@ returns-in-Err-clause-changes_nothing c e k s st t printed p =
 pub returns-in_default-clause-asks : goal.returns-in_default-clause-asks
 returns-in_default-clause-asks c e =
     let i = c.self.inside in
-    let h : House = record { core = i.desk.core; callers = i.callers.items; serials = i.serials.items; visitors = i.visitors.items; entered = i.entered.items; directory = i.directory; host = i.host.items; max_message = i.max_message } in
+    let h : House = record { core = i.store.core; callers = i.callers.items; serials = i.serials.items; visitors = i.visitors.items; entered = i.entered.items; directory = i.directory; host = i.host.items; max_message = i.max_message } in
     let many = ap (λ (x : House). length x.visitors) c.self.view_is in
     let first = ap (λ (x : House). length x.callers) c.self.view_is in
     let place = c.index_of-place.result in
@@ -91,7 +91,7 @@ returns-in_default-clause-asks c e =
 pub returns-in-Err-clause-asks : goal.returns-in-Err-clause-asks
 returns-in-Err-clause-asks c e =
     let i = c.self.inside in
-    let h : House = record { core = i.desk.core; callers = i.callers.items; serials = i.serials.items; visitors = i.visitors.items; entered = i.entered.items; directory = i.directory; host = i.host.items; max_message = i.max_message } in
+    let h : House = record { core = i.store.core; callers = i.callers.items; serials = i.serials.items; visitors = i.visitors.items; entered = i.entered.items; directory = i.directory; host = i.host.items; max_message = i.max_message } in
     let many = ap (λ (x : House). length x.visitors) c.self.view_is in
     let first = ap (λ (x : House). length x.callers) c.self.view_is in
     let place = c.index_of-place.result in

@@ -12,7 +12,7 @@ use Rattle.house.proofs.house.House.receive.Goals as goal
 pub returns-in_default-caller_goes_on-clause-no_memory : goal.returns-in_default-caller_goes_on-clause-no_memory
 returns-in_default-caller_goes_on-clause-no_memory c k s st =
     let i = c.self.inside in
-    let h : House = record { core = i.desk.core; callers = i.callers.items; serials = i.serials.items; visitors = i.visitors.items; entered = i.entered.items; directory = i.directory; host = i.host.items; max_message = i.max_message } in
+    let h : House = record { core = i.store.core; callers = i.callers.items; serials = i.serials.items; visitors = i.visitors.items; entered = i.entered.items; directory = i.directory; host = i.host.items; max_message = i.max_message } in
     let st1 = subst (λ (x : House). StandsFor k x s) (sym c.self.view_is) st in
     let many = ap (λ (x : House). length x.callers) c.self.view_is in
     let e = c.index_of.ensures in
@@ -28,7 +28,7 @@ returns-in_default-caller_goes_on-clause-no_memory c k s st =
 pub returns-clause-follows : goal.returns-clause-follows
 returns-clause-follows c k s st =
     let i = c.self.inside in
-    let h : House = record { core = i.desk.core; callers = i.callers.items; serials = i.serials.items; visitors = i.visitors.items; entered = i.entered.items; directory = i.directory; host = i.host.items; max_message = i.max_message } in
+    let h : House = record { core = i.store.core; callers = i.callers.items; serials = i.serials.items; visitors = i.visitors.items; entered = i.entered.items; directory = i.directory; host = i.host.items; max_message = i.max_message } in
     let st1 = subst (λ (x : House). StandsFor k x s) (sym c.self.view_is) st in
     let many = ap (λ (x : House). length x.callers) c.self.view_is in
     let e = c.index_of.ensures in

@@ -1,0 +1,11 @@
+use Rattle.std.proofs.Common.{ap, sym, ◌∙◌}
+use Rattle.session_thread.specs.Locks.{LockedStore}
+use Rattle.session_thread.specs.Locks.{entered_at}
+use Rattle.session_thread.proofs.Shown.{feeds}
+use Rattle.session_thread.proofs.locked_store.LockedStoreStore.feed.Goals as goal
+
+pub returns-clause-event : goal.returns-clause-event
+returns-clause-event g c =
+    let v = c.self.view_is in
+    feeds c.args.self.now c.in-Some.here c.feed-fed.new.handle c.args.limit c.args.out.now.items c.feed-fed.new.out.items c.feed-fed.result _ (ap (λ (p : LockedStore). p.entered) (sym v) ∙ sym c.take.ensures.value ∙ c.in-Some.is)
+    (ap (λ (p : LockedStore). entered_at p c.in-Some.here c.feed-fed.new.handle) v) c.feed-fed.ensures.event c.feed-fed.ensures.few
