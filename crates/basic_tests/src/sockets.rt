@@ -1,6 +1,6 @@
 //! Sockets of the system, on ports that it chooses.
 
-use loopback::{Listening, Patience, Pause, Slot, farewell, prepare};
+use loopback::{Grip, Listening, Patience, Pause, farewell, prepare};
 use std::io::{Read, Write};
 use std::net::TcpStream;
 use std::{io, thread};
@@ -35,19 +35,19 @@ fn a_hushed_thread_finds_the_end_and_is_heard_still(rt: HostRuntime) -> io::Resu
     let listening = Listening::bind(&rt, 0)?;
     let mut client = TcpStream::connect(&rt, ("127.0.0.1", listening.port()))?;
     let stream = listening.accept()?;
-    let slot = Slot::new();
-    assert!(rt; slot.is_empty(&rt));
-    assert!(rt; slot.hold(&rt, &stream));
-    assert!(rt; !slot.is_empty(&rt));
-    slot.hush(&rt);
+    let grip = Grip::new();
+    assert!(rt; grip.is_empty(&rt));
+    assert!(rt; grip.hold(&rt, &stream));
+    assert!(rt; !grip.is_empty(&rt));
+    grip.hush(&rt);
     let mut nothing = [0u8; 8];
     let mut server = &stream;
     assert_eq!(rt; server.read(&mut nothing)?, 0);
     server.write_all(b"bye")?;
     let mut told = [0u8; 8];
     assert_eq!(rt; client.read(&mut told)?, 3);
-    slot.clear(&rt);
-    assert!(rt; slot.is_empty(&rt));
+    grip.clear(&rt);
+    assert!(rt; grip.is_empty(&rt));
     Ok(())
 }
 
@@ -56,9 +56,9 @@ fn a_cut_connection_is_at_its_end(rt: HostRuntime) -> io::Result<()> {
     let listening = Listening::bind(&rt, 0)?;
     let mut client = TcpStream::connect(&rt, ("127.0.0.1", listening.port()))?;
     let stream = listening.accept()?;
-    let slot = Slot::new();
-    assert!(rt; slot.hold(&rt, &stream));
-    slot.cut(&rt);
+    let grip = Grip::new();
+    assert!(rt; grip.hold(&rt, &stream));
+    grip.cut(&rt);
     let mut told = [0u8; 8];
     assert_eq!(rt; client.read(&mut told)?, 0);
     let mut server = &stream;

@@ -4,7 +4,7 @@ ghost use Rattle.std.specs.Prelude.{◌≡◌, ◌≢◌, ◌<◌, All, IfOk, No
 ghost use Rattle.house_floor.specs.Users.{user_numbered};
 
 use envelope::Directory;
-use house_floor::{Opened, Sizes, Visit, inbox_numbered, open};
+use house_floor::{Guest, Opened, Sizes, inbox_numbered, open};
 use mailbox::{History, Limits};
 use std::alloc::Global;
 use std::mem::ManuallyDrop;
@@ -74,19 +74,19 @@ fn is_nobody(directory: &Directory, user: u8) -> bool
 }
 
 // A session of this user alone, where there is such a user.
-fn visits_of(alloc: Global, directory: &Directory, user: u8) -> Result<Vec<Visit>, Fail>
+fn guests_of(alloc: Global, directory: &Directory, user: u8) -> Result<Vec<Guest>, Fail>
     ensures users { IfOk result (λ vs. All (λ v. user_numbered v.user directory.now.homes ≢ None) vs.items) }
     ensures one { IfOk result (λ vs. vec_len vs ≡ 1) }
 {
     if is_nobody(directory, user) {
         return Err(Fail::new("no such user"));
     }
-    let mut visits = Vec::new(alloc);
-    visits.push(Visit {
+    let mut guests = Vec::new(alloc);
+    guests.push(Guest {
         user,
         steps: Vec::new(alloc),
     })?;
-    Ok(visits)
+    Ok(guests)
 }
 
 // How many bells each mailbox has, as digits of a number.
@@ -102,8 +102,8 @@ fn bells_in(opened: &Opened) -> usize {
 fn each_mailbox_has_the_bells_of_its_user(rt: HostRuntime) -> Result<(), Fail> {
     let alloc = rt.alloc();
     let directory = directory(alloc)?;
-    let visits = visits_of(alloc, &directory, 1)?;
-    let opened = open(alloc, directory, sizes(), &visits)?;
+    let guests = guests_of(alloc, &directory, 1)?;
+    let opened = open(alloc, directory, sizes(), &guests)?;
     let bells = bells_in(&opened);
     let _left = leave(opened);
     assert!(&rt; bells == 1);

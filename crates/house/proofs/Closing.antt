@@ -8,9 +8,9 @@ use Rattle.std.proofs.lemmas.Grind.{flat_map-append}
 use Rattle.change_ring.proofs.RangeLaws.{range-push}
 use Rattle.house.specs.declared.event.Event.{Event}
 use Rattle.house.specs.declared.event.Event.TheVariants.{End}
-use Rattle.house.specs.Settling.{Visits, ends_on}
-use Rattle.house.specs.inner.Trying.{CameVisits, DidVisits, IsAmong, Wants, closes, ends, ends_where}
-use Rattle.house.proofs.Settlement.{All-one, DidVisit, did_as, one_visit, shards_of, visits_then, visits_wants, wants_as}
+use Rattle.house.specs.Settling.{Stints, ends_on}
+use Rattle.house.specs.inner.Trying.{CameStints, DidStints, IsAmong, Wants, closes, ends, ends_where}
+use Rattle.house.proofs.Settlement.{All-one, DidStint, did_as, one_stint, shards_of, stints_then, stints_wants, wants_as}
 use Rattle.delivery_token.specs.declared.CopyKey.{CopyKey}
 use Rattle.delivery_token.specs.declared.log.Noted.{Noted}
 use Rattle.envelope.specs.Directory.{Directory, is_shut, marked}
@@ -62,7 +62,7 @@ close_led k h s shard old st there unshut = (
 
 -- ---- seats that end
 
--- the visits of ends on the shards below a number, and of one more
+-- the stints of ends on the shards below a number, and of one more
 closed_more : (seats : ℕ) (shut : ℕ → Bool) (n : ℕ) → closes seats shut n ++ ends_where seats n (shut n) ≡ closes seats shut (n + 1)
 closed_more seats shut n = one (shut n) refl
   where
@@ -88,51 +88,51 @@ end_among : (k : Setup) (seats seat shard : ℕ) → seat < seats → IsFor seat
 end_among k seats seat shard l q = All-one (IsAmong k) (End (seat + 1) shard) (omega arith, let e = q.0 in omega (arith, l, e), q.1)
 
 pub ends_step : (seats seat shard : ℕ) (h : House) (o : List ℕ) (h1 : House) (o1 : List ℕ) (h2 : House) (o2 : List ℕ) (a b : Bool) → seat < seats
-    → DidVisits (IsFor seats shard) (λ k. ends seat shard) h o h1 o1 a → DidVisit (End (seat + 1) shard ∷ []) h1 o1 h2 o2 b
-    → DidVisits (IsFor seats shard) (λ k. ends (seat + 1) shard) h o h2 o2 (a || b)
+    → DidStints (IsFor seats shard) (λ k. ends seat shard) h o h1 o1 a → DidStint (End (seat + 1) shard ∷ []) h1 o1 h2 o2 b
+    → DidStints (IsFor seats shard) (λ k. ends (seat + 1) shard) h o h2 o2 (a || b)
 ends_step seats seat shard h o h1 o1 h2 o2 a b l c d =
-    subst (λ (gs : List (List Event)). DidVisits (IsFor seats shard) (λ k. gs) h o h2 o2 (a || b)) (sym (map-range_with_len_more (λ n. End n shard ∷ []) 1 seat (seat + 1) (omega arith)))
-    (visits_then (IsFor seats shard) (λ k. ends seat shard) (λ k. (End (seat + 1) shard ∷ []) ∷ []) h o h1 o1 h2 o2 a b c
-    (one_visit (IsFor seats shard) (End (seat + 1) shard ∷ []) h1 o1 h2 o2 b (λ k q. end_among k seats seat shard l q) d))
+    subst (λ (gs : List (List Event)). DidStints (IsFor seats shard) (λ k. gs) h o h2 o2 (a || b)) (sym (map-range_with_len_more (λ n. End n shard ∷ []) 1 seat (seat + 1) (omega arith)))
+    (stints_then (IsFor seats shard) (λ k. ends seat shard) (λ k. (End (seat + 1) shard ∷ []) ∷ []) h o h1 o1 h2 o2 a b c
+    (one_stint (IsFor seats shard) (End (seat + 1) shard ∷ []) h1 o1 h2 o2 b (λ k q. end_among k seats seat shard l q) d))
 
 pub ends_wants : (seats seat shard : ℕ) (h : House) (o : List ℕ) (h1 : House) (o1 : List ℕ) (h2 : House) (o2 : List ℕ) (a : Bool) → seat < seats → seats ≡ length h.callers + length h.visitors
-    → DidVisits (IsFor seats shard) (λ k. ends seat shard) h o h1 o1 a → Wants (λ k. All (IsAmong k) (End (seat + 1) shard ∷ [])) h1 o1 h2 o2 → Wants (λ k. shard < k.config.shards) h o h2 o2
+    → DidStints (IsFor seats shard) (λ k. ends seat shard) h o h1 o1 a → Wants (λ k. All (IsAmong k) (End (seat + 1) shard ∷ [])) h1 o1 h2 o2 → Wants (λ k. shard < k.config.shards) h o h2 o2
 ends_wants seats seat shard h o h1 o1 h2 o2 a l e c d =
     wants_as (IsFor seats shard) (λ k. shard < k.config.shards) h o h2 o2 (λ k s q st. (sym (e ∙ st.seats), q))
-    (visits_wants (IsFor seats shard) (λ k. ends seat shard) h o h1 o1 h2 o2 a c
+    (stints_wants (IsFor seats shard) (λ k. ends seat shard) h o h1 o1 h2 o2 a c
     (wants_as (λ k. All (IsAmong k) (End (seat + 1) shard ∷ [])) (IsFor seats shard) h1 o1 h2 o2 (λ k s q st. end_among k seats seat shard l q) d))
 
 pub ends_done : (seats seat shard : ℕ) (h : House) (o : List ℕ) (h1 : House) (o1 : List ℕ) (b : Bool) → seat ≡ seats → seats ≡ length h.callers + length h.visitors
-    → DidVisits (IsFor seats shard) (λ k. ends seat shard) h o h1 o1 b → DidVisits (λ k. shard < k.config.shards) (λ k. ends k.config.seats shard) h o h1 o1 b
+    → DidStints (IsFor seats shard) (λ k. ends seat shard) h o h1 o1 b → DidStints (λ k. shard < k.config.shards) (λ k. ends k.config.seats shard) h o h1 o1 b
 ends_done seats seat shard h o h1 o1 b all e c =
-    did_as (IsFor seats shard) (λ k. shard < k.config.shards) (λ k s t printed. Visits k (ends seat shard) s t printed) (λ k s t printed. Visits k (ends k.config.seats shard) s t printed)
+    did_as (IsFor seats shard) (λ k. shard < k.config.shards) (λ k s t printed. Stints k (ends seat shard) s t printed) (λ k s t printed. Stints k (ends k.config.seats shard) s t printed)
     (λ k s. All (λ group. All (HasNothing k s) group) (ends seat shard)) (λ k s. All (λ group. All (HasNothing k s) group) (ends k.config.seats shard)) h o h1 o1 b
     (λ k s q st. (sym (e ∙ st.seats), q))
-    (λ k s q st t printed x. subst (λ (n : ℕ). Visits k (ends n shard) s t printed) (all ∙ e ∙ st.seats) x)
+    (λ k s q st t printed x. subst (λ (n : ℕ). Stints k (ends n shard) s t printed) (all ∙ e ∙ st.seats) x)
     (λ k s q st x. subst (λ (n : ℕ). All (λ group. All (HasNothing k s) group) (ends n shard)) (all ∙ e ∙ st.seats) x) c
 
 -- of a shard that isn't shut nothing is tried
-pub ends_none : (shard : ℕ) (shut : Bool) (h : House) (o : List ℕ) → shut ≡ false → DidVisits (λ k. shard < k.config.shards) (λ k. ends_where k.config.seats shard shut) h o h o false
+pub ends_none : (shard : ℕ) (shut : Bool) (h : House) (o : List ℕ) → shut ≡ false → DidStints (λ k. shard < k.config.shards) (λ k. ends_where k.config.seats shard shut) h o h o false
 ends_none shard true h o e = cc
 ends_none shard false h o e = record { same = refl; silent = refl; changes_nothing = λ k s q st. All-nil (λ group. All (HasNothing k s) group) }
 
 pub ends_here : {E : Type 0} (shard : ℕ) (shut : Bool) (h : House) (o : List ℕ) (h1 : House) (o1 : List ℕ) (r : Result Bool E) → shut ≡ true
-    → CameVisits {E = E} (λ k. shard < k.config.shards) (λ k. ends k.config.seats shard) h o h1 o1 r → CameVisits {E = E} (λ k. shard < k.config.shards) (λ k. ends_where k.config.seats shard shut) h o h1 o1 r
+    → CameStints {E = E} (λ k. shard < k.config.shards) (λ k. ends k.config.seats shard) h o h1 o1 r → CameStints {E = E} (λ k. shard < k.config.shards) (λ k. ends_where k.config.seats shard shut) h o h1 o1 r
 ends_here shard false h o h1 o1 r e c = cc
 ends_here shard true h o h1 o1 r e c = c
 
 pub closes_step : (shut : ℕ → Bool) (shards shard : ℕ) (is : Bool) (h : House) (o : List ℕ) (h1 : House) (o1 : List ℕ) (h2 : House) (o2 : List ℕ) (a b : Bool) → shard < shards → is ≡ shut shard
-    → DidVisits (λ k. k.config.shards ≡ shards) (λ k. closes k.config.seats shut shard) h o h1 o1 a → DidVisits (λ k. shard < k.config.shards) (λ k. ends_where k.config.seats shard is) h1 o1 h2 o2 b
-    → DidVisits (λ k. k.config.shards ≡ shards) (λ k. closes k.config.seats shut (shard + 1)) h o h2 o2 (a || b)
+    → DidStints (λ k. k.config.shards ≡ shards) (λ k. closes k.config.seats shut shard) h o h1 o1 a → DidStints (λ k. shard < k.config.shards) (λ k. ends_where k.config.seats shard is) h1 o1 h2 o2 b
+    → DidStints (λ k. k.config.shards ≡ shards) (λ k. closes k.config.seats shut (shard + 1)) h o h2 o2 (a || b)
 closes_step shut shards shard is h o h1 o1 h2 o2 a b l e c d =
     did_as (λ k. k.config.shards ≡ shards) (λ k. k.config.shards ≡ shards)
-    (λ k s t printed. Visits k (closes k.config.seats shut shard ++ ends_where k.config.seats shard is) s t printed) (λ k s t printed. Visits k (closes k.config.seats shut (shard + 1)) s t printed)
+    (λ k s t printed. Stints k (closes k.config.seats shut shard ++ ends_where k.config.seats shard is) s t printed) (λ k s t printed. Stints k (closes k.config.seats shut (shard + 1)) s t printed)
     (λ k s. All (λ group. All (HasNothing k s) group) (closes k.config.seats shut shard ++ ends_where k.config.seats shard is)) (λ k s. All (λ group. All (HasNothing k s) group) (closes k.config.seats shut (shard + 1))) h o h2 o2 (a || b)
     (λ k s q st. q)
-    (λ k s q st t printed x. subst (λ (gs : List (List Event)). Visits k gs s t printed) (one_more k) x)
+    (λ k s q st t printed x. subst (λ (gs : List (List Event)). Stints k gs s t printed) (one_more k) x)
     (λ k s q st x. subst (λ (gs : List (List Event)). All (λ group. All (HasNothing k s) group) gs) (one_more k) x)
-    (visits_then (λ k. k.config.shards ≡ shards) (λ k. closes k.config.seats shut shard) (λ k. ends_where k.config.seats shard is) h o h1 o1 h2 o2 a b c
-    (did_as (λ k. shard < k.config.shards) (λ k. k.config.shards ≡ shards) (λ k s t printed. Visits k (ends_where k.config.seats shard is) s t printed) (λ k s t printed. Visits k (ends_where k.config.seats shard is) s t printed)
+    (stints_then (λ k. k.config.shards ≡ shards) (λ k. closes k.config.seats shut shard) (λ k. ends_where k.config.seats shard is) h o h1 o1 h2 o2 a b c
+    (did_as (λ k. shard < k.config.shards) (λ k. k.config.shards ≡ shards) (λ k s t printed. Stints k (ends_where k.config.seats shard is) s t printed) (λ k s t printed. Stints k (ends_where k.config.seats shard is) s t printed)
     (λ k s. All (λ group. All (HasNothing k s) group) (ends_where k.config.seats shard is)) (λ k s. All (λ group. All (HasNothing k s) group) (ends_where k.config.seats shard is)) h1 o1 h2 o2 b
     (λ k s q st. omega (arith, l, q)) (λ k s q st t printed x. x) (λ k s q st x. x) d))
   where
@@ -140,8 +140,8 @@ closes_step shut shards shard is h o h1 o1 h2 o2 a b l e c d =
     one_more k = ap (λ (x : Bool). closes k.config.seats shut shard ++ ends_where k.config.seats shard x) e ∙ closed_more k.config.seats shut shard
 
 pub closes_wants : (shut : ℕ → Bool) (shard : ℕ) (h : House) (o : List ℕ) (h1 : House) (o1 : List ℕ) (h2 : House) (o2 : List ℕ) (a : Bool) → shard < h.directory.shards
-    → DidVisits (λ k. k.config.shards ≡ h.directory.shards) (λ k. closes k.config.seats shut shard) h o h1 o1 a → Wants (λ k. shard < k.config.shards) h1 o1 h2 o2 → Wants (λ k. Unit {0}) h o h2 o2
+    → DidStints (λ k. k.config.shards ≡ h.directory.shards) (λ k. closes k.config.seats shut shard) h o h1 o1 a → Wants (λ k. shard < k.config.shards) h1 o1 h2 o2 → Wants (λ k. Unit {0}) h o h2 o2
 closes_wants shut shard h o h1 o1 h2 o2 a l c d =
     wants_as (λ k. k.config.shards ≡ h.directory.shards) (λ k. Unit {0}) h o h2 o2 (λ k s q st. shards_of k s h st)
-    (visits_wants (λ k. k.config.shards ≡ h.directory.shards) (λ k. closes k.config.seats shut shard) h o h1 o1 h2 o2 a c
+    (stints_wants (λ k. k.config.shards ≡ h.directory.shards) (λ k. closes k.config.seats shut shard) h o h1 o1 h2 o2 a c
     (wants_as (λ k. shard < k.config.shards) (λ k. k.config.shards ≡ h.directory.shards) h1 o1 h2 o2 (λ k s q st. omega (arith, l, q)) d))

@@ -7,12 +7,12 @@ use Rattle.house.specs.declared.event.Event.TheVariants.{Idle}
 use Rattle.house.specs.Setup.{Setup}
 use Rattle.house.specs.Scene.{HasNothing, Scene}
 use Rattle.house.specs.Settled.{HappenedFrom, SettledFrom, is_held}
-use Rattle.house.specs.Settling.{GoesRounds, InTurn, Visit, Visits, happens, idle_turns}
+use Rattle.house.specs.Settling.{GoesRounds, InTurn, Stint, Stints, happens, idle_turns}
 use Rattle.house.specs.Stands.{StandsFor}
 use Rattle.house.specs.House.{House}
 use Rattle.house.specs.Steps.{Follows, FollowsInPart}
 use Rattle.house.specs.inner.Trying.{Goes, IsAmong, Wants}
-use Rattle.house.proofs.Settlement.{All-one, Often, joined, led_or_not, often_happened, often_more, rounds_happened, visit_of, visits-append, visits_happened, wants_after}
+use Rattle.house.proofs.Settlement.{All-one, Often, joined, led_or_not, often_happened, often_more, rounds_happened, stint_of, stints-append, stints_happened, wants_after}
 
 -- ---- one session
 
@@ -34,13 +34,13 @@ turn_again n h o h1 o1 h2 o2 f g k s q st =
 -- it has nothing to be shown any more
 pub turns_done : (n : ℕ) (h : House) (o : List ℕ) (h1 : House) (o1 : List ℕ) (h2 : House) (o2 : List ℕ) → Turns n h o h1 o1 → h2 ≡ h1 → o2 ≡ o1
     → ((k : Setup) (s : Scene) → IsAmong k (Idle n) → StandsFor k h1 s → HasNothing k s (Idle n))
-    → Goes (λ k. IsAmong k (Idle n)) (λ k s t printed. Visit k (Idle n ∷ []) s t printed) h o h2 o2
+    → Goes (λ k. IsAmong k (Idle n)) (λ k s t printed. Stint k (Idle n ∷ []) s t printed) h o h2 o2
 turns_done n h o h1 o1 h2 o2 f same silent still k s q st =
     let w = f k s q st in
     record {
       after = w.after;
       printed = w.printed;
-      goes = visit_of k (Idle n ∷ []) s w.after w.printed w.goes (All-one (HasNothing k w.after) (Idle n) (still k w.after q w.stands));
+      goes = stint_of k (Idle n ∷ []) s w.after w.printed w.goes (All-one (HasNothing k w.after) (Idle n) (still k w.after q w.stands));
       stands = subst (λ (x : House). StandsFor k x w.after) (sym same) w.stands;
       out = silent ∙ w.out;
     }
@@ -56,7 +56,7 @@ turns_want n h o h1 o1 h2 o2 f g = record {
 
 -- the turns of the first sessions, of so many
 abbrev pub FirstTurns : (count : ℕ) → (first : ℕ) → House → List ℕ → House → List ℕ → Type 0
-FirstTurns count first h o h1 o1 = Goes (λ k. k.config.sessions ≡ count) (λ k s t printed. Visits k (idle_turns first) s t printed) h o h1 o1
+FirstTurns count first h o h1 o1 = Goes (λ k. k.config.sessions ≡ count) (λ k s t printed. Stints k (idle_turns first) s t printed) h o h1 o1
 
 pub no_session : (count : ℕ) (h : House) (o : List ℕ) → FirstTurns count 0 h o h o
 no_session count h o k s q st = record { after = s; printed = []; goes = (refl, refl); stands = st; out = sym (append-nil o) }
@@ -64,16 +64,16 @@ no_session count h o k s q st = record { after = s; printed = []; goes = (refl, 
 among : (k : Setup) (count n : ℕ) → n < count → k.config.sessions ≡ count → IsAmong k (Idle (n + 1))
 among k count n l e = (omega arith, omega (arith, l, e))
 
-one_more : (k : Setup) (n : ℕ) (s m t : Scene) (one two : List ℕ) → Visits k (idle_turns n) s m one → Visit k (Idle (n + 1) ∷ []) m t two → Visits k (idle_turns (n + 1)) s t (one ++ two)
+one_more : (k : Setup) (n : ℕ) (s m t : Scene) (one two : List ℕ) → Stints k (idle_turns n) s m one → Stint k (Idle (n + 1) ∷ []) m t two → Stints k (idle_turns (n + 1)) s t (one ++ two)
 one_more k n s m t one two a b =
-    subst (λ (gs : List (List Event)). Visits k gs s t (one ++ two)) (sym (map-range_with_len_more (λ i. Idle i ∷ []) 1 n (n + 1) (omega arith)))
-    (visits-append k (idle_turns n) ((Idle (n + 1) ∷ []) ∷ []) s m t one two a (t, two, [], b, (refl, refl), sym (append-nil two)))
+    subst (λ (gs : List (List Event)). Stints k gs s t (one ++ two)) (sym (map-range_with_len_more (λ i. Idle i ∷ []) 1 n (n + 1) (omega arith)))
+    (stints-append k (idle_turns n) ((Idle (n + 1) ∷ []) ∷ []) s m t one two a (t, two, [], b, (refl, refl), sym (append-nil two)))
 
 pub session_more : (count n : ℕ) (h : House) (o : List ℕ) (h1 : House) (o1 : List ℕ) (h2 : House) (o2 : List ℕ) → n < count → FirstTurns count n h o h1 o1
-    → Goes (λ k. IsAmong k (Idle (n + 1))) (λ k s t printed. Visit k (Idle (n + 1) ∷ []) s t printed) h1 o1 h2 o2 → FirstTurns count (n + 1) h o h2 o2
+    → Goes (λ k. IsAmong k (Idle (n + 1))) (λ k s t printed. Stint k (Idle (n + 1) ∷ []) s t printed) h1 o1 h2 o2 → FirstTurns count (n + 1) h o h2 o2
 session_more count n h o h1 o1 h2 o2 l f g k s q st =
     let w = f k s q st in
-    joined (λ k s t printed. Visits k (idle_turns n) s t printed) (λ k s t printed. Visit k (Idle (n + 1) ∷ []) s t printed) (λ k s t printed. Visits k (idle_turns (n + 1)) s t printed)
+    joined (λ k s t printed. Stints k (idle_turns n) s t printed) (λ k s t printed. Stint k (Idle (n + 1) ∷ []) s t printed) (λ k s t printed. Stints k (idle_turns (n + 1)) s t printed)
     (λ k s m t one two x y. one_more k n s m t one two x y) k s h1 h2 o o1 o2 w (g k w.after (among k count n l q) w.stands)
 
 pub session_wants : (count n : ℕ) (h : House) (o : List ℕ) (h1 : House) (o1 : List ℕ) (h2 : House) (o2 : List ℕ) → count ≡ length h.visitors → n < count → FirstTurns count n h o h1 o1
@@ -82,21 +82,21 @@ session_wants count n h o h1 o1 h2 o2 e l f d = record {
   happened = λ k s q st.
       let many : k.config.sessions ≡ count = sym (e ∙ st.places) in
       let w = f k s many st in
-      wants_after (λ k s t printed. Visits k (idle_turns n) s t printed) k s h1 h2 o o1 o2 (λ k s t printed x. visits_happened k (idle_turns n) s t printed x) w (d.happened k w.after (among k count n l many) w.stands);
+      wants_after (λ k s t printed. Stints k (idle_turns n) s t printed) k s h1 h2 o o1 o2 (λ k s t printed x. stints_happened k (idle_turns n) s t printed x) w (d.happened k w.after (among k count n l many) w.stands);
 }
 
 pub all_sessions : (count n : ℕ) (h : House) (o : List ℕ) (h1 : House) (o1 : List ℕ) → count ≡ length h.visitors → n ≡ count → FirstTurns count n h o h1 o1
-    → Goes (λ k. Unit {0}) (λ k s t printed. Visits k (idle_turns k.config.sessions) s t printed) h o h1 o1
+    → Goes (λ k. Unit {0}) (λ k s t printed. Stints k (idle_turns k.config.sessions) s t printed) h o h1 o1
 all_sessions count n h o h1 o1 e f g k s q st =
     let many : k.config.sessions ≡ count = sym (e ∙ st.places) in
     let w = g k s many st in
-    record { after = w.after; printed = w.printed; goes = subst (λ (i : ℕ). Visits k (idle_turns i) s w.after w.printed) (f ∙ sym many) w.goes; stands = w.stands; out = w.out }
+    record { after = w.after; printed = w.printed; goes = subst (λ (i : ℕ). Stints k (idle_turns i) s w.after w.printed) (f ∙ sym many) w.goes; stands = w.stands; out = w.out }
 
 -- ---- settling
 
 pub settled : (held : List Bool) (k : Setup) (s : Scene) (h : House) (o : List ℕ) (h1 : House) (o1 : List ℕ) (h2 : House) (o2 : List ℕ) → StandsFor k h s
     → Goes (λ k. Unit {0}) (λ k s t printed. GoesRounds k (is_held held) s t printed) h o h1 o1
-    → Goes (λ k. Unit {0}) (λ k s t printed. Visits k (idle_turns k.config.sessions) s t printed) h1 o1 h2 o2 → SettledFrom k held s h2 o o2
+    → Goes (λ k. Unit {0}) (λ k s t printed. Stints k (idle_turns k.config.sessions) s t printed) h1 o1 h2 o2 → SettledFrom k held s h2 o o2
 settled held k s h o h1 o1 h2 o2 st f g =
     let w = f k s tt st in
     let v = g k w.after tt w.stands in

@@ -22,7 +22,7 @@ use Rattle.world.specs.World.{World}
 use Rattle.house_session.specs.Visitor.{more_waits as visitor_more_waits}
 use Rattle.house_session.specs.SeatedVisitor.{SeatedVisitor, seated_greeted}
 use Rattle.house_session.specs.SeatedSession.{SeatedSession}
-use Rattle.house.specs.Settling.{GoesRounds, Happened, InTurn, Tries, Visit, Visits, happens, in_a_row, passes, round}
+use Rattle.house.specs.Settling.{GoesRounds, Happened, InTurn, Tries, Stint, Stints, happens, in_a_row, passes, round}
 use Rattle.house.specs.Settled.{HappenedFrom}
 use Rattle.house.specs.Stands.{StandsFor}
 use Rattle.house.specs.Steps.{Follows, FollowsInPart, IsBusy, IsFreePlace, IsLeft, IsNoNumber, IsNoPlace, IsNobody, IsVacant, KeepsMarks, Led, is_left}
@@ -34,7 +34,7 @@ use Rattle.std.proofs.lemmas.List.Elements.{All-append, All-cons, All-get_or, Al
 use Rattle.std.proofs.Math.Seq.{take-suc}
 use Rattle.house.specs.House.{House}
 use Rattle.house.specs.Effort.{MakesLess, effort}
-use Rattle.house.specs.inner.Trying.{CameVisit, CameVisits, Did, DidVisits, IsAmong, IsOwn, Moved, Rests, Wants, Went, closes, hears, puts, serve, serves}
+use Rattle.house.specs.inner.Trying.{CameStint, CameStints, Did, DidStints, IsAmong, IsOwn, Moved, Rests, Wants, Went, closes, hears, puts, serve, serves}
 
 -- ---- what a whole event does, one that is cut short may do as well
 
@@ -207,11 +207,11 @@ turn-append k [] fs s m t one two (e, p) g =
 turn-append k (e ∷ es) fs s m t one two (n, a, b, p, r, q) g =
     (n, a, b ++ two, p, turn-append k es fs n m t b two r g, ap (λ (x : List ℕ). x ++ two) q ∙ append_assoc a b two)
 
-pub visits-append : (k : Setup) (es fs : List (List Event)) (s m t : Scene) (one two : List ℕ) → Visits k es s m one → Visits k fs m t two → Visits k (es ++ fs) s t (one ++ two)
-visits-append k [] fs s m t one two (e, p) g =
-    subst (λ (x : List ℕ). Visits k fs s t (x ++ two)) (sym p) (subst (λ (x : Scene). Visits k fs x t two) e g)
-visits-append k (e ∷ es) fs s m t one two (n, a, b, p, r, q) g =
-    (n, a, b ++ two, p, visits-append k es fs n m t b two r g, ap (λ (x : List ℕ). x ++ two) q ∙ append_assoc a b two)
+pub stints-append : (k : Setup) (es fs : List (List Event)) (s m t : Scene) (one two : List ℕ) → Stints k es s m one → Stints k fs m t two → Stints k (es ++ fs) s t (one ++ two)
+stints-append k [] fs s m t one two (e, p) g =
+    subst (λ (x : List ℕ). Stints k fs s t (x ++ two)) (sym p) (subst (λ (x : Scene). Stints k fs x t two) e g)
+stints-append k (e ∷ es) fs s m t one two (n, a, b, p, r, q) g =
+    (n, a, b ++ two, p, stints-append k es fs n m t b two r g, ap (λ (x : List ℕ). x ++ two) q ∙ append_assoc a b two)
 
 -- some events happened
 abbrev pub SomeHappened : Setup → Scene → Scene → List ℕ → Type 0
@@ -228,11 +228,11 @@ turn_happened k (e ∷ es) s t printed (m, one, two, p, r, q) =
     let b = turn_happened k es m t two r in
     (a.0 ++ b.0, subst (λ (x : List ℕ). Happened k (a.0 ++ b.0) s t x) (sym q) (happened-append k a.0 b.0 s m t one two a.1 b.1))
 
-pub visits_happened : (k : Setup) (gs : List (List Event)) (s t : Scene) (printed : List ℕ) → Visits k gs s t printed → SomeHappened k s t printed
-visits_happened k [] s t printed (e, p) = ([], (e, p))
-visits_happened k (g ∷ gs) s t printed (m, one, two, p, r, q) =
+pub stints_happened : (k : Setup) (gs : List (List Event)) (s t : Scene) (printed : List ℕ) → Stints k gs s t printed → SomeHappened k s t printed
+stints_happened k [] s t printed (e, p) = ([], (e, p))
+stints_happened k (g ∷ gs) s t printed (m, one, two, p, r, q) =
     let a = turn_happened k (in_a_row (replicate p.times g)) s m one p.goes in
-    let b = visits_happened k gs m t two r in
+    let b = stints_happened k gs m t two r in
     (a.0 ++ b.0, subst (λ (x : List ℕ). Happened k (a.0 ++ b.0) s t x) (sym q) (happened-append k a.0 b.0 s m t one two a.1 b.1))
 
 -- once more
@@ -246,12 +246,12 @@ pub rest_turn : (k : Setup) (es : List Event) (s : Scene) → All (HasNothing k 
 rest_turn k [] s h = (refl, refl)
 rest_turn k (e ∷ es) s h = (s, [], [], passes (All-head (HasNothing k s) e es h) refl refl, rest_turn k es s (All-tail (HasNothing k s) e es h), refl)
 
-pub rest_visit : (k : Setup) (group : List Event) (s : Scene) → All (HasNothing k s) group → Visit k group s s []
-rest_visit k group s h = record { times = 0; goes = (refl, refl); done = h }
+pub rest_stint : (k : Setup) (group : List Event) (s : Scene) → All (HasNothing k s) group → Stint k group s s []
+rest_stint k group s h = record { times = 0; goes = (refl, refl); done = h }
 
-pub rest_visits : (k : Setup) (gs : List (List Event)) (s : Scene) → All (λ group. All (HasNothing k s) group) gs → Visits k gs s s []
-rest_visits k [] s h = (refl, refl)
-rest_visits k (g ∷ gs) s h = (s, [], [], rest_visit k g s (All-head (All (HasNothing k s)) g gs h), rest_visits k gs s (All-tail (All (HasNothing k s)) g gs h), refl)
+pub rest_stints : (k : Setup) (gs : List (List Event)) (s : Scene) → All (λ group. All (HasNothing k s) group) gs → Stints k gs s s []
+rest_stints k [] s h = (refl, refl)
+rest_stints k (g ∷ gs) s h = (s, [], [], rest_stint k g s (All-head (All (HasNothing k s)) g gs h), rest_stints k gs s (All-tail (All (HasNothing k s)) g gs h), refl)
 
 -- ---- one after the other
 
@@ -544,86 +544,86 @@ pub often_wants : (group : List Event) (h : House) (o : List ℕ) (h1 : House) (
 often_wants group h o h1 o1 h2 o2 a c d =
     did_wants (λ k. All (IsAmong k) group) (λ k s t printed. Often k group s t printed) (λ k s. Unit {0}) h o h1 o1 h2 o2 a (λ k s x. (0, (refl, refl))) (λ k s t printed x. often_happened k group s t printed x) c d
 
--- the last turn moved nothing: the visit is done
-abbrev pub DidVisit : List Event → House → List ℕ → House → List ℕ → Bool → Type 0
-DidVisit group h o h1 o1 moved = Did (λ k. All (IsAmong k) group) (λ k s t printed. Visit k group s t printed) (λ k s. All (HasNothing k s) group) h o h1 o1 moved
+-- the last turn moved nothing: the stint is done
+abbrev pub DidStint : List Event → House → List ℕ → House → List ℕ → Bool → Type 0
+DidStint group h o h1 o1 moved = Did (λ k. All (IsAmong k) group) (λ k s t printed. Stint k group s t printed) (λ k s. All (HasNothing k s) group) h o h1 o1 moved
 
-pub visit_of : (k : Setup) (group : List Event) (s t : Scene) (printed : List ℕ) → Often k group s t printed → All (HasNothing k t) group → Visit k group s t printed
-visit_of k group s t printed (n, a) d = record { times = n; goes = a; done = d }
+pub stint_of : (k : Setup) (group : List Event) (s t : Scene) (printed : List ℕ) → Often k group s t printed → All (HasNothing k t) group → Stint k group s t printed
+stint_of k group s t printed (n, a) d = record { times = n; goes = a; done = d }
 
-visit_rests : (group : List Event) (h : House) (o : List ℕ) (h1 : House) (o1 : List ℕ) (h2 : House) (o2 : List ℕ) (a : Bool) → DidOften group h o h1 o1 a
-    → Rests (λ k. All (IsAmong k) group) (λ k s. All (HasNothing k s) group) h1 o1 h2 o2 → DidVisit group h o h2 o2 a
-visit_rests group h o h1 o1 h2 o2 true c d = record {
+stint_rests : (group : List Event) (h : House) (o : List ℕ) (h1 : House) (o1 : List ℕ) (h2 : House) (o2 : List ℕ) (a : Bool) → DidOften group h o h1 o1 a
+    → Rests (λ k. All (IsAmong k) group) (λ k s. All (HasNothing k s) group) h1 o1 h2 o2 → DidStint group h o h2 o2 a
+stint_rests group h o h1 o1 h2 o2 true c d = record {
   went = λ k s q st. let w = c.went k s q st in record {
     after = w.after;
     printed = w.printed;
-    goes = visit_of k group s w.after w.printed w.goes (d.changes_nothing k w.after q w.stands);
+    goes = stint_of k group s w.after w.printed w.goes (d.changes_nothing k w.after q w.stands);
     stands = subst (λ (x : House). StandsFor k x w.after) (sym d.same) w.stands;
     out = d.silent ∙ w.out;
   };
   less = let x = c.less in let y = ap effort d.same in omega (arith, x, y);
 }
-visit_rests group h o h1 o1 h2 o2 false c d = record {
+stint_rests group h o h1 o1 h2 o2 false c d = record {
   same = d.same ∙ c.same;
   silent = d.silent ∙ c.silent;
   changes_nothing = λ k s q st. d.changes_nothing k s q (subst (λ (x : House). StandsFor k x s) (sym c.same) st);
 }
 
-pub visit_done : (group : List Event) (h : House) (o : List ℕ) (h1 : House) (o1 : List ℕ) (h2 : House) (o2 : List ℕ) (a b : Bool) → b ≡ false → DidOften group h o h1 o1 a → DidTurn group group h1 o1 h2 o2 b → DidVisit group h o h2 o2 a
-visit_done group h o h1 o1 h2 o2 a true e c d = cc
-visit_done group h o h1 o1 h2 o2 a false e c d = visit_rests group h o h1 o1 h2 o2 a c d
+pub stint_done : (group : List Event) (h : House) (o : List ℕ) (h1 : House) (o1 : List ℕ) (h2 : House) (o2 : List ℕ) (a b : Bool) → b ≡ false → DidOften group h o h1 o1 a → DidTurn group group h1 o1 h2 o2 b → DidStint group h o h2 o2 a
+stint_done group h o h1 o1 h2 o2 a true e c d = cc
+stint_done group h o h1 o1 h2 o2 a false e c d = stint_rests group h o h1 o1 h2 o2 a c d
 
--- ---- visits one after another
+-- ---- stints one after another
 
-pub visits_then : (Q : Setup → Type 0) (gs hs : Setup → List (List Event)) (h : House) (o : List ℕ) (h1 : House) (o1 : List ℕ) (h2 : House) (o2 : List ℕ) (a b : Bool)
-    → DidVisits Q gs h o h1 o1 a → DidVisits Q hs h1 o1 h2 o2 b → DidVisits Q (λ k. gs k ++ hs k) h o h2 o2 (a || b)
-visits_then Q gs hs h o h1 o1 h2 o2 a b c d =
-    did_then Q (λ k s t printed. Visits k (gs k) s t printed) (λ k s t printed. Visits k (hs k) s t printed) (λ k s t printed. Visits k (gs k ++ hs k) s t printed)
+pub stints_then : (Q : Setup → Type 0) (gs hs : Setup → List (List Event)) (h : House) (o : List ℕ) (h1 : House) (o1 : List ℕ) (h2 : House) (o2 : List ℕ) (a b : Bool)
+    → DidStints Q gs h o h1 o1 a → DidStints Q hs h1 o1 h2 o2 b → DidStints Q (λ k. gs k ++ hs k) h o h2 o2 (a || b)
+stints_then Q gs hs h o h1 o1 h2 o2 a b c d =
+    did_then Q (λ k s t printed. Stints k (gs k) s t printed) (λ k s t printed. Stints k (hs k) s t printed) (λ k s t printed. Stints k (gs k ++ hs k) s t printed)
     (λ k s. All (λ group. All (HasNothing k s) group) (gs k)) (λ k s. All (λ group. All (HasNothing k s) group) (hs k)) (λ k s. All (λ group. All (HasNothing k s) group) (gs k ++ hs k)) h o h1 o1 h2 o2 a b
     (record {
-      first = λ k s x. rest_visits k (gs k) s x;
-      second = λ k s x. rest_visits k (hs k) s x;
-      join = λ k s m t one two x y. visits-append k (gs k) (hs k) s m t one two x y;
+      first = λ k s x. rest_stints k (gs k) s x;
+      second = λ k s x. rest_stints k (hs k) s x;
+      join = λ k s m t one two x y. stints-append k (gs k) (hs k) s m t one two x y;
       both = λ k s x y. All-append (λ group. All (HasNothing k s) group) (gs k) (hs k) x y;
     }) c d
 
-pub visits_wants : (Q : Setup → Type 0) (gs : Setup → List (List Event)) (h : House) (o : List ℕ) (h1 : House) (o1 : List ℕ) (h2 : House) (o2 : List ℕ) (a : Bool)
-    → DidVisits Q gs h o h1 o1 a → Wants Q h1 o1 h2 o2 → Wants Q h o h2 o2
-visits_wants Q gs h o h1 o1 h2 o2 a c d =
-    did_wants Q (λ k s t printed. Visits k (gs k) s t printed) (λ k s. All (λ group. All (HasNothing k s) group) (gs k)) h o h1 o1 h2 o2 a
-    (λ k s x. rest_visits k (gs k) s x) (λ k s t printed x. visits_happened k (gs k) s t printed x) c d
+pub stints_wants : (Q : Setup → Type 0) (gs : Setup → List (List Event)) (h : House) (o : List ℕ) (h1 : House) (o1 : List ℕ) (h2 : House) (o2 : List ℕ) (a : Bool)
+    → DidStints Q gs h o h1 o1 a → Wants Q h1 o1 h2 o2 → Wants Q h o h2 o2
+stints_wants Q gs h o h1 o1 h2 o2 a c d =
+    did_wants Q (λ k s t printed. Stints k (gs k) s t printed) (λ k s. All (λ group. All (HasNothing k s) group) (gs k)) h o h1 o1 h2 o2 a
+    (λ k s x. rest_stints k (gs k) s x) (λ k s t printed x. stints_happened k (gs k) s t printed x) c d
 
--- one visit, as a list of visits
-pub one_visit : (Q : Setup → Type 0) (group : List Event) (h : House) (o : List ℕ) (h1 : House) (o1 : List ℕ) (b : Bool) → ((k : Setup) → Q k → All (IsAmong k) group)
-    → DidVisit group h o h1 o1 b → DidVisits Q (λ k. group ∷ []) h o h1 o1 b
-one_visit Q group h o h1 o1 b f c =
-    did_as (λ k. All (IsAmong k) group) Q (λ k s t printed. Visit k group s t printed) (λ k s t printed. Visits k (group ∷ []) s t printed)
+-- one stint, as a list of stints
+pub one_stint : (Q : Setup → Type 0) (group : List Event) (h : House) (o : List ℕ) (h1 : House) (o1 : List ℕ) (b : Bool) → ((k : Setup) → Q k → All (IsAmong k) group)
+    → DidStint group h o h1 o1 b → DidStints Q (λ k. group ∷ []) h o h1 o1 b
+one_stint Q group h o h1 o1 b f c =
+    did_as (λ k. All (IsAmong k) group) Q (λ k s t printed. Stint k group s t printed) (λ k s t printed. Stints k (group ∷ []) s t printed)
     (λ k s. All (HasNothing k s) group) (λ k s. All (λ g. All (HasNothing k s) g) (group ∷ [])) h o h1 o1 b
     (λ k s q st. f k q) (λ k s q st t printed x. (t, printed, [], x, (refl, refl), sym (append-nil printed))) (λ k s q st x. All-one (λ g. All (HasNothing k s) g) group x) c
 
--- the seat's visit after those of the seats before it
+-- the seat's stint after those of the seats before it
 pub seats_step : (make : ℕ → List Event) (seats seat : ℕ) (h : House) (o : List ℕ) (h1 : House) (o1 : List ℕ) (h2 : House) (o2 : List ℕ) (a b : Bool) → ((k : Setup) → k.config.seats ≡ seats → All (IsAmong k) (make (seat + 1)))
-    → DidVisits (λ k. k.config.seats ≡ seats) (λ k. map make (range_with_len 1 seat)) h o h1 o1 a → DidVisit (make (seat + 1)) h1 o1 h2 o2 b
-    → DidVisits (λ k. k.config.seats ≡ seats) (λ k. map make (range_with_len 1 (seat + 1))) h o h2 o2 (a || b)
+    → DidStints (λ k. k.config.seats ≡ seats) (λ k. map make (range_with_len 1 seat)) h o h1 o1 a → DidStint (make (seat + 1)) h1 o1 h2 o2 b
+    → DidStints (λ k. k.config.seats ≡ seats) (λ k. map make (range_with_len 1 (seat + 1))) h o h2 o2 (a || b)
 seats_step make seats seat h o h1 o1 h2 o2 a b f c d =
-    subst (λ (gs : List (List Event)). DidVisits (λ k. k.config.seats ≡ seats) (λ k. gs) h o h2 o2 (a || b)) (sym (map-range_with_len_more make 1 seat (seat + 1) (omega arith)))
-    (visits_then (λ k. k.config.seats ≡ seats) (λ k. map make (range_with_len 1 seat)) (λ k. make (seat + 1) ∷ []) h o h1 o1 h2 o2 a b c
-    (one_visit (λ k. k.config.seats ≡ seats) (make (seat + 1)) h1 o1 h2 o2 b f d))
+    subst (λ (gs : List (List Event)). DidStints (λ k. k.config.seats ≡ seats) (λ k. gs) h o h2 o2 (a || b)) (sym (map-range_with_len_more make 1 seat (seat + 1) (omega arith)))
+    (stints_then (λ k. k.config.seats ≡ seats) (λ k. map make (range_with_len 1 seat)) (λ k. make (seat + 1) ∷ []) h o h1 o1 h2 o2 a b c
+    (one_stint (λ k. k.config.seats ≡ seats) (make (seat + 1)) h1 o1 h2 o2 b f d))
 
 pub seats_wants : (make : ℕ → List Event) (seats seat : ℕ) (h : House) (o : List ℕ) (h1 : House) (o1 : List ℕ) (h2 : House) (o2 : List ℕ) (a : Bool) → ((k : Setup) → k.config.seats ≡ seats → All (IsAmong k) (make (seat + 1)))
-    → seats ≡ length h.callers + length h.visitors → DidVisits (λ k. k.config.seats ≡ seats) (λ k. map make (range_with_len 1 seat)) h o h1 o1 a → Wants (λ k. All (IsAmong k) (make (seat + 1))) h1 o1 h2 o2 → Wants (λ k. Unit {0}) h o h2 o2
+    → seats ≡ length h.callers + length h.visitors → DidStints (λ k. k.config.seats ≡ seats) (λ k. map make (range_with_len 1 seat)) h o h1 o1 a → Wants (λ k. All (IsAmong k) (make (seat + 1))) h1 o1 h2 o2 → Wants (λ k. Unit {0}) h o h2 o2
 seats_wants make seats seat h o h1 o1 h2 o2 a f e c d =
     wants_as (λ k. k.config.seats ≡ seats) (λ k. Unit {0}) h o h2 o2 (λ k s q st. sym (e ∙ st.seats))
-    (visits_wants (λ k. k.config.seats ≡ seats) (λ k. map make (range_with_len 1 seat)) h o h1 o1 h2 o2 a c
+    (stints_wants (λ k. k.config.seats ≡ seats) (λ k. map make (range_with_len 1 seat)) h o h1 o1 h2 o2 a c
     (wants_as (λ k. All (IsAmong k) (make (seat + 1))) (λ k. k.config.seats ≡ seats) h1 o1 h2 o2 (λ k s q st. f k q) d))
 
 -- all of them, where so many seats are there
-pub visits_as : (Q : Setup → Type 0) (gs hs : Setup → List (List Event)) (h : House) (o : List ℕ) (h1 : House) (o1 : List ℕ) (b : Bool)
-    → ((k : Setup) (s : Scene) → StandsFor k h s → Q k) → ((k : Setup) → Q k → gs k ≡ hs k) → DidVisits Q gs h o h1 o1 b → DidVisits (λ k. Unit {0}) hs h o h1 o1 b
-visits_as Q gs hs h o h1 o1 b f e c =
-    did_as Q (λ k. Unit {0}) (λ k s t printed. Visits k (gs k) s t printed) (λ k s t printed. Visits k (hs k) s t printed)
+pub stints_as : (Q : Setup → Type 0) (gs hs : Setup → List (List Event)) (h : House) (o : List ℕ) (h1 : House) (o1 : List ℕ) (b : Bool)
+    → ((k : Setup) (s : Scene) → StandsFor k h s → Q k) → ((k : Setup) → Q k → gs k ≡ hs k) → DidStints Q gs h o h1 o1 b → DidStints (λ k. Unit {0}) hs h o h1 o1 b
+stints_as Q gs hs h o h1 o1 b f e c =
+    did_as Q (λ k. Unit {0}) (λ k s t printed. Stints k (gs k) s t printed) (λ k s t printed. Stints k (hs k) s t printed)
     (λ k s. All (λ group. All (HasNothing k s) group) (gs k)) (λ k s. All (λ group. All (HasNothing k s) group) (hs k)) h o h1 o1 b
-    (λ k s q st. f k s st) (λ k s q st t printed x. subst (λ (xs : List (List Event)). Visits k xs s t printed) (e k (f k s st)) x)
+    (λ k s q st. f k s st) (λ k s q st t printed x. subst (λ (xs : List (List Event)). Stints k xs s t printed) (e k (f k s st)) x)
     (λ k s q st x. subst (λ (xs : List (List Event)). All (λ group. All (HasNothing k s) group) xs) (e k (f k s st)) x) c
 
 -- ---- shards
@@ -648,21 +648,21 @@ served held n = one (held n) refl
 -- ---- rounds
 
 abbrev pub Rounds : Setup → (held shut : ℕ → Bool) → Scene → Scene → List ℕ → Type 0
-Rounds k held shut s t printed = (n : ℕ) × Visits k (in_a_row (replicate n (round k held shut))) s t printed
+Rounds k held shut s t printed = (n : ℕ) × Stints k (in_a_row (replicate n (round k held shut))) s t printed
 
 abbrev pub DidRound : (held shut : ℕ → Bool) → House → List ℕ → House → List ℕ → Bool → Type 0
-DidRound held shut h o h1 o1 moved = DidVisits (λ k. Unit {0}) (λ k. round k held shut) h o h1 o1 moved
+DidRound held shut h o h1 o1 moved = DidStints (λ k. Unit {0}) (λ k. round k held shut) h o h1 o1 moved
 
 -- which shards are shut in a scene for which the house stands
 pub same_marks : (k : Setup) (h : House) (s : Scene) → StandsFor k h s → is_shut h.directory ≡ is_shut_in s
 same_marks k h s st = ap (λ (d : Directory). is_shut d) st.directory
 
-rounds_more : (k : Setup) (held shut : ℕ → Bool) (s m t : Scene) (one two : List ℕ) → Rounds k held shut s m one → Visits k (round k held shut) m t two → Rounds k held shut s t (one ++ two)
+rounds_more : (k : Setup) (held shut : ℕ → Bool) (s m t : Scene) (one two : List ℕ) → Rounds k held shut s m one → Stints k (round k held shut) m t two → Rounds k held shut s t (one ++ two)
 rounds_more k held shut s m t one two (n, a) b =
-    (suc n, subst (λ (xs : List (List Event)). Visits k xs s t (one ++ two)) (row-more n (round k held shut)) (visits-append k (in_a_row (replicate n (round k held shut))) (round k held shut) s m t one two a b))
+    (suc n, subst (λ (xs : List (List Event)). Stints k xs s t (one ++ two)) (row-more n (round k held shut)) (stints-append k (in_a_row (replicate n (round k held shut))) (round k held shut) s m t one two a b))
 
 rounds_some : (k : Setup) (held shut : ℕ → Bool) (s t : Scene) (printed : List ℕ) → Rounds k held shut s t printed → SomeHappened k s t printed
-rounds_some k held shut s t printed (n, a) = visits_happened k (in_a_row (replicate n (round k held shut))) s t printed a
+rounds_some k held shut s t printed (n, a) = stints_happened k (in_a_row (replicate n (round k held shut))) s t printed a
 
 pub no_round : (k : Setup) (held shut : ℕ → Bool) (s : Scene) (h : House) (o : List ℕ) → StandsFor k h s → Went (λ k s t printed. Rounds k held shut s t printed) k s h o o
 no_round k held shut s h o st = record { after = s; printed = []; goes = (0, (refl, refl)); stands = st; out = sym (append-nil o) }
@@ -670,9 +670,9 @@ no_round k held shut s h o st = record { after = s; printed = []; goes = (0, (re
 pub round_again : (held shut : ℕ → Bool) (k : Setup) (s : Scene) (h1 h2 : House) (o o1 o2 : List ℕ) (b : Bool) → Went (λ k s t printed. Rounds k held shut s t printed) k s h1 o o1 → DidRound held shut h1 o1 h2 o2 b
     → Went (λ k s t printed. Rounds k held shut s t printed) k s h2 o o2
 round_again held shut k s h1 h2 o o1 o2 b w d =
-    joined (λ k s t printed. Rounds k held shut s t printed) (λ k s t printed. Visits k (round k held shut) s t printed) (λ k s t printed. Rounds k held shut s t printed)
+    joined (λ k s t printed. Rounds k held shut s t printed) (λ k s t printed. Stints k (round k held shut) s t printed) (λ k s t printed. Rounds k held shut s t printed)
     (λ k s m t one two x y. rounds_more k held shut s m t one two x y) k s h1 h2 o o1 o2 w
-    (went (λ k. Unit {0}) (λ k s t printed. Visits k (round k held shut) s t printed) (λ k s. All (λ group. All (HasNothing k s) group) (round k held shut)) h1 o1 h2 o2 b (λ k s x. rest_visits k (round k held shut) s x) d k w.after tt w.stands)
+    (went (λ k. Unit {0}) (λ k s t printed. Stints k (round k held shut) s t printed) (λ k s. All (λ group. All (HasNothing k s) group) (round k held shut)) h1 o1 h2 o2 b (λ k s x. rest_stints k (round k held shut) s x) d k w.after tt w.stands)
 
 pub round_less : (held shut : ℕ → Bool) (h : House) (o : List ℕ) (h1 : House) (o1 : List ℕ) (b : Bool) → b ≡ true → DidRound held shut h o h1 o1 b → effort h1 < effort h
 round_less held shut h o h1 o1 false e d = cc
@@ -689,50 +689,50 @@ rounds_done held shut k s h1 h2 o o1 o2 true marks e w d = cc
 rounds_done held shut k s h1 h2 o o1 o2 false marks e w d = record {
   after = w.after;
   printed = w.printed;
-  goes = rounds_of w.after w.printed (w.goes.0) (subst (λ (x : ℕ → Bool). Visits k (in_a_row (replicate w.goes.0 (round k held x))) s w.after w.printed) marks w.goes.1)
+  goes = rounds_of w.after w.printed (w.goes.0) (subst (λ (x : ℕ → Bool). Stints k (in_a_row (replicate w.goes.0 (round k held x))) s w.after w.printed) marks w.goes.1)
       (subst (λ (x : ℕ → Bool). All (λ group. All (HasNothing k w.after) group) (round k held x)) marks (d.changes_nothing k w.after tt w.stands));
   stands = subst (λ (x : House). StandsFor k x w.after) (sym d.same) w.stands;
   out = d.silent ∙ w.out;
 }
   where
-    rounds_of : (t : Scene) (printed : List ℕ) (n : ℕ) → Visits k (in_a_row (replicate n (round k held (is_shut_in s)))) s t printed → All (λ group. All (HasNothing k t) group) (round k held (is_shut_in s)) → GoesRounds k held s t printed
+    rounds_of : (t : Scene) (printed : List ℕ) (n : ℕ) → Stints k (in_a_row (replicate n (round k held (is_shut_in s)))) s t printed → All (λ group. All (HasNothing k t) group) (round k held (is_shut_in s)) → GoesRounds k held s t printed
     rounds_of t printed n a d = record { rounds = n; goes = a; done = d }
 
 pub rounds_happened : (k : Setup) (held : ℕ → Bool) (s t : Scene) (printed : List ℕ) → GoesRounds k held s t printed → SomeHappened k s t printed
-rounds_happened k held s t printed g = visits_happened k (in_a_row (replicate g.rounds (round k held (is_shut_in s)))) s t printed g.goes
+rounds_happened k held s t printed g = stints_happened k (in_a_row (replicate g.rounds (round k held (is_shut_in s)))) s t printed g.goes
 
 -- a round from its parts
 abbrev pub DidFirst : (shut : ℕ → Bool) → House → List ℕ → House → List ℕ → Bool → Type 0
-DidFirst shut h o h1 o1 moved = DidVisits (λ k. Unit {0}) (λ k. closes k.config.seats shut k.config.shards) h o h1 o1 moved
+DidFirst shut h o h1 o1 moved = DidStints (λ k. Unit {0}) (λ k. closes k.config.seats shut k.config.shards) h o h1 o1 moved
 
 abbrev pub DidSecond : (shut : ℕ → Bool) → House → List ℕ → House → List ℕ → Bool → Type 0
-DidSecond shut h o h1 o1 moved = DidVisits (λ k. Unit {0}) (λ k. closes k.config.seats shut k.config.shards ++ puts k.config.seats) h o h1 o1 moved
+DidSecond shut h o h1 o1 moved = DidStints (λ k. Unit {0}) (λ k. closes k.config.seats shut k.config.shards ++ puts k.config.seats) h o h1 o1 moved
 
 abbrev pub DidThird : (held shut : ℕ → Bool) → House → List ℕ → House → List ℕ → Bool → Type 0
-DidThird held shut h o h1 o1 moved = DidVisits (λ k. Unit {0}) (λ k. closes k.config.seats shut k.config.shards ++ puts k.config.seats ++ serves held k.config.shards) h o h1 o1 moved
+DidThird held shut h o h1 o1 moved = DidStints (λ k. Unit {0}) (λ k. closes k.config.seats shut k.config.shards ++ puts k.config.seats ++ serves held k.config.shards) h o h1 o1 moved
 
 pub first_wants : (shut : ℕ → Bool) (h : House) (o : List ℕ) (h1 : House) (o1 : List ℕ) (h2 : House) (o2 : List ℕ) (a : Bool) → DidFirst shut h o h1 o1 a → Wants (λ k. Unit {0}) h1 o1 h2 o2 → Wants (λ k. Unit {0}) h o h2 o2
-first_wants shut h o h1 o1 h2 o2 a x z = visits_wants (λ k. Unit {0}) (λ k. closes k.config.seats shut k.config.shards) h o h1 o1 h2 o2 a x z
+first_wants shut h o h1 o1 h2 o2 a x z = stints_wants (λ k. Unit {0}) (λ k. closes k.config.seats shut k.config.shards) h o h1 o1 h2 o2 a x z
 
 pub then_puts : (shut : ℕ → Bool) (h : House) (o : List ℕ) (h1 : House) (o1 : List ℕ) (h2 : House) (o2 : List ℕ) (a b : Bool)
-    → DidFirst shut h o h1 o1 a → DidVisits (λ k. Unit {0}) (λ k. puts k.config.seats) h1 o1 h2 o2 b → DidSecond shut h o h2 o2 (a || b)
-then_puts shut h o h1 o1 h2 o2 a b x y = visits_then (λ k. Unit {0}) (λ k. closes k.config.seats shut k.config.shards) (λ k. puts k.config.seats) h o h1 o1 h2 o2 a b x y
+    → DidFirst shut h o h1 o1 a → DidStints (λ k. Unit {0}) (λ k. puts k.config.seats) h1 o1 h2 o2 b → DidSecond shut h o h2 o2 (a || b)
+then_puts shut h o h1 o1 h2 o2 a b x y = stints_then (λ k. Unit {0}) (λ k. closes k.config.seats shut k.config.shards) (λ k. puts k.config.seats) h o h1 o1 h2 o2 a b x y
 
 pub second_wants : (shut : ℕ → Bool) (h : House) (o : List ℕ) (h1 : House) (o1 : List ℕ) (h2 : House) (o2 : List ℕ) (a : Bool) → DidSecond shut h o h1 o1 a → Wants (λ k. Unit {0}) h1 o1 h2 o2 → Wants (λ k. Unit {0}) h o h2 o2
-second_wants shut h o h1 o1 h2 o2 a x z = visits_wants (λ k. Unit {0}) (λ k. closes k.config.seats shut k.config.shards ++ puts k.config.seats) h o h1 o1 h2 o2 a x z
+second_wants shut h o h1 o1 h2 o2 a x z = stints_wants (λ k. Unit {0}) (λ k. closes k.config.seats shut k.config.shards ++ puts k.config.seats) h o h1 o1 h2 o2 a x z
 
 pub then_serves : (held shut : ℕ → Bool) (h : House) (o : List ℕ) (h1 : House) (o1 : List ℕ) (h2 : House) (o2 : List ℕ) (a b : Bool)
-    → DidSecond shut h o h1 o1 a → DidVisits (λ k. Unit {0}) (λ k. serves held k.config.shards) h1 o1 h2 o2 b → DidThird held shut h o h2 o2 (a || b)
+    → DidSecond shut h o h1 o1 a → DidStints (λ k. Unit {0}) (λ k. serves held k.config.shards) h1 o1 h2 o2 b → DidThird held shut h o h2 o2 (a || b)
 then_serves held shut h o h1 o1 h2 o2 a b x y =
-    visits_then (λ k. Unit {0}) (λ k. closes k.config.seats shut k.config.shards ++ puts k.config.seats) (λ k. serves held k.config.shards) h o h1 o1 h2 o2 a b x y
+    stints_then (λ k. Unit {0}) (λ k. closes k.config.seats shut k.config.shards ++ puts k.config.seats) (λ k. serves held k.config.shards) h o h1 o1 h2 o2 a b x y
 
 pub third_wants : (held shut : ℕ → Bool) (h : House) (o : List ℕ) (h1 : House) (o1 : List ℕ) (h2 : House) (o2 : List ℕ) (a : Bool) → DidThird held shut h o h1 o1 a → Wants (λ k. Unit {0}) h1 o1 h2 o2 → Wants (λ k. Unit {0}) h o h2 o2
-third_wants held shut h o h1 o1 h2 o2 a x z = visits_wants (λ k. Unit {0}) (λ k. closes k.config.seats shut k.config.shards ++ puts k.config.seats ++ serves held k.config.shards) h o h1 o1 h2 o2 a x z
+third_wants held shut h o h1 o1 h2 o2 a x z = stints_wants (λ k. Unit {0}) (λ k. closes k.config.seats shut k.config.shards ++ puts k.config.seats ++ serves held k.config.shards) h o h1 o1 h2 o2 a x z
 
 pub round_of : (held shut : ℕ → Bool) (h : House) (o : List ℕ) (h1 : House) (o1 : List ℕ) (h2 : House) (o2 : List ℕ) (a b : Bool)
-    → DidThird held shut h o h1 o1 a → DidVisits (λ k. Unit {0}) (λ k. hears k.config.seats) h1 o1 h2 o2 b → DidRound held shut h o h2 o2 (a || b)
+    → DidThird held shut h o h1 o1 a → DidStints (λ k. Unit {0}) (λ k. hears k.config.seats) h1 o1 h2 o2 b → DidRound held shut h o h2 o2 (a || b)
 round_of held shut h o h1 o1 h2 o2 a b x y =
-    visits_then (λ k. Unit {0}) (λ k. closes k.config.seats shut k.config.shards ++ puts k.config.seats ++ serves held k.config.shards) (λ k. hears k.config.seats) h o h1 o1 h2 o2 a b x y
+    stints_then (λ k. Unit {0}) (λ k. closes k.config.seats shut k.config.shards ++ puts k.config.seats ++ serves held k.config.shards) (λ k. hears k.config.seats) h o h1 o1 h2 o2 a b x y
 
 pub shards_of : (k : Setup) (s : Scene) (h : House) → StandsFor k h s → k.config.shards ≡ h.directory.shards
 shards_of k s h st = sym (ap (λ (d : Directory). d.shards) st.directory ∙ st.shards)
@@ -750,24 +750,24 @@ shard_among k shard l = All-cons (IsAmong k) (Take shard) (Deliver shard ∷ Ans
 
 -- a shard that isn't held is visited
 pub serve_came : {E : Type 0} (shard : ℕ) (held : Bool) (h : House) (o : List ℕ) (h1 : House) (o1 : List ℕ) (r : Result Bool E) → held ≡ false
-    → CameVisit {E = E} (Take shard ∷ Deliver shard ∷ Answer shard ∷ []) h o h1 o1 r → CameVisits {E = E} (λ k. shard < k.config.shards) (λ k. serve shard held) h o h1 o1 r
+    → CameStint {E = E} (Take shard ∷ Deliver shard ∷ Answer shard ∷ []) h o h1 o1 r → CameStints {E = E} (λ k. shard < k.config.shards) (λ k. serve shard held) h o h1 o1 r
 serve_came shard true h o h1 o1 r e c = cc
-serve_came shard false h o h1 o1 (Ok b) e c = one_visit (λ k. shard < k.config.shards) (Take shard ∷ Deliver shard ∷ Answer shard ∷ []) h o h1 o1 b (λ k q. shard_among k shard q) c
+serve_came shard false h o h1 o1 (Ok b) e c = one_stint (λ k. shard < k.config.shards) (Take shard ∷ Deliver shard ∷ Answer shard ∷ []) h o h1 o1 b (λ k q. shard_among k shard q) c
 serve_came shard false h o h1 o1 (Err x) e c = wants_as (λ k. All (IsAmong k) (Take shard ∷ Deliver shard ∷ Answer shard ∷ [])) (λ k. shard < k.config.shards) h o h1 o1 (λ k s q st. shard_among k shard q) c
 
 pub shards_step : (held : ℕ → Bool) (shards shard : ℕ) (is : Bool) (h : House) (o : List ℕ) (h1 : House) (o1 : List ℕ) (h2 : House) (o2 : List ℕ) (a b : Bool) → shard < shards → is ≡ held shard
-    → DidVisits (λ k. k.config.shards ≡ shards) (λ k. serves held shard) h o h1 o1 a → DidVisits (λ k. shard < k.config.shards) (λ k. serve shard is) h1 o1 h2 o2 b
-    → DidVisits (λ k. k.config.shards ≡ shards) (λ k. serves held (shard + 1)) h o h2 o2 (a || b)
+    → DidStints (λ k. k.config.shards ≡ shards) (λ k. serves held shard) h o h1 o1 a → DidStints (λ k. shard < k.config.shards) (λ k. serve shard is) h1 o1 h2 o2 b
+    → DidStints (λ k. k.config.shards ≡ shards) (λ k. serves held (shard + 1)) h o h2 o2 (a || b)
 shards_step held shards shard is h o h1 o1 h2 o2 a b l e c d =
-    subst (λ (gs : List (List Event)). DidVisits (λ k. k.config.shards ≡ shards) (λ k. gs) h o h2 o2 (a || b)) (ap (λ (x : Bool). serves held shard ++ serve shard x) e ∙ served held shard)
-    (visits_then (λ k. k.config.shards ≡ shards) (λ k. serves held shard) (λ k. serve shard is) h o h1 o1 h2 o2 a b c
-    (did_as (λ k. shard < k.config.shards) (λ k. k.config.shards ≡ shards) (λ k s t printed. Visits k (serve shard is) s t printed) (λ k s t printed. Visits k (serve shard is) s t printed)
+    subst (λ (gs : List (List Event)). DidStints (λ k. k.config.shards ≡ shards) (λ k. gs) h o h2 o2 (a || b)) (ap (λ (x : Bool). serves held shard ++ serve shard x) e ∙ served held shard)
+    (stints_then (λ k. k.config.shards ≡ shards) (λ k. serves held shard) (λ k. serve shard is) h o h1 o1 h2 o2 a b c
+    (did_as (λ k. shard < k.config.shards) (λ k. k.config.shards ≡ shards) (λ k s t printed. Stints k (serve shard is) s t printed) (λ k s t printed. Stints k (serve shard is) s t printed)
     (λ k s. All (λ group. All (HasNothing k s) group) (serve shard is)) (λ k s. All (λ group. All (HasNothing k s) group) (serve shard is)) h1 o1 h2 o2 b
     (λ k s q st. omega (arith, l, q)) (λ k s q st t printed x. x) (λ k s q st x. x) d))
 
 pub shards_wants : (held : ℕ → Bool) (shard : ℕ) (h : House) (o : List ℕ) (h1 : House) (o1 : List ℕ) (h2 : House) (o2 : List ℕ) (a : Bool) → shard < h.directory.shards
-    → DidVisits (λ k. k.config.shards ≡ h.directory.shards) (λ k. serves held shard) h o h1 o1 a → Wants (λ k. shard < k.config.shards) h1 o1 h2 o2 → Wants (λ k. Unit {0}) h o h2 o2
+    → DidStints (λ k. k.config.shards ≡ h.directory.shards) (λ k. serves held shard) h o h1 o1 a → Wants (λ k. shard < k.config.shards) h1 o1 h2 o2 → Wants (λ k. Unit {0}) h o h2 o2
 shards_wants held shard h o h1 o1 h2 o2 a l c d =
     wants_as (λ k. k.config.shards ≡ h.directory.shards) (λ k. Unit {0}) h o h2 o2 (λ k s q st. shards_of k s h st)
-    (visits_wants (λ k. k.config.shards ≡ h.directory.shards) (λ k. serves held shard) h o h1 o1 h2 o2 a c
+    (stints_wants (λ k. k.config.shards ≡ h.directory.shards) (λ k. serves held shard) h o h1 o1 h2 o2 a c
     (wants_as (λ k. shard < k.config.shards) (λ k. k.config.shards ≡ h.directory.shards) h1 o1 h2 o2 (λ k s q st. omega (arith, l, q)) d))

@@ -16,12 +16,12 @@ abbrev pub caller_effort : Option HouseConnection → ℕ
 caller_effort None = 0
 caller_effort (Some h) = line_effort h
 
-abbrev pub visit_effort : Option SeatedSession → ℕ
-visit_effort None = 0
-visit_effort (Some p) = seat_effort p
+abbrev pub visitor_effort : Option SeatedSession → ℕ
+visitor_effort None = 0
+visitor_effort (Some p) = seat_effort p
 
 abbrev pub effort : House → ℕ
-effort h = sum_by caller_effort h.callers + (sum_by visit_effort h.visitors + load h.core)
+effort h = sum_by caller_effort h.callers + (sum_by visitor_effort h.visitors + load h.core)
 
 -- the same of a session's turns while it idles: it may end, and so many changes it is behind its mailbox's log
 abbrev pub turns_left : Option SeatedSession → ℕ → ℕ

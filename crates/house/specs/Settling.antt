@@ -21,16 +21,16 @@ InTurn k (e ∷ es) s t printed = (m : Scene) × (one : List ℕ) × (two : List
 abbrev pub in_a_row : {A : Type 0} → List (List A) → List A
 in_a_row groups = flat_map (λ g. g) groups
 
--- the events of a visit are tried over and over, until none of them has anything to do
-pub record Visit (k : Setup) (group : List Event) (s t : Scene) (printed : List ℕ) : Type 0 where
+-- the events of a stint are tried over and over, until none of them has anything to do
+pub record Stint (k : Setup) (group : List Event) (s t : Scene) (printed : List ℕ) : Type 0 where
   pub times : ℕ
   pub goes : InTurn k (in_a_row (replicate times group)) s t printed
   pub done : All (HasNothing k t) group
 
--- visits one after another
-abbrev pub Visits : Setup → List (List Event) → Scene → Scene → List ℕ → Type 0
-Visits k [] s t printed = (t ≡ s) × (printed ≡ [])
-Visits k (group ∷ groups) s t printed = (m : Scene) × (one : List ℕ) × (two : List ℕ) × Visit k group s m one × Visits k groups m t two × (printed ≡ one ++ two)
+-- stints one after another
+abbrev pub Stints : Setup → List (List Event) → Scene → Scene → List ℕ → Type 0
+Stints k [] s t printed = (t ≡ s) × (printed ≡ [])
+Stints k (group ∷ groups) s t printed = (m : Scene) × (one : List ℕ) × (two : List ℕ) × Stint k group s m one × Stints k groups m t two × (printed ≡ one ++ two)
 
 -- each seat from 1, whoever stands there, ends on each of these shards
 abbrev pub ends_on : ℕ → List ℕ → List (List Event)
@@ -47,7 +47,7 @@ round k held shut = ends_on k.config.seats (filter shut (range_with_len 0 k.conf
 -- rounds, until nothing moves
 pub record GoesRounds (k : Setup) (held : ℕ → Bool) (s t : Scene) (printed : List ℕ) : Type 0 where
   pub rounds : ℕ
-  pub goes : Visits k (in_a_row (replicate rounds (round k held (is_shut_in s)))) s t printed
+  pub goes : Stints k (in_a_row (replicate rounds (round k held (is_shut_in s)))) s t printed
   pub done : All (λ group. All (HasNothing k t) group) (round k held (is_shut_in s))
 
 -- each session from 1 that idles has turns, until it has nothing to be shown
@@ -60,7 +60,7 @@ pub record Settles (k : Setup) (held : ℕ → Bool) (s t : Scene) (printed : Li
   pub one : List ℕ
   pub two : List ℕ
   pub goes : GoesRounds k held s between one
-  pub turns : Visits k (idle_turns k.config.sessions) between t two
+  pub turns : Stints k (idle_turns k.config.sessions) between t two
   pub both : printed ≡ one ++ two
 
 -- Where memory was wanting: some events happened, one after another, and some may have been cut short.

@@ -6,7 +6,7 @@ ghost use Rattle.house.specs.Setup.{Setup, session_seat};
 ghost use Rattle.delivery_core.specs.DeliveryCore.{behind};
 ghost use Rattle.delivery_core.specs.Stands as core;
 ghost use Rattle.house.specs.Effort.{MakesLess, turns_left};
-ghost use Rattle.house.specs.Settling.{Visit, Visits, idle_turns};
+ghost use Rattle.house.specs.Settling.{Stint, Stints, idle_turns};
 ghost use Rattle.house.specs.Stands.{StandsFor};
 ghost use Rattle.house.specs.Steps.{Follows, FollowsInPart, IsBusy, ChangesNothing, IsNobody, MayIdle, MayWant};
 ghost use Rattle.house.specs.inner.Steps.{HasNoTurn, PlaceIdled, PlaceIdledInPart, StandsForSomebody};
@@ -109,7 +109,7 @@ impl House {
     // A session that idles is shown what is pending, until nothing is.
     fn idle_out(&mut self, session: u8, out: &mut Vec<u8>) -> Result<(), AllocError>
         ensures ok { OnOk result (Goes (λ k. IsAmong k (events.Idle session)) (λ k s t printed.
-            Visit k (events.Idle session ∷ []) s t printed) self.old out.old.items self.new out.new.items) }
+            Stint k (events.Idle session ∷ []) s t printed) self.old out.old.items self.new out.new.items) }
         ensures err { OnErr result (Wants (λ k. IsAmong k (events.Idle session)) self.old out.old.items self.new out.new.items) }
     {
         loop {
@@ -126,7 +126,7 @@ impl House {
     // Each session that idles is shown what is pending.
     pub(crate) fn idle_all(&mut self, out: &mut Vec<u8>) -> Result<(), AllocError>
         ensures ok { OnOk result (Goes (λ k. Unit {0}) (λ k s t printed.
-            Visits k (idle_turns k.config.sessions) s t printed) self.old out.old.items self.new out.new.items) }
+            Stints k (idle_turns k.config.sessions) s t printed) self.old out.old.items self.new out.new.items) }
         ensures err { OnErr result (Wants (λ k. Unit {0}) self.old out.old.items self.new out.new.items) }
     {
         let sessions = self.visitors.len() as u8;

@@ -8,7 +8,7 @@ ghost use Rattle.delivery_core.specs.Stands as core;
 ghost use Rattle.delivery_token.specs.Keys.{AtLeast};
 ghost use Rattle.delivery_token.specs.declared.CopyKey.{CopyKey};
 ghost use Rattle.delivery_token.specs.declared.log.Noted.{Noted as NotedSpec};
-ghost use Rattle.house.specs.Effort.{MakesLess, visit_effort};
+ghost use Rattle.house.specs.Effort.{MakesLess, visitor_effort};
 ghost use Rattle.house.specs.Scene as scene;
 ghost use Rattle.house.specs.Setup.{Setup, session_seat};
 ghost use Rattle.house.specs.Stands.{StandsFor, first_of};
@@ -50,7 +50,7 @@ fn visitor_talks(
 ) -> Result<(), AllocError>
     requires counted { 0 < number }
     requires there { is_left place.old ≡ false }
-    ensures less { visit_effort place.new ≤ visit_effort place.old }
+    ensures less { visitor_effort place.new ≤ visitor_effort place.old }
     ensures delivery { SameDelivery store.old.core store.new.core }
     ensures ok { OnOk result ((k : Setup) (next : CopyKey) (heard : List NotedSpec) (w : World) (b : spec.SeatedVisitor) →
         core.StandsFor k.config store.old.core w → StandsForSomebody (session_seat k (number - 1)) next heard place.old (Some b) →
@@ -75,7 +75,7 @@ fn visitor_talks(
 
 // Where the client of the session at a place is gone, it leaves its place as soon as the verdict that it awaited was heard.
 fn visitor_lingers(place: &mut Option<SeatedSession>)
-    ensures less { visit_effort place.new ≤ visit_effort place.old }
+    ensures less { visitor_effort place.new ≤ visitor_effort place.old }
     ensures who { (seat : ℕ) (next : CopyKey) (heard : List NotedSpec) (b : spec.SeatedVisitor) →
         StandsForSomebody seat next heard place.old (Some b) → HasLingered seat next heard b place.new }
 {
@@ -96,7 +96,7 @@ fn visitor_goes_on(
     out: &mut Vec<u8>,
 ) -> Result<(), AllocError>
     requires counted { 0 < number }
-    ensures less { visit_effort place.new ≤ visit_effort place.old }
+    ensures less { visitor_effort place.new ≤ visitor_effort place.old }
     ensures delivery { SameDelivery store.old.core store.new.core }
     ensures ok { OnOk result ((k : Setup) (next : CopyKey) (heard : List NotedSpec) (w : World) (b : spec.SeatedVisitor) →
         core.StandsFor k.config store.old.core w → StandsForSomebody (session_seat k (number - 1)) next heard place.old (Some b) →

@@ -8,7 +8,7 @@ ghost use Rattle.house.specs.Settled.{HappenedFrom, SettledFrom, is_held};
 ghost use Rattle.house.specs.Settling.{GoesRounds, round};
 ghost use Rattle.house.specs.Stands.{StandsFor};
 ghost use Rattle.envelope.specs.Directory.{is_shut};
-ghost use Rattle.house.specs.inner.Trying.{CameInTurn, CameOne, CameVisit, CameVisits, Goes, IsOwn, Wants, closes, ends, ends_where, hears, puts, serve, serves};
+ghost use Rattle.house.specs.inner.Trying.{CameInTurn, CameOne, CameStint, CameStints, Goes, IsOwn, Wants, closes, ends, ends_where, hears, puts, serve, serves};
 
 use crate::event::{Event, HouseFault};
 use crate::house::House;
@@ -47,10 +47,10 @@ impl House {
     }
 
     // Some events are tried over and over, until none of them has anything to do: whether any happened.
-    fn visit(&mut self, group: &[Event<'_>], out: &mut Vec<u8>) -> Result<bool, AllocError>
+    fn stint(&mut self, group: &[Event<'_>], out: &mut Vec<u8>) -> Result<bool, AllocError>
         requires own { All IsOwn group.now }
         ensures marks { self.new.directory ≡ self.old.directory }
-        ensures came { CameVisit group.now self.old out.old.items self.new out.new.items result }
+        ensures came { CameStint group.now self.old out.old.items self.new out.new.items result }
     {
         let mut moved = false;
         loop {
@@ -66,14 +66,14 @@ impl House {
 
     // Each seat ends on a shard, whoever stands there.
     fn end_all(&mut self, shard: u8, out: &mut Vec<u8>) -> Result<bool, AllocError>
-        ensures came { CameVisits (λ k. shard < k.config.shards) (λ k.
+        ensures came { CameStints (λ k. shard < k.config.shards) (λ k.
             ends k.config.seats shard) self.old out.old.items self.new out.new.items result }
         ensures marks { self.new.directory ≡ self.old.directory }
     {
         let seats = (self.callers.len() + self.visitors.len()) as u8;
         let mut moved = false;
         for seat in 0..seats {
-            let Ok(one) = self.visit(
+            let Ok(one) = self.stint(
                 &[Event::End {
                     producer: seat + 1,
                     shard,
@@ -89,7 +89,7 @@ impl House {
 
     // Each seat ends on a shard, where that is shut.
     fn end_where(&mut self, shard: u8, shut: bool, out: &mut Vec<u8>) -> Result<bool, AllocError>
-        ensures came { CameVisits (λ k. shard < k.config.shards) (λ k.
+        ensures came { CameStints (λ k. shard < k.config.shards) (λ k.
             ends_where k.config.seats shard shut) self.old out.old.items self.new out.new.items result }
         ensures marks { self.new.directory ≡ self.old.directory }
     {
@@ -101,7 +101,7 @@ impl House {
 
     // Each seat ends on each shard that is shut.
     fn close_all(&mut self, out: &mut Vec<u8>) -> Result<bool, AllocError>
-        ensures came { CameVisits (λ k. Unit {0}) (λ k. closes k.config.seats
+        ensures came { CameStints (λ k. Unit {0}) (λ k. closes k.config.seats
             (is_shut self.old.directory) k.config.shards) self.old out.old.items self.new out.new.items result }
         ensures marks { self.new.directory ≡ self.old.directory }
     {
@@ -120,12 +120,12 @@ impl House {
     // Each connection and each session puts its copies.
     fn put_all(&mut self, out: &mut Vec<u8>) -> Result<bool, AllocError>
         ensures marks { self.new.directory ≡ self.old.directory }
-        ensures came { CameVisits (λ k. Unit {0}) (λ k. puts k.config.seats) self.old out.old.items self.new out.new.items result }
+        ensures came { CameStints (λ k. Unit {0}) (λ k. puts k.config.seats) self.old out.old.items self.new out.new.items result }
     {
         let seats = (self.callers.len() + self.visitors.len()) as u8;
         let mut moved = false;
         for seat in 0..seats {
-            let Ok(one) = self.visit(&[Event::Put(seat + 1)], out) else {
+            let Ok(one) = self.stint(&[Event::Put(seat + 1)], out) else {
                 return Err(AllocError);
             };
             moved |= one;
@@ -136,7 +136,7 @@ impl House {
     // Each shard that isn't held takes, delivers and answers.
     fn serve_all(&mut self, held: &[bool], out: &mut Vec<u8>) -> Result<bool, AllocError>
         ensures marks { self.new.directory ≡ self.old.directory }
-        ensures came { CameVisits (λ k. Unit {0}) (λ k. serves
+        ensures came { CameStints (λ k. Unit {0}) (λ k. serves
             (is_held held.now) k.config.shards) self.old out.old.items self.new out.new.items result }
     {
         let shards = self.directory.shards();
@@ -153,7 +153,7 @@ impl House {
     // A shard takes, delivers and answers, unless it is held.
     fn serve(&mut self, shard: u8, held: bool, out: &mut Vec<u8>) -> Result<bool, AllocError>
         ensures marks { self.new.directory ≡ self.old.directory }
-        ensures came { CameVisits (λ k. shard < k.config.shards) (λ k. serve shard held) self.old out.old.items self.new out.new.items result }
+        ensures came { CameStints (λ k. shard < k.config.shards) (λ k. serve shard held) self.old out.old.items self.new out.new.items result }
     {
         if held {
             return Ok(false);
@@ -163,18 +163,18 @@ impl House {
             Event::Deliver(shard),
             Event::Answer(shard),
         ];
-        self.visit(&group, out)
+        self.stint(&group, out)
     }
 
     // Each connection and each session hears its verdicts.
     fn hear_all(&mut self, out: &mut Vec<u8>) -> Result<bool, AllocError>
         ensures marks { self.new.directory ≡ self.old.directory }
-        ensures came { CameVisits (λ k. Unit {0}) (λ k. hears k.config.seats) self.old out.old.items self.new out.new.items result }
+        ensures came { CameStints (λ k. Unit {0}) (λ k. hears k.config.seats) self.old out.old.items self.new out.new.items result }
     {
         let seats = (self.callers.len() + self.visitors.len()) as u8;
         let mut moved = false;
         for seat in 0..seats {
-            let Ok(one) = self.visit(&[Event::Hear(seat + 1)], out) else {
+            let Ok(one) = self.stint(&[Event::Hear(seat + 1)], out) else {
                 return Err(AllocError);
             };
             moved |= one;
@@ -185,7 +185,7 @@ impl House {
     // A round: whether anything happened.
     fn go_round(&mut self, held: &[bool], out: &mut Vec<u8>) -> Result<bool, AllocError>
         ensures marks { self.new.directory ≡ self.old.directory }
-        ensures came { CameVisits (λ k. Unit {0}) (λ k. round k (is_held held.now)
+        ensures came { CameStints (λ k. Unit {0}) (λ k. round k (is_held held.now)
             (is_shut self.old.directory)) self.old out.old.items self.new out.new.items result }
     {
         let Ok(closed) = self.close_all(out) else {

@@ -9,7 +9,7 @@ use Rattle.shard_queue.specs.Permits.{IsConsumer, got}
 use Rattle.lane_work.specs.Permits.{ArePermits, AreSenders, IsNew}
 use Rattle.house_floor.specs.Users.{user_numbered}
 use Rattle.house_floor.specs.declared.floor.Floor.{Floor}
-use Rattle.house_floor.specs.declared.floor.Visit.{Visit}
+use Rattle.house_floor.specs.declared.floor.Guest.{Guest}
 use Rattle.house_floor.specs.declared.floor.Post.{Post}
 use Rattle.house_floor.specs.declared.floor.Stand.{Stand}
 use Rattle.house_floor.specs.declared.floor.Crew.{Crew}
@@ -28,9 +28,9 @@ pub record IsHouse (floor : Floor) (producers : ℕ) : Type 0 where
   pub few_producers : producers < 256
 
 -- each session's user is one of the directory, and each mailbox has a list of bells; there are no more sessions than an actor's number tells apart
-pub record AreVisits (floor : Floor) (visits : List Visit) : Type 0 where
-  pub few : length visits ≤ 256
-  pub named : All (λ v. user_numbered v.user floor.office.directory.homes ≢ None) visits
+pub record AreGuests (floor : Floor) (guests : List Guest) : Type 0 where
+  pub few : length guests ≤ 256
+  pub named : All (λ v. user_numbered v.user floor.office.directory.homes ≢ None) guests
   pub bells : length floor.office.directory.homes ≤ length floor.depot.sessions.items
 
 -- ---- what is dealt

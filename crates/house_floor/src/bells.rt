@@ -4,7 +4,7 @@
 ghost use Rattle.std.specs.Prelude.{◌≡◌, ◌<◌, IfOk, length, vec_len};
 ghost use Rattle.house_floor.specs.inner.Making.{AreBells};
 
-use crate::floor::Visit;
+use crate::floor::Guest;
 use crate::users::inbox_numbered;
 use crossbeam_utils::sync::{Parker, Unparker};
 use envelope::Directory;
@@ -72,15 +72,15 @@ fn bells_of(
     alloc: Global,
     directory: &Directory,
     mailbox: u8,
-    visits: &[Visit],
+    guests: &[Guest],
     sleepers: &[Sleeper],
 ) -> Result<Vec<SessionBell>, AllocError>
     requires mailbox { mailbox < length directory.now.homes }
-    requires sleepers { length sleepers.now ≡ length visits.now }
+    requires sleepers { length sleepers.now ≡ length guests.now }
 {
     let mut bells = Vec::new(alloc);
-    for session in 0..visits.len() {
-        if is_of(directory, mailbox, visits[session].user) {
+    for session in 0..guests.len() {
+        if is_of(directory, mailbox, guests[session].user) {
             bells.push(sleepers[session].bell()?)?;
         }
     }
@@ -91,16 +91,16 @@ fn bells_of(
 fn make_session_bells(
     alloc: Global,
     directory: &Directory,
-    visits: &[Visit],
+    guests: &[Guest],
     sleepers: &[Sleeper],
 ) -> Result<Vec<Vec<SessionBell>>, AllocError>
-    requires sleepers { length sleepers.now ≡ length visits.now }
+    requires sleepers { length sleepers.now ≡ length guests.now }
     ensures count { IfOk result (λ v. vec_len v ≡ length directory.now.homes) }
 {
     let mailboxes = directory.mailboxes();
     let mut bells = Vec::with_capacity(alloc, mailboxes)?;
     for mailbox in 0..mailboxes {
-        bells.push_reserved(bells_of(alloc, directory, mailbox as u8, visits, sleepers)?);
+        bells.push_reserved(bells_of(alloc, directory, mailbox as u8, guests, sleepers)?);
     }
     Ok(bells)
 }
@@ -110,15 +110,15 @@ fn make_session_bells(
 pub(crate) fn hang_bells(
     alloc: Global,
     directory: &Directory,
-    visits: &[Visit],
+    guests: &[Guest],
 ) -> Result<Bells, AllocError>
     ensures bells { IfOk result (λ b. AreBells directory.now b) }
-    ensures sleepers { IfOk result (λ b. vec_len b.sleepers ≡ length visits.now) }
+    ensures sleepers { IfOk result (λ b. vec_len b.sleepers ≡ length guests.now) }
 {
     let parkers = make_parkers(alloc, usize::from(directory.shards()))?;
     let consumers = make_bells(alloc, &parkers)?;
-    let sleepers = make_sleepers(alloc, visits.len())?;
-    let sessions = make_session_bells(alloc, directory, visits, &sleepers)?;
+    let sleepers = make_sleepers(alloc, guests.len())?;
+    let sessions = make_session_bells(alloc, directory, guests, &sleepers)?;
     Ok(Bells {
         parkers,
         consumers,

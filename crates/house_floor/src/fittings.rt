@@ -5,7 +5,7 @@ ghost use Rattle.std.specs.Prelude.{◌≡◌, ◌<◌, ◌≤◌, IfOk, length,
 ghost use Rattle.house_floor.specs.inner.Making.{AreFittings, ArePapers};
 
 use crate::bells::{Bells, hang_bells};
-use crate::floor::Visit;
+use crate::floor::Guest;
 use crate::opening::Sizes;
 use crossbeam_utils::sync::{Parker, Unparker};
 use delivery_token::{Job, Noted, WorkerLog};
@@ -35,7 +35,7 @@ pub(crate) struct Papers {
 
 /// What the floor is made of beside the queues.
 #[derive(Drop)]
-pub(crate) struct Hall {
+pub(crate) struct Interior {
     /// The house's name in replies.
     pub(crate) host: Vec<u8>,
     /// The mailboxes of its directory, empty.
@@ -51,7 +51,7 @@ pub(crate) struct Hall {
 /// All of a house that may be let go.
 #[derive(Drop)]
 pub(crate) struct Fittings {
-    pub(crate) hall: Hall,
+    pub(crate) interior: Interior,
     /// Each consumer's own end of its bell.
     pub(crate) parkers: Vec<Parker>,
     /// Each session's own end of its bell.
@@ -123,11 +123,11 @@ pub(crate) fn make_fittings(
     alloc: Global,
     directory: &Directory,
     sizes: Sizes<'_>,
-    visits: &[Visit],
+    guests: &[Guest],
 ) -> Result<Fittings, AllocError>
     requires ring { 0 < sizes.limits.ring }
     ensures fittings { IfOk result (λ f. AreFittings directory.now sizes.entry f) }
-    ensures sleepers { IfOk result (λ f. vec_len f.sleepers ≡ length visits.now) }
+    ensures sleepers { IfOk result (λ f. vec_len f.sleepers ≡ length guests.now) }
 {
     let host = Vec::from_slice(alloc, sizes.host)?;
     let mailboxes = make_mailboxes(alloc, directory.mailboxes(), sizes)?;
@@ -136,10 +136,10 @@ pub(crate) fn make_fittings(
         consumers,
         sleepers,
         sessions,
-    } = hang_bells(alloc, directory, visits)?;
+    } = hang_bells(alloc, directory, guests)?;
     let papers = make_papers(alloc, sizes.producers, directory.shards())?;
     let closings = copied(alloc, sizes.closings)?;
-    let hall = Hall {
+    let interior = Interior {
         host,
         mailboxes,
         consumers,
@@ -147,7 +147,7 @@ pub(crate) fn make_fittings(
         closings,
     };
     Ok(Fittings {
-        hall,
+        interior,
         parkers,
         sleepers,
         papers,

@@ -24,7 +24,7 @@ pub struct Floor {
 /// One session: the number of its user among the users of the directory, from 0, and what its client
 /// does.
 #[derive(Drop)]
-pub struct Visit {
+pub struct Guest {
     pub user: u8,
     pub steps: Vec<Step>,
 }

@@ -8,7 +8,7 @@ ghost use Rattle.house_floor.specs.inner.Making.{AreCrewLists, AreFittings, AreS
 ghost use Rattle.house_floor.specs.Opening.{AreBaskets, IsFloor, reply_room};
 
 use crate::dealing::{Undealt, deal_out};
-use crate::fittings::{Fittings, Hall, Papers};
+use crate::fittings::{Fittings, Interior, Papers};
 use crate::floor::{Crew, Floor};
 use crate::opening::{Baskets, Opened, Sizes};
 use crate::stock::{CrewLists, EndLists, Lists, Stock};
@@ -25,12 +25,12 @@ fn lay_floor(
     alloc: Global,
     directory: Directory,
     sizes: Sizes<'_>,
-    hall: Hall,
+    interior: Interior,
     lanes: Vec<ShardQueue<Job>>,
     channels: Vec<ReplyChannel<Noted>>,
 ) -> Floor
     requires host { length sizes.host.now < 256 }
-    requires hall { IsHall directory sizes hall }
+    requires interior { IsHall directory sizes interior }
     requires lanes { (vec_len lanes ≡ directory.shards) × All (λ q. (capacity_of q ≡ sizes.depth) × (producers_of q ≡ sizes.producers)) lanes.items }
     requires channels { (vec_len channels ≡ sizes.producers) ×
         All (λ c. (room_of c ≡ reply_room) × (senders_of c ≡ directory.shards)) channels.items }
@@ -41,20 +41,20 @@ fn lay_floor(
 {
     let office = Office {
         directory,
-        host: hall.host,
+        host: interior.host,
         max_message: sizes.max_message,
         lanes,
-        closings: hall.closings,
+        closings: interior.closings,
     };
     let depot = Depot {
-        mailboxes: hall.mailboxes,
+        mailboxes: interior.mailboxes,
         channels,
-        sessions: hall.sessions,
+        sessions: interior.sessions,
     };
     Floor {
         office,
         depot,
-        bells: hall.consumers,
+        bells: interior.consumers,
         turns: sizes.turns,
         alloc,
     }
@@ -232,7 +232,7 @@ pub(crate) fn put_together(
         of_producers,
         of_consumers,
     } = sort_out(rooms, lanes, channels, fittings.parkers);
-    let floor = lay_floor(alloc, directory, sizes, fittings.hall, lanes, channels);
+    let floor = lay_floor(alloc, directory, sizes, fittings.interior, lanes, channels);
     let crew = man(&floor, producers, shards, undealt, crew);
     let baskets = baskets_of(of_producers, of_consumers, ends, fittings.papers);
     Opened {

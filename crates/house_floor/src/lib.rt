@@ -12,7 +12,7 @@ mod opening;
 mod stock;
 mod users;
 
-pub use floor::{Crew, Floor, Post, Stand, Visit};
+pub use floor::{Crew, Floor, Guest, Post, Stand};
 pub use opening::{Baskets, Opened, Sizes, open};
 pub use stock::{REPLY_ROOM, Spares};
 pub use users::inbox_numbered;

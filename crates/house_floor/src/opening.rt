@@ -3,12 +3,12 @@
 //! a thread. No thread is started here.
 
 ghost use Rattle.std.specs.Prelude.{◌≡◌, ◌≢◌, ◌<◌, ◌≤◌, All, IfOk, None, length, vec_len};
-ghost use Rattle.house_floor.specs.Crew.{AreVisits, IsCrew};
+ghost use Rattle.house_floor.specs.Crew.{AreGuests, IsCrew};
 ghost use Rattle.house_floor.specs.Opening.{AreBaskets, IsFloor};
 ghost use Rattle.house_floor.specs.Users.{user_numbered};
 
 use crate::fittings::make_fittings;
-use crate::floor::{Crew, Floor, Visit};
+use crate::floor::{Crew, Floor, Guest};
 use crate::joining::put_together;
 use crate::stock::{Spares, make_stock};
 use delivery_token::{Job, Noted, WorkerLog};
@@ -90,21 +90,21 @@ pub fn open(
     alloc: Global,
     directory: Directory,
     sizes: Sizes<'_>,
-    visits: &[Visit],
+    guests: &[Guest],
 ) -> Result<Opened, AllocError>
     requires depth { 0 < sizes.depth }
     requires host { length sizes.host.now < 256 }
     requires ring { 0 < sizes.limits.ring }
     requires shards { 0 < directory.shards }
-    requires visits { All (λ v. user_numbered v.user directory.homes ≢ None) visits.now }
-    requires few { length visits.now ≤ 256 }
+    requires guests { All (λ v. user_numbered v.user directory.homes ≢ None) guests.now }
+    requires few { length guests.now ≤ 256 }
     ensures floor { IfOk result (λ o. IsFloor directory sizes.entry o.floor) }
-    ensures visits { IfOk result (λ o. AreVisits o.floor visits.now) }
+    ensures guests { IfOk result (λ o. AreGuests o.floor guests.now) }
     ensures crew { IfOk result (λ o. IsCrew o.floor sizes.entry.producers o.crew) }
     ensures baskets { IfOk result (λ o. AreBaskets sizes.entry.producers directory.shards o.baskets) }
-    ensures sleepers { IfOk result (λ o. vec_len o.sleepers ≡ length visits.now) }
+    ensures sleepers { IfOk result (λ o. vec_len o.sleepers ≡ length guests.now) }
 {
-    let fittings = make_fittings(alloc, &directory, sizes, visits)?;
+    let fittings = make_fittings(alloc, &directory, sizes, guests)?;
     let stock = make_stock(alloc, sizes.producers, directory.shards(), sizes.depth)?;
     Ok(put_together(alloc, directory, sizes, fittings, stock))
 }

@@ -5,7 +5,7 @@ use Rattle.delivery_token.specs.declared.Job.{Job}
 use Rattle.delivery_token.specs.declared.log.Noted.{Noted}
 use Rattle.house_floor.specs.Users.{user_numbered}
 use Rattle.house_floor.specs.declared.floor.Floor.{Floor}
-use Rattle.house_floor.specs.declared.floor.Visit.{Visit}
+use Rattle.house_floor.specs.declared.floor.Guest.{Guest}
 use Rattle.house_session.specs.Folders.{folders_of}
 use Rattle.imap_session.specs.Commands.{greeting}
 use Rattle.lane_work.specs.Account.{AreAccountedFor, AreBooksOf, HaveEnded, notes_tell}
@@ -33,21 +33,21 @@ same_books office now desk seat serial notes carried there own first books =
     (subst (λ (n : ℕ). AreBooksOf now.directory (rooms_of now.lanes.items) n (map (judged_of n 0) carried) (notes_tell notes) (received desk.receiver) (map put_by desk.permits.items)) own
     (subst (λ (s : ℕ). AreBooksOf now.directory (rooms_of now.lanes.items) desk.number (map (judged_of desk.number s) carried) (notes_tell notes) (received desk.receiver) (map put_by desk.permits.items)) first books))
 
-pub session_account : (floor : Floor) (now : Office) (desk : Desk) (seat serial : ℕ) (visit : Visit) (user : List ℕ) (selection : LockedStore) (carried : List Carried) (text : List ℕ) (replies : List (List ℕ)) (notes kept : List Noted)
+pub session_account : (floor : Floor) (now : Office) (desk : Desk) (seat serial : ℕ) (guest : Guest) (user : List ℕ) (selection : LockedStore) (carried : List Carried) (text : List ℕ) (replies : List (List ℕ)) (notes kept : List Noted)
     (hears : List (Entry Noted)) (after : List (List (Entry Job)))
     → now ≡ floor.office → desk.number ≡ seat → serial ≡ 0 → kept ≡ notes
-    → user_numbered visit.user floor.office.directory.homes ≡ Some user → selection ≡ record { mailboxes = length floor.depot.mailboxes.items; entered = None }
-    → HasLived floor user selection visit carried text → replies ≡ text ∷ []
+    → user_numbered guest.user floor.office.directory.homes ≡ Some user → selection ≡ record { mailboxes = length floor.depot.mailboxes.items; entered = None }
+    → HasLived floor user selection guest carried text → replies ≡ text ∷ []
     → HasCarried now desk serial (notes_tell notes) carried → IsStartOf (received desk.receiver) hears → HaveEnded desk.number (map put_by desk.permits.items) after
-    → SessionAccount (premises_of floor.office) (length floor.depot.mailboxes.items) floor.turns seat visit replies kept hears after
-session_account floor now desk seat serial visit user selection carried text replies notes kept hears after there own first same named outside lived one books grew ended = record {
+    → SessionAccount (premises_of floor.office) (length floor.depot.mailboxes.items) floor.turns seat guest replies kept hears after
+session_account floor now desk seat serial guest user selection carried text replies notes kept hears after there own first same named outside lived one books grew ended = record {
   carried = carried;
   text = text;
-  visited = record {
+  stayed = record {
     user = user;
     named = named;
     last = lived.last;
-    lives = subst (λ (p : LockedStore). Lives floor.turns (greeted_at (Some (most_of floor.office.max_message)) (folders_of floor.office.directory user) p greeting) visit.steps.items carried lived.last) outside lived.lives;
+    lives = subst (λ (p : LockedStore). Lives floor.turns (greeted_at (Some (most_of floor.office.max_message)) (folders_of floor.office.directory user) p greeting) guest.steps.items carried lived.last) outside lived.lives;
     wrote = lived.wrote;
   };
   alone = one;

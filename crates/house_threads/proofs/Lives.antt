@@ -17,7 +17,7 @@ use Rattle.lane_work.specs.Working.{IsWorked}
 use Rattle.shard_queue.specs.Reply.{IsReceiver, received}
 use Rattle.shard_queue.specs.Permits.{said}
 use Rattle.shard_queue.specs.declared.reply.ReceiverPermit.{ReceiverPermit}
-use Rattle.house_floor.specs.declared.floor.Visit.{Visit}
+use Rattle.house_floor.specs.declared.floor.Guest.{Guest}
 use Rattle.lane_work.specs.Consuming.{IsConsumed}
 use Rattle.envelope.specs.Directory.{Home}
 use Rattle.house_floor.specs.Users.{user_numbered}
@@ -38,10 +38,10 @@ nothing_at (y ∷ ys) zero k x is at = omega (arith, is)
 nothing_at (y ∷ ys) (suc n) k x is at = nothing_at ys n k x (omega (arith, is)) at
 
 -- what a worker at its position left
-pub work_of : (floor : Floor) (plans : Plans) (visits : List Visit) (i n number : ℕ) (c : ReplyChannel Noted) (p : Vec (Vec ℕ Global) Global) (bytes : List (Vec ℕ Global)) (w : Worked)
+pub work_of : (floor : Floor) (plans : Plans) (guests : List Guest) (i n number : ℕ) (c : ReplyChannel Noted) (p : Vec (Vec ℕ Global) Global) (bytes : List (Vec ℕ Global)) (w : Worked)
     → i ≡ n → n < length plans → number ≡ n → bytes ≡ (slice_index_or plans i p).items
-    → IsWorked floor.office (slice_index_or floor.depot.channels.items i c) number (map (λ b. b.items) bytes) w → IsProduceOf floor plans visits n w
-work_of floor plans visits i n number c p bytes w same under of are worked =
+    → IsWorked floor.office (slice_index_or floor.depot.channels.items i c) number (map (λ b. b.items) bytes) w → IsProduceOf floor plans guests n w
+work_of floor plans guests i n number c p bytes w same under of are worked =
     let own = subst (λ (x : ℕ). IsWorked floor.office (slice_index_or floor.depot.channels.items i c) x (map (λ b. b.items) bytes) w) of worked in
     record {
       ended = own.0;
@@ -50,39 +50,39 @@ work_of floor plans visits i n number c p bytes w same under of are worked =
       worker = λ plan at whole.
           subst (λ (x : List (Vec ℕ Global)). Account (premises_of floor.office) n (map (λ b. b.items) x) (map (λ b. b.items) w.replies.items) w.log.notes (received w.receiver) (map said w.ended.items))
           (are ∙ ap (λ (v : Vec (Vec ℕ Global) Global). v.items) (found_at plans i n p plan same at)) (own.3 whole);
-      session = λ k visit behind at whole. absurd (omega (arith, under, behind));
+      session = λ k guest behind at whole. absurd (omega (arith, under, behind));
     }
 
 -- what a session at its position left
-pub attended_of : (floor : Floor) (plans : Plans) (visits : List Visit) (i n number j : ℕ) (c : ReplyChannel Noted) (v : Visit) (w : Worked)
+pub attended_of : (floor : Floor) (plans : Plans) (guests : List Guest) (i n number j : ℕ) (c : ReplyChannel Noted) (v : Guest) (w : Worked)
     → i ≡ n → number ≡ n → n ≡ length plans + j
-    → IsAttended floor (slice_index_or floor.depot.channels.items i c) number (slice_index_or visits j v) w → IsProduceOf floor plans visits n w
-attended_of floor plans visits i n number j c v w same of behind attended =
-    let own = subst (λ (x : ℕ). IsAttended floor (slice_index_or floor.depot.channels.items i c) x (slice_index_or visits j v) w) of attended in
+    → IsAttended floor (slice_index_or floor.depot.channels.items i c) number (slice_index_or guests j v) w → IsProduceOf floor plans guests n w
+attended_of floor plans guests i n number j c v w same of behind attended =
+    let own = subst (λ (x : ℕ). IsAttended floor (slice_index_or floor.depot.channels.items i c) x (slice_index_or guests j v) w) of attended in
     record {
       ended = own.0;
       receiver = λ channel at. subst (λ (x : ReplyChannel Noted). IsReceiver x w.receiver) (found_at floor.depot.channels.items i n c channel same at) own.1;
       seat = own.2;
       worker = λ plan at whole. absurd (nothing_at plans n j plan behind at);
-      session = λ k visit is at whole.
+      session = λ k guest is at whole.
           let e : j ≡ k = omega (arith, behind, is) in
-          subst (λ (x : Visit). SessionAccount (premises_of floor.office) (length floor.depot.mailboxes.items) floor.turns n x (map (λ b. b.items) w.replies.items) w.log.notes (received w.receiver) (map said w.ended.items))
-          (found_at visits j k v visit e at) (own.3 whole);
+          subst (λ (x : Guest). SessionAccount (premises_of floor.office) (length floor.depot.mailboxes.items) floor.turns n x (map (λ b. b.items) w.replies.items) w.log.notes (received w.receiver) (map said w.ended.items))
+          (found_at guests j k v guest e at) (own.3 whole);
     }
 
 -- what is left of a producer that stood down
-pub stood_down : (floor : Floor) (plans : Plans) (visits : List Visit) (n number : ℕ) (receiver : ReceiverPermit Noted) (w r : Worked)
+pub stood_down : (floor : Floor) (plans : Plans) (guests : List Guest) (n number : ℕ) (receiver : ReceiverPermit Noted) (w r : Worked)
     → number ≡ n → r ≡ w → AreEnded floor.office.lanes.items number w.ended.items → w.receiver ≡ receiver → w.log.seat ≡ number → w.fate ≡ NotBegun
     → ((channel : ReplyChannel Noted) → slice_get floor.depot.channels.items n ≡ Some channel → IsReceiver channel receiver)
-    → IsProduceOf floor plans visits n r
-stood_down floor plans visits n number receiver w r of is ended same seat fate hears =
+    → IsProduceOf floor plans guests n r
+stood_down floor plans guests n number receiver w r of is ended same seat fate hears =
     let not_whole : w.fate ≡ Whole → ⊥ = λ whole. (let e : NotBegun ≡ Whole = sym fate ∙ whole in cc) in
-    subst (IsProduceOf floor plans visits n) (sym is) (record {
+    subst (IsProduceOf floor plans guests n) (sym is) (record {
       ended = subst (λ (x : ℕ). AreEnded floor.office.lanes.items x w.ended.items) of ended;
       receiver = λ channel at. subst (IsReceiver channel) (sym same) (hears channel at);
       seat = seat ∙ of;
       worker = λ plan at whole. absurd (not_whole whole);
-      session = λ k visit behind at whole. absurd (not_whole whole);
+      session = λ k guest behind at whole. absurd (not_whole whole);
     })
 
 pub service_of : (floor : Floor) (i n shard : ℕ) (q : ShardQueue Job) (before : List (List (Entry Noted))) (c r : Consumed)

@@ -21,7 +21,7 @@ use Rattle.shard_queue.specs.Permits.{said}
 use Rattle.lane_work.specs.Consuming.{IsConsumed}
 use Rattle.house_floor.specs.Users.{user_numbered}
 use Rattle.house_floor.specs.declared.floor.Floor.{Floor}
-use Rattle.house_floor.specs.declared.floor.Visit.{Visit}
+use Rattle.house_floor.specs.declared.floor.Guest.{Guest}
 use Rattle.house_floor.specs.declared.floor.Post.{Post}
 use Rattle.house_floor.specs.declared.floor.Stand.{Stand}
 use Rattle.house_threads.specs.declared.run.Ran.{Ran}
@@ -38,32 +38,32 @@ most_of max_message = min max_message 4294967295
 
 -- A session of this user with these steps said this: it was greeted in no mailbox, and lived through its steps, over so many mailboxes. These messages of its
 -- client were carried on the way, in this order.
-pub record WasVisited (house : Premises) (mailboxes turns : ℕ) (visit : Visit) (carried : List Carried) (text : List ℕ) : Type 0 where
+pub record WasGuest (house : Premises) (mailboxes turns : ℕ) (guest : Guest) (carried : List Carried) (text : List ℕ) : Type 0 where
   pub user : List ℕ
-  pub named : user_numbered visit.user house.directory.homes ≡ Some user
+  pub named : user_numbered guest.user house.directory.homes ≡ Some user
   pub last : Moment
-  pub lives : Lives turns (greeted_at (Some (most_of house.max_message)) (folders_of house.directory user) (record { mailboxes = mailboxes; entered = None }) greeting) visit.steps.items carried last
+  pub lives : Lives turns (greeted_at (Some (most_of house.max_message)) (folders_of house.directory user) (record { mailboxes = mailboxes; entered = None }) greeting) guest.steps.items carried last
   pub wrote : text ≡ last.text
 
 -- The account of a session that made its steps, as that of a worker: what it said, and of the messages that its client appended what its log has and what it
 -- has put on each lane, its end included. It is the first of its seat.
-pub record SessionAccount (house : Premises) (mailboxes turns seat : ℕ) (visit : Visit) (replies : List (List ℕ)) (notes : List Noted) (heard : List (Entry Noted)) (put : List (List (Entry Job))) : Type 0 where
+pub record SessionAccount (house : Premises) (mailboxes turns seat : ℕ) (guest : Guest) (replies : List (List ℕ)) (notes : List Noted) (heard : List (Entry Noted)) (put : List (List (Entry Job))) : Type 0 where
   pub carried : List Carried
   pub text : List ℕ
-  pub visited : WasVisited house mailboxes turns visit carried text
+  pub stayed : WasGuest house mailboxes turns guest carried text
   pub alone : replies ≡ text ∷ []
   pub copies : AreAccountedFor house seat (map (judged_of seat 0) carried) notes heard put
 
 -- What producer n left: its ended permits are its own on each lane, its receiver is of its channel, and the log is its own. Where a worker went through all its
 -- connections, that is its account of them; where a session, behind the workers, made all its steps, that is its account of these.
-pub record IsProduceOf (floor : Floor) (plans : Plans) (visits : List Visit) (n : ℕ) (w : Worked) : Type 0 where
+pub record IsProduceOf (floor : Floor) (plans : Plans) (guests : List Guest) (n : ℕ) (w : Worked) : Type 0 where
   pub ended : AreEnded floor.office.lanes.items n w.ended.items
   pub receiver : (channel : ReplyChannel Noted) → slice_get floor.depot.channels.items n ≡ Some channel → IsReceiver channel w.receiver
   pub seat : w.log.seat ≡ n
   pub worker : (plan : Vec (Vec ℕ Global) Global) → slice_get plans n ≡ Some plan → w.fate ≡ Whole
       → Account (premises_of floor.office) n (map (λ b. b.items) plan.items) (map (λ b. b.items) w.replies.items) w.log.notes (received w.receiver) (map said w.ended.items)
-  pub session : (k : ℕ) (visit : Visit) → n ≡ length plans + k → slice_get visits k ≡ Some visit → w.fate ≡ Whole
-      → SessionAccount (premises_of floor.office) (length floor.depot.mailboxes.items) floor.turns n visit (map (λ b. b.items) w.replies.items) w.log.notes (received w.receiver) (map said w.ended.items)
+  pub session : (k : ℕ) (guest : Guest) → n ≡ length plans + k → slice_get guests k ≡ Some guest → w.fate ≡ Whole
+      → SessionAccount (premises_of floor.office) (length floor.depot.mailboxes.items) floor.turns n guest (map (λ b. b.items) w.replies.items) w.log.notes (received w.receiver) (map said w.ended.items)
 
 -- what consumer n left is what a consumer's life promises that had sent nothing before, of its own lane
 pub record IsServiceOf (floor : Floor) (n : ℕ) (c : Consumed) : Type 0 where
@@ -71,9 +71,9 @@ pub record IsServiceOf (floor : Floor) (n : ℕ) (c : Consumed) : Type 0 where
       → (before : List (List (Entry Noted))) × All (λ e. e ≡ []) before × IsConsumed lane floor.depot n before c
 
 -- every actor has left what it was to leave, and nothing is left of what was dealt
-pub record LeavesAll (floor : Floor) (plans : Plans) (visits : List Visit) (ran : Ran) : Type 0 where
+pub record LeavesAll (floor : Floor) (plans : Plans) (guests : List Guest) (ran : Ran) : Type 0 where
   pub consumed : vec_len ran.consumed ≡ length floor.office.lanes.items
-  pub worked : vec_len ran.worked ≡ length plans + length visits
+  pub worked : vec_len ran.worked ≡ length plans + length guests
   pub stands : ran.stands.items ≡ []
   pub posts : ran.posts.items ≡ []
 

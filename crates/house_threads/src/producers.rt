@@ -3,14 +3,14 @@
 
 ghost use Rattle.std.specs.Prelude.{ℕ, ◌≡◌, ◌≤◌, ◌<◌, ◌+◌, [], length, vec_len, vec_capacity};
 ghost use Rattle.std.specs.Mem.{manually_drop_value};
-ghost use Rattle.house_floor.specs.Crew.{AllAt, AreVisits, IsHouse, IsPost};
+ghost use Rattle.house_floor.specs.Crew.{AllAt, AreGuests, IsHouse, IsPost};
 ghost use Rattle.house_threads.specs.Crew.{IsProduceOf};
 ghost use Rattle.house_threads.specs.inner.Crew.{IsHired};
 
 use crate::aside::stand_down;
 use crate::parcels::{Manned, mark, packed};
 use crate::sessions::attend;
-use house_floor::{Floor, Post, Visit};
+use house_floor::{Floor, Guest, Post};
 use lane_work::{Worked, work};
 use pace::{Actor, Gate, Pace};
 use std::mem::ManuallyDrop;
@@ -25,7 +25,7 @@ use std::thread::{Promise, Threads};
 pub struct Produces<'a> {
     pub floor: &'a Floor,
     pub plans: &'a [Vec<Vec<u8>>],
-    pub visits: &'a [Visit],
+    pub guests: &'a [Guest],
     pub number: u8,
 }
 
@@ -33,7 +33,7 @@ impl<'a> Promise<ManuallyDrop<Worked>> for Produces<'a> {
     ghost use Rattle.std.specs.Mem.{manually_drop_value};
     ghost use Rattle.house_threads.specs.Crew.{IsProduceOf};
 
-    ghost kept_by = { λ p r. IsProduceOf p.floor.now p.plans.now p.visits.now p.number (manually_drop_value r) };
+    ghost kept_by = { λ p r. IsProduceOf p.floor.now p.plans.now p.guests.now p.number (manually_drop_value r) };
 }
 
 /// A producer's thread, or what came of it where there is none.
@@ -59,14 +59,14 @@ fn work_at<R: Wait, G: Gate>(
     floor: &Floor,
     gate: &G,
     plans: &[Vec<Vec<u8>>],
-    visits: &[Visit],
+    guests: &[Guest],
     number: u8,
     post: Post,
 ) -> Worked
-    requires house { IsHouse floor.now (length plans.now + length visits.now) }
+    requires house { IsHouse floor.now (length plans.now + length guests.now) }
     requires number { number < length plans.now }
     requires post { IsPost floor.now number post }
-    ensures { IsProduceOf floor.now plans.now visits.now number result }
+    ensures { IsProduceOf floor.now plans.now guests.now number result }
 {
     let position = usize::from(number);
     let mut pace = Pace::new(gate, Actor::Worker(number));
@@ -90,16 +90,16 @@ fn attend_at<R: Wait, G: Gate>(
     floor: &Floor,
     gate: &G,
     plans: &[Vec<Vec<u8>>],
-    visits: &[Visit],
+    guests: &[Guest],
     number: u8,
     post: Post,
 ) -> Worked
-    requires house { IsHouse floor.now (length plans.now + length visits.now) }
-    requires visits { AreVisits floor.now visits.now }
+    requires house { IsHouse floor.now (length plans.now + length guests.now) }
+    requires guests { AreGuests floor.now guests.now }
     requires behind { length plans.now ≤ number }
-    requires number { number < length plans.now + length visits.now }
+    requires number { number < length plans.now + length guests.now }
     requires post { IsPost floor.now number post }
-    ensures { IsProduceOf floor.now plans.now visits.now number result }
+    ensures { IsProduceOf floor.now plans.now guests.now number result }
 {
     let session = usize::from(number) - plans.len();
     let channel = &floor.depot.channels[usize::from(number)];
@@ -108,7 +108,7 @@ fn attend_at<R: Wait, G: Gate>(
         floor,
         gate,
         channel,
-        &visits[session],
+        &guests[session],
         session as u8,
         post,
     )
@@ -120,16 +120,16 @@ fn produce_there<R: Wait, G: Gate>(
     floor: &Floor,
     gate: &G,
     plans: &[Vec<Vec<u8>>],
-    visits: &[Visit],
+    guests: &[Guest],
     number: u8,
     post: ManuallyDrop<Post>,
     manned: &Manned,
 ) -> ManuallyDrop<Worked>
-    requires house { IsHouse floor.now (length plans.now + length visits.now) }
-    requires visits { AreVisits floor.now visits.now }
-    requires number { number < length plans.now + length visits.now }
+    requires house { IsHouse floor.now (length plans.now + length guests.now) }
+    requires guests { AreGuests floor.now guests.now }
+    requires number { number < length plans.now + length guests.now }
     requires post { IsPost floor.now number (manually_drop_value post) }
-    ensures { IsProduceOf floor.now plans.now visits.now number (manually_drop_value result) }
+    ensures { IsProduceOf floor.now plans.now guests.now number (manually_drop_value result) }
 {
     let post = ManuallyDrop::into_inner(post);
     if manned.producers.load(Ordering::SeqCst) <= u64::from(number) {
@@ -138,9 +138,9 @@ fn produce_there<R: Wait, G: Gate>(
         return packed(stand_down(rt, floor.alloc, &mut pace, office, bells, post));
     }
     if usize::from(number) < plans.len() {
-        packed(work_at(rt, floor, gate, plans, visits, number, post))
+        packed(work_at(rt, floor, gate, plans, guests, number, post))
     } else {
-        packed(attend_at(rt, floor, gate, plans, visits, number, post))
+        packed(attend_at(rt, floor, gate, plans, guests, number, post))
     }
 }
 
@@ -152,26 +152,26 @@ fn start_producer<'s, E, R: Threads + Wait + Sync, G: Gate + Sync>(
     floor: &'s Floor,
     gate: &'s G,
     plans: &'s [Vec<Vec<u8>>],
-    visits: &'s [Visit],
+    guests: &'s [Guest],
     number: u8,
     post: Post,
     manned: &'s Manned,
 ) -> Hired<'s>
-    requires house { IsHouse floor.now (length plans.now + length visits.now) }
-    requires visits { AreVisits floor.now visits.now }
-    requires number { number < length plans.now + length visits.now }
+    requires house { IsHouse floor.now (length plans.now + length guests.now) }
+    requires guests { AreGuests floor.now guests.now }
+    requires number { number < length plans.now + length guests.now }
     requires post { IsPost floor.now number post }
-    ensures { IsHired floor.now plans.now visits.now number result }
+    ensures { IsHired floor.now plans.now guests.now number result }
 {
     let parcel = packed(post);
     let promise = Produces {
         floor,
         plans,
-        visits,
+        guests,
         number,
     };
     match scope.spawn_with(promise, move || {
-        produce_there(rt, floor, gate, plans, visits, number, parcel, manned)
+        produce_there(rt, floor, gate, plans, guests, number, parcel, manned)
     }) {
         Ok(child) => Hired::There(child),
         Err(refused) => {
@@ -188,23 +188,23 @@ pub(crate) fn start_producers<'s, E, R: Threads + Wait + Sync, G: Gate + Sync>(
     floor: &'s Floor,
     gate: &'s G,
     plans: &'s [Vec<Vec<u8>>],
-    visits: &'s [Visit],
+    guests: &'s [Guest],
     mut posts: Vec<Post>,
     mut hired: Vec<Hired<'s>>,
     manned: &'s Manned,
 ) -> (Vec<Hired<'s>>, bool)
-    requires house { IsHouse floor.now (length plans.now + length visits.now) }
-    requires visits { AreVisits floor.now visits.now }
-    requires posts { AllAt (IsPost floor.now) 0 posts.items × (vec_len posts ≡ length plans.now + length visits.now) }
-    requires room { (hired.items ≡ []) × (length plans.now + length visits.now ≤ vec_capacity hired) }
-    ensures hired { AllAt (IsHired floor.now plans.now visits.now) 0 result.0.items }
-    ensures count { vec_len result.0 ≡ length plans.now + length visits.now }
+    requires house { IsHouse floor.now (length plans.now + length guests.now) }
+    requires guests { AreGuests floor.now guests.now }
+    requires posts { AllAt (IsPost floor.now) 0 posts.items × (vec_len posts ≡ length plans.now + length guests.now) }
+    requires room { (hired.items ≡ []) × (length plans.now + length guests.now ≤ vec_capacity hired) }
+    ensures hired { AllAt (IsHired floor.now plans.now guests.now) 0 result.0.items }
+    ensures count { vec_len result.0 ≡ length plans.now + length guests.now }
 {
     let mut all = true;
-    for position in 0..plans.len() + visits.len() {
+    for position in 0..plans.len() + guests.len() {
         let post = posts.remove(0);
         let number = position as u8;
-        let one = start_producer(scope, rt, floor, gate, plans, visits, number, post, manned);
+        let one = start_producer(scope, rt, floor, gate, plans, guests, number, post, manned);
         all = all && matches!(one, Hired::There(_));
         hired.push_reserved(one);
     }
@@ -216,10 +216,10 @@ fn join_producer<R: Threads>(
     rt: &R,
     floor: &Floor,
     plans: &[Vec<Vec<u8>>],
-    visits: &[Visit],
+    guests: &[Guest],
     hired: Hired<'_>,
 ) -> Worked
-    ensures { (n : ℕ) → IsHired floor.now plans.now visits.now n hired.entry → IsProduceOf floor.now plans.now visits.now n result }
+    ensures { (n : ℕ) → IsHired floor.now plans.now guests.now n hired.entry → IsProduceOf floor.now plans.now guests.now n result }
 {
     match hired {
         Hired::There(child) => ManuallyDrop::into_inner(child.join(rt)),
@@ -232,17 +232,17 @@ pub(crate) fn join_producers<R: Threads>(
     rt: &R,
     floor: &Floor,
     plans: &[Vec<Vec<u8>>],
-    visits: &[Visit],
+    guests: &[Guest],
     hired: Vec<Hired<'_>>,
     mut worked: Vec<Worked>,
 ) -> Vec<Worked>
-    requires hired { AllAt (IsHired floor.now plans.now visits.now) 0 hired.items }
+    requires hired { AllAt (IsHired floor.now plans.now guests.now) 0 hired.items }
     requires room { (worked.items ≡ []) × (vec_len hired ≤ vec_capacity worked) }
-    ensures worked { AllAt (IsProduceOf floor.now plans.now visits.now) 0 result.items }
+    ensures worked { AllAt (IsProduceOf floor.now plans.now guests.now) 0 result.items }
     ensures count { vec_len result ≡ vec_len hired.entry }
 {
     for one in hired {
-        worked.push_reserved(join_producer(rt, floor, plans, visits, one));
+        worked.push_reserved(join_producer(rt, floor, plans, guests, one));
     }
     worked
 }

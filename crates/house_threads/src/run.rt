@@ -4,14 +4,14 @@
 ghost use Rattle.std.specs.Prelude.{◌≡◌, ◌≤◌, ◌<◌, ◌+◌, [], All, IfOk, length, vec_len, vec_capacity};
 ghost use Rattle.std.specs.Mem.{manually_drop_value};
 ghost use Rattle.std.specs.Thread.{IsSync};
-ghost use Rattle.house_floor.specs.Crew.{AllAt, AreVisits, IsCrew, IsHouse, IsPost};
+ghost use Rattle.house_floor.specs.Crew.{AllAt, AreGuests, IsCrew, IsHouse, IsPost};
 ghost use Rattle.house_threads.specs.Crew.{IsPostLeft, IsProduceOf, IsServiceOf, IsSpendable, LeavesAll};
 
 use crate::aside::end_first;
 use crate::consumers::{Kept, join_consumers, start_consumers};
 use crate::parcels::{Manned, packed};
 use crate::producers::{Hired, actor_of, join_producers, start_producers};
-use house_floor::{Crew, Floor, Post, Stand, Visit};
+use house_floor::{Crew, Floor, Guest, Post, Stand};
 use lane_work::{Consumed, Worked};
 use pace::{Gate, Pace};
 use std::alloc::{AllocError, Global};
@@ -96,17 +96,17 @@ fn in_scope<'s, E, R: Threads + Wait + Sync, G: Gate + Sync>(
     floor: &'s Floor,
     gate: &'s G,
     plans: &'s [Vec<Vec<u8>>],
-    visits: &'s [Visit],
+    guests: &'s [Guest],
     crew: ManuallyDrop<Crew>,
     manned: &'s Manned,
 ) -> Ran
-    requires house { IsHouse floor.now (length plans.now + length visits.now) }
-    requires visits { AreVisits floor.now visits.now }
-    requires crew { IsCrew floor.now (length plans.now + length visits.now) (manually_drop_value crew) }
+    requires house { IsHouse floor.now (length plans.now + length guests.now) }
+    requires guests { AreGuests floor.now guests.now }
+    requires crew { IsCrew floor.now (length plans.now + length guests.now) (manually_drop_value crew) }
     ensures consumed { AllAt (IsServiceOf floor.now) 0 result.consumed.items }
-    ensures worked { AllAt (IsProduceOf floor.now plans.now visits.now) 0 result.worked.items }
-    ensures all { result.started ≡ Started.All → LeavesAll floor.now plans.now visits.now result }
-    ensures left { IsSpendable floor.now (length plans.now + length visits.now) result }
+    ensures worked { AllAt (IsProduceOf floor.now plans.now guests.now) 0 result.worked.items }
+    ensures all { result.started ≡ Started.All → LeavesAll floor.now plans.now guests.now result }
+    ensures left { IsSpendable floor.now (length plans.now + length guests.now) result }
 {
     let alloc = floor.alloc;
     let shards = floor.office.lanes.len();
@@ -117,7 +117,7 @@ fn in_scope<'s, E, R: Threads + Wait + Sync, G: Gate + Sync>(
         worked,
         unmanned,
     } = ManuallyDrop::into_inner(crew);
-    let Ok(handles) = handles_for(alloc, shards, plans.len() + visits.len()) else {
+    let Ok(handles) = handles_for(alloc, shards, plans.len() + guests.len()) else {
         unmanned.destroy_empty();
         let started = Started::NoMemory;
         return Ran {
@@ -143,8 +143,8 @@ fn in_scope<'s, E, R: Threads + Wait + Sync, G: Gate + Sync>(
             started,
         };
     }
-    let (hired, all) = start_producers(scope, rt, floor, gate, plans, visits, posts, hired, manned);
-    let worked = join_producers(rt, floor, plans, visits, hired, worked);
+    let (hired, all) = start_producers(scope, rt, floor, gate, plans, guests, posts, hired, manned);
+    let worked = join_producers(rt, floor, plans, guests, hired, worked);
     let consumed = join_consumers(rt, floor, kept, consumed);
     let started = if all { Started::All } else { Started::Spawn };
     Ran {
@@ -168,16 +168,16 @@ pub fn run_threads<R: Threads + Wait + Sync, G: Gate + Sync>(
     floor: &Floor,
     gate: &G,
     plans: &[Vec<Vec<u8>>],
-    visits: &[Visit],
+    guests: &[Guest],
     crew: Crew,
 ) -> Ran
-    requires house { IsHouse floor.now (length plans.now + length visits.now) }
-    requires visits { AreVisits floor.now visits.now }
-    requires crew { IsCrew floor.now (length plans.now + length visits.now) crew }
+    requires house { IsHouse floor.now (length plans.now + length guests.now) }
+    requires guests { AreGuests floor.now guests.now }
+    requires crew { IsCrew floor.now (length plans.now + length guests.now) crew }
     ensures consumed { AllAt (IsServiceOf floor.now) 0 result.consumed.items }
-    ensures worked { AllAt (IsProduceOf floor.now plans.now visits.now) 0 result.worked.items }
-    ensures all { result.started ≡ Started.All → LeavesAll floor.now plans.now visits.now result }
-    ensures left { IsSpendable floor.now (length plans.now + length visits.now) result }
+    ensures worked { AllAt (IsProduceOf floor.now plans.now guests.now) 0 result.worked.items }
+    ensures all { result.started ≡ Started.All → LeavesAll floor.now plans.now guests.now result }
+    ensures left { IsSpendable floor.now (length plans.now + length guests.now) result }
 {
     let manned = Manned {
         shards: AtomicU64::new(u64::MAX),
@@ -189,12 +189,12 @@ pub fn run_threads<R: Threads + Wait + Sync, G: Gate + Sync>(
         thread::scope_env(),
         rt,
         |scope| -> Ran
-            requires { IsSync R.row × IsSync G.row × IsHouse floor.now (length plans.now + length visits.now) ×
-                AreVisits floor.now visits.now × IsCrew floor.now (length plans.now + length visits.now) (manually_drop_value crew) }
+            requires { IsSync R.row × IsSync G.row × IsHouse floor.now (length plans.now + length guests.now) ×
+                AreGuests floor.now guests.now × IsCrew floor.now (length plans.now + length guests.now) (manually_drop_value crew) }
             ensures consumed { AllAt (IsServiceOf floor.entry.now) 0 result.consumed.items }
-            ensures worked { AllAt (IsProduceOf floor.entry.now plans.entry.now visits.entry.now) 0 result.worked.items }
-            ensures all { result.started ≡ Started.All → LeavesAll floor.entry.now plans.entry.now visits.entry.now result }
-            ensures left { IsSpendable floor.entry.now (length plans.entry.now + length visits.entry.now) result }
-        { in_scope(scope, rt, floor, gate, plans, visits, crew, marks) },
+            ensures worked { AllAt (IsProduceOf floor.entry.now plans.entry.now guests.entry.now) 0 result.worked.items }
+            ensures all { result.started ≡ Started.All → LeavesAll floor.entry.now plans.entry.now guests.entry.now result }
+            ensures left { IsSpendable floor.entry.now (length plans.entry.now + length guests.entry.now) result }
+        { in_scope(scope, rt, floor, gate, plans, guests, crew, marks) },
     )
 }

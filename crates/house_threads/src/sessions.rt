@@ -14,7 +14,7 @@ ghost use Rattle.house_threads.specs.inner.Crew.{HasLived, IsAttended};
 use courier::Lost;
 use crossbeam_utils::sync::Unparker;
 use delivery_token::{Noted, WorkerLog};
-use house_floor::{Floor, Post, Visit, inbox_numbered};
+use house_floor::{Floor, Guest, Post, inbox_numbered};
 use house_session::folders_of;
 use lane_work::{Fate, LaneCourier, Worked, finish};
 use pace::Gate;
@@ -39,7 +39,7 @@ pub fn most_of(max_message: usize) -> u32
 fn live_through<R: Wait, G: Gate>(
     floor: &Floor,
     user: &[u8],
-    visit: &Visit,
+    guest: &Guest,
     locked: &mut LockedStore<'_, R, G>,
     courier: &mut LaneCourier<'_, R, Vec<Unparker>, WorkerLog>,
     replies: &mut Vec<Vec<u8>>,
@@ -55,7 +55,7 @@ fn live_through<R: Wait, G: Gate>(
     ensures whole { result ≡ Fate.Whole → (carried : List Carried)
         × ((done : List Carried) → HasCarried courier.old.office.now courier.old.desk courier.old.serial (notes_tell courier.old.book.notes) done
         → HasCarried courier.new.office.now courier.new.desk courier.new.serial (notes_tell courier.new.book.notes) (done ++ carried))
-        × ((text : List ℕ) × HasLived floor.now user.now locked.old visit.now carried text × (map (λ b. b.items) replies.new.items ≡ text ∷ [])) }
+        × ((text : List ℕ) × HasLived floor.now user.now locked.old guest.now carried text × (map (λ b. b.items) replies.new.items ≡ text ∷ [])) }
 {
     let Ok(()) = replies.reserve(1) else {
         return Fate::NoMemory;
@@ -64,7 +64,7 @@ fn live_through<R: Wait, G: Gate>(
         return Fate::NoMemory;
     };
     let most = Some(most_of(floor.office.max_message));
-    let steps = visit.steps.as_slice();
+    let steps = guest.steps.as_slice();
     let mut said = Vec::new(floor.alloc);
     let (alloc, turns) = (floor.alloc, floor.turns);
     let lived = live(
@@ -88,19 +88,19 @@ pub(crate) fn attend<R: Wait, G: Gate>(
     floor: &Floor,
     gate: &G,
     channel: &ReplyChannel<Noted>,
-    visit: &Visit,
+    guest: &Guest,
     session: u8,
     post: Post,
 ) -> Worked
     requires house { (producers : ℕ) × IsHouse floor.now producers }
     requires post { IsPost floor.now post.desk.number post }
     requires channel { IsReceiver channel.now post.desk.receiver }
-    requires named { user_numbered visit.now.user floor.now.office.directory.homes ≢ None }
+    requires named { user_numbered guest.now.user floor.now.office.directory.homes ≢ None }
     requires bells { length floor.now.office.directory.homes ≤ length floor.now.depot.sessions.items }
-    ensures { IsAttended floor.now channel.now post.desk.number visit.now result }
+    ensures { IsAttended floor.now channel.now post.desk.number guest.now result }
 {
     let directory = &floor.office.directory;
-    let Some(inbox) = inbox_numbered(directory, visit.user) else {
+    let Some(inbox) = inbox_numbered(directory, guest.user) else {
         unreachable!();
     };
     let Post { desk, room } = post;
@@ -119,7 +119,7 @@ pub(crate) fn attend<R: Wait, G: Gate>(
     };
     let user = directory.user_of(inbox);
     let mut replies = Vec::new(floor.alloc);
-    let fate = live_through(floor, user, visit, &mut locked, &mut courier, &mut replies);
+    let fate = live_through(floor, user, guest, &mut locked, &mut courier, &mut replies);
     let LaneCourier {
         rt: _,
         office: _,

@@ -5,10 +5,10 @@
 
 mod listening;
 mod parting;
-mod slot;
+mod grip;
 mod waiting;
 
 pub use listening::Listening;
 pub use parting::{Patience, farewell, prepare};
-pub use slot::Slot;
+pub use grip::Grip;
 pub use waiting::Pause;

@@ -9,19 +9,19 @@ use Rattle.house_floor.specs.Crew.{AllAt, IsHouse}
 use Rattle.house_floor.specs.Opening.{AreBaskets}
 use Rattle.house_floor.specs.declared.floor.Floor.{Floor}
 use Rattle.house_floor.specs.declared.opening.Baskets.{Baskets}
-use Rattle.house_floor.specs.declared.floor.Visit.{Visit}
+use Rattle.house_floor.specs.declared.floor.Guest.{Guest}
 use Rattle.house_threads.specs.Crew.{IsProduceOf, IsServiceOf, IsSpendable, Plans}
 use Rattle.house_threads.specs.declared.run.Ran.{Ran}
 use Rattle.reckoning.proofs.Parts.{some_at}
 
 -- a producer that had its turn has left something of each of its permits
-ended_lengths : (floor : Floor) (plans : Plans) (visits : List Visit) (n : ℕ) (ws : List Worked) → AllAt (IsProduceOf floor plans visits) n ws
+ended_lengths : (floor : Floor) (plans : Plans) (guests : List Guest) (n : ℕ) (ws : List Worked) → AllAt (IsProduceOf floor plans guests) n ws
     → All (λ (w : Worked). vec_len w.ended ≡ length floor.office.lanes.items) ws
-ended_lengths floor plans visits n [] all = All-nil (λ (w : Worked). vec_len w.ended ≡ length floor.office.lanes.items)
-ended_lengths floor plans visits n (w ∷ ws) all =
+ended_lengths floor plans guests n [] all = All-nil (λ (w : Worked). vec_len w.ended ≡ length floor.office.lanes.items)
+ended_lengths floor plans guests n (w ∷ ws) all =
     let own = lanes.ended_hand_length floor.office.lanes.items n w.ended.items all.0.ended in
     let o = w.ended.ok.0 in
-    All-cons (λ (w : Worked). vec_len w.ended ≡ length floor.office.lanes.items) w ws (omega (arith, own, o)) (ended_lengths floor plans visits (suc n) ws all.1)
+    All-cons (λ (w : Worked). vec_len w.ended ≡ length floor.office.lanes.items) w ws (omega (arith, own, o)) (ended_lengths floor plans guests (suc n) ws all.1)
 
 -- the same of a consumer
 senders_lengths : (floor : Floor) (n : ℕ) (cs : List Consumed) → AllAt (IsServiceOf floor) n cs → n + length cs ≤ length floor.office.lanes.items
@@ -50,9 +50,9 @@ module _ (floor : Floor) (producers : ℕ) (house : IsHouse floor producers) whe
   pub left_for : (ran : Ran) → IsSpendable floor producers ran → IsSpendable floor (length floor.depot.channels.items) ran
   left_for ran left = subst (λ n. IsSpendable floor n ran) (sym house.channels) left
 
-  pub worked_for : (plans : Plans) (visits : List Visit) (ran : Ran) → AllAt (IsProduceOf floor plans visits) 0 ran.worked.items
+  pub worked_for : (plans : Plans) (guests : List Guest) (ran : Ran) → AllAt (IsProduceOf floor plans guests) 0 ran.worked.items
       → All (λ (w : Worked). vec_len w.ended ≡ length floor.office.lanes.items) ran.worked.items
-  worked_for plans visits ran all = ended_lengths floor plans visits 0 ran.worked.items all
+  worked_for plans guests ran all = ended_lengths floor plans guests 0 ran.worked.items all
 
   pub consumed_for : (ran : Ran) → AllAt (IsServiceOf floor) 0 ran.consumed.items → IsSpendable floor producers ran
       → All (λ (c : Consumed). vec_len c.senders ≡ length floor.depot.channels.items) ran.consumed.items

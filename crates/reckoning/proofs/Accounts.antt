@@ -26,7 +26,7 @@ use Rattle.lane_permits.proofs.CloseLaws as lanes
 use Rattle.lane_permits.proofs.ChannelCloseLaws as channels
 use Rattle.house_floor.specs.Crew.{AllAt}
 use Rattle.house_floor.specs.declared.floor.Floor.{Floor}
-use Rattle.house_floor.specs.declared.floor.Visit.{Visit}
+use Rattle.house_floor.specs.declared.floor.Guest.{Guest}
 use Rattle.house_threads.specs.Crew.{IsProduceOf, IsServiceOf, Plans, SessionAccount}
 use Rattle.reckoning.specs.Closing.{AreChannelsClosedWith, AreClosedWith}
 use Rattle.reckoning.specs.Gathered.{fault_of_consumer, fault_of_fate}
@@ -78,9 +78,9 @@ HasAccount floor plans replies notes answers histories p =
     (slice_index_or answers p []) (map (of p) histories)
 
 -- What the steps of the session with seat p came to.
-abbrev pub HasSessionAccount : (floor : Floor) (visit : Visit) (replies : List (List (List ℕ))) (notes : List (List Noted)) (answers : List (List (Entry Noted))) (histories : List (List (Entry Job))) → ℕ → Type 0
-HasSessionAccount floor visit replies notes answers histories p =
-    SessionAccount (premises_of floor.office) (length floor.depot.mailboxes.items) floor.turns p visit (slice_index_or replies p []) (slice_index_or notes p [])
+abbrev pub HasSessionAccount : (floor : Floor) (guest : Guest) (replies : List (List (List ℕ))) (notes : List (List Noted)) (answers : List (List (Entry Noted))) (histories : List (List (Entry Job))) → ℕ → Type 0
+HasSessionAccount floor guest replies notes answers histories p =
+    SessionAccount (premises_of floor.office) (length floor.depot.mailboxes.items) floor.turns p guest (slice_index_or replies p []) (slice_index_or notes p [])
     (slice_index_or answers p []) (map (of p) histories)
 
 twice : (vs : List Worked) → map received (map (λ (v : Worked). v.receiver) vs) ≡ map (λ (v : Worked). received v.receiver) vs
@@ -100,17 +100,17 @@ module _ (ws : List Worked) (p : ℕ) (w : Worked) (at : slice_get ws p ≡ Some
       (subst (λ x. P (map (λ b. b.items) w.replies.items) x (slice_index_or answers p [])) c
       (subst (λ x. P (map (λ b. b.items) w.replies.items) w.log.notes x) d here))
 
-module _ (floor : Floor) (plans : Plans) (visits : List Visit) (ws : List Worked) (all : AllAt (IsProduceOf floor plans visits) 0 ws) (count : length ws ≡ length plans + length visits)
+module _ (floor : Floor) (plans : Plans) (guests : List Guest) (ws : List Worked) (all : AllAt (IsProduceOf floor plans guests) 0 ws) (count : length ws ≡ length plans + length guests)
     (fine : All (λ w. fault_of_fate w.fate ≡ None) ws) (permits : List (ConsumerPermit Job)) (closed : List (Closed Job)) (are : AreClosedWith floor.office.lanes.items (map (λ w. w.ended.items) ws) permits closed)
     (hands : List (List (SenderEnded Noted))) (replied : List (ReplyClosed Noted)) (heard : AreChannelsClosedWith floor.depot.channels.items hands (map (λ w. w.receiver) ws) replied) where
   -- what producer p left, that it came to its end, and that what it said is what was taken
-  left_by : (p : ℕ) → p < length plans + length visits
-      → (w : Worked) × (slice_get ws p ≡ Some w) × IsProduceOf floor plans visits p w × (w.fate ≡ fates.Whole) × (map said w.ended.items ≡ map (of p) (map history closed))
+  left_by : (p : ℕ) → p < length plans + length guests
+      → (w : Worked) × (slice_get ws p ≡ Some w) × IsProduceOf floor plans guests p w × (w.fate ≡ fates.Whole) × (map said w.ended.items ≡ map (of p) (map history closed))
   left_by p under =
       let w = some_at ws p (omega (arith, under, count)) in
-      let here = at_position (IsProduceOf floor plans visits) 0 p ws w.0 all w.1 in
+      let here = at_position (IsProduceOf floor plans guests) 0 p ws w.0 all w.1 in
       let e : 0 + p ≡ p = omega arith in
-      let work : IsProduceOf floor plans visits p w.0 = subst (λ i. IsProduceOf floor plans visits i w.0) e here in
+      let work : IsProduceOf floor plans guests p w.0 = subst (λ i. IsProduceOf floor plans guests i w.0) e here in
       let within = in_at (λ (v : Worked). v.ended.items) ws are.0 p w.0 are.1 w.1 in (
         w.0,
         w.1,
@@ -134,15 +134,15 @@ module _ (floor : Floor) (plans : Plans) (visits : List Visit) (ws : List Worked
       (subst (λ x. Account (premises_of floor.office) p (map (λ b. b.items) plan.0.items) (map (λ b. b.items) l.0.replies.items) l.0.log.notes (received l.0.receiver) x) l.4
       (l.2.worker plan.0 plan.1 l.3)))
 
-  pub session_account_of : (k : ℕ) (visit : Visit) → slice_get visits k ≡ Some visit → k < length visits
-      → HasSessionAccount floor visit (map (λ (w : Worked). map (λ b. b.items) w.replies.items) ws) (map (λ (w : Worked). w.log.notes) ws) (map reply_history replied) (map history closed) (length plans + k)
-  session_account_of k visit at under =
+  pub session_account_of : (k : ℕ) (guest : Guest) → slice_get guests k ≡ Some guest → k < length guests
+      → HasSessionAccount floor guest (map (λ (w : Worked). map (λ b. b.items) w.replies.items) ws) (map (λ (w : Worked). w.log.notes) ws) (map reply_history replied) (map history closed) (length plans + k)
+  session_account_of k guest at under =
       let p = length plans + k in
       let l = left_by p (omega (arith, under)) in
       among ws p l.0 l.1 (map reply_history replied) answers_are
-      (λ replies notes answers. SessionAccount (premises_of floor.office) (length floor.depot.mailboxes.items) floor.turns p visit replies notes answers (map (of p) (map history closed)))
-      (subst (λ x. SessionAccount (premises_of floor.office) (length floor.depot.mailboxes.items) floor.turns p visit (map (λ b. b.items) l.0.replies.items) l.0.log.notes (received l.0.receiver) x) l.4
-      (l.2.session k visit refl at l.3))
+      (λ replies notes answers. SessionAccount (premises_of floor.office) (length floor.depot.mailboxes.items) floor.turns p guest replies notes answers (map (of p) (map history closed)))
+      (subst (λ x. SessionAccount (premises_of floor.office) (length floor.depot.mailboxes.items) floor.turns p guest (map (λ b. b.items) l.0.replies.items) l.0.log.notes (received l.0.receiver) x) l.4
+      (l.2.session k guest refl at l.3))
 
 -- ---- copies
 

@@ -11,7 +11,7 @@ use Rattle.lane_permits.specs.rows.Rows as rows
 use Rattle.lane_permits.specs.rows.SenderRows.{AreReceivers, AreSenderEndedHands}
 use Rattle.house_floor.specs.Crew.{AllAt}
 use Rattle.house_floor.specs.declared.floor.Floor.{Floor}
-use Rattle.house_floor.specs.declared.floor.Visit.{Visit}
+use Rattle.house_floor.specs.declared.floor.Guest.{Guest}
 use Rattle.house_threads.specs.Crew.{IsProduceOf, IsServiceOf, Plans}
 
 -- an element at each position below the end
@@ -32,19 +32,19 @@ past_all [] n is = let e : n ≡ 0 = omega (arith, is) in ap (λ k. drop k []) e
 past_all (x ∷ xs) zero is = absurd (cc)
 past_all (x ∷ xs) (suc n) is = past_all xs n (omega (arith, is))
 
-module _ (floor : Floor) (plans : Plans) (visits : List Visit) where
-  pub ended_of : (n : ℕ) (ws : List Worked) → AllAt (IsProduceOf floor plans visits) n ws → AreEndedHands floor.office.lanes.items n (map (λ w. w.ended.items) ws)
+module _ (floor : Floor) (plans : Plans) (guests : List Guest) where
+  pub ended_of : (n : ℕ) (ws : List Worked) → AllAt (IsProduceOf floor plans guests) n ws → AreEndedHands floor.office.lanes.items n (map (λ w. w.ended.items) ws)
   ended_of n [] all = tt
   ended_of n (w ∷ ws) all = (all.0.ended, ended_of (suc n) ws all.1)
 
-  pub receivers_of : (n : ℕ) (ws : List Worked) → AllAt (IsProduceOf floor plans visits) n ws → n + length ws ≡ length floor.depot.channels.items → AreReceivers (drop n floor.depot.channels.items) (map (λ w. w.receiver) ws)
+  pub receivers_of : (n : ℕ) (ws : List Worked) → AllAt (IsProduceOf floor plans guests) n ws → n + length ws ≡ length floor.depot.channels.items → AreReceivers (drop n floor.depot.channels.items) (map (λ w. w.receiver) ws)
   receivers_of n [] all count = subst (λ cs. AreReceivers cs []) (sym (past_all floor.depot.channels.items n (omega (arith, count)))) tt
   receivers_of n (w ∷ ws) all count =
       let channel = some_at floor.depot.channels.items n (omega (arith, count)) in
       subst (λ cs. AreReceivers cs (w.receiver ∷ map (λ v. v.receiver) ws)) (sym (from_here floor.depot.channels.items n channel.0 channel.1))
       (all.0.receiver channel.0 channel.1, receivers_of (suc n) ws all.1 (omega (arith, count)))
 
-  pub seats_of : (n : ℕ) (ws : List Worked) → AllAt (IsProduceOf floor plans visits) n ws → map (λ w. w.log.seat) ws ≡ numbers n (length ws)
+  pub seats_of : (n : ℕ) (ws : List Worked) → AllAt (IsProduceOf floor plans guests) n ws → map (λ w. w.log.seat) ws ≡ numbers n (length ws)
   seats_of n [] all = refl
   seats_of n (w ∷ ws) all = ap (λ s. s ∷ map (λ v. v.log.seat) ws) all.0.seat ∙ ap (λ ss. n ∷ ss) (seats_of (suc n) ws all.1)
 

@@ -84,8 +84,8 @@ taken_seat accounts plan r agrees lane p copy under there = elim (less_or_not p 
   | inr session ↦ (
       let n : ℕ = p - length plan.workers.items in
       let e : length plan.workers.items + n ≡ p = omega (arith, session) in
-      let visit = some_at plan.sessions.items n (omega (arith, session, under)) in
-      let a = agrees.sessions n visit.0 visit.1 in
+      let guest = some_at plan.sessions.items n (omega (arith, session, under)) in
+      let a = agrees.sessions n guest.0 guest.1 in
       let i : ℕ = length plan.workers.items + n in
       let here : Contains (slice_index_or (map (of i) (histories r)) lane []) (Item p copy) =
       subst (λ (x : ℕ). Contains (slice_index_or (map (of x) (histories r)) lane []) (Item p copy)) (sym e) there in

@@ -7,11 +7,11 @@ ghost use Rattle.house.specs.Settings.{IsInRange};
 use crate::threads::Open;
 use delivery_token::{CopyKey, Text};
 use house::Config;
-use house_floor::Visit;
+use house_floor::Guest;
 use running_house::{Plan, Report, run_house};
 use session_thread::Step;
 use std::alloc::{AllocError, Global};
-use std::io::{self, Error, ErrorKind};
+use std::io::{Error, ErrorKind, self};
 use std::sync::Wait;
 use std::thread::Threads;
 
@@ -37,10 +37,10 @@ fn worker_for(alloc: Global, user: &[u8]) -> Result<Vec<Vec<u8>>, AllocError> {
 }
 
 // A session of alice, who is user 0: it is greeted, and logs out.
-fn visit(alloc: Global) -> Result<Visit, AllocError> {
+fn guest(alloc: Global) -> Result<Guest, AllocError> {
     let mut steps = Vec::new(alloc);
     steps.push(Step::Say(Vec::from_slice(alloc, b"a1 LOGOUT\r\n")?))?;
-    Ok(Visit { user: 0, steps })
+    Ok(Guest { user: 0, steps })
 }
 
 /// The plan. An error where memory is refused.
@@ -51,7 +51,7 @@ pub fn small_plan(alloc: Global) -> Result<Plan, AllocError>
     let mut config = Config::new(alloc, &USERS)?;
     config.shards = 2;
     let mut sessions = Vec::new(alloc);
-    sessions.push(visit(alloc)?)?;
+    sessions.push(guest(alloc)?)?;
     let mut workers = Vec::new(alloc);
     workers.push(worker_for(alloc, USERS[0])?)?;
     workers.push(worker_for(alloc, USERS[1])?)?;

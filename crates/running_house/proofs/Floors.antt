@@ -14,7 +14,7 @@ use Rattle.lane_work.specs.Copies.{Room, rooms_of}
 use Rattle.house_floor.specs.Crew.{IsHouse}
 use Rattle.house_floor.specs.Opening.{IsFloor, reply_room}
 use Rattle.house_floor.specs.declared.floor.Floor.{Floor}
-use Rattle.house_floor.specs.declared.floor.Visit.{Visit}
+use Rattle.house_floor.specs.declared.floor.Guest.{Guest}
 use Rattle.house_floor.specs.declared.opening.Sizes.{Sizes}
 use Rattle.house_threads.specs.Crew.{Plans}
 use Rattle.running_house.specs.inner.Agree.{AreSizesFor, IsFloorFor}
@@ -57,5 +57,5 @@ floor_for plan directory sizes floor same are is =
     }
 
 -- it has as many producers as there are of these
-pub house_of : (plan : Plan) (floor : Floor) → IsFloorFor plan floor → (plans : Plans) (visits : List Visit) → plans ≡ plan.workers.items → visits ≡ plan.sessions.items → IsHouse floor (length plans + length visits)
-house_of plan floor is plans visits same as_well = subst (λ n. IsHouse floor (n + length visits)) (sym (ap length same)) (subst (λ n. IsHouse floor (length plan.workers.items + n)) (sym (ap length as_well)) is.house)
+pub house_of : (plan : Plan) (floor : Floor) → IsFloorFor plan floor → (plans : Plans) (guests : List Guest) → plans ≡ plan.workers.items → guests ≡ plan.sessions.items → IsHouse floor (length plans + length guests)
+house_of plan floor is plans guests same as_well = subst (λ n. IsHouse floor (n + length guests)) (sym (ap length same)) (subst (λ n. IsHouse floor (length plan.workers.items + n)) (sym (ap length as_well)) is.house)

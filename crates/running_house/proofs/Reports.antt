@@ -17,7 +17,7 @@ use Rattle.lane_permits.proofs.ChannelCloseLaws as channels
 use Rattle.house_floor.specs.Crew.{AllAt}
 use Rattle.house_floor.specs.Opening.{reply_room}
 use Rattle.house_floor.specs.declared.floor.Floor.{Floor}
-use Rattle.house_floor.specs.declared.floor.Visit.{Visit}
+use Rattle.house_floor.specs.declared.floor.Guest.{Guest}
 use Rattle.house_threads.specs.Crew.{IsProduceOf, IsServiceOf, SessionAccount}
 use Rattle.reckoning.specs.Settling.{IsSettled}
 use Rattle.reckoning.specs.declared.settling.Books.{Books}
@@ -73,26 +73,26 @@ module _ (plan : Plan) (floor : Floor) (is : IsFloorFor plan floor) (ws : List W
       is.premises here notes_same answers_same histories_same
       (account_of floor plan.workers.items plan.sessions.items ws worked producers settled.fates _ books.closed.lanes.items settled.lanes_closed _ books.closed.channels.items settled.channels_closed p within)
 
-  pub sessions : (n : ℕ) (visit : Visit) → slice_get plan.sessions.items n ≡ Some visit
-      → SessionAccount (premises_for plan) (length (premises_for plan).directory.homes) plan.turns (length plan.workers.items + n) visit (slice_index_or (report.said_of r) n [] ∷ [])
+  pub sessions : (n : ℕ) (guest : Guest) → slice_get plan.sessions.items n ≡ Some guest
+      → SessionAccount (premises_for plan) (length (premises_for plan).directory.homes) plan.turns (length plan.workers.items + n) guest (slice_index_or (report.said_of r) n [] ∷ [])
       (slice_index_or (report.notes_of r) (length plan.workers.items + n) []) (slice_index_or (report.answers r) (length plan.workers.items + n) []) (map (of (length plan.workers.items + n)) (report.histories r))
-  sessions n visit at =
+  sessions n guest at =
       let p = length plan.workers.items + n in
       let notes = slice_index_or (map (λ (w : Worked). w.log.notes) ws) p [] in
       let heard = slice_index_or (map reply_history books.closed.channels.items) p [] in
       let taken = map (of p) (map history books.closed.lanes.items) in
-      let under = below plan.sessions.items n visit at in
-      let account = session_account_of floor plan.workers.items plan.sessions.items ws worked producers settled.fates _ books.closed.lanes.items settled.lanes_closed _ books.closed.channels.items settled.channels_closed n visit at under in
+      let under = below plan.sessions.items n guest at in
+      let account = session_account_of floor plan.workers.items plan.sessions.items ws worked producers settled.fates _ books.closed.lanes.items settled.lanes_closed _ books.closed.channels.items settled.channels_closed n guest at under in
       let w = some_at ws p (omega (arith, under, producers)) in
       let laid = ap (λ vs. slice_get vs p) settled.replies ∙ get_mapped (λ (v : Worked). v.replies) ws p w.0 w.1 in
       let one = sym (mapped_at (λ (v : Worked). map (λ b. b.items) v.replies.items) ws p w.0 [] w.1) ∙ account.alone in
       let text = text_at (drop (length plan.workers.items) books.replies.items) r.sessions.items n w.0.replies account.text texts (behind books.replies.items (length plan.workers.items) n w.0.replies laid) one in
       let said : slice_index_or all_replies p [] ≡ slice_index_or (report.said_of r) n [] ∷ [] = account.alone ∙ ap (λ (t : List ℕ). t ∷ []) (sym text) in
-      moved (λ house replies notes answers histories. SessionAccount house (length (premises_for plan).directory.homes) plan.turns p visit replies notes answers histories) p
+      moved (λ house replies notes answers histories. SessionAccount house (length (premises_for plan).directory.homes) plan.turns p guest replies notes answers histories) p
       (premises_of floor.office) (premises_for plan) (slice_index_or all_replies p []) (slice_index_or (report.said_of r) n [] ∷ []) _ (report.notes_of r) _ (report.answers r) _ (report.histories r)
       is.premises said notes_same answers_same histories_same
-      (subst (λ x. SessionAccount (premises_of floor.office) (length (premises_for plan).directory.homes) x p visit (slice_index_or all_replies p []) notes heard taken) is.turns
-      (subst (λ x. SessionAccount (premises_of floor.office) x floor.turns p visit (slice_index_or all_replies p []) notes heard taken) is.mailboxes account))
+      (subst (λ x. SessionAccount (premises_of floor.office) (length (premises_for plan).directory.homes) x p guest (slice_index_or all_replies p []) notes heard taken) is.turns
+      (subst (λ x. SessionAccount (premises_of floor.office) x floor.turns p guest (slice_index_or all_replies p []) notes heard taken) is.mailboxes account))
 
   pub copies_same : map (λ c. c.items) books.copies.items ≡ report.copies_taken r
   copies_same = ap (λ vs. map (λ v. v.items) vs) settled.copies ∙ map_twice (λ v. v.items) (λ (c : Consumed). c.copies) cs

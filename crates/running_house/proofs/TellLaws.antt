@@ -96,8 +96,8 @@ accounted plan r agrees p under = elim (less_or_not p (length plan.workers.items
   | inr h ↦ (
       let n = p - length plan.workers.items in
       let e : length plan.workers.items + n ≡ p = omega (arith, h) in
-      let visit = some_at plan.sessions.items n (omega (arith, h, under)) in
-      let a = agrees.sessions n visit.0 visit.1 in
+      let guest = some_at plan.sessions.items n (omega (arith, h, under)) in
+      let a = agrees.sessions n guest.0 guest.1 in
       subst (λ (i : ℕ). (copies : List (Job × Verdict)) × AreAccountedFor (premises_for plan) i copies (slice_index_or (notes_of r) i []) (slice_index_or (answers r) i []) (map (of i) (histories r))) e
       (map (judged_of (length plan.workers.items + n) 0) a.carried, a.copies)
       )

@@ -13,7 +13,7 @@ use Rattle.lane_work.specs.Account.{Account}
 use Rattle.lane_work.specs.Consuming.{items_of}
 use Rattle.house_floor.specs.Opening.{reply_room}
 use Rattle.house_threads.specs.Crew.{SessionAccount}
-use Rattle.house_floor.specs.declared.floor.Visit.{Visit}
+use Rattle.house_floor.specs.declared.floor.Guest.{Guest}
 use Rattle.running_house.specs.Plan.{connections_of, premises_for, producers_in}
 use Rattle.running_house.specs.declared.plan.Plan.{Plan}
 use Rattle.running_house.specs.declared.plan.Report.{Report}
@@ -61,8 +61,8 @@ pub record Agrees (plan : Plan) (r : Report) : Type 0 where
       → Account (premises_for plan) p (slice_index_or (connections_of plan) p []) (slice_index_or (replies_of r) p []) (slice_index_or (notes_of r) p [])
       (slice_index_or (answers r) p []) (map (of p) (histories r))
   -- So it is of each session, by its steps: what it said, hold by hold, its log, and what was taken of it from each lane are what these come to.
-  pub sessions : (n : ℕ) (visit : Visit) → slice_get plan.sessions.items n ≡ Some visit
-      → SessionAccount (premises_for plan) (length (premises_for plan).directory.homes) plan.turns (length plan.workers.items + n) visit (slice_index_or (said_of r) n [] ∷ [])
+  pub sessions : (n : ℕ) (guest : Guest) → slice_get plan.sessions.items n ≡ Some guest
+      → SessionAccount (premises_for plan) (length (premises_for plan).directory.homes) plan.turns (length plan.workers.items + n) guest (slice_index_or (said_of r) n [] ∷ [])
       (slice_index_or (notes_of r) (length plan.workers.items + n) []) (slice_index_or (answers r) (length plan.workers.items + n) []) (map (of (length plan.workers.items + n)) (histories r))
   -- What each mailbox accepted of each of them is what the log has as stored there, and nothing else was accepted; each message that is there
   -- has the text of its copy, and where no session could remove one, every accepted copy is there.

@@ -7,7 +7,7 @@ use Rattle.house.specs.Settings.{config_fault, setup_of}
 use Rattle.house.specs.declared.config.ConfigFault.{ConfigFault}
 use Rattle.house.specs.declared.config.ConfigFault.TheVariants as settings
 use Rattle.house_floor.specs.Users.{user_numbered}
-use Rattle.house_floor.specs.declared.floor.Visit.{Visit}
+use Rattle.house_floor.specs.declared.floor.Guest.{Guest}
 use Rattle.lane_work.specs.declared.desk.Closing.{Closing}
 use Rattle.lane_work.specs.Account.{Premises}
 use Rattle.reckoning.specs.declared.gather.Fault.{Fault}
@@ -47,16 +47,16 @@ most_producers = 255
 -- ---- what may be wrong
 
 -- how many of these sessions are of this user
-abbrev pub count_of : ℕ → List Visit → ℕ
-count_of user visits = length (filter (λ (v : Visit). v.user == user) visits)
+abbrev pub count_of : ℕ → List Guest → ℕ
+count_of user guests = length (filter (λ (v : Guest). v.user == user) guests)
 
 -- some user has more sessions than this
-abbrev pub are_too_many : ℕ → List Visit → Bool
-are_too_many most visits = list_any (λ (v : Visit). nat_lt most (count_of v.user visits)) visits
+abbrev pub are_too_many : ℕ → List Guest → Bool
+are_too_many most guests = list_any (λ (v : Guest). nat_lt most (count_of v.user guests)) guests
 
 -- some session's user isn't there
-abbrev pub is_someone_missing : List Home → List Visit → Bool
-is_someone_missing homes visits = list_any (λ (v : Visit). is_none (user_numbered v.user homes)) visits
+abbrev pub is_someone_missing : List Home → List Guest → Bool
+is_someone_missing homes guests = list_any (λ (v : Guest). is_none (user_numbered v.user homes)) guests
 
 -- some worker is to close a shard that isn't there
 abbrev pub is_shard_missing : ℕ → List (Vec Closing Global) → Bool

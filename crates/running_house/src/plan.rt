@@ -9,7 +9,7 @@ ghost use Rattle.running_house.specs.Plan.{IsFaultOf, after_settings, are_too_ma
 use delivery_token::{CopyKey, Text, WorkerLog};
 use envelope::Directory;
 use house::{Config, ConfigFault, directory_of};
-use house_floor::{Visit, inbox_numbered};
+use house_floor::{Guest, inbox_numbered};
 use lane_work::Closing;
 use reckoning::{Closes, Fault};
 use std::alloc::{AllocError, Global};
@@ -31,7 +31,7 @@ pub struct Plan {
     pub workers: Vec<Vec<Vec<u8>>>,
     /// The sessions, at most `config.sessions` of one user, and at most 255 with the workers. A session's
     /// client may append messages as large as `config.max_message`.
-    pub sessions: Vec<Visit>,
+    pub sessions: Vec<Guest>,
     /// So many turns a session has at most where it awaits changes.
     pub turns: u64,
     /// For each worker, by its number, the shards that it closes, and before which of its connections.
@@ -109,19 +109,19 @@ impl From<ConfigFault> for WorkFault {
 }
 
 // How many of these sessions are of this user.
-fn count_of(visits: &[Visit], user: u8) -> usize
-    ensures { result ≡ count_of user visits.now }
+fn count_of(guests: &[Guest], user: u8) -> usize
+    ensures { result ≡ count_of user guests.now }
 {
-    visits.iter().filter(|visit| visit.user == user).count()
+    guests.iter().filter(|guest| guest.user == user).count()
 }
 
 // Whether some user has more sessions than this.
-fn are_too_many(visits: &[Visit], most: u8) -> bool
-    ensures { result ≡ are_too_many most visits.now }
+fn are_too_many(guests: &[Guest], most: u8) -> bool
+    ensures { result ≡ are_too_many most guests.now }
 {
-    visits
+    guests
         .iter()
-        .any(|visit| usize::from(most) < count_of(visits, visit.user))
+        .any(|guest| usize::from(most) < count_of(guests, guest.user))
 }
 
 // Whether there is no user of this number.
@@ -132,10 +132,10 @@ fn is_nobody(directory: &Directory, user: u8) -> bool
 }
 
 // Whether some session's user isn't there.
-fn is_someone_missing(directory: &Directory, visits: &[Visit]) -> bool
-    ensures { result ≡ is_someone_missing directory.now.homes visits.now }
+fn is_someone_missing(directory: &Directory, guests: &[Guest]) -> bool
+    ensures { result ≡ is_someone_missing directory.now.homes guests.now }
 {
-    visits.iter().any(|visit| is_nobody(directory, visit.user))
+    guests.iter().any(|guest| is_nobody(directory, guest.user))
 }
 
 // Whether one of these closes a shard that isn't there.
@@ -157,7 +157,7 @@ fn fault_of_actors(plan: &Plan, directory: &Directory) -> Option<ConfigFault>
     requires { directory.now ≡ (setup_of plan.now.config).directory }
     ensures is { result ≡ after_settings plan.now None }
     ensures few { result ≡ None → (length plan.now.workers.items ≤ most_workers) × (producers_in plan.now ≤ most_producers) }
-    ensures visits { result ≡ None → All (λ v. user_numbered v.user directory.now.homes ≢ None) plan.now.sessions.items }
+    ensures guests { result ≡ None → All (λ v. user_numbered v.user directory.now.homes ≢ None) plan.now.sessions.items }
 {
     if MOST_WORKERS < plan.workers.len() {
         return Some(ConfigFault::TooMany);
@@ -190,7 +190,7 @@ pub(crate) fn directory_for(alloc: Global, plan: &Plan) -> Result<Directory, Wor
     ensures host { IfOk result (λ d. length plan.now.config.host.items < 256) }
     ensures right { IfOk result (λ d. plan_fault plan.now ≡ None) }
     ensures few { IfOk result (λ d. (length plan.now.workers.items ≤ most_workers) × (producers_in plan.now ≤ most_producers)) }
-    ensures visits { IfOk result (λ d. All (λ v. user_numbered v.user d.homes ≢ None) plan.now.sessions.items) }
+    ensures guests { IfOk result (λ d. All (λ v. user_numbered v.user d.homes ≢ None) plan.now.sessions.items) }
     ensures fault { IfErr result (IsFaultOf plan.now) }
 {
     let directory = directory_of(alloc, &plan.config)?;

@@ -1,7 +1,7 @@
 //! Plans that are run: what peers send, which mailboxes there are, and what sessions do.
 
 use house::Config;
-use house_floor::Visit;
+use house_floor::Guest;
 use running_house::Plan;
 use session_thread::Step;
 use std::alloc::{AllocError, Global};
@@ -70,7 +70,7 @@ pub fn add_idle_workers(alloc: Global, count: usize, plan: &mut Plan) -> Result<
 /// Adds a session of the user with this number, which does nothing.
 pub fn add_idle_session(alloc: Global, user: u8, plan: &mut Plan) -> Result<(), AllocError> {
     let steps = Vec::new(alloc);
-    plan.sessions.push(Visit { user, steps })?;
+    plan.sessions.push(Guest { user, steps })?;
     Ok(())
 }
 
@@ -85,7 +85,7 @@ pub fn add_session(
     for bytes in said {
         steps.push(Step::Say(Vec::from_slice(alloc, bytes)?))?;
     }
-    plan.sessions.push(Visit { user, steps })?;
+    plan.sessions.push(Guest { user, steps })?;
     Ok(())
 }
 
@@ -97,7 +97,7 @@ pub fn add_idler(alloc: Global, user: u8, count: u64, plan: &mut Plan) -> Result
     steps.push(Step::Await(count))?;
     let ending = Vec::from_slice(alloc, b"DONE\r\na3 LOGOUT\r\n")?;
     steps.push(Step::Say(ending))?;
-    plan.sessions.push(Visit { user, steps })?;
+    plan.sessions.push(Guest { user, steps })?;
     Ok(())
 }
 

@@ -21,9 +21,9 @@ use Rattle.house.specs.declared.event.Event.TheVariants as events
 use Rattle.house.specs.Scene.{Plays, Scene, empty_scene, is_shut_in}
 use Rattle.house.specs.Settled.{is_held}
 use Rattle.house.specs.House.{House}
-use Rattle.house.specs.Settling.{GoesRounds, Happened, Settles, Visits, idle_turns, in_a_row, round}
+use Rattle.house.specs.Settling.{GoesRounds, Happened, Settles, Stints, idle_turns, in_a_row, round}
 use Rattle.std.specs.Prelude.{replicate}
-use Rattle.house.proofs.Settlement.{plays_part, visits_happened}
+use Rattle.house.proofs.Settlement.{plays_part, stints_happened}
 use Rattle.script.specs.Script.{LineDoes, LinePlays, Script, ScriptLine, asks, asks_lingering, asks_nobody, closes, closes_again, closes_nobody, enters, enters_nowhere, enters_taken, goes_again, goes_nobody, held_after, is_bad, leaves, leaves_again, leaves_nobody, none_held, refusal, sends, sends_to_nobody, sends_to_owing, skips, stands_nobody, stands_still, tails, tails_nobody, vanishes, vanishes_again, vanishes_away}
 use Rattle.script.specs.Leaving.{Writes, WritesBeginning, WritesFirst}
 use Rattle.script.specs.Promise.{AreParts, DeliversOnce, OfHouse, Part, Refusal, Why, Line, Nobody, Busy, Window, WroteOnce, entries_of, entry_in, refusals_of, refused_in, scene_after, text_of_part, word_of}
@@ -169,12 +169,12 @@ happened_goes k told first last l es s t printed ok h = let by = happened_went k
 
 rounds_go : (k : Setup) (told : ℕ → List Noted) (first last : ℕ) → first ≤ last → (held : ℕ → Bool) (s t : Scene) (printed : List ℕ) → SceneOk k told s → GoesRounds k held s t printed → Goes k told first last s t printed
 rounds_go k told first last l held s t printed ok d =
-    let h = visits_happened k (in_a_row (replicate d.rounds (round k held (is_shut_in s)))) s t printed d.goes in
+    let h = stints_happened k (in_a_row (replicate d.rounds (round k held (is_shut_in s)))) s t printed d.goes in
     happened_goes k told first last l h.0 s t printed ok h.1
 
-turns_go : (k : Setup) (told : ℕ → List Noted) (first last : ℕ) → first ≤ last → (s t : Scene) (printed : List ℕ) → SceneOk k told s → Visits k (idle_turns k.config.sessions) s t printed → Goes k told first last s t printed
+turns_go : (k : Setup) (told : ℕ → List Noted) (first last : ℕ) → first ≤ last → (s t : Scene) (printed : List ℕ) → SceneOk k told s → Stints k (idle_turns k.config.sessions) s t printed → Goes k told first last s t printed
 turns_go k told first last l s t printed ok v =
-    let h = visits_happened k (idle_turns k.config.sessions) s t printed v in
+    let h = stints_happened k (idle_turns k.config.sessions) s t printed v in
     happened_goes k told first last l h.0 s t printed ok h.1
 
 settles_goes : (k : Setup) (told : ℕ → List Noted) (first last : ℕ) → first ≤ last → (held : ℕ → Bool) (s t : Scene) (printed : List ℕ) → SceneOk k told s → Settles k held s t printed → Goes k told first last s t printed

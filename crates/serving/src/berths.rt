@@ -6,7 +6,7 @@ ghost use Rattle.house_floor.specs.Users.{user_numbered};
 ghost use Rattle.serving.specs.Announcing.{users_of};
 
 use envelope::Directory;
-use house_floor::{Visit, inbox_numbered};
+use house_floor::{Guest, inbox_numbered};
 use std::alloc::{AllocError, Global};
 
 /// The most users of a house, which has 64 mailboxes at most.
@@ -20,13 +20,13 @@ fn is_nobody(directory: &Directory, user: u8) -> bool
 }
 
 // So many berths more, of this user.
-fn add_berths(alloc: Global, user: u8, count: u8, visits: &mut Vec<Visit>) -> Result<(), AllocError>
-    ensures count { OnOk result (vec_len visits.new ≡ vec_len visits.old + count) }
+fn add_berths(alloc: Global, user: u8, count: u8, guests: &mut Vec<Guest>) -> Result<(), AllocError>
+    ensures count { OnOk result (vec_len guests.new ≡ vec_len guests.old + count) }
     ensures named { OnOk result ((homes : List Home) → user_numbered user homes ≢ None
-        → All (λ v. user_numbered v.user homes ≢ None) visits.old.items → All (λ v. user_numbered v.user homes ≢ None) visits.new.items) }
+        → All (λ v. user_numbered v.user homes ≢ None) guests.old.items → All (λ v. user_numbered v.user homes ≢ None) guests.new.items) }
 {
     for _ in 0..count {
-        visits.push(Visit {
+        guests.push(Guest {
             user,
             steps: Vec::new(alloc),
         })?;
@@ -41,21 +41,21 @@ pub(crate) fn berths_for(
     alloc: Global,
     directory: &Directory,
     count: u8,
-) -> Result<Vec<Visit>, AllocError>
+) -> Result<Vec<Guest>, AllocError>
     requires { count ≤ 4 }
     ensures named { IfOk result (λ vs. All (λ v. user_numbered v.user directory.now.homes ≢ None) vs.items) }
     ensures few { IfOk result (λ vs. vec_len vs ≤ 256) }
     ensures count { IfOk result (λ vs. vec_len vs ≡ count * length (users_of directory.now.homes)) }
 {
-    let mut visits = Vec::new(alloc);
+    let mut guests = Vec::new(alloc);
     // Each user has an INBOX, so there are no more users than mailboxes.
     for user in 0..directory.mailboxes() as u8 {
         if is_nobody(directory, user) {
-            return Ok(visits);
+            return Ok(guests);
         }
-        add_berths(alloc, user, count, &mut visits)?;
+        add_berths(alloc, user, count, &mut guests)?;
     }
-    Ok(visits)
+    Ok(guests)
 }
 
 /// How many users there are, 64 at most.

@@ -3,7 +3,7 @@
 ghost use Rattle.std.specs.Prelude.{◌≡◌, ◌≤◌, ◌<◌, [], All, IfOk, length, vec_len, vec_capacity};
 
 use crate::sessions::ClientBerth;
-use loopback::Slot;
+use loopback::Grip;
 use serving_workers::{Buffers, Hired};
 use session_bells::Sleeper;
 use std::alloc::{AllocError, Global};
@@ -38,13 +38,13 @@ fn buffers_for(alloc: Global, workers: usize) -> Result<Vec<Buffers>, AllocError
     Ok(all)
 }
 
-// So many slots with no connection.
-fn slots_for(alloc: Global, count: usize) -> Result<Vec<Slot>, AllocError>
-    ensures { IfOk result (λ slots. vec_len slots ≡ count) }
+// So many grips with no connection.
+fn grips_for(alloc: Global, count: usize) -> Result<Vec<Grip>, AllocError>
+    ensures { IfOk result (λ grips. vec_len grips ≡ count) }
 {
     let mut all = Vec::with_capacity(alloc, count)?;
     for _ in 0..count {
-        all.push_reserved(Slot::new());
+        all.push_reserved(Grip::new());
     }
     Ok(all)
 }
@@ -54,8 +54,8 @@ fn slots_for(alloc: Global, count: usize) -> Result<Vec<Slot>, AllocError>
 pub(crate) struct Equipment {
     /// For each worker's connections.
     pub(crate) buffers: Vec<Buffers>,
-    pub(crate) mail_slots: Vec<Slot>,
-    pub(crate) client_slots: Vec<Slot>,
+    pub(crate) mail_grips: Vec<Grip>,
+    pub(crate) client_grips: Vec<Grip>,
     /// For each berth's clients.
     pub(crate) client_buffers: Vec<Vec<u8>>,
 }
@@ -74,13 +74,13 @@ fn client_buffers_for(alloc: Global, berths: usize) -> Result<Vec<Vec<u8>>, Allo
 /// What so many workers and berths use. An error where memory is refused.
 pub(crate) fn equip(alloc: Global, workers: usize, berths: usize) -> Result<Equipment, AllocError>
     ensures buffers { IfOk result (λ e. All (λ b. 0 < length b.input.items) e.buffers.items × (vec_len e.buffers ≡ workers)) }
-    ensures slots { IfOk result (λ e. (vec_len e.mail_slots ≡ workers) × (vec_len e.client_slots ≡ berths)) }
+    ensures grips { IfOk result (λ e. (vec_len e.mail_grips ≡ workers) × (vec_len e.client_grips ≡ berths)) }
     ensures clients { IfOk result (λ e. vec_len e.client_buffers ≡ berths) }
 {
     Ok(Equipment {
         buffers: buffers_for(alloc, workers)?,
-        mail_slots: slots_for(alloc, workers)?,
-        client_slots: slots_for(alloc, berths)?,
+        mail_grips: grips_for(alloc, workers)?,
+        client_grips: grips_for(alloc, berths)?,
         client_buffers: client_buffers_for(alloc, berths)?,
     })
 }

@@ -18,10 +18,10 @@ use crate::sessions::{Furnishings, start_berths};
 use crate::sockets::Sockets;
 use crate::stopping::{await_end, stop_all};
 use clerks::{Clerk, Hall, Staff, Unhindered, dismiss_all, hire_all, stand_down};
-use house_floor::{Baskets, Crew, Floor, Post, Stand, Visit};
+use house_floor::{Baskets, Crew, Floor, Guest, Post, Stand};
 use house_threads::{Ran, Started};
 use lane_work::{Consumed, Worked};
-use loopback::Slot;
+use loopback::Grip;
 use reckoning::abandon;
 use serving_workers::{Begun, Buffers, Served, close_house, join_producers, start_workers};
 use session_bells::Sleeper;
@@ -50,11 +50,11 @@ fn in_scope<'s, E, H: Hall + Send, R: Threads + Wait + Sync, I: Read + Drop>(
     floor: &'s Floor,
     clerks: &'s [Mutex<Clerk<H>>],
     gate: &'s Unhindered,
-    visits: &'s [Visit],
+    guests: &'s [Guest],
     sockets: &'s Sockets,
     mark: &'s AtomicBool,
-    mail_slots: &'s [Slot],
-    client_slots: &'s [Slot],
+    mail_grips: &'s [Grip],
+    client_grips: &'s [Grip],
     posts: ManuallyDrop<Vec<Post>>,
     served: ManuallyDrop<Vec<Served>>,
     buffers: Vec<Buffers>,
@@ -65,14 +65,14 @@ fn in_scope<'s, E, H: Hall + Send, R: Threads + Wait + Sync, I: Read + Drop>(
     requires lanes { H.lanes ≡ Some floor.now.office.lanes.items }
     requires depot { H.depot ≡ Some floor.now.depot }
     requires house { IsHouse floor.now (length floor.now.depot.channels.items) }
-    requires slots { length mail_slots.now + length visits.now ≡ length floor.now.depot.channels.items }
+    requires grips { length mail_grips.now + length guests.now ≡ length floor.now.depot.channels.items }
     requires posts { AllAt (IsPost floor.now) 0 (manually_drop_value posts).items ×
         (vec_len (manually_drop_value posts) ≡ length floor.now.depot.channels.items) }
     requires served { ((manually_drop_value served).items ≡ []) ×
         (length floor.now.depot.channels.items ≤ vec_capacity (manually_drop_value served)) }
-    requires buffers { All (λ b. 0 < length b.input.items) buffers.items × (vec_len buffers ≡ length mail_slots.now) }
-    requires client_slots { length client_slots.now ≡ length visits.now }
-    requires bells { (vec_len bells ≡ length visits.now) × (vec_len client_buffers ≡ length visits.now) }
+    requires buffers { All (λ b. 0 < length b.input.items) buffers.items × (vec_len buffers ≡ length mail_grips.now) }
+    requires client_grips { length client_grips.now ≡ length guests.now }
+    requires bells { (vec_len bells ≡ length guests.now) × (vec_len client_buffers ≡ length guests.now) }
     ensures served { result.short ≡ false → AllAt (IsServed floor.now) 0 result.served.items ×
         (vec_len result.served ≡ length floor.now.depot.channels.items) × (result.posts.items ≡ []) }
     ensures short { result.short ≡ true → AllAt (IsPost floor.now) 0 result.posts.items ×
@@ -103,7 +103,7 @@ fn in_scope<'s, E, H: Hall + Send, R: Threads + Wait + Sync, I: Read + Drop>(
         &sockets.lmtp,
         mark,
         &sockets.pause,
-        mail_slots,
+        mail_grips,
         posts,
         buffers,
         hired,
@@ -119,10 +119,10 @@ fn in_scope<'s, E, H: Hall + Send, R: Threads + Wait + Sync, I: Read + Drop>(
         floor,
         clerks,
         gate,
-        visits,
+        guests,
         sockets,
         mark,
-        client_slots,
+        client_grips,
         furnishings,
         posts,
         hired,
@@ -135,8 +135,8 @@ fn in_scope<'s, E, H: Hall + Send, R: Threads + Wait + Sync, I: Read + Drop>(
         rt,
         mark,
         sockets,
-        mail_slots,
-        client_slots,
+        mail_grips,
+        client_grips,
         &floor.depot.sessions,
     );
     Over {
@@ -152,7 +152,7 @@ fn serve_in_threads<H: Hall + Send, R: Threads + Wait + Sync, I: Read + Drop>(
     rt: &R,
     floor: &Floor,
     clerks: &[Mutex<Clerk<H>>],
-    visits: &[Visit],
+    guests: &[Guest],
     sockets: &Sockets,
     equipment: Equipment,
     bells: Vec<Sleeper>,
@@ -165,10 +165,10 @@ fn serve_in_threads<H: Hall + Send, R: Threads + Wait + Sync, I: Read + Drop>(
     requires house { IsHouse floor.now (length floor.now.depot.channels.items) }
     requires posts { AllAt (IsPost floor.now) 0 posts.items × (vec_len posts ≡ length floor.now.depot.channels.items) }
     requires served { (served.items ≡ []) × (length floor.now.depot.channels.items ≤ vec_capacity served) }
-    requires buffers { All (λ b. 0 < length b.input.items) equipment.buffers.items × (vec_len equipment.buffers ≡ vec_len equipment.mail_slots) }
-    requires slots { (vec_len equipment.mail_slots + length visits.now ≡ length floor.now.depot.channels.items) ×
-        (vec_len equipment.client_slots ≡ length visits.now) }
-    requires bells { (vec_len bells ≡ length visits.now) × (vec_len equipment.client_buffers ≡ length visits.now) }
+    requires buffers { All (λ b. 0 < length b.input.items) equipment.buffers.items × (vec_len equipment.buffers ≡ vec_len equipment.mail_grips) }
+    requires grips { (vec_len equipment.mail_grips + length guests.now ≡ length floor.now.depot.channels.items) ×
+        (vec_len equipment.client_grips ≡ length guests.now) }
+    requires bells { (vec_len bells ≡ length guests.now) × (vec_len equipment.client_buffers ≡ length guests.now) }
     ensures served { result.short ≡ false → AllAt (IsServed floor.now) 0 result.served.items ×
         (vec_len result.served ≡ length floor.now.depot.channels.items) × (result.posts.items ≡ []) }
     ensures short { result.short ≡ true → AllAt (IsPost floor.now) 0 result.posts.items ×
@@ -176,13 +176,13 @@ fn serve_in_threads<H: Hall + Send, R: Threads + Wait + Sync, I: Read + Drop>(
 {
     let Equipment {
         buffers,
-        mail_slots,
-        client_slots,
+        mail_grips,
+        client_grips,
         client_buffers,
     } = equipment;
     let (own_gate, own_mark) = (Unhindered, AtomicBool::new(false));
     let (gate, mark) = (&own_gate, &own_mark);
-    let (mail_slots, client_slots) = (mail_slots.as_slice(), client_slots.as_slice());
+    let (mail_grips, client_grips) = (mail_grips.as_slice(), client_grips.as_slice());
     let (posts, served) = (packed(posts), packed(served));
     thread::scope(
         thread::scope_env(),
@@ -190,14 +190,14 @@ fn serve_in_threads<H: Hall + Send, R: Threads + Wait + Sync, I: Read + Drop>(
         |scope| -> Over
             requires hall { IsSync R.row × (H.lanes ≡ Some floor.now.office.lanes.items) × (H.depot ≡ Some floor.now.depot) }
             requires house { IsHouse floor.now (length floor.now.depot.channels.items) ×
-                (length mail_slots.now + length visits.now ≡ length floor.now.depot.channels.items) }
+                (length mail_grips.now + length guests.now ≡ length floor.now.depot.channels.items) }
             requires posts { AllAt (IsPost floor.now) 0 (manually_drop_value posts).items ×
                 (vec_len (manually_drop_value posts) ≡ length floor.now.depot.channels.items) }
             requires served { ((manually_drop_value served).items ≡ []) ×
                 (length floor.now.depot.channels.items ≤ vec_capacity (manually_drop_value served)) }
-            requires buffers { All (λ b. 0 < length b.input.items) buffers.items × (vec_len buffers ≡ length mail_slots.now) }
-            requires client_slots { length client_slots.now ≡ length visits.now }
-            requires bells { (vec_len bells ≡ length visits.now) × (vec_len client_buffers ≡ length visits.now) }
+            requires buffers { All (λ b. 0 < length b.input.items) buffers.items × (vec_len buffers ≡ length mail_grips.now) }
+            requires client_grips { length client_grips.now ≡ length guests.now }
+            requires bells { (vec_len bells ≡ length guests.now) × (vec_len client_buffers ≡ length guests.now) }
             ensures served { result.short ≡ false → AllAt (IsServed floor.entry.now) 0 result.served.items ×
                 (vec_len result.served ≡ length floor.entry.now.depot.channels.items) × (result.posts.items ≡ []) }
             ensures short { result.short ≡ true → AllAt (IsPost floor.entry.now) 0 result.posts.items ×
@@ -209,11 +209,11 @@ fn serve_in_threads<H: Hall + Send, R: Threads + Wait + Sync, I: Read + Drop>(
                 floor,
                 clerks,
                 gate,
-                visits,
+                guests,
                 sockets,
                 mark,
-                mail_slots,
-                client_slots,
+                mail_grips,
+                client_grips,
                 posts,
                 served,
                 buffers,
@@ -240,7 +240,7 @@ fn make_rooms<H: Hall>(
 ) -> Result<Rooms<H>, AllocError>
     requires few { workers + berths < 256 }
     ensures buffers { IfOk result (λ r. All (λ b. 0 < length b.input.items) r.equipment.buffers.items × (vec_len r.equipment.buffers ≡ workers)) }
-    ensures slots { IfOk result (λ r. (vec_len r.equipment.mail_slots ≡ workers) × (vec_len r.equipment.client_slots ≡ berths)) }
+    ensures grips { IfOk result (λ r. (vec_len r.equipment.mail_grips ≡ workers) × (vec_len r.equipment.client_grips ≡ berths)) }
     ensures clients { IfOk result (λ r. vec_len r.equipment.client_buffers ≡ berths) }
     ensures served { IfOk result (λ r. (r.served.items ≡ []) × (workers + berths ≤ vec_capacity r.served)) }
     ensures clerks { IfOk result (λ r. (r.staff.clerks.items ≡ []) × (shards ≤ vec_capacity r.staff.clerks)) }
@@ -347,7 +347,7 @@ fn close_or_spend<H: Hall, R: Wait>(
 }
 
 /// Serves the house until `stop` is at its end, and closes it. The first of its producers are so many workers; the others are the berths
-/// of sessions, those of `visits`, each with its own end of its bell.
+/// of sessions, those of `guests`, each with its own end of its bell.
 ///
 /// Errors, the first that holds: `NoMemory` where memory is refused before the first thread; `Spawn` where a thread can't be made;
 /// `Torn` where somebody met what he didn't await, or a queue could not be closed.
@@ -358,7 +358,7 @@ pub(crate) fn run_house_in<H: Hall + Send, R: Threads + Wait + Sync, I: Read + D
     crew: Crew,
     baskets: Baskets,
     bells: Vec<Sleeper>,
-    visits: &[Visit],
+    guests: &[Guest],
     sockets: &Sockets,
     stop: I,
 ) -> Result<(), ServeFault>
@@ -366,8 +366,8 @@ pub(crate) fn run_house_in<H: Hall + Send, R: Threads + Wait + Sync, I: Read + D
     requires depot { H.depot ≡ Some floor.depot }
     requires house { IsHouse floor (length floor.depot.channels.items) }
     requires some { (0 < length floor.depot.channels.items) × (0 < length floor.office.lanes.items) }
-    requires producers { workers + length visits.now ≡ length floor.depot.channels.items }
-    requires visits { vec_len bells ≡ length visits.now }
+    requires producers { workers + length guests.now ≡ length floor.depot.channels.items }
+    requires guests { vec_len bells ≡ length guests.now }
     requires crew { IsCrew floor (length floor.depot.channels.items) crew }
     requires baskets { AreBaskets (length floor.depot.channels.items) (length floor.office.lanes.items) baskets }
     ensures { (fault : ConfigFault) → result ≢ Err (ServeFault.Config fault) }
@@ -380,7 +380,7 @@ pub(crate) fn run_house_in<H: Hall + Send, R: Threads + Wait + Sync, I: Read + D
         unmanned,
     } = crew;
     unmanned.destroy_empty();
-    let (shards, berths) = (floor.office.lanes.len(), visits.len());
+    let (shards, berths) = (floor.office.lanes.len(), guests.len());
     let Ok(rooms) = make_rooms::<H>(floor.alloc, shards, workers, berths) else {
         return Err(give_up(floor, worked, consumed, stands, posts, baskets));
     };
@@ -394,7 +394,7 @@ pub(crate) fn run_house_in<H: Hall + Send, R: Threads + Wait + Sync, I: Read + D
         rt,
         &floor,
         &staff.clerks,
-        visits,
+        guests,
         sockets,
         equipment,
         bells,

@@ -17,7 +17,7 @@ use crate::run::run_house_in;
 use crate::sockets::{Sockets, open_sockets};
 use envelope::Directory;
 use house::{Config, ConfigFault, directory_of};
-use house_floor::{Opened, Sizes, Visit, open};
+use house_floor::{Guest, Opened, Sizes, open};
 use line_io::{Sink, send};
 use mailbox::{History, Limits};
 use std::alloc::Global;
@@ -70,7 +70,7 @@ fn sizes_of(config: &Config, berths: usize) -> Sizes<'_>
 // Whom a server is for: the directory of its users, and the berths of their sessions.
 struct Layout {
     directory: Directory,
-    visits: Vec<Visit>,
+    guests: Vec<Guest>,
 }
 
 // What these settings lay out. Errors: `Config` of their first fault, and `NoMemory`.
@@ -78,17 +78,17 @@ fn lay_out(alloc: Global, config: &Config) -> Result<Layout, ServeFault>
     requires range { IsInRange config.now }
     ensures directory { IfOk result (λ l. l.directory ≡ (setup_of config.now).directory) }
     ensures host { IfOk result (λ l. length config.now.host.items < 256) }
-    ensures named { IfOk result (λ l. All (λ v. user_numbered v.user l.directory.homes ≢ None) l.visits.items) }
-    ensures few { IfOk result (λ l. config.now.workers + vec_len l.visits ≤ 255) }
+    ensures named { IfOk result (λ l. All (λ v. user_numbered v.user l.directory.homes ≢ None) l.guests.items) }
+    ensures few { IfOk result (λ l. config.now.workers + vec_len l.guests ≤ 255) }
     ensures right { IfOk result (λ l. server_fault config.now ≡ None) }
     ensures wrong { (fault : ConfigFault) → result ≡ Err (ServeFault.Config fault) → server_fault config.now ≡ Some fault }
 {
     let directory = directory_of(alloc, config)?;
-    let visits = berths_for(alloc, &directory, config.sessions)?;
-    if MOST_PRODUCERS < usize::from(config.workers) + visits.len() {
+    let guests = berths_for(alloc, &directory, config.sessions)?;
+    if MOST_PRODUCERS < usize::from(config.workers) + guests.len() {
         return Err(ServeFault::Config(ConfigFault::TooMany));
     }
-    Ok(Layout { directory, visits })
+    Ok(Layout { directory, guests })
 }
 
 // Listens on the ports of these settings, and says so on `output`, in a line for each. Errors: `Device` and `NoMemory`.
@@ -158,7 +158,7 @@ pub fn serve<
     ensures all { OnOk result (Appends (W.taken output.old) (W.taken output.new)
         (announcement config.now.lmtp_port config.now.imap_port (setup_of config.now).directory.homes uidvalidity)) }
 {
-    let Layout { directory, visits } = lay_out(alloc, config)?;
+    let Layout { directory, guests } = lay_out(alloc, config)?;
     let sockets = listen_and_tell(rt, alloc, config, &directory, uidvalidity, output)?;
     let Opened {
         floor,
@@ -168,11 +168,11 @@ pub fn serve<
     } = open(
         alloc,
         directory,
-        sizes_of(config, visits.len()),
-        visits.as_slice(),
+        sizes_of(config, guests.len()),
+        guests.as_slice(),
     )?;
     let workers = usize::from(config.workers);
     run_house_in::<Brand, R, &mut I>(
-        rt, floor, workers, crew, baskets, sleepers, &visits, &sockets, stop,
+        rt, floor, workers, crew, baskets, sleepers, &guests, &sockets, stop,
     )
 }

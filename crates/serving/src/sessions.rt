@@ -12,13 +12,13 @@ use crate::parcels::packed;
 use crate::sockets::Sockets;
 use clerks::{Clerk, Clerks, Hall, Unhindered};
 use courier::Courier;
-use house_floor::{Floor, Post, Visit, inbox_numbered};
+use house_floor::{Floor, Guest, Post, inbox_numbered};
 use house_session::folders_of;
 use house_threads::most_of;
-use imap_stream::{Berth, Hush, Visit as ClientVisit};
+use imap_stream::{Berth, Hush, Visit};
 use lane_work::{Desk, LaneCourier, Summons, Unkept, end_all};
 use line_io::Watched;
-use loopback::{Patience, Slot, prepare};
+use loopback::{Grip, Patience, prepare};
 use pace::{Actor, Pace};
 use serving_workers::{Door, Hired, Served, Serves};
 use session_bells::Sleeper;
@@ -37,12 +37,12 @@ pub(crate) type ClientBerth<'a, R> = Berth<'a, R, Unhindered, Watched<TcpStream>
 // the next one only when that visit was taken out: see `answer_clients`.
 #[derive(Drop)]
 struct AtHand<'s> {
-    slot: &'s Slot,
+    grip: &'s Grip,
 }
 
 impl Hush for AtHand<'_> {
     fn hush<R: Wait>(&self, rt: &R) {
-        self.slot.hush(rt);
+        self.grip.hush(rt);
     }
 }
 
@@ -53,7 +53,7 @@ pub(crate) struct Gateway<'s> {
     /// Set once the house stops.
     pub(crate) stop: &'s AtomicBool,
     /// For the connection that the berth's thread has at hand.
-    pub(crate) slot: &'s Slot,
+    pub(crate) grip: &'s Grip,
     /// The berth's number among all of the house, from 0.
     pub(crate) session: u8,
     /// The number of its user.
@@ -68,7 +68,7 @@ fn open_visit<'a, R: Wait>(
     session: u8,
     user: u8,
     stream: &TcpStream,
-) -> Option<ClientVisit<'a, R, Unhindered, Watched<TcpStream>>> {
+) -> Option<Visit<'a, R, Unhindered, Watched<TcpStream>>> {
     let directory = &floor.office.directory;
     let inbox = inbox_numbered(directory, user)?;
     let bells = floor.depot.sessions.get(usize::from(inbox))?;
@@ -76,7 +76,7 @@ fn open_visit<'a, R: Wait>(
     let output = Watched::new(stream.try_clone().ok()?);
     let store = LockedStore::new(rt, gate, session, &floor.depot.mailboxes, bells);
     let most = Some(most_of(floor.office.max_message));
-    ClientVisit::open(rt, floor.alloc, store, folders, most, output).ok()
+    Visit::open(rt, floor.alloc, store, folders, most, output).ok()
 }
 
 // One client, from the greeting to its end.
@@ -131,11 +131,11 @@ fn receive<'a, R: Wait, C: Courier>(
     ensures ready { C.ready courier.new }
     ensures kept { (first : C) → C.kept first courier.old → C.kept first courier.new }
 {
-    if gateway.slot.hold(rt, stream) && !door.is_shut() {
+    if gateway.grip.hold(rt, stream) && !door.is_shut() {
         serve_client(rt, floor, gate, berth, courier, gateway, stream, buffer);
         door.part(stream, buffer);
     }
-    gateway.slot.clear(rt);
+    gateway.grip.clear(rt);
 }
 
 // One client after another, until the house stops, or something came that wasn't the verdict on a message: then nobody is served any more.
@@ -187,7 +187,7 @@ fn attend_there<'a, 'g, H: Hall, R: Wait>(
     number: u8,
     sockets: &'g Sockets,
     stop: &'g AtomicBool,
-    slot: &'g Slot,
+    grip: &'g Grip,
     session: u8,
     user: u8,
     post: ManuallyDrop<Post>,
@@ -203,7 +203,7 @@ fn attend_there<'a, 'g, H: Hall, R: Wait>(
     let gateway = Gateway {
         sockets,
         stop,
-        slot,
+        grip,
         session,
         user,
     };
@@ -260,9 +260,9 @@ fn watch_clients<'a, R: Wait>(
     berth: &ClientBerth<'a, R>,
     bell: &Sleeper,
     stop: &AtomicBool,
-    slot: &Slot,
+    grip: &Grip,
 ) {
-    berth.keep_watch(rt, bell, stop, &AtHand { slot });
+    berth.keep_watch(rt, bell, stop, &AtHand { grip });
 }
 
 // Starts the thread of a berth that answers. Where none can be made the house's mark has to be set before what came of it can be had: so
@@ -290,13 +290,13 @@ fn start_answering<'s, E, H: Hall + Send, R: Threads + Wait + Sync>(
     let Gateway {
         sockets,
         stop,
-        slot,
+        grip,
         session,
         user,
     } = gateway;
     match scope.spawn_with(Serves { floor, number }, move || {
         attend_there::<H, R>(
-            rt, floor, clerks, gate, berth, number, sockets, stop, slot, session, user, parcel,
+            rt, floor, clerks, gate, berth, number, sockets, stop, grip, session, user, parcel,
             buffer,
         )
     }) {
@@ -317,8 +317,8 @@ fn start_watching<'s, E, R: Threads + Wait + Sync>(
     gateway: Gateway<'s>,
     bell: Sleeper,
 ) -> bool {
-    let (stop, slot) = (gateway.stop, gateway.slot);
-    let watches = scope.spawn(move || watch_clients(rt, &berth, &bell, stop, slot));
+    let (stop, grip) = (gateway.stop, gateway.grip);
+    let watches = scope.spawn(move || watch_clients(rt, &berth, &bell, stop, grip));
     watches.is_ok()
 }
 
@@ -338,10 +338,10 @@ pub(crate) fn start_berths<'s, E, H: Hall + Send, R: Threads + Wait + Sync>(
     floor: &'s Floor,
     clerks: &'s [Mutex<Clerk<H>>],
     gate: &'s Unhindered,
-    visits: &'s [Visit],
+    guests: &'s [Guest],
     sockets: &'s Sockets,
     stop: &'s AtomicBool,
-    slots: &'s [Slot],
+    grips: &'s [Grip],
     mut furnishings: Furnishings<'s, R>,
     mut posts: Vec<Post>,
     mut hired: Vec<Hired<'s>>,
@@ -349,24 +349,24 @@ pub(crate) fn start_berths<'s, E, H: Hall + Send, R: Threads + Wait + Sync>(
     requires lanes { H.lanes ≡ Some floor.now.office.lanes.items }
     requires depot { H.depot ≡ Some floor.now.depot }
     requires house { IsHouse floor.now (length floor.now.depot.channels.items) }
-    requires berths { vec_len furnishings.berths ≡ length visits.now }
-    requires slots { length slots.now ≡ length visits.now }
-    requires bells { vec_len furnishings.bells ≡ length visits.now }
-    requires buffers { vec_len furnishings.buffers ≡ length visits.now }
-    requires posts { AllAt (IsPost floor.now) (vec_len hired) posts.items × (vec_len posts ≡ length visits.now) }
-    requires all { vec_len hired + length visits.now ≡ length floor.now.depot.channels.items }
+    requires berths { vec_len furnishings.berths ≡ length guests.now }
+    requires grips { length grips.now ≡ length guests.now }
+    requires bells { vec_len furnishings.bells ≡ length guests.now }
+    requires buffers { vec_len furnishings.buffers ≡ length guests.now }
+    requires posts { AllAt (IsPost floor.now) (vec_len hired) posts.items × (vec_len posts ≡ length guests.now) }
+    requires all { vec_len hired + length guests.now ≡ length floor.now.depot.channels.items }
     requires hired { AllAt (IsHired floor.now) 0 hired.items × (length floor.now.depot.channels.items ≤ vec_capacity hired) }
     ensures hired { AllAt (IsHired floor.now) 0 result.0.items }
     ensures count { vec_len result.0 ≡ length floor.now.depot.channels.items }
 {
     let mut all = true;
-    for berth in 0..visits.len() {
+    for berth in 0..guests.len() {
         let gateway = Gateway {
             sockets,
             stop,
-            slot: &slots[berth],
+            grip: &grips[berth],
             session: berth as u8,
-            user: visits[berth].user,
+            user: guests[berth].user,
         };
         let SharedBerth { reader, watch } = furnishings.berths.remove(0);
         let (bell, buffer) = (furnishings.bells.remove(0), furnishings.buffers.remove(0));

@@ -2,7 +2,7 @@
 //! What a thread does then is its own matter.
 
 use crate::sockets::Sockets;
-use loopback::{Pause, Slot};
+use loopback::{Grip, Pause};
 use session_bells::SessionBell;
 use std::io::{ErrorKind, Read};
 use std::sync::Wait;
@@ -47,24 +47,24 @@ fn shut_listeners(sockets: &Sockets) {
 }
 
 // No thread hears its peer any more.
-fn hush_all<R: Wait>(rt: &R, slots: &[Slot]) {
-    for slot in slots {
-        slot.hush(rt);
+fn hush_all<R: Wait>(rt: &R, grips: &[Grip]) {
+    for grip in grips {
+        grip.hush(rt);
     }
 }
 
-fn cut_all<R: Wait>(rt: &R, slots: &[Slot]) {
-    for slot in slots {
-        slot.cut(rt);
+fn cut_all<R: Wait>(rt: &R, grips: &[Grip]) {
+    for grip in grips {
+        grip.cut(rt);
     }
 }
 
-fn are_empty<R: Wait>(rt: &R, slots: &[Slot]) -> bool {
-    slots.iter().all(|slot| slot.is_empty(rt))
+fn are_empty<R: Wait>(rt: &R, grips: &[Grip]) -> bool {
+    grips.iter().all(|grip| grip.is_empty(rt))
 }
 
 // Waits until no connection is at hand, or the grace is over.
-fn give_grace<R: Wait>(rt: &R, pause: &Pause, workers: &[Slot], berths: &[Slot]) {
+fn give_grace<R: Wait>(rt: &R, pause: &Pause, workers: &[Grip], berths: &[Grip]) {
     for _ in 0..GRACE {
         if are_empty(rt, workers) && are_empty(rt, berths) {
             return;
@@ -79,8 +79,8 @@ pub(crate) fn stop_all<R: Wait>(
     rt: &R,
     mark: &AtomicBool,
     sockets: &Sockets,
-    workers: &[Slot],
-    berths: &[Slot],
+    workers: &[Grip],
+    berths: &[Grip],
     bells: &[Vec<SessionBell>],
 ) {
     mark.store(true, Ordering::SeqCst);

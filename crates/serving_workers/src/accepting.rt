@@ -13,7 +13,7 @@ use house_floor::Post;
 use lane_work::{Desk, Office, Summons, Unkept, end_all};
 use line_io::Watched;
 use lmtp_stream::{TalkFault, converse};
-use loopback::{Patience, Slot, prepare};
+use loopback::{Grip, Patience, prepare};
 use pace::{Gate, Pace};
 use shard_queue::{Ended, ReceiverPermit, ReplyChannel};
 use std::alloc::Global;
@@ -101,7 +101,7 @@ fn attend<R: Wait, G: Gate, S: Summons>(
     desk: &mut Desk,
     serial: u64,
     door: &Door<'_>,
-    slot: &Slot,
+    grip: &Grip,
     stream: &TcpStream,
     buffers: &mut Buffers,
 ) -> bool
@@ -115,7 +115,7 @@ fn attend<R: Wait, G: Gate, S: Summons>(
     ensures number { desk.new.number ≡ desk.old.number }
     ensures room { length buffers.new.input.items ≡ length buffers.old.input.items }
 {
-    if !slot.hold(rt, stream) {
+    if !grip.hold(rt, stream) {
         return false;
     }
     let mut torn = false;
@@ -125,7 +125,7 @@ fn attend<R: Wait, G: Gate, S: Summons>(
         );
         door.part(stream, buffers.input.as_mut_slice());
     }
-    slot.clear(rt);
+    grip.clear(rt);
     torn
 }
 
@@ -140,7 +140,7 @@ fn serve_all<R: Wait, G: Gate, S: Summons>(
     channel: &ReplyChannel<Noted>,
     desk: &mut Desk,
     door: &Door<'_>,
-    slot: &Slot,
+    grip: &Grip,
     buffers: &mut Buffers,
 ) -> bool
     requires permits { AreInForce office.now.directory office.now.lanes.items desk.old.number desk.old.permits.items }
@@ -158,7 +158,7 @@ fn serve_all<R: Wait, G: Gate, S: Summons>(
             return false;
         };
         if attend(
-            rt, alloc, pace, office, summons, channel, desk, serial, door, slot, &stream, buffers,
+            rt, alloc, pace, office, summons, channel, desk, serial, door, grip, &stream, buffers,
         ) {
             return true;
         }
@@ -182,7 +182,7 @@ pub(crate) fn serve_until_stopped<R: Wait, G: Gate, S: Summons>(
     mut desk: Desk,
     room: Vec<Ended<Job>>,
     door: &Door<'_>,
-    slot: &Slot,
+    grip: &Grip,
     mut buffers: Buffers,
 ) -> Served
     requires permits { AreInForce office.now.directory office.now.lanes.items desk.number desk.permits.items }
@@ -203,7 +203,7 @@ pub(crate) fn serve_until_stopped<R: Wait, G: Gate, S: Summons>(
         channel,
         &mut desk,
         door,
-        slot,
+        grip,
         &mut buffers,
     );
     let Desk {

@@ -11,7 +11,7 @@ use crate::door::Door;
 use crate::parcels::packed;
 use clerks::{Clerk, Clerks, Hall, Unhindered};
 use house_floor::{Floor, Post};
-use loopback::{Listening, Pause, Slot};
+use loopback::{Grip, Listening, Pause};
 use pace::{Actor, Pace};
 use std::mem::ManuallyDrop;
 use std::sync::atomic::{AtomicBool, Ordering};
@@ -48,7 +48,7 @@ fn serve_there<H: Hall, R: Wait>(
     listening: &Listening,
     stop: &AtomicBool,
     pause: &Pause,
-    slot: &Slot,
+    grip: &Grip,
     number: u8,
     post: ManuallyDrop<Post>,
     buffers: Buffers,
@@ -80,7 +80,7 @@ fn serve_there<H: Hall, R: Wait>(
         desk,
         room,
         &door,
-        slot,
+        grip,
         buffers,
     ))
 }
@@ -95,7 +95,7 @@ fn start_worker<'s, E, H: Hall + Send, R: Threads + Wait + Sync>(
     listening: &'s Listening,
     stop: &'s AtomicBool,
     pause: &'s Pause,
-    slot: &'s Slot,
+    grip: &'s Grip,
     number: u8,
     post: Post,
     buffers: Buffers,
@@ -111,7 +111,7 @@ fn start_worker<'s, E, H: Hall + Send, R: Threads + Wait + Sync>(
     let parcel = packed(post);
     match scope.spawn_with(Serves { floor, number }, move || {
         serve_there::<H, R>(
-            rt, floor, clerks, listening, stop, pause, slot, number, parcel, buffers,
+            rt, floor, clerks, listening, stop, pause, grip, number, parcel, buffers,
         )
     }) {
         Ok(child) => Hired::There(child),
@@ -132,7 +132,7 @@ fn start_next<'s, E, H: Hall + Send, R: Threads + Wait + Sync>(
     listening: &'s Listening,
     stop: &'s AtomicBool,
     pause: &'s Pause,
-    slot: &'s Slot,
+    grip: &'s Grip,
     number: u8,
     posts: &mut Vec<Post>,
     buffers: &mut Vec<Buffers>,
@@ -154,7 +154,7 @@ fn start_next<'s, E, H: Hall + Send, R: Threads + Wait + Sync>(
     let post = posts.remove(0);
     let own = buffers.remove(0);
     let one = start_worker(
-        scope, rt, floor, clerks, listening, stop, pause, slot, number, post, own,
+        scope, rt, floor, clerks, listening, stop, pause, grip, number, post, own,
     );
     let is_there = matches!(one, Hired::There(_));
     hired.push_reserved(one);
@@ -168,7 +168,7 @@ pub struct Begun<'a> {
     pub all: bool,
 }
 
-/// Starts a thread for each worker, a slot for each, in their order, with the first of these posts. The others are given back, and so is
+/// Starts a thread for each worker, a grip for each, in their order, with the first of these posts. The others are given back, and so is
 /// the list of threads, in which there is room for all posts. Where a thread can't be made the house's mark is set, and no worker from
 /// there on serves anybody.
 pub fn start_workers<'s, E, H: Hall + Send, R: Threads + Wait + Sync>(
@@ -179,7 +179,7 @@ pub fn start_workers<'s, E, H: Hall + Send, R: Threads + Wait + Sync>(
     listening: &'s Listening,
     stop: &'s AtomicBool,
     pause: &'s Pause,
-    slots: &'s [Slot],
+    grips: &'s [Grip],
     mut posts: Vec<Post>,
     mut buffers: Vec<Buffers>,
     mut hired: Vec<Hired<'s>>,
@@ -187,18 +187,18 @@ pub fn start_workers<'s, E, H: Hall + Send, R: Threads + Wait + Sync>(
     requires lanes { H.lanes ≡ Some floor.now.office.lanes.items }
     requires depot { H.depot ≡ Some floor.now.depot }
     requires house { IsHouse floor.now (length floor.now.depot.channels.items) }
-    requires slots { length slots.now ≤ length floor.now.depot.channels.items }
+    requires grips { length grips.now ≤ length floor.now.depot.channels.items }
     requires posts { AllAt (IsPost floor.now) 0 posts.items × (vec_len posts ≡ length floor.now.depot.channels.items) }
-    requires buffers { All (λ b. 0 < length b.input.items) buffers.items × (vec_len buffers ≡ length slots.now) }
+    requires buffers { All (λ b. 0 < length b.input.items) buffers.items × (vec_len buffers ≡ length grips.now) }
     requires room { (hired.items ≡ []) × (length floor.now.depot.channels.items ≤ vec_capacity hired) }
     ensures hired { AllAt (IsHired floor.now) 0 result.hired.items }
-    ensures count { vec_len result.hired ≡ length slots.now }
+    ensures count { vec_len result.hired ≡ length grips.now }
     ensures room { length floor.now.depot.channels.items ≤ vec_capacity result.hired }
-    ensures posts { AllAt (IsPost floor.now) (length slots.now) result.posts.items }
-    ensures others { vec_len result.posts + length slots.now ≡ length floor.now.depot.channels.items }
+    ensures posts { AllAt (IsPost floor.now) (length grips.now) result.posts.items }
+    ensures others { vec_len result.posts + length grips.now ≡ length floor.now.depot.channels.items }
 {
     let mut all = true;
-    for position in 0..slots.len() {
+    for position in 0..grips.len() {
         let is_there = start_next(
             scope,
             rt,
@@ -207,7 +207,7 @@ pub fn start_workers<'s, E, H: Hall + Send, R: Threads + Wait + Sync>(
             listening,
             stop,
             pause,
-            &slots[position],
+            &grips[position],
             position as u8,
             &mut posts,
             &mut buffers,

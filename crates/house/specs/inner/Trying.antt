@@ -7,7 +7,7 @@ use Rattle.house.specs.declared.event.Event.TheVariants.{Bytes, Vanish, Put, Tak
 use Rattle.house.specs.Effort.{effort}
 use Rattle.house.specs.Setup.{Setup}
 use Rattle.house.specs.Scene.{HasNothing, Scene}
-use Rattle.house.specs.Settling.{InTurn, Tries, Visit, Visits, ends_on}
+use Rattle.house.specs.Settling.{InTurn, Tries, Stint, Stints, ends_on}
 use Rattle.house.specs.Settled.{HappenedFrom}
 use Rattle.house.specs.Stands.{StandsFor}
 use Rattle.house.specs.House.{House}
@@ -44,7 +44,7 @@ IsAmong k (Deliver shard) = shard < k.config.shards
 IsAmong k (Answer shard) = shard < k.config.shards
 IsAmong k (Hear connection) = (0 < connection) × (connection ≤ k.config.seats)
 
--- the visits of a round: each seat ends on each shard that is shut, each connection puts, each shard that isn't held serves, each connection hears
+-- the stints of a round: each seat ends on each shard that is shut, each connection puts, each shard that isn't held serves, each connection hears
 abbrev pub ends : (seats shard : ℕ) → List (List Event)
 ends seats shard = map (λ n. End n shard ∷ []) (range_with_len 1 seats)
 
@@ -65,7 +65,7 @@ serves held shards = map (λ s. Take s ∷ Deliver s ∷ Answer s ∷ []) (filte
 abbrev pub hears : ℕ → List (List Event)
 hears seats = map (λ n. Hear n ∷ []) (range_with_len 1 seats)
 
--- the visits of one shard: none where it is held
+-- the stints of one shard: none where it is held
 abbrev pub serve : ℕ → Bool → List (List Event)
 serve shard true = []
 serve shard false = (Take shard ∷ Deliver shard ∷ Answer shard ∷ []) ∷ []
@@ -106,21 +106,21 @@ abbrev pub Came : {E : Type 0} → (Setup → Type 0) → (Setup → Scene → S
 Came Q P I before old h new (Ok moved) = Did Q P I before old h new moved
 Came Q P I before old h new (Err e) = Wants Q before old h new
 
--- what came of trying an event, some events in turn, and a visit
+-- what came of trying an event, some events in turn, and a stint
 abbrev pub CameOne : {E : Type 0} → Event → House → List ℕ → House → List ℕ → Result Bool E → Type 0
 CameOne event before old h new r = Came (λ k. IsAmong k event) (λ k s t printed. Tries k s event t printed) (λ k s. HasNothing k s event) before old h new r
 
 abbrev pub CameInTurn : {E : Type 0} → List Event → House → List ℕ → House → List ℕ → Result Bool E → Type 0
 CameInTurn group before old h new r = Came (λ k. All (IsAmong k) group) (λ k s t printed. InTurn k group s t printed) (λ k s. All (HasNothing k s) group) before old h new r
 
-abbrev pub CameVisit : {E : Type 0} → List Event → House → List ℕ → House → List ℕ → Result Bool E → Type 0
-CameVisit group before old h new r = Came (λ k. All (IsAmong k) group) (λ k s t printed. Visit k group s t printed) (λ k s. All (HasNothing k s) group) before old h new r
+abbrev pub CameStint : {E : Type 0} → List Event → House → List ℕ → House → List ℕ → Result Bool E → Type 0
+CameStint group before old h new r = Came (λ k. All (IsAmong k) group) (λ k s t printed. Stint k group s t printed) (λ k s. All (HasNothing k s) group) before old h new r
 
--- what came of visits one after another
-abbrev pub DidVisits : (Setup → Type 0) → (Setup → List (List Event)) → House → List ℕ → House → List ℕ → Bool → Type 0
-DidVisits Q groups before old h new moved =
-    Did Q (λ k s t printed. Visits k (groups k) s t printed) (λ k s. All (λ group. All (HasNothing k s) group) (groups k)) before old h new moved
+-- what came of stints one after another
+abbrev pub DidStints : (Setup → Type 0) → (Setup → List (List Event)) → House → List ℕ → House → List ℕ → Bool → Type 0
+DidStints Q groups before old h new moved =
+    Did Q (λ k s t printed. Stints k (groups k) s t printed) (λ k s. All (λ group. All (HasNothing k s) group) (groups k)) before old h new moved
 
-abbrev pub CameVisits : {E : Type 0} → (Setup → Type 0) → (Setup → List (List Event)) → House → List ℕ → House → List ℕ → Result Bool E → Type 0
-CameVisits Q groups before old h new (Ok moved) = DidVisits Q groups before old h new moved
-CameVisits Q groups before old h new (Err e) = Wants Q before old h new
+abbrev pub CameStints : {E : Type 0} → (Setup → Type 0) → (Setup → List (List Event)) → House → List ℕ → House → List ℕ → Result Bool E → Type 0
+CameStints Q groups before old h new (Ok moved) = DidStints Q groups before old h new moved
+CameStints Q groups before old h new (Err e) = Wants Q before old h new

@@ -14,7 +14,7 @@ use Rattle.house_floor.specs.Opening.{AreNoSpares, AreSpares, reply_room}
 use Rattle.house_floor.specs.declared.bells.Bells.{Bells}
 use Rattle.house_floor.specs.declared.dealing.Undealt.{Undealt}
 use Rattle.house_floor.specs.declared.fittings.Fittings.{Fittings}
-use Rattle.house_floor.specs.declared.fittings.Hall.{Hall}
+use Rattle.house_floor.specs.declared.fittings.Interior.{Interior}
 use Rattle.house_floor.specs.declared.fittings.Papers.{Papers}
 use Rattle.house_floor.specs.declared.opening.Sizes.{Sizes}
 use Rattle.house_floor.specs.declared.stock.CrewLists.{CrewLists}
@@ -38,7 +38,7 @@ pub record ArePapers (producers shards : ℕ) (p : Papers) : Type 0 where
   pub channels : (p.channels.items ≡ []) × (producers ≤ vec_capacity p.channels)
 
 -- what the floor is made of beside the queues, for a house with this directory and of these sizes
-pub record IsHall (directory : Directory) (sizes : Sizes) (h : Hall) : Type 0 where
+pub record IsHall (directory : Directory) (sizes : Sizes) (h : Interior) : Type 0 where
   pub host : h.host.items ≡ sizes.host.now
   pub closings : map (λ c. c.items) h.closings.items ≡ map (λ c. c.items) sizes.closings.now
   pub mailboxes : vec_len h.mailboxes ≡ length directory.homes
@@ -47,7 +47,7 @@ pub record IsHall (directory : Directory) (sizes : Sizes) (h : Hall) : Type 0 wh
 
 -- what may be let go of it
 pub record AreFittings (directory : Directory) (sizes : Sizes) (f : Fittings) : Type 0 where
-  pub hall : IsHall directory sizes f.hall
+  pub interior : IsHall directory sizes f.interior
   pub parkers : vec_len f.parkers ≡ directory.shards
   pub papers : ArePapers sizes.producers directory.shards f.papers
 

@@ -2,7 +2,7 @@
 use Rattle.std.specs.Prelude.{◌≡◌, ℕ, List, Some, length, map}
 use Rattle.std.specs.Mem.{manually_drop_value}
 use Rattle.house_floor.specs.declared.floor.Floor.{Floor}
-use Rattle.house_floor.specs.declared.floor.Visit.{Visit}
+use Rattle.house_floor.specs.declared.floor.Guest.{Guest}
 use Rattle.house_threads.specs.declared.producers.Produces.{Produces}
 use Rattle.house_threads.specs.declared.producers.Hired.{Hired}
 use Rattle.house_threads.specs.declared.producers.Hired.TheVariants.{There, Here}
@@ -27,16 +27,16 @@ use Rattle.house_threads.specs.Crew.{Plans, IsProduceOf, IsServiceOf, SessionAcc
 -- ---- promises
 
 -- this promise is producer n's, consumer n's
-abbrev pub IsProduces : Floor → Plans → List Visit → ℕ → Produces → Type 0
-IsProduces floor plans visits n p = (p.floor.now ≡ floor) × (p.plans.now ≡ plans) × (p.visits.now ≡ visits) × (p.number ≡ n)
+abbrev pub IsProduces : Floor → Plans → List Guest → ℕ → Produces → Type 0
+IsProduces floor plans guests n p = (p.floor.now ≡ floor) × (p.plans.now ≡ plans) × (p.guests.now ≡ guests) × (p.number ≡ n)
 
 abbrev pub IsServes : Floor → ℕ → Serves → Type 0
 IsServes floor n p = (p.floor.now ≡ floor) × (p.shard ≡ n)
 
 -- its thread will leave what producer n is to leave, or that is there
-abbrev pub IsHired : Floor → Plans → List Visit → ℕ → Hired → Type 0
-IsHired floor plans visits n (There h) = IsProduces floor plans visits n h.promise
-IsHired floor plans visits n (Here w) = IsProduceOf floor plans visits n (manually_drop_value w)
+abbrev pub IsHired : Floor → Plans → List Guest → ℕ → Hired → Type 0
+IsHired floor plans guests n (There h) = IsProduces floor plans guests n h.promise
+IsHired floor plans guests n (Here w) = IsProduceOf floor plans guests n (manually_drop_value w)
 
 abbrev pub IsKept : Floor → ℕ → Kept → Type 0
 IsKept floor n (kept.There h) = IsServes floor n h.promise
@@ -45,13 +45,13 @@ IsKept floor n (kept.Here c) = IsServiceOf floor n (manually_drop_value c)
 -- ---- a session
 
 -- the session that had this selection, of a user with this name, lived through these steps, and said this
-pub record HasLived (floor : Floor) (user : List ℕ) (selection : LockedStore) (visit : Visit) (carried : List Carried) (text : List ℕ) : Type 0 where
+pub record HasLived (floor : Floor) (user : List ℕ) (selection : LockedStore) (guest : Guest) (carried : List Carried) (text : List ℕ) : Type 0 where
   pub last : Moment
-  pub lives : Lives floor.turns (greeted_at (Some (most_of floor.office.max_message)) (folders_of floor.office.directory user) selection greeting) visit.steps.items carried last
+  pub lives : Lives floor.turns (greeted_at (Some (most_of floor.office.max_message)) (folders_of floor.office.directory user) selection greeting) guest.steps.items carried last
   pub wrote : text ≡ last.text
 
 -- What a session leaves: its ended permits are its own on each lane, its receiver is of its channel, and where it made all its steps, this is its account of them.
-abbrev pub IsAttended : Floor → ReplyChannel Noted → ℕ → Visit → Worked → Type 0
-IsAttended floor channel seat visit w =
+abbrev pub IsAttended : Floor → ReplyChannel Noted → ℕ → Guest → Worked → Type 0
+IsAttended floor channel seat guest w =
     AreEnded floor.office.lanes.items seat w.ended.items × IsReceiver channel w.receiver × (w.log.seat ≡ seat)
-    × (w.fate ≡ Whole → SessionAccount (premises_of floor.office) (length floor.depot.mailboxes.items) floor.turns seat visit (map (λ b. b.items) w.replies.items) w.log.notes (received w.receiver) (map said w.ended.items))
+    × (w.fate ≡ Whole → SessionAccount (premises_of floor.office) (length floor.depot.mailboxes.items) floor.turns seat guest (map (λ b. b.items) w.replies.items) w.log.notes (received w.receiver) (map said w.ended.items))

@@ -11,11 +11,11 @@ loop-one-preserved g c =
     let v = c.loop-one.invariant in
     let floor = c.args.floor.now in
     let plans = c.args.plans.now in
-    let visits = c.args.visits.now in
+    let guests = c.args.guests.now in
     let first : into_iter_items c.loop-one.one-iterator ≡ c.in-Some.one ∷ into_iter_items c.next.new.self = search rules in
-    let f = head_at (IsHired floor plans visits) (vec_len c.loop-one.worked) (into_iter_items c.loop-one.one-iterator) (into_iter_items c.next.new.self) c.in-Some.one first v.0 in (
-      subst (λ n. AllAt (IsHired floor plans visits) n (into_iter_items c.next.new.self)) (sym c.push_reserved.ensures.len) f.1,
+    let f = head_at (IsHired floor plans guests) (vec_len c.loop-one.worked) (into_iter_items c.loop-one.one-iterator) (into_iter_items c.next.new.self) c.in-Some.one first v.0 in (
+      subst (λ n. AllAt (IsHired floor plans guests) n (into_iter_items c.next.new.self)) (sym c.push_reserved.ensures.len) f.1,
       search rules,
       search rules,
-      more_at (IsProduceOf floor plans visits) 0 c.loop-one.worked.items c.push_reserved.new.self.items c.join_producer.result (vec_len c.loop-one.worked) c.push_reserved.ensures.items v.3 (omega (arith, c.loop-one.worked.ok.0)) (c.join_producer.ensures (vec_len c.loop-one.worked) f.0),
+      more_at (IsProduceOf floor plans guests) 0 c.loop-one.worked.items c.push_reserved.new.self.items c.join_producer.result (vec_len c.loop-one.worked) c.push_reserved.ensures.items v.3 (omega (arith, c.loop-one.worked.ok.0)) (c.join_producer.ensures (vec_len c.loop-one.worked) f.0),
     )

@@ -7,6 +7,6 @@ use Rattle.house_threads.proofs.producers.join_producers.Given as goal
 
 abbrev pub invariant-loop-one : goal.invariant-loop-one
 invariant-loop-one g l =
-    AllAt (IsHired l.floor l.plans l.visits) (vec_len l.worked) (into_iter_items l.one-iterator)
+    AllAt (IsHired l.floor l.plans l.guests) (vec_len l.worked) (into_iter_items l.one-iterator)
     × (into_iter_len l.one-iterator + vec_len l.worked ≡ vec_len l.fn.hired) × (vec_len l.fn.hired ≤ vec_capacity l.worked)
-    × AllAt (IsProduceOf l.floor l.plans l.visits) 0 l.worked.items
+    × AllAt (IsProduceOf l.floor l.plans l.guests) 0 l.worked.items

@@ -8,5 +8,5 @@ returns-then-load-from g c =
     let floor = c.args.floor.now in
     let is : IsPost floor c.args.number c.into_inner-post.result = subst (IsPost floor c.args.number) (sym c.into_inner-post.ensures) c.requires.post in
     let down = c.stand_down.ensures in
-    stood_down floor c.args.plans.now c.args.visits.now c.args.number c.into_inner-post.result.desk.number c.into_inner-post.result.desk.receiver c.stand_down.result _ is.number c.packed.ensures
+    stood_down floor c.args.plans.now c.args.guests.now c.args.number c.into_inner-post.result.desk.number c.into_inner-post.result.desk.receiver c.stand_down.result _ is.number c.packed.ensures
     down.permits down.receiver down.log down.fate is.receiver

@@ -9,13 +9,13 @@ loop-position-preserved g c =
     let v = c.loop-position.invariant in
     let floor = c.args.floor.now in
     let plans = c.args.plans.now in
-    let visits = c.args.visits.now in
+    let guests = c.args.guests.now in
     let some : 0 < length c.loop-position.posts.items = omega (arith, v.1, c.loop-position-test.true, c.loop-position.posts.ok.0) in
     let f = first_at (IsPost floor) c.loop-position.position c.loop-position.posts.items c.remove-post.new.self.items c.remove-post.result some c.remove-post.ensures.value c.remove-post.ensures.items v.0 in
     let at : c.loop-position.position ≡ 0 + length c.loop-position.hired.items = omega (arith, v.3, c.loop-position.hired.ok.0) in (
       f.1,
       search rules,
-      more_at (IsHired floor plans visits) 0 c.loop-position.hired.items c.push_reserved.new.self.items c.start_producer-one.result c.loop-position.position c.push_reserved.ensures.items v.2 at c.start_producer-one.ensures,
+      more_at (IsHired floor plans guests) 0 c.loop-position.hired.items c.push_reserved.new.self.items c.start_producer-one.result c.loop-position.position c.push_reserved.ensures.items v.2 at c.start_producer-one.ensures,
       c.push_reserved.ensures.len ∙ search rules,
       search rules,
     )

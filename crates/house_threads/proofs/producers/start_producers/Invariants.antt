@@ -5,5 +5,5 @@ use Rattle.house_threads.proofs.producers.start_producers.Given as goal
 
 abbrev pub invariant-loop-position : goal.invariant-loop-position
 invariant-loop-position g l =
-    AllAt (IsPost l.floor) l.position l.posts.items × (vec_len l.posts + l.position ≡ length l.plans + length l.visits)
-    × AllAt (IsHired l.floor l.plans l.visits) 0 l.hired.items × (vec_len l.hired ≡ l.position) × (length l.plans + length l.visits ≤ vec_capacity l.hired)
+    AllAt (IsPost l.floor) l.position l.posts.items × (vec_len l.posts + l.position ≡ length l.plans + length l.guests)
+    × AllAt (IsHired l.floor l.plans l.guests) 0 l.hired.items × (vec_len l.hired ≡ l.position) × (length l.plans + length l.guests ≤ vec_capacity l.hired)

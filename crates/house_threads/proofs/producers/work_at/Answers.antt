@@ -18,6 +18,6 @@ pub returns : goal.returns
 returns g c =
     let floor = c.args.floor.now in
     let same : c.from-position.result ≡ c.args.number = search rules in
-    work_of floor c.args.plans.now c.args.visits.now c.from-position.result c.args.number c.args.post.desk.number c.index.result.now c.index-plans-position.result
+    work_of floor c.args.plans.now c.args.guests.now c.from-position.result c.args.number c.args.post.desk.number c.index.result.now c.index-plans-position.result
     c.as_slice.result.now c.work.result same c.requires.number c.requires.post.number (c.as_slice.ensures.value ∙ ap (λ (v : Vec (Vec ℕ Global) Global). v.items) c.index-plans-position.is)
     (subst (λ (x : ReplyChannel Noted). IsWorked floor.office x c.args.post.desk.number (map (λ b. b.items) c.as_slice.result.now) c.work.result) c.index.ensures c.work.ensures.worked)

@@ -6,7 +6,7 @@ use Rattle.house_threads.proofs.run.in_scope.Goals as goal
 pub returns-in_default-clause-left : goal.returns-in_default-clause-left
 returns-in_default-clause-left g c =
     let floor = c.args.floor.now in
-    let producers = length c.args.plans.now + length c.args.visits.now in
+    let producers = length c.args.plans.now + length c.args.guests.now in
     let crew = c.into_inner-stands.result in
     let is : IsCrew floor producers crew = subst (IsCrew floor producers) (sym c.into_inner-stands.ensures) c.requires.crew in
     let no_work : length crew.worked.items ≡ 0 = ap length is.worked.0 in

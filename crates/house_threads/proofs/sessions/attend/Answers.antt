@@ -27,9 +27,9 @@ returns g c =
       ap (λ (b : WorkerLog). b.seat) end.kept.0 ∙ life.book ∙ c.new.ensures.seat,
       λ whole.
           let lived = life.whole (end.whole whole) in
-          let named = user_named directory.homes c.in-Some.inbox c.args.visit.now.user c.user_of-user.result.now (search rules) c.in-Some.ensures.inbox.1 c.user_of-user.ensures in
+          let named = user_named directory.homes c.in-Some.inbox c.args.guest.now.user c.user_of-user.result.now (search rules) c.in-Some.ensures.inbox.1 c.user_of-user.ensures in
           let said_alone = ap (λ (v : Vec (Vec ℕ Global) Global). map (λ b. b.items) v.items) end.kept.1 ∙ lived.2.2 in
-          session_account floor now.office.now now.desk seat now.serial c.args.visit.now c.user_of-user.result.now c.new-locked.result lived.0 lived.2.0 (map (λ b. b.items) left.replies.items) now.book.notes left.log.notes
+          session_account floor now.office.now now.desk seat now.serial c.args.guest.now c.user_of-user.result.now c.new-locked.result lived.0 lived.2.0 (map (λ b. b.items) left.replies.items) now.book.notes left.log.notes
           (received left.receiver) (map said left.ended.items) life.same.0 own life.serial (ap (λ (b : WorkerLog). b.notes) end.kept.0) named (search rules) lived.2.1 said_alone
           (lived.1 [] begun) end.grew end.said,
     )

@@ -5,6 +5,6 @@ use Rattle.serving.proofs.berths.add_berths.Given as goal
 
 abbrev pub invariant-loop : goal.invariant-loop
 invariant-loop l =
-    (vec_len l.visits ≡ vec_len l.fn.visits + l.counter)
+    (vec_len l.guests ≡ vec_len l.fn.guests + l.counter)
     × ((homes : List Home) → user_numbered l.user homes ≢ None
-    → All (λ v. user_numbered v.user homes ≢ None) l.fn.visits.items → All (λ v. user_numbered v.user homes ≢ None) l.visits.items)
+    → All (λ v. user_numbered v.user homes ≢ None) l.fn.guests.items → All (λ v. user_numbered v.user homes ≢ None) l.guests.items)

@@ -3,7 +3,7 @@ use Rattle.envelope.specs.Directory.{Directory, is_shut}
 use Rattle.house.specs.House.{House}
 use Rattle.house.specs.inner.Trying.{closes}
 use Rattle.house.proofs.Closing.{closes_step, closes_wants}
-use Rattle.house.proofs.Settlement.{shards_of, visits_as}
+use Rattle.house.proofs.Settlement.{shards_of, stints_as}
 use Rattle.house.proofs.house.House.close_all.Goals as goal
 
 pub returns-in_default-clause-came : goal.returns-in_default-clause-came
@@ -33,6 +33,6 @@ returns-clause-came c =
     let t = c.loop-shard-test.false in
     let u = c.loop-shard.auto.shard-end in
     let n : c.loop-shard.shard ≡ c.args.self.now.directory.shards = omega (arith, t, u, e, many) in
-    visits_as (λ k. k.config.shards ≡ c.args.self.now.directory.shards) (λ k. closes k.config.seats (is_shut c.args.self.now.directory) c.loop-shard.shard) (λ k. closes k.config.seats (is_shut c.args.self.now.directory) k.config.shards)
+    stints_as (λ k. k.config.shards ≡ c.args.self.now.directory.shards) (λ k. closes k.config.seats (is_shut c.args.self.now.directory) c.loop-shard.shard) (λ k. closes k.config.seats (is_shut c.args.self.now.directory) k.config.shards)
     c.args.self.now c.args.out.now.items c.loop-shard.self c.loop-shard.out.items c.loop-shard.moved
     (λ k s st. shards_of k s c.args.self.now st) (λ k q. ap (λ (x : ℕ). closes k.config.seats (is_shut c.args.self.now.directory) x) (n ∙ sym q)) c.loop-shard.invariant.1

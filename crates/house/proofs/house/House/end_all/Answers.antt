@@ -11,7 +11,7 @@ returns-in_default-clause-came c =
     let f = c.len-2.ensures in
     let t = c.loop-seat-test.true in
     let l : c.loop-seat.seat < (length c.args.self.now.callers + length c.args.self.now.visitors) = omega (arith, t, e, f, many, more) in
-    ends_wants ((length c.args.self.now.callers + length c.args.self.now.visitors)) c.loop-seat.seat c.args.shard c.args.self.now c.args.out.now.items c.loop-seat.self c.loop-seat.out.items c.visit.new.self c.visit.new.out.items c.loop-seat.moved
+    ends_wants ((length c.args.self.now.callers + length c.args.self.now.visitors)) c.loop-seat.seat c.args.shard c.args.self.now c.args.out.now.items c.loop-seat.self c.loop-seat.out.items c.stint.new.self c.stint.new.out.items c.loop-seat.moved
     l refl c.loop-seat.invariant.1 c.in_default.ensures.came
 
 pub loop-seat-preserved : goal.loop-seat-preserved
@@ -23,7 +23,7 @@ loop-seat-preserved c =
     let t = c.loop-seat-test.true in
     let l : c.loop-seat.seat < (length c.args.self.now.callers + length c.args.self.now.visitors) = omega (arith, t, e, f, many, more) in (
       c.in-Ok.ensures.marks ∙ c.loop-seat.invariant.0,
-      ends_step ((length c.args.self.now.callers + length c.args.self.now.visitors)) c.loop-seat.seat c.args.shard c.args.self.now c.args.out.now.items c.loop-seat.self c.loop-seat.out.items c.visit.new.self c.visit.new.out.items c.loop-seat.moved c.in-Ok.one
+      ends_step ((length c.args.self.now.callers + length c.args.self.now.visitors)) c.loop-seat.seat c.args.shard c.args.self.now c.args.out.now.items c.loop-seat.self c.loop-seat.out.items c.stint.new.self c.stint.new.out.items c.loop-seat.moved c.in-Ok.one
           l c.loop-seat.invariant.1 c.in-Ok.ensures.came,
     )
 

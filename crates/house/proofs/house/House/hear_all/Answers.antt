@@ -2,7 +2,7 @@ use Rattle.std.proofs.Common.{◌≡◌, ◌+◌, ◌<◌, ℕ, length, ap, sym,
 use Rattle.house.specs.declared.event.Event.TheVariants.{Hear}
 use Rattle.house.specs.House.{House}
 use Rattle.house.specs.inner.Trying.{hears}
-use Rattle.house.proofs.Settlement.{hear_among, seats_step, seats_wants, visits_as}
+use Rattle.house.proofs.Settlement.{hear_among, seats_step, seats_wants, stints_as}
 use Rattle.house.proofs.house.House.hear_all.Goals as goal
 
 pub returns-in_default-clause-came : goal.returns-in_default-clause-came
@@ -13,7 +13,7 @@ returns-in_default-clause-came c =
     let f = c.len-2.ensures in
     let t = c.loop-seat-test.true in
     let l : c.loop-seat.seat < (length c.args.self.now.callers + length c.args.self.now.visitors) = omega (arith, t, e, f, many, more) in
-    seats_wants (λ n. Hear n ∷ []) ((length c.args.self.now.callers + length c.args.self.now.visitors)) c.loop-seat.seat c.args.self.now c.args.out.now.items c.loop-seat.self c.loop-seat.out.items c.visit.new.self c.visit.new.out.items c.loop-seat.moved
+    seats_wants (λ n. Hear n ∷ []) ((length c.args.self.now.callers + length c.args.self.now.visitors)) c.loop-seat.seat c.args.self.now c.args.out.now.items c.loop-seat.self c.loop-seat.out.items c.stint.new.self c.stint.new.out.items c.loop-seat.moved
     (λ k q. hear_among k ((length c.args.self.now.callers + length c.args.self.now.visitors)) c.loop-seat.seat l q) refl c.loop-seat.invariant.1 c.in_default.ensures.came
 
 pub loop-seat-preserved : goal.loop-seat-preserved
@@ -25,7 +25,7 @@ loop-seat-preserved c =
     let t = c.loop-seat-test.true in
     let l : c.loop-seat.seat < (length c.args.self.now.callers + length c.args.self.now.visitors) = omega (arith, t, e, f, many, more) in (
       c.in-Ok.ensures.marks ∙ c.loop-seat.invariant.0,
-      seats_step (λ n. Hear n ∷ []) ((length c.args.self.now.callers + length c.args.self.now.visitors)) c.loop-seat.seat c.args.self.now c.args.out.now.items c.loop-seat.self c.loop-seat.out.items c.visit.new.self c.visit.new.out.items c.loop-seat.moved c.in-Ok.one
+      seats_step (λ n. Hear n ∷ []) ((length c.args.self.now.callers + length c.args.self.now.visitors)) c.loop-seat.seat c.args.self.now c.args.out.now.items c.loop-seat.self c.loop-seat.out.items c.stint.new.self c.stint.new.out.items c.loop-seat.moved c.in-Ok.one
           (λ k q. hear_among k ((length c.args.self.now.callers + length c.args.self.now.visitors)) c.loop-seat.seat l q) c.loop-seat.invariant.1 c.in-Ok.ensures.came,
     )
 
@@ -38,5 +38,5 @@ returns-clause-came c =
     let t = c.loop-seat-test.false in
     let u = c.loop-seat.auto.seat-end in
     let n : c.loop-seat.seat ≡ (length c.args.self.now.callers + length c.args.self.now.visitors) = omega (arith, t, u, e, f, many, more) in
-    visits_as (λ k. k.config.seats ≡ (length c.args.self.now.callers + length c.args.self.now.visitors)) (λ k. hears c.loop-seat.seat) (λ k. hears k.config.seats) c.args.self.now c.args.out.now.items c.loop-seat.self c.loop-seat.out.items c.loop-seat.moved
+    stints_as (λ k. k.config.seats ≡ (length c.args.self.now.callers + length c.args.self.now.visitors)) (λ k. hears c.loop-seat.seat) (λ k. hears k.config.seats) c.args.self.now c.args.out.now.items c.loop-seat.self c.loop-seat.out.items c.loop-seat.moved
     (λ k s st. sym st.seats) (λ k q. ap (λ (x : ℕ). hears x) (n ∙ sym q)) c.loop-seat.invariant.1

@@ -2,7 +2,7 @@ use Rattle.std.proofs.Common.{◌≡◌, ◌<◌, ℕ, ap, sym, ◌∙◌, arith
 use Rattle.house.specs.Settled.{is_held}
 use Rattle.house.specs.House.{House}
 use Rattle.house.specs.inner.Trying.{serves}
-use Rattle.house.proofs.Settlement.{shards_of, shards_step, shards_wants, visits_as}
+use Rattle.house.proofs.Settlement.{shards_of, shards_step, shards_wants, stints_as}
 use Rattle.house.proofs.house.House.serve_all.Goals as goal
 
 pub returns-in_default-clause-came : goal.returns-in_default-clause-came
@@ -32,6 +32,6 @@ returns-clause-came c =
     let t = c.loop-shard-test.false in
     let u = c.loop-shard.auto.shard-end in
     let n : c.loop-shard.shard ≡ c.args.self.now.directory.shards = omega (arith, t, u, e, many) in
-    visits_as (λ k. k.config.shards ≡ c.args.self.now.directory.shards) (λ k. serves (is_held c.args.held.now) c.loop-shard.shard) (λ k. serves (is_held c.args.held.now) k.config.shards)
+    stints_as (λ k. k.config.shards ≡ c.args.self.now.directory.shards) (λ k. serves (is_held c.args.held.now) c.loop-shard.shard) (λ k. serves (is_held c.args.held.now) k.config.shards)
     c.args.self.now c.args.out.now.items c.loop-shard.self c.loop-shard.out.items c.loop-shard.moved
     (λ k s st. shards_of k s c.args.self.now st) (λ k q. ap (λ (x : ℕ). serves (is_held c.args.held.now) x) (n ∙ sym q)) c.loop-shard.invariant.1

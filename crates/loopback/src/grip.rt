@@ -6,19 +6,19 @@ use std::sync::{Mutex, Wait};
 
 /// Where a thread puts the connection that it serves.
 #[derive(Drop)]
-pub struct Slot {
+pub struct Grip {
     stream: Mutex<Option<TcpStream>>,
 }
 
-impl Slot {
-    /// A slot with no connection.
-    pub fn new() -> Slot {
-        Slot {
+impl Grip {
+    /// A grip with no connection.
+    pub fn new() -> Grip {
+        Grip {
             stream: Mutex::new(None),
         }
     }
 
-    /// This connection is at hand from now on. Answers whether the slot could take hold of it: where the system refuses a second handle
+    /// This connection is at hand from now on. Answers whether the grip could take hold of it: where the system refuses a second handle
     /// nobody could stop it, so it isn't to be served.
     pub fn hold<R: Wait>(&self, rt: &R, stream: &TcpStream) -> bool {
         let Ok(handle) = stream.try_clone() else {

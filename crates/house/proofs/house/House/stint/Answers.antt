@@ -1,6 +1,6 @@
 use Rattle.std.proofs.Common.{◌∙◌}
-use Rattle.house.proofs.Settlement.{often_again, often_wants, visit_done}
-use Rattle.house.proofs.house.House.visit.Goals as goal
+use Rattle.house.proofs.Settlement.{often_again, often_wants, stint_done}
+use Rattle.house.proofs.house.House.stint.Goals as goal
 
 pub returns-in_default-clause-came : goal.returns-in_default-clause-came
 returns-in_default-clause-came c =
@@ -8,7 +8,7 @@ returns-in_default-clause-came c =
 
 pub returns-then-not-more-clause-came : goal.returns-then-not-more-clause-came
 returns-then-not-more-clause-came c =
-    visit_done c.args.group.now c.args.self.now c.args.out.now.items c.loop-more.self c.loop-more.out.items c.try_each.new.self c.try_each.new.out.items c.loop-more.moved c.in-Ok.more c.if-not-more.true c.loop-more.invariant.1 c.in-Ok.ensures.came
+    stint_done c.args.group.now c.args.self.now c.args.out.now.items c.loop-more.self c.loop-more.out.items c.try_each.new.self c.try_each.new.out.items c.loop-more.moved c.in-Ok.more c.if-not-more.true c.loop-more.invariant.1 c.in-Ok.ensures.came
 
 pub loop-more-preserved : goal.loop-more-preserved
 loop-more-preserved c =
