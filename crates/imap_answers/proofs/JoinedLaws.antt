@@ -1,15 +1,10 @@
 -- Words with a space between two, from left to right.
 use Rattle.std.proofs.Common.{◌≡◌, ℕ, ◌+◌, ◌≤◌, Bool, true, false, List, [], ◌∷◌, ◌++◌, length, length-append, length-take, take, arith, refl, ap, sym, ◌∙◌, append_assoc}
-use Rattle.std.specs.Prelude.{Result, Ok, Err, OnErr, Option, Some, None, is_some, ◌&&◌, ◌||◌, not, map}
-use Rattle.std.specs.List.{filter_map, cons_option, list_any}
-use Rattle.std.proofs.lemmas.List.Folds.{list_any-append}
-use Rattle.imap_grammar.proofs.SetParts.{option_joined}
-use Rattle.std.specs.Option.{option_to_list}
+use Rattle.std.specs.Prelude.{Result, Ok, Err, OnErr, Option, Some, None, MatchOption, ◌&&◌, map}
 use Rattle.std.specs.Io.{StartsWith}
 use Rattle.std.proofs.lemmas.List.{take-append-le, take-take, take_at, map-append}
 use Rattle.cursor_set.specs.Lines.{spaced}
-use Rattle.envelope.specs.Reading.{words}
-use Rattle.imap_answers.specs.inner.Joined.{lead, joined, is_none}
+use Rattle.imap_answers.specs.inner.Joined.{lead, joined, is_none, whole}
 
 others_joined : (w : List ℕ) (ws : List (List ℕ)) → spaced (w ∷ ws) ≡ w ++ joined false ws
 others_joined w [] = sym (none w)
@@ -81,3 +76,7 @@ two_behind old a b xs ys e f = f ∙ ap (λ (l : List ℕ). l ++ ys) e ∙ appen
 pub on_err : {A E : Type 0} (r : Result A E) (P : Type 0) → P → OnErr r P
 on_err (Ok x) P p = tt
 on_err (Err e) P p = p
+
+pub whole_is : {A : Type 0} (o : Option (A × List A)) (xs : List A) → MatchOption o (xs ≡ []) (λ found. xs ≡ found.0 ∷ found.1) → whole o ≡ xs
+whole_is None xs h = sym h
+whole_is (Some found) xs h = sym h

@@ -1,7 +1,7 @@
 //! The answer that tells of a message (RFC 9051, 7.5.2), with the bytes that specs/Answers.antt gives.
 //! Who is answered what and when is told above.
 
-ghost use Rattle.std.specs.Prelude.{◌≡◌, ◌++◌, ◌≤◌, map, OnOk, OnErr, IfOk, ◌&&◌, vec_capacity};
+ghost use Rattle.std.specs.Prelude.{◌≡◌, ◌++◌, ◌≤◌, true, map, OnOk, OnErr, IfOk, ◌&&◌, vec_capacity};
 ghost use Rattle.std.specs.Io.{StartsWith};
 ghost use Rattle.std.specs.List.{list_any};
 ghost use Rattle.cursor_set.specs.Lines.{spaced};

@@ -30,7 +30,8 @@ fn turn<R: Wait, G: Gate>(
     ensures ok { IfOk result (λ count. (d : Dialogue) → StandsFor connection.old d → (next : Dialogue) × StandsFor connection.new next
         × HasShown count (moment d store.old out.old.items) (moment next store.new out.new.items)) }
     ensures err { OnErr result ((d : Dialogue) → StandsFor connection.old d → StandsFor connection.new d
-        × (moment d store.new out.new.items ≡ moment d store.old out.old.items) × IsShort (vec_capacity out.new) (moment d store.new out.new.items)) }
+        × (moment d store.new out.new.items ≡ moment d store.old out.old.items)
+        × IsShort (vec_capacity out.new) (moment d store.new out.new.items)) }
 {
     out.reserve(TURN_ROOM)?;
     let Ok(shown) = connection.idle_turn(store, out) else {

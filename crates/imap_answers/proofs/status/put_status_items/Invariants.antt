@@ -6,12 +6,12 @@ use Rattle.imap_answers.specs.Answers.{status_text}
 use Rattle.imap_answers.specs.inner.Joined.{joined, whole}
 use Rattle.imap_answers.proofs.status.put_status_items.Given as goal
 
-abbrev pub invariant-loop-item : goal.invariant-loop-item
-invariant-loop-item l = record {
+abbrev pub invariant-loop-next : goal.invariant-loop-next
+invariant-loop-next l = record {
   so_far : l.out.items ++ joined l.bare (map (status_text l.status) (whole l.next)) ≡ l.initial.out.items ++ spaced (map (status_text l.status) l.items);
   front : StartsWith l.out.items l.initial.out.items;
   room : vec_capacity l.initial.out ≤ vec_capacity l.out;
 }
 
-abbrev pub decreases-loop-item : goal.decreases-loop-item
-decreases-loop-item l = length (whole l.next)
+abbrev pub decreases-loop-next : goal.decreases-loop-next
+decreases-loop-next l = length (whole l.next)
