@@ -1,50 +1,31 @@
-//! The flags of a message as answers print them, appended all or none. No answer as a whole stands here.
+//! The flags of a message as an answer prints them, appended all or none. Their names are written by `cursor_set`, whose lines have them too.
 
-ghost use Rattle.std.specs.Prelude.{◌≡◌, ◌++◌, [], drop, if◌then◌else◌, OnOk, OnErr, ◌≤◌, vec_capacity};
+ghost use Rattle.std.specs.Prelude.{◌≡◌, ◌++◌, ◌+◌, ◌≤◌, length, OnOk, OnErr, vec_capacity, vec_len};
 ghost use Rattle.imap_answers.specs.Answers.{flags_text};
 
 use change_ring::Flags;
-use line_io::append_parts;
+use cursor_set::{FLAGS_ROOM, put_flags};
 use std::alloc::AllocError;
 
-/// A flag's word, which has a space before it, as it is printed: without the space where no flag
-/// before it is set.
-fn flag_part(is_set: bool, has_earlier: bool, word: &[u8]) -> &[u8]
-    ensures { result.now ≡ (if is_set then (if has_earlier then word.now else drop 1 word.now) else []) }
+// Writes text in room that was reserved.
+fn put(text: &[u8], out: &mut Vec<u8>)
+    requires { vec_len out.old + length text.now ≤ vec_capacity out.old }
+    ensures items { out.new.items ≡ out.old.items ++ text.now }
+    ensures len { vec_len out.new ≡ vec_len out.old + length text.now }
+    ensures room { vec_capacity out.old ≤ vec_capacity out.new }
 {
-    if !is_set {
-        &word[word.len()..]
-    } else if has_earlier || word.is_empty() {
-        word
-    } else {
-        &word[1..]
-    }
+    let _ = out.extend_from_slice(text);
 }
 
 /// Appends the flags that are set, or nothing where memory is refused.
-pub fn write_flags(flags: Flags, out: &mut Vec<u8>) -> Result<(), AllocError>
+pub(crate) fn write_flags(flags: Flags, out: &mut Vec<u8>) -> Result<(), AllocError>
     ensures ok { OnOk result (out.new.items ≡ out.old.items ++ flags_text flags) }
     ensures err { OnErr result (out.new.items ≡ out.old.items) }
     ensures room { vec_capacity out.old ≤ vec_capacity out.new }
 {
-    let before_deleted = flags.answered || flags.flagged;
-    let before_seen = before_deleted || flags.deleted;
-    let before_draft = before_seen || flags.seen;
-    let answered = flag_part(flags.answered, false, b" \\Answered");
-    let flagged = flag_part(flags.flagged, flags.answered, b" \\Flagged");
-    let deleted = flag_part(flags.deleted, before_deleted, b" \\Deleted");
-    let seen = flag_part(flags.seen, before_seen, b" \\Seen");
-    let draft = flag_part(flags.draft, before_draft, b" \\Draft");
-    append_parts(
-        &[
-            b"FLAGS (".as_slice(),
-            answered,
-            flagged,
-            deleted,
-            seen,
-            draft,
-            b")".as_slice(),
-        ],
-        out,
-    )
+    out.reserve(FLAGS_ROOM + 8)?;
+    put(b"FLAGS (", out);
+    put_flags(flags, out);
+    put(b")", out);
+    Ok(())
 }
