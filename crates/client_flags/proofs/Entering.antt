@@ -10,7 +10,8 @@ use Rattle.world.specs.World.{Config, World}
 use Rattle.imap_session.specs.declared.standing.After.TheVariants.{Go}
 use Rattle.imap_session.specs.declared.standing.Selected.{Selected}
 use Rattle.imap_session.specs.Exchange.{Answer, Entered, Looked, Found, Counted, Altered, Expunged, Fed, Left, Refused, Starved, Event, Exchange, Write, Enter, Leave, Folder, Standing, Turn, having, played, refusal_text, refused, tagged}
-use Rattle.imap_session.specs.Commands.{closing, entering, folder_of, on_folder, on_found, opened, opening_text, says, selecting, wrong_state}
+use Rattle.imap_session.specs.Commands.{closing, entering, folder_of, on_folder, on_found, opened, says, selecting, wrong_state}
+use Rattle.imap_answers.specs.Answers.{opening_text}
 use Rattle.imap_session.specs.Store.{Met}
 use Rattle.client_list.specs.Client.{Client, Known, fresh, more, reads, unknown}
 use Rattle.client_list.specs.Beliefs.{Each, Follows, TellsNothing}

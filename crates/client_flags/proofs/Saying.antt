@@ -8,7 +8,7 @@ use Rattle.change_ring.specs.declared.change.Flags.{Flags}
 use Rattle.cursor_set.specs.Lines.{position}
 use Rattle.mailbox.specs.declared.clients.Row.{Row}
 use Rattle.imap_grammar.specs.Items.{marks_seen}
-use Rattle.imap_answers.specs.Answers.{row_answer}
+use Rattle.imap_answers.specs.Answers.{row_answer, flags_answer}
 use Rattle.imap_grammar.specs.Reading.{read, is_done}
 use Rattle.imap_grammar.specs.Sets.{named_in}
 use Rattle.imap_grammar.specs.Verbs.{verb_of}
@@ -26,7 +26,7 @@ use Rattle.imap_grammar.specs.declared.command.ImapFault.{ImapFault}
 use Rattle.imap_session.specs.declared.standing.After.TheVariants.{Go}
 use Rattle.imap_session.specs.declared.standing.Selected.{Selected}
 use Rattle.imap_session.specs.Exchange.{Alter, Altered, Answer, Appending, Exchange, Expunge, Feed, Folder, ForNothing, ForVerdict, Found, Mailing, Read, Sent, Standing, Turn, Wait, Write, bye, kept_behind}
-use Rattle.imap_session.specs.Commands.{appended_words, appending, awaiting, last_number, most_unasked, nowhere, number_named, on_rest, on_text, on_verdict, is_over, over, turn_behind, turn_with, wanting, without_begun, without_sent, completed, counting, expunge_set, fault_text, fetch_messages, fetched, fetching, flags_answer, folder_of, in_selected, in_writable, messages_done, on_chosen, on_command, on_found, on_idle_line, on_read, on_set, only_says, says, showing, store_messages, stored, storing, turn_while, unlimited, verb_text, wrong_state}
+use Rattle.imap_session.specs.Commands.{appended_words, appending, awaiting, last_number, most_unasked, nowhere, number_named, on_rest, on_text, on_verdict, is_over, over, turn_behind, turn_with, wanting, without_begun, without_sent, completed, counting, expunge_set, fault_text, fetch_messages, fetched, fetching, folder_of, in_selected, in_writable, messages_done, on_chosen, on_command, on_found, on_idle_line, on_read, on_set, only_says, says, showing, store_messages, stored, storing, turn_while, unlimited, verb_text, wrong_state}
 use Rattle.client_list.specs.Turns.{IsPlain, IsTag}
 use Rattle.client_list.specs.Fetches.{AreToldParts, IsNumbered}
 use Rattle.client_list.specs.Commands.{AreNames, IsFollowed, IsPrinted, MayAnswer, MayAsk}

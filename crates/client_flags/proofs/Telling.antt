@@ -6,10 +6,9 @@ use Rattle.std.proofs.lemmas.Bool.{false≢true}
 use Rattle.change_ring.specs.declared.change.Flags.{Flags}
 use Rattle.cursor_set.specs.Lines.{flag_words, position, spaced}
 use Rattle.mailbox.specs.declared.clients.Row.{Row}
-use Rattle.imap_answers.specs.Answers.{answered, fetch_answer, item_text, part, row_answer, section}
+use Rattle.imap_answers.specs.Answers.{answered, fetch_answer, item_text, part, row_answer, section, flags_answer}
 use Rattle.imap_grammar.specs.declared.items.FetchItem.{FetchItem}
 use Rattle.imap_grammar.specs.declared.items.FetchItem.TheVariants as fetch
-use Rattle.imap_session.specs.Commands.{flags_answer}
 use Rattle.client_list.specs.Client.{Known, closing, flag_names, into_first, items, knowing, number, unopened, with_flags, with_uid, words}
 use Rattle.client_list.specs.Fetches.{AreToldParts, IsToldPart}
 use Rattle.client_list.proofs.Bytes.{decimal_digits, decimal_says}

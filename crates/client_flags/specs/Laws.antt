@@ -8,10 +8,10 @@ use Rattle.change_ring.specs.Log.{IsLegalLog}
 use Rattle.cursor_set.specs.Lines.{flag_words, line, lines, position}
 use Rattle.delivery_token.specs.declared.Verdict.{Verdict}
 use Rattle.mailbox.specs.declared.clients.Row.{Row}
-use Rattle.imap_answers.specs.Answers.{is_flags, row_answer}
+use Rattle.imap_answers.specs.Answers.{is_flags, row_answer, flags_answer}
 use Rattle.imap_grammar.specs.declared.items.FetchItem.{FetchItem}
 use Rattle.imap_session.specs.Exchange.{Answer, Standing, Turn, kept_tag}
-use Rattle.imap_session.specs.Commands.{flags_answer, idle_turn, turn_of, turn_of_verdict}
+use Rattle.imap_session.specs.Commands.{idle_turn, turn_of, turn_of_verdict}
 use Rattle.client_list.specs.Beliefs.{Follows, IsRight, MayShow}
 use Rattle.client_list.specs.Client.{Known}
 use Rattle.client_list.specs.Commands.{IsFollowed, IsPrinted}

@@ -5,10 +5,9 @@ use Rattle.std.specs.List.{list_any}
 use Rattle.change_ring.specs.declared.change.Flags.{Flags}
 use Rattle.cursor_set.specs.Lines.{flag_words, position, spaced}
 use Rattle.mailbox.specs.declared.clients.Row.{Row}
-use Rattle.imap_answers.specs.Answers.{answered, fetch_answer, flags_last, is_flags, is_uid, item_text, row_answer, uid_first}
+use Rattle.imap_answers.specs.Answers.{answered, fetch_answer, flags_last, is_flags, is_uid, item_text, row_answer, uid_first, flags_answer}
 use Rattle.imap_grammar.specs.declared.items.FetchItem.{FetchItem}
 use Rattle.imap_grammar.specs.declared.items.FetchItem.TheVariants as fetch
-use Rattle.imap_session.specs.Commands.{flags_answer}
 use Rattle.client_list.specs.Client.{Messages, knowing, reads, told, words, into_first, items, unopened, fetched, on_list}
 use Rattle.client_list.specs.Beliefs.{IsOf, Leaves}
 use Rattle.client_list.specs.Fetches.{AreToldParts}

@@ -6,8 +6,7 @@ use Rattle.std.proofs.lemmas.Bool.{le-leb}
 use Rattle.std.proofs.lemmas.Option.{none-some}
 use Rattle.cursor_set.specs.Lines.{exists_line}
 use Rattle.mailbox.specs.declared.clients.Opening.{Opening}
-use Rattle.imap_answers.specs.Answers.{name_answer}
-use Rattle.imap_session.specs.Commands.{all_flags, opening_text}
+use Rattle.imap_answers.specs.Answers.{name_answer, all_flags, opening_text}
 use Rattle.client_list.specs.Client.{Client, exists, knowing, more, reads}
 use Rattle.client_list.specs.Beliefs.{Each, IsOf, TellsNothing}
 use Rattle.client_list.specs.Laws.{OpeningIsFollowed}

@@ -7,12 +7,12 @@ use Rattle.cursor_set.specs.Lines.{lines, position}
 use Rattle.mailbox.specs.declared.clients.Opening.{Opening}
 use Rattle.mailbox.specs.declared.clients.Row.{Row}
 use Rattle.mailbox.specs.declared.clients.MailFault.{MailFault}
-use Rattle.imap_answers.specs.Answers.{literal, row_answer}
+use Rattle.imap_answers.specs.Answers.{literal, row_answer, flags_answer, opening_text}
 use Rattle.imap_grammar.specs.declared.items.FetchItem.{FetchItem}
 use Rattle.imap_grammar.specs.Reading.{read}
 use Rattle.imap_grammar.specs.declared.command.Command.{Command}
 use Rattle.imap_session.specs.Exchange.{Answer, Exchange, Standing, Turn, bye, kept_tag, played, refusal_text, tagged}
-use Rattle.imap_session.specs.Commands.{flags_answer, greeting, idle_turn, opening_text, turn_of, turn_of_long_line, turn_of_verdict}
+use Rattle.imap_session.specs.Commands.{greeting, idle_turn, turn_of, turn_of_long_line, turn_of_verdict}
 use Rattle.delivery_token.specs.declared.Verdict.{Verdict}
 use Rattle.client_list.specs.Client.{Client, Known, Messages, reads, within}
 use Rattle.client_list.specs.Beliefs.{Follows, IsOf, IsRight, Leads, Leaves, MayShow, TellsNothing}

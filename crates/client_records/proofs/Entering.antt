@@ -14,7 +14,8 @@ use Rattle.imap_session.specs.declared.standing.After.TheVariants.{Go, Bye}
 use Rattle.imap_session.specs.declared.standing.After.TheVariants as afters
 use Rattle.imap_session.specs.declared.standing.Selected.{Selected}
 use Rattle.imap_session.specs.Exchange.{Answer, Entered, Looked, Found, Counted, Altered, Expunged, Fed, Left, Refused, Starved, Event, Exchange, Done, Write, Enter, Leave, Folder, Standing, Turn, closed, having, played, refusal_after, refusal_text, refused, saying, tagged}
-use Rattle.imap_session.specs.Commands.{closing, entering, folder_of, on_folder, on_found, opened, opening_text, says, selecting, wrong_state}
+use Rattle.imap_session.specs.Commands.{closing, entering, folder_of, on_folder, on_found, opened, says, selecting, wrong_state}
+use Rattle.imap_answers.specs.Answers.{opening_text}
 use Rattle.imap_session.specs.Store.{Met}
 use Rattle.client_list.specs.Client.{Client, fresh, reads}
 use Rattle.client_list.specs.Beliefs.{Follows, IsOf, Leads, TellsNothing}

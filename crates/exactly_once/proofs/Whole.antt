@@ -15,7 +15,7 @@ use Rattle.mailbox.specs.declared.clients.MailFault.TheVariants.{Stranger, Lappe
 use Rattle.mailbox.specs.declared.clients.Opening.{Opening}
 use Rattle.mailbox.specs.declared.clients.Row.{Row}
 use Rattle.mailbox.specs.declared.mailbox.Status.{Status}
-use Rattle.imap_answers.specs.Answers.{answered, asks_for_root, item_text, is_listed, list_answer, listed, name_answer, root_answer, status_text}
+use Rattle.imap_answers.specs.Answers.{answered, asks_for_root, item_text, is_listed, list_answer, listed, name_answer, root_answer, status_text, all_flags, flags_answer, opening_text}
 use Rattle.imap_grammar.specs.Reading.{is_done, read}
 use Rattle.imap_grammar.specs.declared.command.Append.{Append}
 use Rattle.imap_grammar.specs.declared.command.Command.{Command}
@@ -31,7 +31,7 @@ use Rattle.imap_session.specs.declared.standing.After.TheVariants as afters
 use Rattle.imap_session.specs.declared.standing.Selected.{Selected}
 use Rattle.imap_session.specs.Exchange as ex
 use Rattle.imap_session.specs.Exchange.{Answer, Appending, ForVerdict, Mailing, Call, Entered, Looked, Found, Counted, Altered, Expunged, Fed, Left, Refused, Starved, Exchange, Folder, Standing, Turn, played, refused, refusal_text, refusal_after, saying, having, closed, tagged, bye, is_idling}
-use Rattle.imap_session.specs.Commands.{all_flags, appending, is_over, last_number, most_unasked, nowhere, number_named, on_rest, on_text, over, wanting, closing, completed, counting, entering, expunge_set, fetch_messages, fetched, fetching, flags_answer, folder_of, greeting, idle_turn_in, messages_done, on_chosen, on_command, on_found, on_idle_line, opening_text, says, showing, store_messages, storing, unlimited, wrong_state, notice, noticing}
+use Rattle.imap_session.specs.Commands.{appending, is_over, last_number, most_unasked, nowhere, number_named, on_rest, on_text, over, wanting, closing, completed, counting, entering, expunge_set, fetch_messages, fetched, fetching, folder_of, greeting, idle_turn_in, messages_done, on_chosen, on_command, on_found, on_idle_line, says, showing, store_messages, storing, unlimited, wrong_state, notice, noticing}
 use Rattle.imap_session.specs.Commands as commands_of
 use Rattle.imap_session.specs.Store.{AnswersVerdict, IdleTurns}
 use Rattle.delivery_token.specs.declared.Verdict.{Verdict}

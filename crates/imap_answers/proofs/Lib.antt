@@ -1,3 +1,4 @@
 pub mod Headers
 pub mod JoinedLaws
 pub mod GlobLaw
+pub mod OpeningParts

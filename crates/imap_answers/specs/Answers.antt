@@ -3,6 +3,7 @@ use Rattle.std.specs.Prelude.{◌≡◌, ◌≢◌, ℕ, Bool, true, false, code
 use Rattle.std.specs.List.{list_any}
 use Rattle.std.specs.Str.{str_to_ascii_lowercase as lowercase, str_eq_ignore_ascii_case as is_same}
 use Rattle.change_ring.specs.declared.change.Flags.{Flags}
+use Rattle.mailbox.specs.declared.clients.Opening.{Opening}
 use Rattle.mailbox.specs.declared.clients.Row.{Row}
 use Rattle.mailbox.specs.declared.mailbox.Status.{Status}
 use Rattle.cursor_set.specs.Lines.{flag_words, spaced}
@@ -95,6 +96,28 @@ fetch_answer k texts = codes "* " ++ decimal k ++ codes " FETCH (" ++ spaced tex
 -- the answer for the message at this position
 abbrev pub row_answer : ℕ → Bool → List FetchItem → Row → List ℕ
 row_answer k by_uid items row = fetch_answer k (map (item_text row) (answered by_uid row.newly_seen items))
+
+-- ---- STORE
+
+-- the flags of a message after a STORE, with its UID under UID STORE
+abbrev pub flags_answer : Bool → ℕ → ℕ → Flags → List ℕ
+flags_answer by_uid k uid flags =
+    codes "* " ++ decimal k ++ codes " FETCH (" ++ (if by_uid then codes "UID " ++ decimal uid ++ codes " " else [])
+    ++ codes "FLAGS (" ++ spaced (flag_words flags) ++ codes "))\r\n"
+
+-- ---- SELECT
+
+abbrev pub all_flags : List ℕ
+all_flags = codes "\\Answered \\Flagged \\Deleted \\Seen \\Draft"
+
+-- what is told of a mailbox that was entered
+abbrev pub opening_text : Bool → List ℕ → Opening → List ℕ
+opening_text read_only name opening =
+    codes "* FLAGS (" ++ all_flags ++ codes ")\r\n* " ++ decimal opening.count ++ codes " EXISTS\r\n"
+    ++ codes "* OK [UIDVALIDITY " ++ decimal opening.uidvalidity ++ codes "] UIDs valid\r\n"
+    ++ codes "* OK [UIDNEXT " ++ decimal opening.uidnext ++ codes "] Predicted next UID\r\n"
+    ++ codes "* OK [PERMANENTFLAGS (" ++ (if read_only then [] else all_flags) ++ codes ")] Flags kept\r\n"
+    ++ codes "* LIST () \"/\" " ++ name ++ codes "\r\n"
 
 -- ---- STATUS
 

@@ -1,16 +1,20 @@
-//! The answers of IMAP that tell of messages and mailboxes (RFC 9051, 7), byte by byte: to FETCH, to STATUS, and to LIST with the names that a
-//! pattern stands for. How commands are spelled is told in `imap_grammar`; who is answered what and when, in the crates above.
+//! The answers of IMAP that tell of messages and mailboxes (RFC 9051, 7), byte by byte: to FETCH, STORE, SELECT and STATUS, and to LIST with the
+//! names that a pattern stands for. How commands are spelled is told in `imap_grammar`; who is answered what and when, in the crates above.
 #![tactic(auto)]
 
 mod fetch;
 mod flags;
 mod laws;
 mod list;
+mod opening;
 mod sections;
 mod status;
+mod store;
 mod words;
 
 pub use fetch::write_row;
 pub use laws::patterns_match_what_they_stand_for;
 pub use list::write_list;
+pub use opening::write_opening;
 pub use status::write_status;
+pub use store::write_stored;

@@ -5,7 +5,7 @@ use Rattle.change_ring.specs.declared.change.Flags.{Flags}
 use Rattle.mailbox.specs.declared.clients.Row.{Row}
 use Rattle.cursor_set.specs.Lines.{position, flag_words, spaced}
 use Rattle.std.specs.Prelude.{decimal, map}
-use Rattle.imap_answers.specs.Answers.{answered, fetch_answer, item_text, status_text}
+use Rattle.imap_grammar.specs.Answers.{answered, fetch_answer, item_text, status_text}
 use Rattle.imap_grammar.specs.Reading.{is_done}
 use Rattle.imap_grammar.specs.Sets.{named_in}
 use Rattle.imap_grammar.specs.declared.command.Command.{Command}

@@ -5,7 +5,7 @@ use Rattle.std.specs.List.{list_any}
 use Rattle.std.specs.Str.{bytes_eq}
 use Rattle.mailbox.specs.declared.clients.Opening.{Opening}
 use Rattle.mailbox.specs.declared.clients.Row.{Row}
-use Rattle.cursor_set.specs.Lines.{lines, position, flag_words, spaced}
+use Rattle.cursor_set.specs.Lines.{lines, position}
 use Rattle.mailbox.specs.declared.clients.MailFault.TheVariants.{Lapped, Stranger}
 use Rattle.change_ring.specs.declared.change.Flags.{Flags}
 use Rattle.imap_grammar.specs.declared.set.SeqRange.{SeqRange}
@@ -26,7 +26,7 @@ use Rattle.imap_grammar.specs.Sets.{named_in}
 use Rattle.imap_grammar.specs.Verbs.{word_of, stands_behind_uid, verb_of}
 use Rattle.imap_grammar.specs.Reading.{is_done, read}
 use Rattle.imap_grammar.specs.Items.{marks_seen}
-use Rattle.imap_answers.specs.Answers.{crlf, row_answer, status_answer, list_answer, is_inbox}
+use Rattle.imap_answers.specs.Answers.{crlf, flags_answer, is_inbox, list_answer, opening_text, row_answer, status_answer}
 use Rattle.imap_session.specs.declared.standing.After.TheVariants.{Go, Bye}
 use Rattle.imap_session.specs.declared.standing.After.TheVariants as afters
 use Rattle.imap_session.specs.declared.standing.Selected.{Selected}
@@ -84,18 +84,6 @@ wanting x = Write [] x
 
 -- ---- SELECT and EXAMINE
 
-abbrev pub all_flags : List ℕ
-all_flags = codes "\\Answered \\Flagged \\Deleted \\Seen \\Draft"
-
--- what is told of a mailbox that was entered
-abbrev pub opening_text : Bool → List ℕ → Opening → List ℕ
-opening_text read_only name opening =
-    codes "* FLAGS (" ++ all_flags ++ codes ")\r\n* " ++ decimal opening.count ++ codes " EXISTS\r\n"
-    ++ codes "* OK [UIDVALIDITY " ++ decimal opening.uidvalidity ++ codes "] UIDs valid\r\n"
-    ++ codes "* OK [UIDNEXT " ++ decimal opening.uidnext ++ codes "] Predicted next UID\r\n"
-    ++ codes "* OK [PERMANENTFLAGS (" ++ (if read_only then [] else all_flags) ++ codes ")] Flags kept\r\n"
-    ++ codes "* LIST () \"/\" " ++ name ++ codes "\r\n"
-
 abbrev pub opened : Bool → List ℕ → Opening → Exchange
 opened read_only name opening =
     Write (opening_text read_only name opening)
@@ -139,13 +127,7 @@ fetching fetch mark view done (uid ∷ uids) gone =
     Read uid mark (on_found (λ row. Write (fetched fetch view uid row) (fetching fetch mark view done uids gone))
     (fetching fetch mark view done uids true))
 
--- the flags of a message after a STORE, with its UID under UID STORE
-abbrev pub flags_answer : Bool → ℕ → ℕ → Flags → List ℕ
-flags_answer by_uid k uid flags =
-    codes "* " ++ decimal k ++ codes " FETCH (" ++ (if by_uid then codes "UID " ++ decimal uid ++ codes " " else [])
-    ++ codes "FLAGS (" ++ spaced (flag_words flags) ++ codes "))\r\n"
-
--- the same for a message at its position in the view, or nothing where the client asked for silence
+-- the answer for a message at its position in the view whose flags were changed, or nothing where the client asked for silence
 abbrev pub stored : Store → List ℕ → ℕ → Flags → List ℕ
 stored store view uid flags = if store.silent then [] else flags_answer store.by_uid (position uid view) uid flags
 

@@ -10,11 +10,11 @@ use Rattle.imap_grammar.specs.declared.command.Command.TheVariants as commands
 use Rattle.imap_grammar.specs.Reading.{is_done}
 use Rattle.delivery_token.specs.declared.Verdict.{Verdict}
 use Rattle.delivery_token.specs.declared.Verdict.TheVariants.{Stored, Refused}
-use Rattle.imap_answers.specs.Answers.{crlf, list_answer}
+use Rattle.imap_answers.specs.Answers.{crlf, list_answer, opening_text}
 use Rattle.imap_session.specs.declared.standing.After.TheVariants.{Submit}
 use Rattle.imap_session.specs.declared.standing.Selected.{Selected}
 use Rattle.imap_session.specs.Exchange.{Exchange, Folder, Standing, Done, Wait, Write, Put, Enter, Look, Read, Count, Alter, Expunge, Feed, Leave, after_waiting, bye}
-use Rattle.imap_session.specs.Commands.{appended_words, completed, notice, opening_text, says as last_line, unlimited}
+use Rattle.imap_session.specs.Commands.{appended_words, completed, notice, says as last_line, unlimited}
 
 -- the command may show changes right before its tagged OK
 abbrev pub may_show : Command → Bool

@@ -8,7 +8,7 @@ use Rattle.change_ring.specs.declared.change.Flags.{Flags}
 use Rattle.change_ring.specs.Log.{no_flags}
 use Rattle.cursor_set.specs.Lines.{flag_words, lines}
 use Rattle.imap_session.specs.Exchange.{Altered, Fed}
-use Rattle.imap_session.specs.Commands.{flags_answer}
+use Rattle.imap_answers.specs.Answers.{flags_answer}
 use Rattle.client_list.specs.Client.{knowing, reads, unknown}
 use Rattle.client_flags.specs.Flags.{FlagsOf, Point, counted, flags_at}
 use Rattle.client_flags.specs.Turns.{shown_in}
