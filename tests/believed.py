@@ -2,7 +2,7 @@
 """What a reader has to believe: the definitions that the clauses of a public function cite, and those that these cite, and so on.
 
     tests/believed.py                       each file that has some, how many, and how many lines they take with their comments
-    tests/believed.py --page docs/PROMISE.md    the same check that the gate makes: the page lists these files, and no other of specs/
+    tests/believed.py --page docs/PROMISE.md    the same check that the gate makes: the page lists these files, each with its lines, and no other of specs/
     tests/believed.py CRATE::FUNCTION ..    those of other functions
     tests/believed.py --apart               whether what public clauses say stands apart, as the gate checks too: each definition of specs/ is cited by a
                                             clause that another crate can see, those of specs/inner/ by none, and specs/rows/ has tables of worked examples
@@ -222,8 +222,10 @@ def apart():
 
 
 def listed_in(page):
+    """The files of specs/ that a page lists, each with the lines that it tells of it; None where it only names the file."""
     with open(page, encoding="utf-8") as text:
-        return set(re.findall(r"`(crates/\w+/specs/\w+\.antt)`", text.read()))
+        found = re.findall(r"`(crates/\w+/specs/\w+\.antt)`(?: \((\d+)\))?", text.read())
+    return {path: int(lines) if lines else None for path, lines in found}
 
 
 def main(words):
@@ -247,11 +249,12 @@ def main(words):
     print(f"{len(sizes)} files, {sum(sizes.values())} lines of definitions, {len(closure.types)} types of the code")
     if page is not None:
         listed = listed_in(page)
-        for path in sorted(set(sizes) - listed):
-            print(f"believed: {page} doesn't list {path}")
-        for path in sorted(listed - set(sizes)):
-            print(f"believed: {page} lists {path}, which nothing cites")
-        return 1 if set(sizes) != listed else 0
+        wrong = [f"doesn't list {path}" for path in sizes.keys() - listed.keys()]
+        wrong += [f"lists {path}, which nothing cites" for path in listed.keys() - sizes.keys()]
+        wrong += [f"tells {listed[path]} lines of {path}, which has {n}" for path, n in sizes.items() if path in listed and listed[path] not in (None, n)]
+        for line in sorted(wrong):
+            print(f"believed: {page} {line}")
+        return 1 if wrong else 0
     return 0
 
 
