@@ -46,6 +46,8 @@ fault_of() {
         there=$(sed -n 's/^\(mailbox [0-9]*: UID [0-9]*\) has .*/\1/p' "$room/report" | sort)
         [ "$accepted" = "$there" ] || echo 'what was accepted is not what is there'
         [ -z "$(printf '%s\n' "$accepted" | uniq -d)" ] || echo 'a copy is there twice'
+    elif [ "$status" -ge 126 ]; then
+        echo "its status is $status"
     elif [ "$status" -eq 0 ]; then
         echo 'it ends well without a report'
     fi

@@ -227,6 +227,8 @@ class Round(Attendance):
             for peer in self.peers:
                 if isinstance(peer, Session):
                     peer.expect_whole()
+                elif peer.reads and peer.was_closed and peer.was_read:
+                    self.ledger.fail(f"a connection ended within a reply, with {peer.was_read[-80:]!r}")
         finally:
             self.end()
 
@@ -301,7 +303,9 @@ def run_rounds(program, rounds, seed):
         one.run()
         summary.add(one, f"round {number}, --seed {seed + number}")
     summary.print()
-    return summary.failed == 0
+    if summary.counted == 0:
+        print("no copy was looked for: nothing was shown")
+    return summary.failed == 0 and summary.counted > 0
 
 
 def main():
