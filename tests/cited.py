@@ -2,12 +2,14 @@
 """What the pages cite is there: each path of the repository in backquotes, each name that a table of docs/STANDARDS.md gives behind a path, and each
 promise that a page gives as a function with its clause.
 
-    tests/cited.py          the pages below
+    tests/cited.py          the pages below, and each crate's README.md
     tests/cited.py PAGE ..  other pages; names are looked up on each of them
 
 In the last cell of a row a name belongs to the path before it. Behind a file of specs/ or proofs/ it is a definition, a constructor, a field or
 a worked example of that file; behind one of the code a function, a type, a constant or a variant; behind tests/worked_cases and tests/dialogues a
 case with all its files. A path may have a star for what differs.
+
+On a crate's own page a file may be called by its name alone: it stands in a folder of that crate, or of another that the page names.
 
 A promise is cited as `drive` (crate `script`, clause `once`), with "clauses" before several, as `Visit::hear` (crate `imap_stream`, clause `ok`) where it
 is a type's, or with no clause. There has to be such a public function in that crate's src/, which ensures each of these clauses; where none is named it
@@ -29,6 +31,8 @@ CASES = ("tests/worked_cases", "tests/dialogues")
 PARTS = ("args", "stdin", "stdout", "status")
 
 QUOTED = re.compile(r"`([^`]+)`")
+A_FILE = re.compile(r"[\w/-]+\.(?:rt|antt|edit)")
+A_CRATE = re.compile(r"crates/\w+")
 A_PATH = re.compile(r"(?:crates|docs|tests|examples|bench|\.ci)/[\w./*-]*|HANDLES|README\.md|crates\.txt")
 # A name that stands for any: there is no such path.
 PLACEHOLDER = re.compile(r"(^|/)[A-Z]+(/|$)")
@@ -168,6 +172,17 @@ class Check:
             if not is_there(path):
                 self.miss(page, number, f"there is no {path}")
 
+    def look_at_files(self, page, lines):
+        """Files by their names alone, on the page of a crate."""
+        crates = {os.path.dirname(page)} | {path for _, line in lines for path in A_CRATE.findall(line)}
+        for number, line in lines:
+            for name in filter(A_FILE.fullmatch, QUOTED.findall(line)):
+                if path_in(name):
+                    continue
+                self.paths += 1
+                if not any(glob.glob(f"{crate}/**/{name}", root_dir=TOP, recursive=True) for crate in crates):
+                    self.miss(page, number, f"there is no {name} in {', '.join(sorted(crates))}")
+
     def look_at_names(self, page, number, cell):
         path = None
         for quoted in QUOTED.findall(cell):
@@ -192,6 +207,8 @@ class Check:
     def look_at(self, page, with_names):
         lines = list(lines_of(page))
         self.look_at_claims(page, lines)
+        if page.startswith("crates/"):
+            self.look_at_files(page, lines)
         for number, line in lines:
             self.look_at_paths(page, number, line)
             if with_names:
@@ -200,9 +217,10 @@ class Check:
 
 def main(words):
     check = Check()
-    for page in words or PAGES:
-        check.look_at(page, bool(words) or page == WITH_NAMES)
-    print(f"{len(words or PAGES)} pages, {check.paths} paths, {check.named} names, {check.claims} promises, {check.missing} missing")
+    pages = words or PAGES + sorted(glob.glob("crates/*/README.md", root_dir=TOP))
+    for page in pages:
+        check.look_at(page, page in words or page == WITH_NAMES)
+    print(f"{len(pages)} pages, {check.paths} paths, {check.named} names, {check.claims} promises, {check.missing} missing")
     return 1 if check.missing else 0
 
 
