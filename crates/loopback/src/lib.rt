@@ -3,12 +3,12 @@
 //! what bytes reach a peer no clause says.
 #![tactic(auto)]
 
+mod grip;
 mod listening;
 mod parting;
-mod grip;
 mod waiting;
 
+pub use grip::Grip;
 pub use listening::Listening;
 pub use parting::{Patience, farewell, prepare};
-pub use grip::Grip;
 pub use waiting::Pause;

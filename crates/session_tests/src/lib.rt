@@ -5,11 +5,11 @@
 #[cfg(test)]
 mod connections;
 #[cfg(test)]
-mod stores;
-#[cfg(test)]
 mod names;
 #[cfg(test)]
 mod sessions;
+#[cfg(test)]
+mod stores;
 #[cfg(test)]
 mod views;
 #[cfg(test)]

@@ -3,13 +3,13 @@
 //! client is answered in `imap_session`; who starts the threads stands above.
 #![tactic(auto)]
 
-mod locked_store;
 mod laws;
 mod life;
 mod locked;
+mod locked_store;
 mod speaking;
 
-pub use locked_store::LockedStore;
 pub use laws::pieces_abut;
 pub use life::{Step, live, takes_more};
+pub use locked_store::LockedStore;
 pub use speaking::answer;
