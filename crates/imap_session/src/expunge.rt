@@ -1,17 +1,15 @@
 //! EXPUNGE and UID EXPUNGE (RFC 9051, 6.4.3 and 6.4.9), and what is pending, shown where a mailbox is selected.
 
-ghost use Rattle.std.specs.Prelude.{◌≡◌, ◌+◌, ◌≤◌, None, IfOk, length, map, vec_len};
+ghost use Rattle.std.specs.Prelude.{◌≡◌, ◌≤◌, None, IfOk, length, map};
 ghost use Rattle.std.specs.Option.{option_copied};
-ghost use Rattle.std.specs.Vec.{vec_capacity};
 ghost use Rattle.imap_grammar.specs.declared.command.Command.TheVariants as commands;
 ghost use Rattle.imap_session.specs.Exchange.{Exchange, Expunge, Feed};
 ghost use Rattle.imap_session.specs.Commands.{completed, expunge_set, showing, unlimited};
 ghost use Rattle.imap_session.specs.inner.Store.{Does, last};
 
-use crate::show::{purge, show};
+use crate::response::{MOST_WORDS, Response};
 use crate::standing::Selected;
 use crate::store::Store;
-use crate::turn::MOST_WORDS;
 use imap_grammar::{Named, SeqSet};
 use mailbox::MailFault;
 use std::alloc::{AllocError, Global};
@@ -20,16 +18,13 @@ use std::alloc::{AllocError, Global};
 pub(crate) fn show_pending<S: Store>(
     selected: Option<Selected>,
     store: &mut S,
-    keep: usize,
-    out: &mut Vec<u8>,
+    response: &mut Response<'_>,
 ) -> Result<(), MailFault>
-    requires room { vec_len out.old + keep ≤ vec_capacity out.old }
-    ensures done { (x : Exchange) → Does S.step (showing selected x) (λ _. x) store.old store.new out.old.items out.new.items result }
-    ensures room { vec_len out.new + keep ≤ vec_capacity out.new }
+    ensures { (x : Exchange) → Does S.step (showing selected x) (λ _. x) store.old store.new response.old response.new result }
 {
     match selected {
         None => Ok(()),
-        Some(_) => match show(usize::MAX, store, keep, out) {
+        Some(_) => match response.show(usize::MAX, store) {
             Err(fault) => Err(fault),
             Ok(_) => Ok(()),
         },
@@ -40,17 +35,14 @@ pub(crate) fn show_pending<S: Store>(
 fn remove_and_show<S: Store>(
     uids: Option<&[u32]>,
     store: &mut S,
-    keep: usize,
-    out: &mut Vec<u8>,
+    response: &mut Response<'_>,
 ) -> Result<(), MailFault>
-    requires room { vec_len out.old + keep ≤ vec_capacity out.old }
-    ensures done { (x : Exchange) → Does S.step (Expunge (option_copied uids.entry) (Feed unlimited x)) (λ _.
-        x) store.old store.new out.old.items out.new.items result }
-    ensures room { vec_len out.new + keep ≤ vec_capacity out.new }
+    ensures { (x : Exchange) → Does S.step (Expunge (option_copied uids.entry) (Feed unlimited x)) (λ _.
+        x) store.old store.new response.old response.new result }
 {
-    match purge(uids, store, keep, out) {
+    match response.purge(uids, store) {
         Err(fault) => Err(fault),
-        Ok(()) => match show(usize::MAX, store, keep, out) {
+        Ok(()) => match response.show(usize::MAX, store) {
             Err(fault) => Err(fault),
             Ok(_) => Ok(()),
         },
@@ -60,16 +52,13 @@ fn remove_and_show<S: Store>(
 // EXPUNGE in the selected mailbox. Answers what the last line says.
 pub(crate) fn expunge_all<S: Store>(
     store: &mut S,
-    keep: usize,
-    out: &mut Vec<u8>,
+    response: &mut Response<'_>,
 ) -> Result<&'static [u8], MailFault>
-    requires room { vec_len out.old + keep ≤ vec_capacity out.old }
     ensures done { Does S.step (Expunge None (Feed unlimited
-        (completed commands.Expunge))) last store.old store.new out.old.items out.new.items result }
+        (completed commands.Expunge))) last store.old store.new response.old response.new result }
     ensures short { IfOk result (λ words. length words.now ≤ MOST_WORDS) }
-    ensures room { vec_len out.new + keep ≤ vec_capacity out.new }
 {
-    match remove_and_show(None, store, keep, out) {
+    match remove_and_show(None, store, response) {
         Err(fault) => Err(fault),
         Ok(()) => Ok(b"OK EXPUNGE completed"),
     }
@@ -87,13 +76,10 @@ pub(crate) fn expunge_set<S: Store>(
     alloc: Global,
     set: &SeqSet<'_>,
     store: &mut S,
-    keep: usize,
-    out: &mut Vec<u8>,
+    response: &mut Response<'_>,
 ) -> Result<&'static [u8], MailFault>
-    requires room { vec_len out.old + keep ≤ vec_capacity out.old }
-    ensures done { Does S.step (expunge_set set.now) last store.old store.new out.old.items out.new.items result }
+    ensures done { Does S.step (expunge_set set.now) last store.old store.new response.old response.new result }
     ensures short { IfOk result (λ words. length words.now ≤ MOST_WORDS) }
-    ensures room { vec_len out.new + keep ≤ vec_capacity out.new }
 {
     let messages = match store.choose(alloc, set, true) {
         Err(fault) => return Err(fault),
@@ -104,7 +90,7 @@ pub(crate) fn expunge_set<S: Store>(
         Err(AllocError) => return Err(MailFault::NoMemory),
         Ok(uids) => uids,
     };
-    match remove_and_show(Some(uids.as_slice()), store, keep, out) {
+    match remove_and_show(Some(uids.as_slice()), store, response) {
         Err(fault) => Err(fault),
         Ok(()) => Ok(b"OK UID EXPUNGE completed"),
     }

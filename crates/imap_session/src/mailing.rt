@@ -8,9 +8,9 @@ ghost use Rattle.imap_session.specs.Commands.{is_over, on_rest, over, says, taki
 ghost use Rattle.imap_session.specs.Exchange.{Appending as AppendingSpec, Mailing as MailingSpec, ForVerdict, Wait};
 ghost use Rattle.imap_session.specs.inner.Seen.{appending_of};
 
+use crate::response::MOST_WORDS;
 use crate::standing::Append;
 use crate::tag::Tag;
-use crate::turn::MOST_WORDS;
 use change_ring::Flags;
 use std::alloc::Global;
 use std::marker::Model;

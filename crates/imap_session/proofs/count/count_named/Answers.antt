@@ -16,11 +16,11 @@ returns-in-Err-clause-done g c =
     let standing : Standing = record { folders = c.args.folders.now; selected = c.args.selected; idling = None; ended = false; mailing = nothing_sent None } in
     let next : Folder → Exchange = counting standing c.args.name.now c.args.items.now in
     does_found {V = Bor (List ℕ)} g.S.Store.step c.args.name.now c.args.folders.now _ next last _ _ _ _ (Err c.in-Err.fault)
-    c.in-Some.ensures (c.in-Err.ensures.done (completed (commands.Status c.args.name.now c.args.items.now)))
+    c.in-Some.ensures (c.in-Err.ensures (completed (commands.Status c.args.name.now c.args.items.now)))
 
 pub returns-in-Ok-clause-done : goal.returns-in-Ok-clause-done
 returns-in-Ok-clause-done g c =
     let standing : Standing = record { folders = c.args.folders.now; selected = c.args.selected; idling = None; ended = false; mailing = nothing_sent None } in
     let next : Folder → Exchange = counting standing c.args.name.now c.args.items.now in
     does_found g.S.Store.step c.args.name.now c.args.folders.now _ next (λ (u : Unit {0}). completed (commands.Status c.args.name.now c.args.items.now)) _ _ _ _ (Ok tt)
-    c.in-Some.ensures (c.in-Ok.ensures.done (completed (commands.Status c.args.name.now c.args.items.now)))
+    c.in-Some.ensures (c.in-Ok.ensures (completed (commands.Status c.args.name.now c.args.items.now)))

@@ -13,10 +13,10 @@ pub returns-in-Err-show_pending-clause-done : goal.returns-in-Err-show_pending-c
 returns-in-Err-show_pending-clause-done g c =
     writes_then {V = Bor (List ℕ)} g.S.Store.step _ (showing c.args.selected (completed (commands.List c.args.reference.now c.args.pattern.now))) last _ _ _ _ _
     (Err c.in-Err-show_pending.fault) c.in-Ok.ensures.text
-    (c.in-Err-show_pending.ensures.done (completed (commands.List c.args.reference.now c.args.pattern.now)))
+    (c.in-Err-show_pending.ensures (completed (commands.List c.args.reference.now c.args.pattern.now)))
 
 pub returns-in-Ok-show_pending-clause-done : goal.returns-in-Ok-show_pending-clause-done
 returns-in-Ok-show_pending-clause-done g c =
     writes_then g.S.Store.step _ (showing c.args.selected (completed (commands.List c.args.reference.now c.args.pattern.now))) (λ (u : Unit {0}). completed (commands.List c.args.reference.now c.args.pattern.now)) _ _ _ _ _
     (Ok tt) c.in-Ok.ensures.text
-    (c.in-Ok-show_pending.ensures.done (completed (commands.List c.args.reference.now c.args.pattern.now)))
+    (c.in-Ok-show_pending.ensures (completed (commands.List c.args.reference.now c.args.pattern.now)))

@@ -3,4 +3,4 @@ use Rattle.imap_session.specs.Commands.{completed}
 use Rattle.imap_session.proofs.expunge.expunge_all.Goals as goal
 
 pub returns-in-Ok-clause-done : goal.returns-in-Ok-clause-done
-returns-in-Ok-clause-done g c tag now = c.in-Ok.ensures.done (completed commands.Expunge) tag now
+returns-in-Ok-clause-done g c tag now = c.in-Ok.ensures (completed commands.Expunge) tag now

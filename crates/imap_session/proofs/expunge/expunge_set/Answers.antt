@@ -31,7 +31,7 @@ returns-in-Err-remove_and_show-clause-done g c tag now =
     let are : c.as_slice-2.result.now ≡ found.0 = told ∙ ap (map (λ (m : Named). m.uid)) found.2 ∙ uids_chosen view found.0 in
     stops_then g.S.Store.step tag now now now _ _ c.in-Err-remove_and_show.fault _ _ _ _ _ _
     (reaches_chosen g.S.Store.step true c.args.set.now next view c.as_slice-2.result.now _ _ looks.1 (found.1 ∙ ap (λ (l : List ℕ). Some l) (sym are)) tag now)
-    (c.in-Err-remove_and_show.ensures.done (completed (commands.UidExpunge c.args.set.now)) tag now)
+    (c.in-Err-remove_and_show.ensures (completed (commands.UidExpunge c.args.set.now)) tag now)
 
 pub returns-clause-done : goal.returns-clause-done
 returns-clause-done g c tag now =
@@ -43,4 +43,4 @@ returns-clause-done g c tag now =
     let are : c.as_slice-2.result.now ≡ found.0 = told ∙ ap (map (λ (m : Named). m.uid)) found.2 ∙ uids_chosen view found.0 in
     reaches_then g.S.Store.step tag now now now _ _ _ _ _ _ _ _ _
     (reaches_chosen g.S.Store.step true c.args.set.now next view c.as_slice-2.result.now _ _ looks.1 (found.1 ∙ ap (λ (l : List ℕ). Some l) (sym are)) tag now)
-    (c.in-Ok-remove_and_show.ensures.done (completed (commands.UidExpunge c.args.set.now)) tag now)
+    (c.in-Ok-remove_and_show.ensures (completed (commands.UidExpunge c.args.set.now)) tag now)

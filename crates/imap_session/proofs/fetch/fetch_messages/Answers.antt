@@ -33,7 +33,7 @@ returns-in-Err-fetch_all-clause-done g c tag now =
     let are : c.as_slice-2.result.now ≡ map (named_at view) found.0 = rw c.as_slice-2.ensures.value found.2 in
     stops_then g.S.Store.step tag now now now _ _ c.in-Err-fetch_all.fault _ _ _ _ _ _
     (reaches_chosen g.S.Store.step c.args.fetch.now.by_uid c.args.fetch.now.set next view found.0 _ _ looks.1 found.1 tag now)
-    (c.in-Err-fetch_all.ensures.done view found.0 are done tag now)
+    (c.in-Err-fetch_all.ensures view found.0 are done tag now)
 
 pub returns-clause-done : goal.returns-clause-done
 returns-clause-done g c =
@@ -46,5 +46,5 @@ returns-clause-done g c =
     does_then g.S.Store.step _ (done c.in-Ok-fetch_all.gone) last _ _ _ _ _ _ c.finish_fetch.result
     (λ tag now. reaches_then g.S.Store.step tag now now now _ _ _ _ _ _ _ _ _
     (reaches_chosen g.S.Store.step c.args.fetch.now.by_uid c.args.fetch.now.set next view found.0 _ _ looks.1 found.1 tag now)
-    (c.in-Ok-fetch_all.ensures.done view found.0 are done tag now))
+    (c.in-Ok-fetch_all.ensures view found.0 are done tag now))
     c.finish_fetch.ensures.done

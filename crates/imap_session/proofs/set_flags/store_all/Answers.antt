@@ -10,43 +10,37 @@ use Rattle.imap_session.proofs.set_flags.store_all.Goals as goal
 use Rattle.imap_session.proofs.set_flags.store_all.Goals.{then-not-here, else-not-here}
 
 pub loop-message-init : goal.loop-message-init
-loop-message-init g c = record {
-  room = c.requires.room;
-  reaches = λ view uids are done tag now. reaches_here g.S.Store.step tag now _ _ _;
-}
+loop-message-init g c = λ view uids are done tag now. reaches_here g.S.Store.step tag now _ _ _
 
 pub loop-message-preserved : goal.loop-message-preserved
 loop-message-preserved g c =
     let i = c.loop-message.message-index in
     let gone-is : c.if-not-here.gone ≡ (if c.in-Ok.here then c.loop-message.gone else true) =
     elim c.if-not-here.branch [ then-not-here w ↦ search rules | else-not-here w ↦ search rules ] in
-    record {
-      room = c.in-Ok.ensures.room;
-      reaches = λ view uids are done tag now.
-          let within : i < length uids = subst (λ (n : ℕ). i < n) (as_many view uids c.args.messages.now are) c.loop-message-test.true in
-          rw gone-is
-          (stores_more g.S.Store.step tag now c.args.command.now view done uids i c.loop-message.gone c.in-Ok.here
-          _ _ _ _ _ _ _ within (c.loop-message.invariant.reaches view uids are done tag now)
-          (c.in-Ok.ensures.done view (get_or uids i 0) (message_at view uids c.args.messages.now i _ are c.loop-message-test.true)
-          (storing c.args.command.now view done (drop (i + 1) uids) c.loop-message.gone)
-          (storing c.args.command.now view done (drop (i + 1) uids) true) tag now));
-    }
+    λ view uids are done tag now.
+    let within : i < length uids = subst (λ (n : ℕ). i < n) (as_many view uids c.args.messages.now are) c.loop-message-test.true in
+    rw gone-is
+    (stores_more g.S.Store.step tag now c.args.command.now view done uids i c.loop-message.gone c.in-Ok.here
+    _ _ _ _ _ _ _ within (c.loop-message.invariant view uids are done tag now)
+    (c.in-Ok.ensures view (get_or uids i 0) (message_at view uids c.args.messages.now i _ are c.loop-message-test.true)
+    (storing c.args.command.now view done (drop (i + 1) uids) c.loop-message.gone)
+    (storing c.args.command.now view done (drop (i + 1) uids) true) tag now))
 
-pub returns-in-Err-clause-done : goal.returns-in-Err-clause-done
-returns-in-Err-clause-done g c view uids are done tag now =
+pub returns-in-Err : goal.returns-in-Err
+returns-in-Err g c view uids are done tag now =
     let i = c.loop-message.message-index in
     let within : i < length uids = subst (λ (n : ℕ). i < n) (as_many view uids c.args.messages.now are) c.loop-message-test.true in
-    let P : Exchange → Type 0 = λ y. Reaches g.S.Store.step tag now now (storing c.args.command.now view done uids false) y c.args.store.now c.loop-message.store c.args.out.now.items c.loop-message.out.items in
+    let P : Exchange → Type 0 = λ y. Reaches g.S.Store.step tag now now (storing c.args.command.now view done uids false) y c.args.store.now c.loop-message.store c.args.response.now c.loop-message.response in
     stops_then g.S.Store.step tag now now now _ _ c.in-Err.fault _ _ _ _ _ _
     (subst P (storing_next c.args.command.now view done uids i c.loop-message.gone within)
-    (c.loop-message.invariant.reaches view uids are done tag now))
-    (c.in-Err.ensures.done view (get_or uids i 0) (message_at view uids c.args.messages.now i _ are c.loop-message-test.true)
+    (c.loop-message.invariant view uids are done tag now))
+    (c.in-Err.ensures view (get_or uids i 0) (message_at view uids c.args.messages.now i _ are c.loop-message-test.true)
     (storing c.args.command.now view done (drop (i + 1) uids) c.loop-message.gone)
     (storing c.args.command.now view done (drop (i + 1) uids) true) tag now)
 
-pub returns-clause-done : goal.returns-clause-done
-returns-clause-done g c view uids are done tag now =
+pub returns : goal.returns
+returns g c view uids are done tag now =
     let i = c.loop-message.message-index in
     let past : length uids ≤ i = subst (λ (n : ℕ). n ≤ i) (as_many view uids c.args.messages.now are) c.loop-message-test.false in
     let e : drop i uids ≡ [] = drop_all i uids past in
-    rw e at (c.loop-message.invariant.reaches view uids are done tag now)
+    rw e at (c.loop-message.invariant view uids are done tag now)

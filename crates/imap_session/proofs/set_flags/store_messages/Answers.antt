@@ -30,7 +30,7 @@ returns-in-Err-store_all-clause-done g c tag now =
     let are : c.as_slice.result.now ≡ map (named_at view) found.0 = rw c.as_slice.ensures.value found.2 in
     stops_then g.S.Store.step tag now now now _ _ c.in-Err-store_all.fault _ _ _ _ _ _
     (reaches_chosen g.S.Store.step c.args.command.now.by_uid c.args.command.now.set next view found.0 _ _ looks.1 found.1 tag now)
-    (c.in-Err-store_all.ensures.done view found.0 are done tag now)
+    (c.in-Err-store_all.ensures view found.0 are done tag now)
 
 pub returns-clause-done : goal.returns-clause-done
 returns-clause-done g c =
@@ -43,5 +43,5 @@ returns-clause-done g c =
     does_then g.S.Store.step _ (done c.in-Ok.gone) last _ _ _ _ _ _ c.finish_store.result
     (λ tag now. reaches_then g.S.Store.step tag now now now _ _ _ _ _ _ _ _ _
     (reaches_chosen g.S.Store.step c.args.command.now.by_uid c.args.command.now.set next view found.0 _ _ looks.1 found.1 tag now)
-    (c.in-Ok.ensures.done view found.0 are done tag now))
+    (c.in-Ok.ensures view found.0 are done tag now))
     c.finish_store.ensures.done
