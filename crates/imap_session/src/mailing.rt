@@ -1,7 +1,7 @@
 //! A message that a client appends: its bytes as they come, what is said of it when all are there, and its way to the mailbox.
 //! What is said where is told in specs/Commands.antt; no mailbox is asked here.
 
-ghost use Rattle.std.specs.Prelude.{◌≡◌, ◌^◌, ◌<◌, ◌≤◌, ◌==◌, ℕ, Bool, [], length, IfErr, IfOk, IfSome, None, true, false};
+ghost use Rattle.std.specs.Prelude.{◌≡◌, ◌^◌, ◌<◌, ◌≤◌, ◌==◌, Bool, [], length, IfErr, IfOk, IfSome, None, true, false};
 ghost use Rattle.std.specs.List.{list_any};
 ghost use Rattle.std.specs.Option.{option_map};
 ghost use Rattle.imap_session.specs.Commands.{is_over, on_rest, over, says, taking, wanting};

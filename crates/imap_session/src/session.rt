@@ -52,7 +52,7 @@ impl Session {
     ghost use Rattle.std.specs.Option.{option_copied, option_map};
     ghost use Rattle.std.specs.Vec.{vec_capacity};
     ghost use Rattle.imap_session.specs.Exchange.{Sent as SentSpec, kept_tag, nothing_sent, Feed, Refused, closed, is_idling, may_send, refusal_text, tagged};
-    ghost use Rattle.imap_session.specs.Commands.{appending, awaiting, due_of, number_named, on_rest, on_verdict, wanting, greeting, long_line_text, most_changes, on_command, on_idle_line, turn_of_long_line};
+    ghost use Rattle.imap_session.specs.Commands.{appending, awaiting, due_of, number_named, on_rest, on_verdict, wanting, greeting, long_line_text, most_changes, on_idle_line, turn_of_long_line};
     ghost use Rattle.imap_session.specs.inner.Seen.{appending_of, sent_of};
     ghost use Rattle.imap_session.specs.inner.Appends.{Leads};
     ghost use Rattle.imap_session.specs.Store.{Answers, AnswersVerdict, IdleTurns, Starves, TakesBytes, room_for, room_for_verdict};

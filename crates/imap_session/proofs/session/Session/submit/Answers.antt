@@ -1,4 +1,4 @@
-use Rattle.std.proofs.Common.{[], ◌++◌, ◌∙◌, ap, append-nil, codes, refl, sym, List, ℕ}
+use Rattle.std.proofs.Common.{[], ◌++◌, ◌∙◌, ap, append-nil, codes, refl, sym}
 use Rattle.imap_session.specs.contracts.session.Session.{the_view}
 use Rattle.imap_session.specs.Exchange.{ForVerdict, Standing, Wait, tagged}
 use Rattle.imap_session.specs.Commands.{on_rest}
