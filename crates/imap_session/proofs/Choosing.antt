@@ -1,5 +1,5 @@
 -- Sets of messages, found in the view.
-use Rattle.std.proofs.Common.{◌≡◌, ◌∙◌, ℕ, zero, suc, ◌<◌, Bool, codes, List, [], ◌∷◌, length, map, get_or, Option, Some, None, refl, ap, subst, arith}
+use Rattle.std.proofs.Common.{◌≡◌, ◌∙◌, ℕ, zero, suc, ◌<◌, Bool, codes, List, [], ◌∷◌, length, map, get_or, Option, Some, None, Result, refl, ap, subst, arith}
 use Rattle.std.specs.Prelude.{option_map}
 use Rattle.std.proofs.lemmas.List.{length-map}
 use Rattle.imap_grammar.specs.Sets.{named_at, named_in}
@@ -9,7 +9,9 @@ use Rattle.imap_session.specs.Exchange as ex
 use Rattle.imap_session.specs.Exchange.{Call, Answer, Looked, Exchange, Standing}
 use Rattle.imap_session.specs.Commands.{on_set, on_chosen, says}
 use Rattle.imap_session.specs.inner.Response.{Response}
-use Rattle.imap_session.specs.inner.Store.{Reaches}
+use Rattle.mailbox.specs.declared.clients.MailFault.{MailFault}
+use Rattle.imap_session.specs.inner.Store.{Does, Reaches}
+use Rattle.imap_session.proofs.Saying.{does_then}
 use Rattle.imap_session.proofs.Runs.{reaches_look}
 
 pub reaches_chosen : {S : Type 0} (step : S → Call → Answer → S → Type 0) (by_uid : Bool) (set : List SeqRange) (next : List ℕ → List ℕ → Exchange) (view uids : List ℕ) (s : S) (text : Response)
@@ -55,3 +57,13 @@ as_many view uids messages e = ap (length {A = Named}) e ∙ length-map uids (na
 pub uids_chosen : (view uids : List ℕ) → map (λ (m : Named). m.uid) (map (named_at view) uids) ≡ uids
 uids_chosen view [] = refl
 uids_chosen view (uid ∷ uids) = ap (λ (l : List ℕ). uid ∷ l) (uids_chosen view uids)
+
+-- what is done with the messages that a set names, once they are found
+pub does_chosen : {S V : Type 0} (step : S → Call → Answer → S → Type 0) (by_uid : Bool) (set : List SeqRange) (next : List ℕ → List ℕ → Exchange) (z : V → Exchange) (view : List ℕ) (messages : List Named) (old new : S) (before after : Response) (r : Result V MailFault)
+    → step old ex.Look (Looked view) old → Some messages ≡ option_map (map (named_at view)) (named_in by_uid set view)
+    → ((uids : List ℕ) → messages ≡ map (named_at view) uids → Does step (next view uids) z old new before after r)
+    → Does step (on_set by_uid set next) z old new before after r
+does_chosen step by_uid set next z view messages old new before after r looked told p =
+    let found = chosen_some view (named_in by_uid set view) messages told in
+    does_then step (on_set by_uid set next) (next view found.0) z old old new before before after r
+    (reaches_chosen step by_uid set next view found.0 old before looked found.1) (p found.0 found.2)

@@ -22,13 +22,11 @@ pub(crate) fn show_pending<S: Store>(
 ) -> Result<(), MailFault>
     ensures { (x : Exchange) → Does S.step (showing selected x) (λ _. x) store.old store.new response.old response.new result }
 {
-    match selected {
-        None => Ok(()),
-        Some(_) => match response.show(usize::MAX, store) {
-            Err(fault) => Err(fault),
-            Ok(_) => Ok(()),
-        },
-    }
+    let Some(_) = selected else {
+        return Ok(());
+    };
+    response.show(usize::MAX, store)?;
+    Ok(())
 }
 
 // Shows what is pending, removes messages, and shows that.
@@ -40,13 +38,9 @@ fn remove_and_show<S: Store>(
     ensures { (x : Exchange) → Does S.step (Expunge (option_copied uids.entry) (Feed unlimited x)) (λ _.
         x) store.old store.new response.old response.new result }
 {
-    match response.purge(uids, store) {
-        Err(fault) => Err(fault),
-        Ok(()) => match response.show(usize::MAX, store) {
-            Err(fault) => Err(fault),
-            Ok(_) => Ok(()),
-        },
-    }
+    response.purge(uids, store)?;
+    response.show(usize::MAX, store)?;
+    Ok(())
 }
 
 // EXPUNGE in the selected mailbox. Answers what the last line says.
@@ -58,10 +52,8 @@ pub(crate) fn expunge_all<S: Store>(
         (completed commands.Expunge))) last store.old store.new response.old response.new result }
     ensures short { IfOk result (λ words. length words.now ≤ MOST_WORDS) }
 {
-    match remove_and_show(None, store, response) {
-        Err(fault) => Err(fault),
-        Ok(()) => Ok(b"OK EXPUNGE completed"),
-    }
+    remove_and_show(None, store, response)?;
+    Ok(b"OK EXPUNGE completed")
 }
 
 // The UIDs of these messages.
@@ -81,17 +73,12 @@ pub(crate) fn expunge_set<S: Store>(
     ensures done { Does S.step (expunge_set set.now) last store.old store.new response.old response.new result }
     ensures short { IfOk result (λ words. length words.now ≤ MOST_WORDS) }
 {
-    let messages = match store.choose(alloc, set, true) {
-        Err(fault) => return Err(fault),
-        Ok(None) => return Ok(b"BAD Sequence number too high"),
-        Ok(Some(messages)) => messages,
+    let Some(messages) = store.choose(alloc, set, true)? else {
+        return Ok(b"BAD Sequence number too high");
     };
-    let uids = match uids_of(alloc, messages.as_slice()) {
-        Err(AllocError) => return Err(MailFault::NoMemory),
-        Ok(uids) => uids,
+    let Ok(uids) = uids_of(alloc, messages.as_slice()) else {
+        return Err(MailFault::NoMemory);
     };
-    match remove_and_show(Some(uids.as_slice()), store, response) {
-        Err(fault) => Err(fault),
-        Ok(()) => Ok(b"OK UID EXPUNGE completed"),
-    }
+    remove_and_show(Some(uids.as_slice()), store, response)?;
+    Ok(b"OK UID EXPUNGE completed")
 }
