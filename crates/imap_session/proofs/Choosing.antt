@@ -21,13 +21,6 @@ reaches_chosen step by_uid set next view uids s text v h tag now =
     let P : Option (List ℕ) → Type 0 = λ o. Reaches step tag now now (on_set by_uid set next) (on_chosen o (next view)) s s text text in
     subst P h (reaches_look step tag now (λ w. on_chosen (named_in by_uid set w) (next w)) view s text v)
 
-pub reaches_too_high : {S : Type 0} (step : S → Call → Answer → S → Type 0) (by_uid : Bool) (set : List SeqRange) (next : List ℕ → List ℕ → Exchange) (view : List ℕ) (s : S) (text : Response)
-    → step s ex.Look (Looked view) s → named_in by_uid set view ≡ None
-    → (tag : List ℕ) (now : Standing) → Reaches step tag now now (on_set by_uid set next) (says (codes "BAD Sequence number too high")) s s text text
-reaches_too_high step by_uid set next view s text v h tag now =
-    let P : Option (List ℕ) → Type 0 = λ o. Reaches step tag now now (on_set by_uid set next) (on_chosen o (next view)) s s text text in
-    subst P h (reaches_look step tag now (λ w. on_chosen (named_in by_uid set w) (next w)) view s text v)
-
 -- ---- what a choice answers
 
 same_messages : {x y : List Named} → Some x ≡ Some y → x ≡ y
@@ -37,9 +30,16 @@ pub chosen_some : (view : List ℕ) (x : Option (List ℕ)) (messages : List Nam
 chosen_some view None messages e = cc
 chosen_some view (Some uids) messages e = (uids, refl, same_messages e)
 
-pub chosen_none : (view : List ℕ) (x : Option (List ℕ)) → None ≡ option_map (map (named_at view)) x → x ≡ None
+chosen_none : (view : List ℕ) (x : Option (List ℕ)) → None ≡ option_map (map (named_at view)) x → x ≡ None
 chosen_none view None e = refl
 chosen_none view (Some uids) e = cc
+
+pub reaches_too_high : {S : Type 0} (step : S → Call → Answer → S → Type 0) (by_uid : Bool) (set : List SeqRange) (next : List ℕ → List ℕ → Exchange) (view : List ℕ) (s : S) (text : Response)
+    → step s ex.Look (Looked view) s → None ≡ option_map (map (named_at view)) (named_in by_uid set view)
+    → (tag : List ℕ) (now : Standing) → Reaches step tag now now (on_set by_uid set next) (says (codes "BAD Sequence number too high")) s s text text
+reaches_too_high step by_uid set next view s text looked none tag now =
+    let P : Option (List ℕ) → Type 0 = λ o. Reaches step tag now now (on_set by_uid set next) (on_chosen o (next view)) s s text text in
+    subst P (chosen_none view (named_in by_uid set view) none) (reaches_look step tag now (λ w. on_chosen (named_in by_uid set w) (next w)) view s text looked)
 
 -- messages at their positions, by number
 pub message_there : (view uids : List ℕ) (i : ℕ) (d : Named) → i < length (map (named_at view) uids) → get_or (map (named_at view) uids) i d ≡ named_at view (get_or uids i 0)

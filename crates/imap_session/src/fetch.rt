@@ -13,7 +13,7 @@ use crate::response::{MOST_WORDS, Response, hold_room};
 use crate::store::Store;
 use imap_grammar::{Fetch, FetchItem, Named, write_row};
 use mailbox::{MailFault, Row};
-use std::alloc::{AllocError, Global};
+use std::alloc::Global;
 
 // Writes the answer for the message at this position.
 fn write_fetched(
@@ -48,20 +48,11 @@ fn fetch_one<S: Store>(
         (Read uid mark (on_found (λ row. Write (fetched fetch.now view uid row) x) y))
         (λ here. if here then x else y) store.old store.new response.old response.new result }
 {
-    match store.read(message.uid, mark) {
-        Err(fault) => Err(fault),
-        Ok(None) => Ok(false),
-        Ok(Some(row)) => match write_fetched(
-            fetch.by_uid,
-            items,
-            message.position,
-            &row,
-            response,
-        ) {
-            Err(fault) => Err(fault),
-            Ok(()) => Ok(true),
-        },
-    }
+    let Some(row) = store.read(message.uid, mark)? else {
+        return Ok(false);
+    };
+    write_fetched(fetch.by_uid, items, message.position, &row, response)?;
+    Ok(true)
 }
 
 // Answers for these messages, and says whether one of them is gone.
@@ -79,13 +70,9 @@ fn fetch_all<S: Store>(
 {
     let mut gone = false;
     for message in messages {
-        match fetch_one(fetch, items, mark, *message, store, response) {
-            Err(fault) => return Err(fault),
-            Ok(here) => {
-                if !here {
-                    gone = true;
-                }
-            }
+        let here = fetch_one(fetch, items, mark, *message, store, response)?;
+        if !here {
+            gone = true;
         }
     }
     Ok(gone)
@@ -103,10 +90,8 @@ fn finish_fetch<S: Store>(
     ensures short { IfOk result (λ words. length words.now ≤ MOST_WORDS) }
 {
     if fetch.by_uid {
-        match response.show(usize::MAX, store) {
-            Err(fault) => Err(fault),
-            Ok(_) => Ok(b"OK UID FETCH completed"),
-        }
+        response.show(usize::MAX, store)?;
+        Ok(b"OK UID FETCH completed")
     } else if gone {
         Ok(b"NO [EXPUNGEISSUED] Some messages are gone")
     } else {
@@ -128,25 +113,13 @@ pub(crate) fn fetch_messages<S: Store>(
         last store.old store.new response.old response.new result }
     ensures short { IfOk result (λ words. length words.now ≤ MOST_WORDS) }
 {
-    let items = match fetch.items.list(alloc) {
-        Err(AllocError) => return Err(MailFault::NoMemory),
-        Ok(items) => items,
+    let Ok(items) = fetch.items.list(alloc) else {
+        return Err(MailFault::NoMemory);
     };
-    let messages = match store.choose(alloc, &fetch.set, fetch.by_uid) {
-        Err(fault) => return Err(fault),
-        Ok(None) => return Ok(b"BAD Sequence number too high"),
-        Ok(Some(messages)) => messages,
+    let items = items.as_slice();
+    let Some(messages) = store.choose(alloc, &fetch.set, fetch.by_uid)? else {
+        return Ok(b"BAD Sequence number too high");
     };
-    let gone = match fetch_all(
-        fetch,
-        items.as_slice(),
-        mark,
-        messages.as_slice(),
-        store,
-        response,
-    ) {
-        Err(fault) => return Err(fault),
-        Ok(gone) => gone,
-    };
+    let gone = fetch_all(fetch, items, mark, messages.as_slice(), store, response)?;
     finish_fetch(fetch, gone, store, response)
 }

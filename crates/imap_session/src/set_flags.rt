@@ -105,14 +105,11 @@ fn store_one<S: Store>(
         (Alter uid command.now.change (on_found (λ flags. Write (stored command.now view uid flags) x) y))
         (λ here. if here then x else y) store.old store.new response.old response.new result }
 {
-    match store.store(message.uid, command.change) {
-        Err(fault) => Err(fault),
-        Ok(None) => Ok(false),
-        Ok(Some(flags)) => match write_stored(command, message, flags, response) {
-            Err(fault) => Err(fault),
-            Ok(()) => Ok(true),
-        },
-    }
+    let Some(flags) = store.store(message.uid, command.change)? else {
+        return Ok(false);
+    };
+    write_stored(command, message, flags, response)?;
+    Ok(true)
 }
 
 // Changes the flags of these messages, and says whether one of them is gone.
@@ -127,13 +124,9 @@ fn store_all<S: Store>(
 {
     let mut gone = false;
     for message in messages {
-        match store_one(command, *message, store, response) {
-            Err(fault) => return Err(fault),
-            Ok(here) => {
-                if !here {
-                    gone = true;
-                }
-            }
+        let here = store_one(command, *message, store, response)?;
+        if !here {
+            gone = true;
         }
     }
     Ok(gone)
@@ -151,10 +144,8 @@ fn finish_store<S: Store>(
     ensures short { IfOk result (λ words. length words.now ≤ MOST_WORDS) }
 {
     if command.by_uid {
-        match response.show(usize::MAX, store) {
-            Err(fault) => Err(fault),
-            Ok(_) => Ok(b"OK UID STORE completed"),
-        }
+        response.show(usize::MAX, store)?;
+        Ok(b"OK UID STORE completed")
     } else if gone {
         Ok(b"NO [EXPUNGEISSUED] Some messages are gone")
     } else {
@@ -175,14 +166,9 @@ pub(crate) fn store_messages<S: Store>(
         last store.old store.new response.old response.new result }
     ensures short { IfOk result (λ words. length words.now ≤ MOST_WORDS) }
 {
-    let messages = match store.choose(alloc, &command.set, command.by_uid) {
-        Err(fault) => return Err(fault),
-        Ok(None) => return Ok(b"BAD Sequence number too high"),
-        Ok(Some(messages)) => messages,
+    let Some(messages) = store.choose(alloc, &command.set, command.by_uid)? else {
+        return Ok(b"BAD Sequence number too high");
     };
-    let gone = match store_all(command, messages.as_slice(), store, response) {
-        Err(fault) => return Err(fault),
-        Ok(gone) => gone,
-    };
+    let gone = store_all(command, messages.as_slice(), store, response)?;
     finish_store(command, gone, store, response)
 }
