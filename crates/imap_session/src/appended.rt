@@ -42,14 +42,9 @@ fn count_and_show<S: Store>(
     ensures { (next : ℕ → Exchange) → Does S.step
         (Count mailbox (λ status. showing selected (next status.uidvalidity))) next store.old store.new response.old response.new result }
 {
-    let status = match store.status(mailbox) {
-        Err(fault) => return Err(fault),
-        Ok(status) => status,
-    };
-    match show_pending(selected, store, response) {
-        Err(fault) => Err(fault),
-        Ok(()) => Ok(status.uidvalidity),
-    }
+    let status = store.status(mailbox)?;
+    show_pending(selected, store, response)?;
+    Ok(status.uidvalidity)
 }
 
 // Ends a response with the line that tells where a message was stored.

@@ -47,14 +47,9 @@ fn count_folder<S: Store>(
         (Count folder.now.mailbox (λ status. Write (status_answer folder.now.name items.now status) (showing selected x)))
         (λ _. x) store.old store.new response.old response.new result }
 {
-    let status = match store.status(folder.mailbox()) {
-        Err(fault) => return Err(fault),
-        Ok(status) => status,
-    };
-    match write_counted(folder.name(), items, &status, response) {
-        Err(fault) => Err(fault),
-        Ok(()) => show_pending(selected, store, response),
-    }
+    let status = store.status(folder.mailbox())?;
+    write_counted(folder.name(), items, &status, response)?;
+    show_pending(selected, store, response)
 }
 
 // STATUS of the first folder of a name. Answers what the last line says.
@@ -73,13 +68,11 @@ fn count_named<S: Store>(
         last store.old store.new response.old response.new result }
     ensures short { IfOk result (λ words. length words.now ≤ MOST_WORDS) }
 {
-    match find_folder(name, folders) {
-        None => Ok(b"NO [NONEXISTENT] No such mailbox"),
-        Some(folder) => match count_folder(folder, items, selected, store, response) {
-            Err(fault) => Err(fault),
-            Ok(()) => Ok(b"OK STATUS completed"),
-        },
-    }
+    let Some(folder) = find_folder(name, folders) else {
+        return Ok(b"NO [NONEXISTENT] No such mailbox");
+    };
+    count_folder(folder, items, selected, store, response)?;
+    Ok(b"OK STATUS completed")
 }
 
 // STATUS: tells the numbers of the mailbox of this name. Answers what the last line says.
@@ -157,12 +150,7 @@ pub(crate) fn list_folders<S: Store>(
         last store.old store.new response.old response.new result }
     ensures short { IfOk result (λ words. length words.now ≤ MOST_WORDS) }
 {
-    match write_names(alloc, folders, reference, pattern, response) {
-        Err(fault) => return Err(fault),
-        Ok(()) => {}
-    }
-    match show_pending(selected, store, response) {
-        Err(fault) => Err(fault),
-        Ok(()) => Ok(b"OK LIST completed"),
-    }
+    write_names(alloc, folders, reference, pattern, response)?;
+    show_pending(selected, store, response)?;
+    Ok(b"OK LIST completed")
 }

@@ -72,13 +72,9 @@ fn leave_previous<S: Store>(
     if selected.is_none() {
         return Ok(());
     }
-    match store.leave(false) {
-        Err(fault) => Err(fault),
-        Ok(_) => {
-            *selected = None;
-            response.write(b"* OK [CLOSED] Previous mailbox is closed\r\n")
-        }
-    }
+    store.leave(false)?;
+    *selected = None;
+    response.write(b"* OK [CLOSED] Previous mailbox is closed\r\n")
 }
 
 // Enters a mailbox, which is selected from then on.
@@ -91,13 +87,9 @@ fn enter_mailbox<S: Store>(
         Moves S.step selected.old selected.new (Enter wanted next) next store.old store.new response response result }
     ensures entered { OnOk result (selected.new ≡ Some wanted) }
 {
-    match store.enter(wanted.mailbox) {
-        Err(fault) => Err(fault),
-        Ok(opening) => {
-            *selected = Some(wanted);
-            Ok(opening)
-        }
-    }
+    let opening = store.enter(wanted.mailbox)?;
+    *selected = Some(wanted);
+    Ok(opening)
 }
 
 // Leaves the selected mailbox, which none is from then on.
@@ -111,13 +103,9 @@ pub(crate) fn leave_mailbox<S: Store>(
     ensures none { OnOk result (selected.new ≡ None) }
     ensures err { OnErr result (selected.new ≡ selected.old) }
 {
-    match store.leave(remove) {
-        Err(fault) => Err(fault),
-        Ok(_) => {
-            *selected = None;
-            Ok(())
-        }
-    }
+    store.leave(remove)?;
+    *selected = None;
+    Ok(())
 }
 
 // What the last line says after a mailbox was entered.
@@ -148,14 +136,9 @@ fn enter_folder<S: Store>(
         mailbox: folder.mailbox(),
         read_only,
     };
-    let opening = match enter_mailbox(wanted, selected, store) {
-        Err(fault) => return Err(fault),
-        Ok(opening) => opening,
-    };
-    match write_opening(read_only, folder.name(), &opening, response) {
-        Err(fault) => Err(fault),
-        Ok(()) => Ok(entered_words(read_only)),
-    }
+    let opening = enter_mailbox(wanted, selected, store)?;
+    write_opening(read_only, folder.name(), &opening, response)?;
+    Ok(entered_words(read_only))
 }
 
 // Enters the first folder of this name. Answers what the last line says.
@@ -200,16 +183,7 @@ pub(crate) fn select_mailbox<S: Store>(
     let Ok(name) = name.to_bytes(alloc) else {
         return Err(MailFault::NoMemory);
     };
-    match leave_previous(selected, store, response) {
-        Err(fault) => return Err(fault),
-        Ok(()) => {}
-    }
-    enter_named(
-        folders,
-        read_only,
-        name.as_slice(),
-        selected,
-        store,
-        response,
-    )
+    leave_previous(selected, store, response)?;
+    let name = name.as_slice();
+    enter_named(folders, read_only, name, selected, store, response)
 }

@@ -130,13 +130,11 @@ pub(crate) fn close<S: Store>(
         last store.old store.new response response result }
     ensures short { IfOk result (λ words. length words.now ≤ MOST_WORDS) }
 {
-    match *selected {
-        None => Ok(b"BAD Wrong state"),
-        Some(mailbox) => match leave_mailbox(!mailbox.read_only, selected, store) {
-            Err(fault) => Err(fault),
-            Ok(()) => Ok(b"OK CLOSE completed"),
-        },
-    }
+    let Some(mailbox) = *selected else {
+        return Ok(b"BAD Wrong state");
+    };
+    leave_mailbox(!mailbox.read_only, selected, store)?;
+    Ok(b"OK CLOSE completed")
 }
 
 // UNSELECT.
@@ -148,11 +146,9 @@ pub(crate) fn unselect<S: Store>(
         (on_found (λ mailbox. Leave false (completed commands.Unselect)) wrong_state selected.old) last store.old store.new response response result }
     ensures short { IfOk result (λ words. length words.now ≤ MOST_WORDS) }
 {
-    match *selected {
-        None => Ok(b"BAD Wrong state"),
-        Some(_) => match leave_mailbox(false, selected, store) {
-            Err(fault) => Err(fault),
-            Ok(()) => Ok(b"OK UNSELECT completed"),
-        },
-    }
+    let Some(_) = *selected else {
+        return Ok(b"BAD Wrong state");
+    };
+    leave_mailbox(false, selected, store)?;
+    Ok(b"OK UNSELECT completed")
 }

@@ -91,10 +91,8 @@ fn note_nothing<S: Store>(
     ensures done { Does S.step (showing selected (completed commands.Noop)) last store.old store.new response.old response.new result }
     ensures short { IfOk result (λ words. length words.now ≤ MOST_WORDS) }
 {
-    match show_pending(selected, store, response) {
-        Err(fault) => Err(fault),
-        Ok(()) => Ok(b"OK NOOP completed"),
-    }
+    show_pending(selected, store, response)?;
+    Ok(b"OK NOOP completed")
 }
 
 /// What a command says of the server before all else, with its CRLF. Most say nothing.
