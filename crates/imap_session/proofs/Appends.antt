@@ -9,6 +9,11 @@ use Rattle.imap_grammar.specs.declared.command.Append.{Append}
 use Rattle.imap_session.specs.inner.Appends.{Leads}
 use Rattle.imap_session.specs.Commands.{appending, awaiting, most_unasked, nowhere, is_over, number_named, on_found, over, says, wanting}
 
+-- ---- what was said behind what was written before
+
+pub said_under : (words after out given text tag : List ℕ) → after ≡ out ++ tagged given words → out ≡ text → given ≡ tag → after ≡ text ++ tagged tag words
+said_under words after out given text tag e same own = e ∙ ap (λ t. t ++ tagged given words) same ∙ ap (λ t. text ++ tagged t words) own
+
 -- ---- where an exchange without a call leads
 
 pub leads_says : (tag words : List ℕ) (now next : Standing) (x : Exchange) (before text : List ℕ) → x ≡ says words → text ≡ before ++ tagged tag words → next ≡ now → Leads tag now x before text Go next

@@ -1,5 +1,5 @@
 -- The parts of a FETCH.
-use Rattle.std.proofs.Common.{◌≡◌, ℕ, ◌+◌, ◌<◌, Bool, true, false, if◌then◌else◌, length, drop, get_or, add-one, drop-cons, List, ◌++◌, Option, Some, refl, subst}
+use Rattle.std.proofs.Common.{◌≡◌, ℕ, ◌+◌, ◌<◌, Bool, true, false, if◌then◌else◌, length, drop, get_or, add-one, drop-cons, List, Option, Some, refl, subst}
 use Rattle.mailbox.specs.declared.clients.MailFault.{MailFault}
 use Rattle.mailbox.specs.declared.clients.MailFault.TheVariants.{NoMemory}
 use Rattle.mailbox.specs.declared.clients.Row.{Row}
@@ -7,12 +7,13 @@ use Rattle.imap_grammar.specs.declared.command.Fetch.{Fetch}
 use Rattle.imap_session.specs.Exchange as ex
 use Rattle.imap_session.specs.Exchange.{Call, Answer, Found, Exchange, Standing}
 use Rattle.imap_session.specs.Commands.{on_found, fetched, fetching}
+use Rattle.imap_session.specs.inner.Response.{Response, adding}
 use Rattle.imap_session.specs.inner.Store.{Reaches, Stops}
 use Rattle.imap_session.proofs.Runs.{reaches_read, reaches_write, reaches_then, stops_write, stops_then}
 
 -- a message that is there: its answer is what is left to write
-pub reads_there : {S : Type 0} (step : S → Call → Answer → S → Type 0) (tag : List ℕ) (now : Standing) (uid : ℕ) (mark : Bool) (text : Row → List ℕ) (x y : Exchange) (row : Row) (old new : S) (before after : List ℕ)
-    → step old (ex.Read uid mark) (Found (Some row)) new → after ≡ before ++ text row
+pub reads_there : {S : Type 0} (step : S → Call → Answer → S → Type 0) (tag : List ℕ) (now : Standing) (uid : ℕ) (mark : Bool) (text : Row → List ℕ) (x y : Exchange) (row : Row) (old new : S) (before after : Response)
+    → step old (ex.Read uid mark) (Found (Some row)) new → after ≡ adding (text row) before
     → Reaches step tag now now (ex.Read uid mark (on_found (λ r. ex.Write (text r) x) y)) x old new before after
 reads_there step tag now uid mark text x y row old new before after h e =
     let next : Option Row → Exchange = on_found (λ r. ex.Write (text r) x) y in
@@ -21,7 +22,7 @@ reads_there step tag now uid mark text x y row old new before after h e =
     (reaches_write step tag now (text row) x new before after e)
 
 -- the same, where memory for its answer is refused
-pub reads_starved : {S : Type 0} (step : S → Call → Answer → S → Type 0) (tag : List ℕ) (now : Standing) (uid : ℕ) (mark : Bool) (text : Row → List ℕ) (x y : Exchange) (row : Row) (fault : MailFault) (old new : S) (before after : List ℕ)
+pub reads_starved : {S : Type 0} (step : S → Call → Answer → S → Type 0) (tag : List ℕ) (now : Standing) (uid : ℕ) (mark : Bool) (text : Row → List ℕ) (x y : Exchange) (row : Row) (fault : MailFault) (old new : S) (before after : Response)
     → step old (ex.Read uid mark) (Found (Some row)) new → fault ≡ NoMemory → after ≡ before
     → Stops step tag now now (ex.Read uid mark (on_found (λ r. ex.Write (text r) x) y)) fault old new before after
 reads_starved step tag now uid mark text x y row fault old new before after h f e =
@@ -42,7 +43,7 @@ one_of_two f true gone = refl
 one_of_two f false gone = refl
 
 -- a FETCH goes on by one message
-pub fetches_more : {S : Type 0} (step : S → Call → Answer → S → Type 0) (tag : List ℕ) (now : Standing) (fetch : Fetch) (mark : Bool) (view : List ℕ) (done : Bool → Exchange) (uids : List ℕ) (i : ℕ) (gone here : Bool) (x : Exchange) (old mid new : S) (first second third : List ℕ)
+pub fetches_more : {S : Type 0} (step : S → Call → Answer → S → Type 0) (tag : List ℕ) (now : Standing) (fetch : Fetch) (mark : Bool) (view : List ℕ) (done : Bool → Exchange) (uids : List ℕ) (i : ℕ) (gone here : Bool) (x : Exchange) (old mid new : S) (first second third : Response)
     → i < length uids
     → Reaches step tag now now x (fetching fetch mark view done (drop i uids) gone) old mid first second
     → Reaches step tag now now

@@ -15,6 +15,7 @@ use Rattle.imap_session.specs.declared.standing.Selected.{Selected}
 use Rattle.imap_session.specs.Exchange.{Answer, Appending, Call, Standing, Starved, closed, tagged}
 use Rattle.imap_session.specs.Commands.{completed, fault_text, on_command, on_idle_line, on_read, says, appending, showing, on_rest, turn_behind, turn_of, turn_while, without_begun}
 use Rattle.imap_session.specs.Store.{Answers}
+use Rattle.imap_session.specs.inner.Response.{Response}
 use Rattle.imap_session.specs.inner.Store.{Does, Plays, Reaches, after_result, is_idle, last, last_words}
 use Rattle.imap_grammar.specs.declared.command.Append.{Append}
 use Rattle.imap_session.specs.inner.Appends.{Leads}
@@ -80,6 +81,14 @@ answers_rest step now next a line s before after how is p = record {
   wrote = p.3;
 }
 
+pub rest_led : (tag : List ℕ) (a : Appending) (seen now next : Standing) (empty is : Bool) (held before said text : List ℕ) (how : After)
+    → seen ≡ now → empty ≡ is → held ≡ before → text ≡ said
+    → Leads tag (record seen { idling = None }) (on_rest seen.mailing a empty) held said how next
+    → Leads tag (record now { idling = None }) (on_rest now.mailing a is) before text how next
+rest_led tag a seen now next empty is held before said text how same told kept wrote p =
+    let P : Standing → Bool → List ℕ → List ℕ → Type 0 = λ m b front whole. Leads tag (record m { idling = None }) (on_rest m.mailing a b) front whole how next in
+    subst (P now is before) (sym wrote) (subst (λ (f : List ℕ). P now is f said) kept (subst (λ (b : Bool). P now b held said) told (subst (λ (m : Standing). P m empty held said) same p)))
+
 pub taken_again : {s now : Standing} (b : Option begun.Appending) → s ≡ now → b ≡ None
     → record s { mailing = record s.mailing { begun = option_map appending_of b } } ≡ record now { mailing = record now.mailing { begun = None } }
 taken_again {s} {now} b e none =
@@ -101,43 +110,43 @@ idle_is : (command : Command) → is_idle command ≡ true → command ≡ comma
 idle_is commands.Idle e = refl
 idle_is _ e = absurd cc
 
-pub answers_idle : {S : Type 0} (step : S → Call → Answer → S → Type 0) (now next : Standing) (line tag : List ℕ) (command : Command) (s : S) (before after : List ℕ) (how : After) → now.mailing.begun ≡ None → now.idling ≡ None
-    → read line ≡ Ok (tag, command) → is_idle command ≡ true → ((how ≡ Idle) ⊎ (how ≡ Go))
-    → (how ≡ Idle → (next ≡ record now { idling = Some tag }) × (after ≡ before ++ codes "+ idling\r\n"))
-    → (how ≡ Go → (32 < length tag) × (next ≡ now) × (after ≡ before ++ tagged tag (codes "NO Out of memory")))
+pub answers_idle : {S : Type 0} (step : S → Call → Answer → S → Type 0) (now next : Standing) (line : List ℕ) (response : Response) (command : Command) (s : S) (before after : List ℕ) (how : After) → now.mailing.begun ≡ None → now.idling ≡ None
+    → read line ≡ Ok (response.tag, command) → response.text ≡ before → is_idle command ≡ true → ((how ≡ Idle) ⊎ (how ≡ Go))
+    → (how ≡ Idle → (next ≡ record now { idling = Some response.tag }) × (after ≡ response.text ++ codes "+ idling\r\n"))
+    → (how ≡ Go → (32 < length response.tag) × (next ≡ now) × (after ≡ response.text ++ tagged response.tag (codes "NO Out of memory")))
     → Answers step now line s s before after how next
-answers_idle step now next line tag command s before after Bye alone awake h i (inl e) begun starved = absurd cc
-answers_idle step now next line tag command s before after Bye alone awake h i (inr e) begun starved = absurd cc
-answers_idle step now next line tag command s before after (Literal n) alone awake h i (inl e) begun starved = absurd cc
-answers_idle step now next line tag command s before after (Literal n) alone awake h i (inr e) begun starved = absurd cc
-answers_idle step now next line tag command s before after Submit alone awake h i (inl e) begun starved = absurd cc
-answers_idle step now next line tag command s before after Submit alone awake h i (inr e) begun starved = absurd cc
-answers_idle step now next line tag command s before after Idle alone awake h i on begun starved =
+answers_idle step now next line response command s before after Bye alone awake h kept i (inl e) begun starved = absurd cc
+answers_idle step now next line response command s before after Bye alone awake h kept i (inr e) begun starved = absurd cc
+answers_idle step now next line response command s before after (Literal n) alone awake h kept i (inl e) begun starved = absurd cc
+answers_idle step now next line response command s before after (Literal n) alone awake h kept i (inr e) begun starved = absurd cc
+answers_idle step now next line response command s before after Submit alone awake h kept i (inl e) begun starved = absurd cc
+answers_idle step now next line response command s before after Submit alone awake h kept i (inr e) begun starved = absurd cc
+answers_idle step now next line response command s before after Idle alone awake h kept i on begun starved =
     subst (λ (n : Standing). Answers step now line s s before after Idle n) (sym (begun refl).0) (record {
       answers = [];
       events = [];
       bytes = codes "+ idling\r\n";
-      played = awake_turn now line [] alone awake ∙ ap (λ r. on_read now r []) (h ∙ ap (λ c. Ok (tag, c)) (idle_is command i));
+      played = awake_turn now line [] alone awake ∙ ap (λ r. on_read now r []) (h ∙ ap (λ c. Ok (response.tag, c)) (idle_is command i));
       met = refl;
-      wrote = (begun refl).1;
+      wrote = (begun refl).1 ∙ ap (λ t. t ++ codes "+ idling\r\n") kept;
     })
-answers_idle step now next line tag command s before after Go alone awake h i on begun starved =
+answers_idle step now next line response command s before after Go alone awake h kept i on begun starved =
     subst (λ (n : Standing). Answers step now line s s before after Go n) (sym (starved refl).1) (record {
       answers = Starved zero ∷ [];
       events = [];
-      bytes = tagged tag (codes "NO Out of memory") ++ [];
-      played = awake_turn now line (Starved zero ∷ []) alone awake ∙ ap (λ r. on_read now r (Starved zero ∷ [])) (h ∙ ap (λ c. Ok (tag, c)) (idle_is command i))
-          ∙ ap (λ (b : Bool). if b then Some (record { events = []; bytes = tagged tag (codes "NO Out of memory") ++ []; after = Go; standing = now }) else None) (lt-ltb 32 (length tag) (starved refl).0);
+      bytes = tagged response.tag (codes "NO Out of memory") ++ [];
+      played = awake_turn now line (Starved zero ∷ []) alone awake ∙ ap (λ r. on_read now r (Starved zero ∷ [])) (h ∙ ap (λ c. Ok (response.tag, c)) (idle_is command i))
+          ∙ ap (λ (b : Bool). if b then Some (record { events = []; bytes = tagged response.tag (codes "NO Out of memory") ++ []; after = Go; standing = now }) else None) (lt-ltb 32 (length response.tag) (starved refl).0);
       met = refl;
-      wrote = (starved refl).2 ∙ ap (λ t. before ++ t) (sym (append-nil (tagged tag (codes "NO Out of memory"))));
+      wrote = (starved refl).2 ∙ ap (λ t. t ++ tagged response.tag (codes "NO Out of memory")) kept ∙ ap (λ t. before ++ t) (sym (append-nil (tagged response.tag (codes "NO Out of memory"))));
     })
 
 -- the line that ends it
-pub plays_idle_line : {S : Type 0} (step : S → Call → Answer → S → Type 0) (tag : List ℕ) (now : Standing) (line : List ℕ) (old new : S) (before mid final : List ℕ) (r : Result (Bor (List ℕ)) MailFault) (how : After)
-    → Does step (on_idle_line now.selected line) last old new before mid r → final ≡ mid ++ last_words tag r → how ≡ after_result Go r
-    → Plays step tag now now (on_idle_line now.selected line) old new before final how
-plays_idle_line step tag now line old new before mid final r how d f h =
-    rw h (plays_moved step tag now now.selected Go (on_idle_line now.selected line) old new before mid final r (moves_still step now.selected (on_idle_line now.selected line) last old new before mid r d) f)
+pub plays_idle_line : {S : Type 0} (step : S → Call → Answer → S → Type 0) (now : Standing) (line : List ℕ) (old new : S) (before mid : Response) (final : List ℕ) (r : Result (Bor (List ℕ)) MailFault) (how : After)
+    → Does step (on_idle_line now.selected line) last old new before mid r → final ≡ mid.text ++ last_words mid.tag r → how ≡ after_result Go r
+    → Plays step before.tag now now (on_idle_line now.selected line) old new before.text final how
+plays_idle_line step now line old new before mid final r how d f h =
+    rw h (plays_moved step now now.selected Go (on_idle_line now.selected line) old new before mid final r (moves_still step now.selected (on_idle_line now.selected line) last old new before mid r d) f)
 
 pub answers_idle_line : {S : Type 0} (step : S → Call → Answer → S → Type 0) (now next : Standing) (tag line : List ℕ) (old new : S) (before after : List ℕ) (how : After) → now.mailing.begun ≡ None → now.idling ≡ None
     → Plays step tag now now (on_idle_line now.selected line) old new before after how → next ≡ (closed now how).standing
@@ -150,13 +159,13 @@ answers_idle_line {S} step now next tag line old new before after how alone awak
     (record { answers = p0.answers; events = p0.events; bytes = p0.bytes; played = ap (λ b. turn_behind b (record now { idling = Some tag }) line p0.answers) alone ∙ p0.leads; met = p0.met; wrote = p0.wrote })
 
 -- what the line says: it isn't DONE, or it is, and what is pending was shown
-pub says_not_done : {S : Type 0} (step : S → Call → Answer → S → Type 0) (tag : List ℕ) (now : Standing) (selected : Option Selected) (line : List ℕ) (s : S) (text : List ℕ) → is_done line ≡ false
+pub says_not_done : {S : Type 0} (step : S → Call → Answer → S → Type 0) (tag : List ℕ) (now : Standing) (selected : Option Selected) (line : List ℕ) (s : S) (text : Response) → is_done line ≡ false
     → Reaches step tag now now (on_idle_line selected line) (says (codes "BAD Expected DONE")) s s text text
 says_not_done step tag now selected line s text e =
     subst (λ (b : Bool). Reaches step tag now now (if b then showing selected (completed commands.Idle) else says (codes "BAD Expected DONE")) (says (codes "BAD Expected DONE")) s s text text) (sym e)
     (reaches_here step tag now (says (codes "BAD Expected DONE")) s text)
 
-pub says_done : {S : Type 0} (step : S → Call → Answer → S → Type 0) (tag : List ℕ) (now : Standing) (selected : Option Selected) (line : List ℕ) (old new : S) (before after : List ℕ) → is_done line ≡ true
+pub says_done : {S : Type 0} (step : S → Call → Answer → S → Type 0) (tag : List ℕ) (now : Standing) (selected : Option Selected) (line : List ℕ) (old new : S) (before after : Response) → is_done line ≡ true
     → Reaches step tag now now (showing selected (completed commands.Idle)) (completed commands.Idle) old new before after
     → Reaches step tag now now (on_idle_line selected line) (completed commands.Idle) old new before after
 says_done step tag now selected line old new before after e r =

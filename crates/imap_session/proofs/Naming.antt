@@ -1,5 +1,5 @@
 -- Mailboxes by name, and parts of an exchange that follow one another where the selected mailbox may change.
-use Rattle.std.proofs.Common.{◌≡◌, ℕ, Bool, false, codes, List, [], ◌++◌, if◌then◌else◌, Option, Some, None, Result, Ok, Err, refl, sym, append-nil}
+use Rattle.std.proofs.Common.{◌≡◌, ℕ, Bool, false, codes, List, [], if◌then◌else◌, Option, Some, None, Result, Ok, Err, refl}
 use Rattle.std.specs.Borrow.{Bor}
 use Rattle.mailbox.specs.declared.clients.MailFault.{MailFault}
 use Rattle.mailbox.specs.declared.clients.MailFault.TheVariants.{NoMemory}
@@ -9,13 +9,14 @@ use Rattle.imap_session.specs.declared.standing.Selected.{Selected}
 use Rattle.imap_session.specs.Exchange as ex
 use Rattle.imap_session.specs.Exchange.{Call, Answer, Counted, Refused, Exchange, Folder, Standing, nothing_sent}
 use Rattle.imap_session.specs.Commands.{closing, entering, folder_of, on_folder, opened, opening_text, says, selecting, wanting}
+use Rattle.imap_session.specs.inner.Response.{Response, adding}
 use Rattle.imap_session.specs.inner.Store.{Reaches, Stops, Does, Moves, last}
-use Rattle.imap_session.proofs.Runs.{reaches_count, reaches_here, reaches_write, reaches_then, stops_count, stops_write, stops_then}
+use Rattle.imap_session.proofs.Runs.{nothing_added, reaches_count, reaches_here, reaches_write, reaches_then, stops_count, stops_write, stops_then}
 use Rattle.imap_session.proofs.Saying.{does_then}
 
 -- ---- one after the other
 
-pub moves_then : {S V : Type 0} (step : S → Call → Answer → S → Type 0) (from between to : Option Selected) (x y : Exchange) (z : V → Exchange) (old mid new : S) (first second third : List ℕ) (r : Result V MailFault)
+pub moves_then : {S V : Type 0} (step : S → Call → Answer → S → Type 0) (from between to : Option Selected) (x y : Exchange) (z : V → Exchange) (old mid new : S) (first second third : Response) (r : Result V MailFault)
     → ((tag : List ℕ) (now : Standing) → now.selected ≡ from → Reaches step tag now (record now { selected = between }) x y old mid first second)
     → Moves step between to y z mid new second third r → Moves step from to x z old new first third r
 moves_then step from between to x y z old mid new first second third (Ok v) p q = λ tag now was.
@@ -26,7 +27,7 @@ moves_then step from between to x y z old mid new first second third (Err fault)
     (p tag now was) (q tag (record now { selected = between }) refl)
 
 -- the second part leaves the selected mailbox as it is
-pub moves_then_does : {S V : Type 0} (step : S → Call → Answer → S → Type 0) (from to : Option Selected) (x y : Exchange) (z : V → Exchange) (old mid new : S) (first second third : List ℕ) (r : Result V MailFault)
+pub moves_then_does : {S V : Type 0} (step : S → Call → Answer → S → Type 0) (from to : Option Selected) (x y : Exchange) (z : V → Exchange) (old mid new : S) (first second third : Response) (r : Result V MailFault)
     → ((tag : List ℕ) (now : Standing) → now.selected ≡ from → Reaches step tag now (record now { selected = to }) x y old mid first second)
     → Does step y z mid new second third r → Moves step from to x z old new first third r
 moves_then_does step from to x y z old mid new first second third (Ok v) p q = λ tag now was.
@@ -38,46 +39,46 @@ moves_then_does step from to x y z old mid new first second third (Err fault) p 
 
 -- ---- names
 
-pub moves_wanting : {S V : Type 0} (step : S → Call → Answer → S → Type 0) (from to : Option Selected) (x : Exchange) (z : V → Exchange) (old new : S) (before after : List ℕ) (r : Result V MailFault)
+pub moves_wanting : {S V : Type 0} (step : S → Call → Answer → S → Type 0) (from to : Option Selected) (x : Exchange) (z : V → Exchange) (old new : S) (before after : Response) (r : Result V MailFault)
     → Moves step from to x z old new before after r → Moves step from to (wanting x) z old new before after r
 moves_wanting step from to x z old new before after (Ok v) p = λ tag now was.
     reaches_then step tag now now (record now { selected = to }) (wanting x) x (z v) old old new before before after
-    (reaches_write step tag now [] x old before before (sym (append-nil before))) (p tag now was)
+    (reaches_write step tag now [] x old before before (nothing_added before)) (p tag now was)
 moves_wanting step from to x z old new before after (Err fault) p = λ tag now was.
     stops_then step tag now now (record now { selected = to }) (wanting x) x fault old old new before before after
-    (reaches_write step tag now [] x old before before (sym (append-nil before))) (p tag now was)
+    (reaches_write step tag now [] x old before before (nothing_added before)) (p tag now was)
 
-pub does_wanting : {S V : Type 0} (step : S → Call → Answer → S → Type 0) (x : Exchange) (z : V → Exchange) (old new : S) (before after : List ℕ) (r : Result V MailFault)
+pub does_wanting : {S V : Type 0} (step : S → Call → Answer → S → Type 0) (x : Exchange) (z : V → Exchange) (old new : S) (before after : Response) (r : Result V MailFault)
     → Does step x z old new before after r → Does step (wanting x) z old new before after r
 does_wanting step x z old new before after (Ok v) p = λ tag now.
     reaches_then step tag now now now (wanting x) x (z v) old old new before before after
-    (reaches_write step tag now [] x old before before (sym (append-nil before))) (p tag now)
+    (reaches_write step tag now [] x old before before (nothing_added before)) (p tag now)
 does_wanting step x z old new before after (Err fault) p = λ tag now.
     stops_then step tag now now now (wanting x) x fault old old new before before after
-    (reaches_write step tag now [] x old before before (sym (append-nil before))) (p tag now)
+    (reaches_write step tag now [] x old before before (nothing_added before)) (p tag now)
 
 -- no folder has the name
-pub reaches_missing : {S : Type 0} (step : S → Call → Answer → S → Type 0) (tag : List ℕ) (now : Standing) (name : List ℕ) (folders : List Folder) (next : Folder → Exchange) (s : S) (text : List ℕ)
+pub reaches_missing : {S : Type 0} (step : S → Call → Answer → S → Type 0) (tag : List ℕ) (now : Standing) (name : List ℕ) (folders : List Folder) (next : Folder → Exchange) (s : S) (text : Response)
     → folder_of name folders ≡ None → Reaches step tag now now (on_folder name folders next) (says (codes "NO [NONEXISTENT] No such mailbox")) s s text text
 reaches_missing step tag now name folders next s text h = rw h (reaches_here step tag now (says (codes "NO [NONEXISTENT] No such mailbox")) s text)
 
 -- ---- writes that are refused
 
-pub starves_write : {S : Type 0} (step : S → Call → Answer → S → Type 0) (tag : List ℕ) (now : Standing) (bytes : List ℕ) (x : Exchange) (fault : MailFault) (s : S) (before after : List ℕ)
+pub starves_write : {S : Type 0} (step : S → Call → Answer → S → Type 0) (tag : List ℕ) (now : Standing) (bytes : List ℕ) (x : Exchange) (fault : MailFault) (s : S) (before after : Response)
     → fault ≡ NoMemory → after ≡ before → Stops step tag now now (ex.Write bytes x) fault s s before after
 starves_write step tag now bytes x fault s before after f e = rw (f, e) (stops_write step tag now bytes x s before)
 
 -- ---- a mailbox that was entered
 
-pub tells_opening : {S : Type 0} (step : S → Call → Answer → S → Type 0) (read_only : Bool) (name : List ℕ) (opening : Opening) (words : Bor (List ℕ)) (s : S) (before after : List ℕ)
-    → after ≡ before ++ opening_text read_only name opening
+pub tells_opening : {S : Type 0} (step : S → Call → Answer → S → Type 0) (read_only : Bool) (name : List ℕ) (opening : Opening) (words : Bor (List ℕ)) (s : S) (before after : Response)
+    → after ≡ adding (opening_text read_only name opening) before
     → words.now ≡ (if read_only then codes "OK [READ-ONLY] EXAMINE completed" else codes "OK [READ-WRITE] SELECT completed")
     → Does step (opened read_only name opening) last s s before after (Ok words)
 tells_opening step read_only name opening words s before after t w = λ tag now. rw w
     (reaches_write step tag now (opening_text read_only name opening)
     (says (if read_only then codes "OK [READ-ONLY] EXAMINE completed" else codes "OK [READ-WRITE] SELECT completed")) s before after t)
 
-pub entering_then : {S V : Type 0} (step : S → Call → Answer → S → Type 0) (from to : Option Selected) (read_only : Bool) (folder : Folder) (number : ℕ) (name : List ℕ) (opening : Opening) (z : V → Exchange) (old mid new : S) (before after : List ℕ) (r : Result V MailFault)
+pub entering_then : {S V : Type 0} (step : S → Call → Answer → S → Type 0) (from to : Option Selected) (read_only : Bool) (folder : Folder) (number : ℕ) (name : List ℕ) (opening : Opening) (z : V → Exchange) (old mid new : S) (before after : Response) (r : Result V MailFault)
     → number ≡ folder.mailbox → name ≡ folder.name
     → ((tag : List ℕ) (now : Standing) → now.selected ≡ from → Reaches step tag now (record now { selected = to })
     (ex.Enter (record { mailbox = number; read_only = read_only }) (opened read_only name)) (opened read_only name opening) old mid before before)
@@ -88,7 +89,7 @@ entering_then step from to read_only folder number name opening z old mid new be
     (moves_then_does step from to (ex.Enter (record { mailbox = number; read_only = read_only }) (opened read_only name)) (opened read_only name opening)
     z old mid new before before after r p q)
 
-pub selects : {S V : Type 0} (step : S → Call → Answer → S → Type 0) (from between to : Option Selected) (folders : List Folder) (read_only : Bool) (name given : List ℕ) (z : V → Exchange) (old mid new : S) (first second third : List ℕ) (r : Result V MailFault)
+pub selects : {S V : Type 0} (step : S → Call → Answer → S → Type 0) (from between to : Option Selected) (folders : List Folder) (read_only : Bool) (name given : List ℕ) (z : V → Exchange) (old mid new : S) (first second third : Response) (r : Result V MailFault)
     → given ≡ name
     → ((x : Exchange) (tag : List ℕ) (now : Standing) → now.selected ≡ from → Reaches step tag now (record now { selected = between }) (closing from x) x old mid first second)
     → Moves step between to (on_folder given folders (entering read_only)) z mid new second third r
@@ -101,23 +102,23 @@ selects step from between to folders read_only name given z old mid new first se
 
 -- ---- mailboxes that were counted, and what was written
 
-pub writes_then : {S V : Type 0} (step : S → Call → Answer → S → Type 0) (bytes : List ℕ) (x : Exchange) (z : V → Exchange) (old new : S) (before between after : List ℕ) (r : Result V MailFault)
-    → between ≡ before ++ bytes → Does step x z old new between after r → Does step (ex.Write bytes x) z old new before after r
+pub writes_then : {S V : Type 0} (step : S → Call → Answer → S → Type 0) (bytes : List ℕ) (x : Exchange) (z : V → Exchange) (old new : S) (before between after : Response) (r : Result V MailFault)
+    → between ≡ adding bytes before → Does step x z old new between after r → Does step (ex.Write bytes x) z old new before after r
 writes_then step bytes x z old new before between after r e p =
     does_then step (ex.Write bytes x) x z old old new before between after r (λ tag now. reaches_write step tag now bytes x old before between e) p
 
-pub counts_then : {S V : Type 0} (step : S → Call → Answer → S → Type 0) (number mailbox : ℕ) (next : Status → Exchange) (status : Status) (z : V → Exchange) (old mid new : S) (before after : List ℕ) (r : Result V MailFault)
+pub counts_then : {S V : Type 0} (step : S → Call → Answer → S → Type 0) (number mailbox : ℕ) (next : Status → Exchange) (status : Status) (z : V → Exchange) (old mid new : S) (before after : Response) (r : Result V MailFault)
     → number ≡ mailbox → step old (ex.Count number) (Counted status) mid → Does step (next status) z mid new before after r
     → Does step (ex.Count mailbox next) z old new before after r
 counts_then step number mailbox next status z old mid new before after r e h p =
     rw (← e) (does_then step (ex.Count number next) (next status) z old mid new before before after r
     (λ tag now. reaches_count step tag now number next status old mid before h) p)
 
-pub refuses_count : {S : Type 0} (step : S → Call → Answer → S → Type 0) (tag : List ℕ) (now : Standing) (number mailbox : ℕ) (next : Status → Exchange) (fault : MailFault) (old new : S) (text : List ℕ)
+pub refuses_count : {S : Type 0} (step : S → Call → Answer → S → Type 0) (tag : List ℕ) (now : Standing) (number mailbox : ℕ) (next : Status → Exchange) (fault : MailFault) (old new : S) (text : Response)
     → number ≡ mailbox → step old (ex.Count number) (Refused fault) new → Stops step tag now now (ex.Count mailbox next) fault old new text text
 refuses_count step tag now number mailbox next fault old new text e h = rw (← e) (stops_count step tag now number next fault old new text h)
 
 -- a folder that was found
-pub does_found : {S V : Type 0} (step : S → Call → Answer → S → Type 0) (name : List ℕ) (folders : List Folder) (folder : Folder) (next : Folder → Exchange) (z : V → Exchange) (old new : S) (before after : List ℕ) (r : Result V MailFault)
+pub does_found : {S V : Type 0} (step : S → Call → Answer → S → Type 0) (name : List ℕ) (folders : List Folder) (folder : Folder) (next : Folder → Exchange) (z : V → Exchange) (old new : S) (before after : Response) (r : Result V MailFault)
     → Some folder ≡ folder_of name folders → Does step (next folder) z old new before after r → Does step (on_folder name folders next) z old new before after r
 does_found step name folders folder next z old new before after r h p = rw (← h) p

@@ -14,7 +14,16 @@ use Rattle.imap_session.specs.declared.standing.Selected.{Selected}
 use Rattle.imap_session.specs.Exchange as ex
 use Rattle.imap_session.specs.Exchange.{Call, Answer, Entered, Looked, Found, Counted, Altered, Expunged, Fed, Left, Refused, Starved, Event, Exchange, Standing, refused, saying, having}
 use Rattle.imap_session.specs.Store.{Met}
+use Rattle.imap_session.specs.inner.Response.{Response, adding}
 use Rattle.imap_session.specs.inner.Store.{LeadsOn, onward, Reaches, Stops}
+
+-- ---- what was written
+
+pub nothing_added : (r : Response) → r ≡ adding [] r
+nothing_added r = ap (λ t. record r { text = t }) (sym (append-nil r.text))
+
+pub added_twice : (r : Response) (a b : List ℕ) → adding b (adding a r) ≡ adding (a ++ b) r
+added_twice r a b = ap (λ t. record r { text = t }) (append_assoc r.text a b)
 
 -- ---- runs of the store
 
@@ -25,14 +34,14 @@ Met-append step old mid new (e ∷ a) b p q = (p.0, p.1, Met-append step p.0 mid
 
 -- ---- nothing, and one after the other
 
-pub reaches_here : {S : Type 0} (step : S → Call → Answer → S → Type 0) (tag : List ℕ) (now : Standing) (x : Exchange) (s : S) (text : List ℕ)
+pub reaches_here : {S : Type 0} (step : S → Call → Answer → S → Type 0) (tag : List ℕ) (now : Standing) (x : Exchange) (s : S) (text : Response)
     → Reaches step tag now now x x s s text text
 reaches_here step tag now x s text = record {
   events = [];
   bytes = [];
   leads = λ more turn h. (more, h);
   met = refl;
-  wrote = sym (append-nil text);
+  wrote = nothing_added text;
 }
 
 pub leads_then : (tag : List ℕ) (a b c : Standing) (x y z : Exchange) (e f : List Event) (m n : List ℕ)
@@ -42,7 +51,7 @@ leads_then tag a b c x y z e f m n p q more turn h =
     let first = p second.0 (onward f n turn) second.1 in
     (first.0, simp append_assoc first.1)
 
-pub reaches_then : {S : Type 0} (step : S → Call → Answer → S → Type 0) (tag : List ℕ) (a b c : Standing) (x y z : Exchange) (old mid new : S) (first second third : List ℕ)
+pub reaches_then : {S : Type 0} (step : S → Call → Answer → S → Type 0) (tag : List ℕ) (a b c : Standing) (x y z : Exchange) (old mid new : S) (first second third : Response)
     → Reaches step tag a b x y old mid first second → Reaches step tag b c y z mid new second third
     → Reaches step tag a c x z old new first third
 reaches_then step tag a b c x y z old mid new first second third p q = record {
@@ -50,10 +59,10 @@ reaches_then step tag a b c x y z old mid new first second third p q = record {
   bytes = p.bytes ++ q.bytes;
   leads = leads_then tag a b c x y z p.events q.events p.bytes q.bytes p.leads q.leads;
   met = Met-append step old mid new p.events q.events p.met q.met;
-  wrote = q.wrote ∙ (ap (λ text. text ++ q.bytes) p.wrote ∙ append_assoc first p.bytes q.bytes);
+  wrote = q.wrote ∙ (ap (adding q.bytes) p.wrote ∙ added_twice first p.bytes q.bytes);
 }
 
-pub stops_then : {S : Type 0} (step : S → Call → Answer → S → Type 0) (tag : List ℕ) (a b c : Standing) (x y : Exchange) (fault : MailFault) (old mid new : S) (first second third : List ℕ)
+pub stops_then : {S : Type 0} (step : S → Call → Answer → S → Type 0) (tag : List ℕ) (a b c : Standing) (x y : Exchange) (fault : MailFault) (old mid new : S) (first second third : Response)
     → Reaches step tag a b x y old mid first second → Stops step tag b c y fault mid new second third
     → Stops step tag a c x fault old new first third
 stops_then step tag a b c x y fault old mid new first second third p q =
@@ -63,7 +72,7 @@ stops_then step tag a b c x y fault old mid new first second third p q =
       bytes = p.bytes ++ q.bytes;
       leads = (led.0, simp append_assoc led.1);
       met = Met-append step old mid new p.events q.events p.met q.met;
-      wrote = q.wrote ∙ (ap (λ text. text ++ q.bytes) p.wrote ∙ append_assoc first p.bytes q.bytes);
+      wrote = q.wrote ∙ (ap (adding q.bytes) p.wrote ∙ added_twice first p.bytes q.bytes);
     }
 
 -- ---- writes
@@ -83,8 +92,8 @@ leads_write tag now bytes x (Fed v c ∷ more) turn h = (Fed v c ∷ more, ap (o
 leads_write tag now bytes x (Left n ∷ more) turn h = (Left n ∷ more, ap (option_map (saying bytes)) h)
 leads_write tag now bytes x (Refused f ∷ more) turn h = (Refused f ∷ more, ap (option_map (saying bytes)) h)
 
-pub reaches_write : {S : Type 0} (step : S → Call → Answer → S → Type 0) (tag : List ℕ) (now : Standing) (bytes : List ℕ) (x : Exchange) (s : S) (before after : List ℕ)
-    → after ≡ before ++ bytes → Reaches step tag now now (ex.Write bytes x) x s s before after
+pub reaches_write : {S : Type 0} (step : S → Call → Answer → S → Type 0) (tag : List ℕ) (now : Standing) (bytes : List ℕ) (x : Exchange) (s : S) (before after : Response)
+    → after ≡ adding bytes before → Reaches step tag now now (ex.Write bytes x) x s s before after
 reaches_write step tag now bytes x s before after h = record {
   events = [];
   bytes = bytes;
@@ -93,53 +102,42 @@ reaches_write step tag now bytes x s before after h = record {
   wrote = h;
 }
 
-pub stops_write : {S : Type 0} (step : S → Call → Answer → S → Type 0) (tag : List ℕ) (now : Standing) (bytes : List ℕ) (x : Exchange) (s : S) (text : List ℕ)
+pub stops_write : {S : Type 0} (step : S → Call → Answer → S → Type 0) (tag : List ℕ) (now : Standing) (bytes : List ℕ) (x : Exchange) (s : S) (text : Response)
     → Stops step tag now now (ex.Write bytes x) NoMemory s s text text
 stops_write step tag now bytes x s text = record {
   events = [];
   bytes = [];
   leads = (Starved zero ∷ [], refl);
   met = refl;
-  wrote = sym (append-nil text);
-}
-
--- in room that was reserved
-pub reaches_put : {S : Type 0} (step : S → Call → Answer → S → Type 0) (tag : List ℕ) (now : Standing) (bytes : List ℕ) (x : Exchange) (s : S) (before after : List ℕ)
-    → after ≡ before ++ bytes → Reaches step tag now now (ex.Put bytes x) x s s before after
-reaches_put step tag now bytes x s before after h = record {
-  events = [];
-  bytes = bytes;
-  leads = λ more turn e. (more, ap (option_map (saying bytes)) e);
-  met = refl;
-  wrote = h;
+  wrote = nothing_added text;
 }
 
 -- ---- reads
 
-pub reaches_read : {S : Type 0} (step : S → Call → Answer → S → Type 0) (tag : List ℕ) (now : Standing) (uid : ℕ) (mark : Bool) (next : Option Row → Exchange) (row : Option Row) (old new : S) (text : List ℕ)
+pub reaches_read : {S : Type 0} (step : S → Call → Answer → S → Type 0) (tag : List ℕ) (now : Standing) (uid : ℕ) (mark : Bool) (next : Option Row → Exchange) (row : Option Row) (old new : S) (text : Response)
     → step old (ex.Read uid mark) (Found row) new → Reaches step tag now now (ex.Read uid mark next) (next row) old new text text
 reaches_read step tag now uid mark next row old new text h = record {
   events = record { call = ex.Read uid mark; answer = Found row } ∷ [];
   bytes = [];
   leads = λ more turn e. (Found row ∷ more, ap (option_map (having (ex.Read uid mark) (Found row))) e);
   met = (new, h, refl);
-  wrote = sym (append-nil text);
+  wrote = nothing_added text;
 }
 
-pub stops_read : {S : Type 0} (step : S → Call → Answer → S → Type 0) (tag : List ℕ) (now : Standing) (uid : ℕ) (mark : Bool) (next : Option Row → Exchange) (fault : MailFault) (old new : S) (text : List ℕ)
+pub stops_read : {S : Type 0} (step : S → Call → Answer → S → Type 0) (tag : List ℕ) (now : Standing) (uid : ℕ) (mark : Bool) (next : Option Row → Exchange) (fault : MailFault) (old new : S) (text : Response)
     → step old (ex.Read uid mark) (Refused fault) new → Stops step tag now now (ex.Read uid mark next) fault old new text text
 stops_read step tag now uid mark next fault old new text h = record {
   events = record { call = ex.Read uid mark; answer = Refused fault } ∷ [];
   bytes = [];
   leads = (Refused fault ∷ [], refl);
   met = (new, h, refl);
-  wrote = sym (append-nil text);
+  wrote = nothing_added text;
 }
 
 -- ---- feeds
 
-pub reaches_feed : {S : Type 0} (step : S → Call → Answer → S → Type 0) (tag : List ℕ) (now : Standing) (limit : ℕ) (x : Exchange) (view : List ℕ) (changes : List Change) (old new : S) (before after : List ℕ)
-    → step old (ex.Feed limit) (Fed view changes) new → after ≡ before ++ lines view changes
+pub reaches_feed : {S : Type 0} (step : S → Call → Answer → S → Type 0) (tag : List ℕ) (now : Standing) (limit : ℕ) (x : Exchange) (view : List ℕ) (changes : List Change) (old new : S) (before after : Response)
+    → step old (ex.Feed limit) (Fed view changes) new → after ≡ adding (lines view changes) before
     → Reaches step tag now now (ex.Feed limit x) x old new before after
 reaches_feed step tag now limit x view changes old new before after h e = record {
   events = record { call = ex.Feed limit; answer = Fed view changes } ∷ [];
@@ -149,137 +147,137 @@ reaches_feed step tag now limit x view changes old new before after h e = record
   wrote = e;
 }
 
-pub stops_feed : {S : Type 0} (step : S → Call → Answer → S → Type 0) (tag : List ℕ) (now : Standing) (limit : ℕ) (x : Exchange) (fault : MailFault) (old new : S) (before after : List ℕ)
+pub stops_feed : {S : Type 0} (step : S → Call → Answer → S → Type 0) (tag : List ℕ) (now : Standing) (limit : ℕ) (x : Exchange) (fault : MailFault) (old new : S) (before after : Response)
     → step old (ex.Feed limit) (Refused fault) new → after ≡ before → Stops step tag now now (ex.Feed limit x) fault old new before after
 stops_feed step tag now limit x fault old new before after h e = record {
   events = record { call = ex.Feed limit; answer = Refused fault } ∷ [];
   bytes = [];
   leads = (Refused fault ∷ [], refl);
   met = (new, h, refl);
-  wrote = e ∙ sym (append-nil before);
+  wrote = e ∙ nothing_added before;
 }
 
 -- ---- looks
 
-pub reaches_look : {S : Type 0} (step : S → Call → Answer → S → Type 0) (tag : List ℕ) (now : Standing) (next : List ℕ → Exchange) (view : List ℕ) (s : S) (text : List ℕ)
+pub reaches_look : {S : Type 0} (step : S → Call → Answer → S → Type 0) (tag : List ℕ) (now : Standing) (next : List ℕ → Exchange) (view : List ℕ) (s : S) (text : Response)
     → step s ex.Look (Looked view) s → Reaches step tag now now (ex.Look next) (next view) s s text text
 reaches_look step tag now next view s text h = record {
   events = record { call = ex.Look; answer = Looked view } ∷ [];
   bytes = [];
   leads = λ more turn p. (Looked view ∷ more, ap (option_map (having ex.Look (Looked view))) p);
   met = (s, h, refl);
-  wrote = sym (append-nil text);
+  wrote = nothing_added text;
 }
 
-pub stops_look : {S : Type 0} (step : S → Call → Answer → S → Type 0) (tag : List ℕ) (now : Standing) (next : List ℕ → Exchange) (fault : MailFault) (s : S) (text : List ℕ)
+pub stops_look : {S : Type 0} (step : S → Call → Answer → S → Type 0) (tag : List ℕ) (now : Standing) (next : List ℕ → Exchange) (fault : MailFault) (s : S) (text : Response)
     → step s ex.Look (Refused fault) s → Stops step tag now now (ex.Look next) fault s s text text
 stops_look step tag now next fault s text h = record {
   events = record { call = ex.Look; answer = Refused fault } ∷ [];
   bytes = [];
   leads = (Refused fault ∷ [], refl);
   met = (s, h, refl);
-  wrote = sym (append-nil text);
+  wrote = nothing_added text;
 }
 
 -- memory is refused to the session before it has found its messages in the view
-pub starves_look : {S : Type 0} (step : S → Call → Answer → S → Type 0) (tag : List ℕ) (now : Standing) (next : List ℕ → Exchange) (s : S) (text : List ℕ)
+pub starves_look : {S : Type 0} (step : S → Call → Answer → S → Type 0) (tag : List ℕ) (now : Standing) (next : List ℕ → Exchange) (s : S) (text : Response)
     → Stops step tag now now (ex.Look next) NoMemory s s text text
 starves_look step tag now next s text = record {
   events = [];
   bytes = [];
   leads = (Starved zero ∷ [], refl);
   met = refl;
-  wrote = sym (append-nil text);
+  wrote = nothing_added text;
 }
 
 -- ---- mailboxes entered and left
 
-pub reaches_leave : {S : Type 0} (step : S → Call → Answer → S → Type 0) (tag : List ℕ) (now : Standing) (remove : Bool) (x : Exchange) (gone : ℕ) (old new : S) (text : List ℕ)
+pub reaches_leave : {S : Type 0} (step : S → Call → Answer → S → Type 0) (tag : List ℕ) (now : Standing) (remove : Bool) (x : Exchange) (gone : ℕ) (old new : S) (text : Response)
     → step old (ex.Leave remove) (Left gone) new → Reaches step tag now (record now { selected = None }) (ex.Leave remove x) x old new text text
 reaches_leave step tag now remove x gone old new text h = record {
   events = record { call = ex.Leave remove; answer = Left gone } ∷ [];
   bytes = [];
   leads = λ more turn p. (Left gone ∷ more, ap (option_map (having (ex.Leave remove) (Left gone))) p);
   met = (new, h, refl);
-  wrote = sym (append-nil text);
+  wrote = nothing_added text;
 }
 
-pub stops_leave : {S : Type 0} (step : S → Call → Answer → S → Type 0) (tag : List ℕ) (now : Standing) (remove : Bool) (x : Exchange) (fault : MailFault) (old new : S) (text : List ℕ)
+pub stops_leave : {S : Type 0} (step : S → Call → Answer → S → Type 0) (tag : List ℕ) (now : Standing) (remove : Bool) (x : Exchange) (fault : MailFault) (old new : S) (text : Response)
     → step old (ex.Leave remove) (Refused fault) new → Stops step tag now now (ex.Leave remove x) fault old new text text
 stops_leave step tag now remove x fault old new text h = record {
   events = record { call = ex.Leave remove; answer = Refused fault } ∷ [];
   bytes = [];
   leads = (Refused fault ∷ [], refl);
   met = (new, h, refl);
-  wrote = sym (append-nil text);
+  wrote = nothing_added text;
 }
 
-pub reaches_enter : {S : Type 0} (step : S → Call → Answer → S → Type 0) (tag : List ℕ) (now : Standing) (selected : Selected) (next : Opening → Exchange) (opening : Opening) (old new : S) (text : List ℕ)
+pub reaches_enter : {S : Type 0} (step : S → Call → Answer → S → Type 0) (tag : List ℕ) (now : Standing) (selected : Selected) (next : Opening → Exchange) (opening : Opening) (old new : S) (text : Response)
     → step old (ex.Enter selected.mailbox) (Entered opening) new → Reaches step tag now (record now { selected = Some selected }) (ex.Enter selected next) (next opening) old new text text
 reaches_enter step tag now selected next opening old new text h = record {
   events = record { call = ex.Enter selected.mailbox; answer = Entered opening } ∷ [];
   bytes = [];
   leads = λ more turn p. (Entered opening ∷ more, ap (option_map (having (ex.Enter selected.mailbox) (Entered opening))) p);
   met = (new, h, refl);
-  wrote = sym (append-nil text);
+  wrote = nothing_added text;
 }
 
-pub stops_enter : {S : Type 0} (step : S → Call → Answer → S → Type 0) (tag : List ℕ) (now : Standing) (selected : Selected) (next : Opening → Exchange) (fault : MailFault) (old new : S) (text : List ℕ)
+pub stops_enter : {S : Type 0} (step : S → Call → Answer → S → Type 0) (tag : List ℕ) (now : Standing) (selected : Selected) (next : Opening → Exchange) (fault : MailFault) (old new : S) (text : Response)
     → step old (ex.Enter selected.mailbox) (Refused fault) new → Stops step tag now now (ex.Enter selected next) fault old new text text
 stops_enter step tag now selected next fault old new text h = record {
   events = record { call = ex.Enter selected.mailbox; answer = Refused fault } ∷ [];
   bytes = [];
   leads = (Refused fault ∷ [], refl);
   met = (new, h, refl);
-  wrote = sym (append-nil text);
+  wrote = nothing_added text;
 }
 
 -- ---- counts and changes of flags
 
-pub reaches_count : {S : Type 0} (step : S → Call → Answer → S → Type 0) (tag : List ℕ) (now : Standing) (mailbox : ℕ) (next : Status → Exchange) (answer : Status) (old new : S) (text : List ℕ)
+pub reaches_count : {S : Type 0} (step : S → Call → Answer → S → Type 0) (tag : List ℕ) (now : Standing) (mailbox : ℕ) (next : Status → Exchange) (answer : Status) (old new : S) (text : Response)
     → step old (ex.Count mailbox) (Counted answer) new → Reaches step tag now now (ex.Count mailbox next) (next answer) old new text text
 reaches_count step tag now mailbox next answer old new text h = record {
   events = record { call = ex.Count mailbox; answer = Counted answer } ∷ [];
   bytes = [];
   leads = λ more turn e. (Counted answer ∷ more, ap (option_map (having (ex.Count mailbox) (Counted answer))) e);
   met = (new, h, refl);
-  wrote = sym (append-nil text);
+  wrote = nothing_added text;
 }
 
-pub stops_count : {S : Type 0} (step : S → Call → Answer → S → Type 0) (tag : List ℕ) (now : Standing) (mailbox : ℕ) (next : Status → Exchange) (fault : MailFault) (old new : S) (text : List ℕ)
+pub stops_count : {S : Type 0} (step : S → Call → Answer → S → Type 0) (tag : List ℕ) (now : Standing) (mailbox : ℕ) (next : Status → Exchange) (fault : MailFault) (old new : S) (text : Response)
     → step old (ex.Count mailbox) (Refused fault) new → Stops step tag now now (ex.Count mailbox next) fault old new text text
 stops_count step tag now mailbox next fault old new text h = record {
   events = record { call = ex.Count mailbox; answer = Refused fault } ∷ [];
   bytes = [];
   leads = (Refused fault ∷ [], refl);
   met = (new, h, refl);
-  wrote = sym (append-nil text);
+  wrote = nothing_added text;
 }
 
-pub reaches_alter : {S : Type 0} (step : S → Call → Answer → S → Type 0) (tag : List ℕ) (now : Standing) (uid : ℕ) (op : FlagOp) (next : Option Flags → Exchange) (answer : Option Flags) (old new : S) (text : List ℕ)
+pub reaches_alter : {S : Type 0} (step : S → Call → Answer → S → Type 0) (tag : List ℕ) (now : Standing) (uid : ℕ) (op : FlagOp) (next : Option Flags → Exchange) (answer : Option Flags) (old new : S) (text : Response)
     → step old (ex.Alter uid op) (Altered answer) new → Reaches step tag now now (ex.Alter uid op next) (next answer) old new text text
 reaches_alter step tag now uid op next answer old new text h = record {
   events = record { call = ex.Alter uid op; answer = Altered answer } ∷ [];
   bytes = [];
   leads = λ more turn e. (Altered answer ∷ more, ap (option_map (having (ex.Alter uid op) (Altered answer))) e);
   met = (new, h, refl);
-  wrote = sym (append-nil text);
+  wrote = nothing_added text;
 }
 
-pub stops_alter : {S : Type 0} (step : S → Call → Answer → S → Type 0) (tag : List ℕ) (now : Standing) (uid : ℕ) (op : FlagOp) (next : Option Flags → Exchange) (fault : MailFault) (old new : S) (text : List ℕ)
+pub stops_alter : {S : Type 0} (step : S → Call → Answer → S → Type 0) (tag : List ℕ) (now : Standing) (uid : ℕ) (op : FlagOp) (next : Option Flags → Exchange) (fault : MailFault) (old new : S) (text : Response)
     → step old (ex.Alter uid op) (Refused fault) new → Stops step tag now now (ex.Alter uid op next) fault old new text text
 stops_alter step tag now uid op next fault old new text h = record {
   events = record { call = ex.Alter uid op; answer = Refused fault } ∷ [];
   bytes = [];
   leads = (Refused fault ∷ [], refl);
   met = (new, h, refl);
-  wrote = sym (append-nil text);
+  wrote = nothing_added text;
 }
 
 -- ---- removals
 
-pub reaches_expunge : {S : Type 0} (step : S → Call → Answer → S → Type 0) (tag : List ℕ) (now : Standing) (uids : Option (List ℕ)) (x : Exchange) (view : List ℕ) (changes : List Change) (gone : ℕ) (old new : S) (before after : List ℕ)
-    → step old (ex.Expunge uids) (Expunged view changes gone) new → after ≡ before ++ lines view changes
+pub reaches_expunge : {S : Type 0} (step : S → Call → Answer → S → Type 0) (tag : List ℕ) (now : Standing) (uids : Option (List ℕ)) (x : Exchange) (view : List ℕ) (changes : List Change) (gone : ℕ) (old new : S) (before after : Response)
+    → step old (ex.Expunge uids) (Expunged view changes gone) new → after ≡ adding (lines view changes) before
     → Reaches step tag now now (ex.Expunge uids x) x old new before after
 reaches_expunge step tag now uids x view changes gone old new before after h e = record {
   events = record { call = ex.Expunge uids; answer = Expunged view changes gone } ∷ [];
@@ -289,12 +287,12 @@ reaches_expunge step tag now uids x view changes gone old new before after h e =
   wrote = e;
 }
 
-pub stops_expunge : {S : Type 0} (step : S → Call → Answer → S → Type 0) (tag : List ℕ) (now : Standing) (uids : Option (List ℕ)) (x : Exchange) (fault : MailFault) (old new : S) (before after : List ℕ)
+pub stops_expunge : {S : Type 0} (step : S → Call → Answer → S → Type 0) (tag : List ℕ) (now : Standing) (uids : Option (List ℕ)) (x : Exchange) (fault : MailFault) (old new : S) (before after : Response)
     → step old (ex.Expunge uids) (Refused fault) new → after ≡ before → Stops step tag now now (ex.Expunge uids x) fault old new before after
 stops_expunge step tag now uids x fault old new before after h e = record {
   events = record { call = ex.Expunge uids; answer = Refused fault } ∷ [];
   bytes = [];
   leads = (Refused fault ∷ [], refl);
   met = (new, h, refl);
-  wrote = e ∙ sym (append-nil before);
+  wrote = e ∙ nothing_added before;
 }

@@ -2,11 +2,12 @@
 use Rattle.std.proofs.Common.{ℕ, List, Result, Ok, Err}
 use Rattle.mailbox.specs.declared.clients.MailFault.{MailFault}
 use Rattle.imap_session.specs.Exchange.{Call, Answer, Exchange, Standing}
+use Rattle.imap_session.specs.inner.Response.{Response}
 use Rattle.imap_session.specs.inner.Store.{Reaches, Does}
 use Rattle.imap_session.proofs.Runs.{reaches_then, stops_then}
 
 -- what is done after an exchange has come so far
-pub does_then : {S V : Type 0} (step : S → Call → Answer → S → Type 0) (x y : Exchange) (z : V → Exchange) (old mid new : S) (first second third : List ℕ) (r : Result V MailFault)
+pub does_then : {S V : Type 0} (step : S → Call → Answer → S → Type 0) (x y : Exchange) (z : V → Exchange) (old mid new : S) (first second third : Response) (r : Result V MailFault)
     → ((tag : List ℕ) (now : Standing) → Reaches step tag now now x y old mid first second)
     → Does step y z mid new second third r → Does step x z old new first third r
 does_then step x y z old mid new first second third (Ok v) p q = λ tag now. reaches_then step tag now now now x y (z v) old mid new first second third (p tag now) (q tag now)

@@ -7,6 +7,7 @@ use Rattle.imap_session.specs.Exchange as ex
 use Rattle.imap_session.specs.Exchange.{Call, Answer, Left, Exchange, Standing}
 use Rattle.mailbox.specs.declared.clients.Opening.{Opening}
 use Rattle.imap_session.specs.Commands.{all_flags, closing, opening_text}
+use Rattle.imap_session.specs.inner.Response.{Response, adding}
 use Rattle.imap_session.specs.inner.Store.{Reaches, Moves}
 use Rattle.imap_session.proofs.Runs.{reaches_here, reaches_leave, reaches_write, reaches_then, stops_write, stops_then}
 
@@ -17,14 +18,14 @@ pub closing_some : (sel : Option Selected) (x : Exchange) → is_none sel ≡ fa
 closing_some None x h = cc
 closing_some (Some s) x h = refl
 
-pub reaches_unclosed : {S : Type 0} (step : S → Call → Answer → S → Type 0) (tag : List ℕ) (now : Standing) (sel : Option Selected) (x : Exchange) (s : S) (text : List ℕ)
+pub reaches_unclosed : {S : Type 0} (step : S → Call → Answer → S → Type 0) (tag : List ℕ) (now : Standing) (sel : Option Selected) (x : Exchange) (s : S) (text : Response)
     → is_none sel ≡ true → Reaches step tag now now (closing sel x) x s s text text
 reaches_unclosed step tag now None x s text h = reaches_here step tag now x s text
 reaches_unclosed step tag now (Some sel) x s text h = cc
 
-pub moves_closed : {S : Type 0} (step : S → Call → Answer → S → Type 0) (sel : Option Selected) (x : Exchange) (gone : ℕ) (old new : S) (before after : List ℕ) (r : Result (Unit {0}) MailFault)
+pub moves_closed : {S : Type 0} (step : S → Call → Answer → S → Type 0) (sel : Option Selected) (x : Exchange) (gone : ℕ) (old new : S) (before after : Response) (r : Result (Unit {0}) MailFault)
     → is_none sel ≡ false → step old (ex.Leave false) (Left gone) new
-    → OnOk r (after ≡ before ++ closed_line) → OnErr r (after ≡ before) → IfErr r (λ f. f ≡ NoMemory)
+    → OnOk r (after ≡ adding closed_line before) → OnErr r (after ≡ before) → IfErr r (λ f. f ≡ NoMemory)
     → Moves step sel None (closing sel x) (λ _. x) old new before after r
 moves_closed step sel x gone old new before after (Ok u) s h t e f = λ tag now was.
     rw (closing_some sel x s)

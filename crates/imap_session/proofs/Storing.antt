@@ -1,5 +1,5 @@
 -- The parts of a STORE.
-use Rattle.std.proofs.Common.{◌≡◌, ℕ, ◌+◌, ◌<◌, Bool, true, false, if◌then◌else◌, length, drop, get_or, add-one, drop-cons, List, ◌++◌, Option, Some, refl, subst}
+use Rattle.std.proofs.Common.{◌≡◌, ℕ, ◌+◌, ◌<◌, Bool, true, false, if◌then◌else◌, length, drop, get_or, add-one, drop-cons, List, Option, Some, refl, subst}
 use Rattle.mailbox.specs.declared.clients.MailFault.{MailFault}
 use Rattle.mailbox.specs.declared.clients.MailFault.TheVariants.{NoMemory}
 use Rattle.change_ring.specs.declared.change.Flags.{Flags}
@@ -8,12 +8,13 @@ use Rattle.imap_grammar.specs.declared.command.Store.{Store}
 use Rattle.imap_session.specs.Exchange as ex
 use Rattle.imap_session.specs.Exchange.{Call, Answer, Altered, Exchange, Standing}
 use Rattle.imap_session.specs.Commands.{on_found, stored, storing}
+use Rattle.imap_session.specs.inner.Response.{Response, adding}
 use Rattle.imap_session.specs.inner.Store.{Reaches, Stops}
 use Rattle.imap_session.proofs.Runs.{reaches_alter, reaches_write, reaches_then, stops_write, stops_then}
 
 -- a message that is there: its answer is what is left to write
-pub alters_there : {S : Type 0} (step : S → Call → Answer → S → Type 0) (tag : List ℕ) (now : Standing) (uid : ℕ) (op : FlagOp) (text : Flags → List ℕ) (x y : Exchange) (flags : Flags) (old new : S) (before after : List ℕ)
-    → step old (ex.Alter uid op) (Altered (Some flags)) new → after ≡ before ++ text flags
+pub alters_there : {S : Type 0} (step : S → Call → Answer → S → Type 0) (tag : List ℕ) (now : Standing) (uid : ℕ) (op : FlagOp) (text : Flags → List ℕ) (x y : Exchange) (flags : Flags) (old new : S) (before after : Response)
+    → step old (ex.Alter uid op) (Altered (Some flags)) new → after ≡ adding (text flags) before
     → Reaches step tag now now (ex.Alter uid op (on_found (λ r. ex.Write (text r) x) y)) x old new before after
 alters_there step tag now uid op text x y flags old new before after h e =
     let next : Option Flags → Exchange = on_found (λ r. ex.Write (text r) x) y in
@@ -22,7 +23,7 @@ alters_there step tag now uid op text x y flags old new before after h e =
     (reaches_write step tag now (text flags) x new before after e)
 
 -- the same, where memory for its answer is refused
-pub alters_starved : {S : Type 0} (step : S → Call → Answer → S → Type 0) (tag : List ℕ) (now : Standing) (uid : ℕ) (op : FlagOp) (text : Flags → List ℕ) (x y : Exchange) (flags : Flags) (fault : MailFault) (old new : S) (before after : List ℕ)
+pub alters_starved : {S : Type 0} (step : S → Call → Answer → S → Type 0) (tag : List ℕ) (now : Standing) (uid : ℕ) (op : FlagOp) (text : Flags → List ℕ) (x y : Exchange) (flags : Flags) (fault : MailFault) (old new : S) (before after : Response)
     → step old (ex.Alter uid op) (Altered (Some flags)) new → fault ≡ NoMemory → after ≡ before
     → Stops step tag now now (ex.Alter uid op (on_found (λ r. ex.Write (text r) x) y)) fault old new before after
 alters_starved step tag now uid op text x y flags fault old new before after h f e =
@@ -43,7 +44,7 @@ one_of_both f true gone = refl
 one_of_both f false gone = refl
 
 -- a STORE goes on by one message
-pub stores_more : {S : Type 0} (step : S → Call → Answer → S → Type 0) (tag : List ℕ) (now : Standing) (store : Store) (view : List ℕ) (done : Bool → Exchange) (uids : List ℕ) (i : ℕ) (gone here : Bool) (x : Exchange) (old mid new : S) (first second third : List ℕ)
+pub stores_more : {S : Type 0} (step : S → Call → Answer → S → Type 0) (tag : List ℕ) (now : Standing) (store : Store) (view : List ℕ) (done : Bool → Exchange) (uids : List ℕ) (i : ℕ) (gone here : Bool) (x : Exchange) (old mid new : S) (first second third : Response)
     → i < length uids
     → Reaches step tag now now x (storing store view done (drop i uids) gone) old mid first second
     → Reaches step tag now now

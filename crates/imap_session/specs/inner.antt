@@ -1,3 +1,4 @@
 pub mod Appends
+pub mod Response
 pub mod Seen
 pub mod Store

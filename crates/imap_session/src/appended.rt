@@ -1,18 +1,17 @@
 //! What is answered to an APPEND once the verdict on its message is there (RFC 9051, 6.3.12; RFC 4315, 3).
 //! How a message comes so far is told in `mailing`; which verdict there is, whoever holds the session knows.
 
-ghost use Rattle.std.specs.Prelude.{◌≡◌, ◌⊎◌, ◌+◌, ◌≤◌, ◌++◌, ℕ, length, vec_len};
-ghost use Rattle.std.specs.Vec.{vec_capacity};
+ghost use Rattle.std.specs.Prelude.{◌≡◌, ◌⊎◌, ◌+◌, ◌≤◌, ◌++◌, ℕ, length};
 ghost use Rattle.delivery_token.specs.declared.Verdict.TheVariants.{Stored};
 ghost use Rattle.imap_session.specs.Exchange.{Exchange, Count, Standing, tagged};
 ghost use Rattle.imap_session.specs.Commands.{appended_words, on_verdict, refused_words, showing};
 ghost use Rattle.imap_session.specs.inner.Store.{Does, Plays};
 
 use crate::expunge::show_pending;
+use crate::response::{MOST_WORDS, Response};
 use crate::say::put;
 use crate::standing::{After, Selected};
 use crate::store::Store;
-use crate::turn::{MOST_WORDS, conclude};
 use delivery_token::{Refusal, Verdict};
 use mailbox::MailFault;
 
@@ -38,32 +37,25 @@ fn count_and_show<S: Store>(
     mailbox: u8,
     selected: Option<Selected>,
     store: &mut S,
-    keep: usize,
-    out: &mut Vec<u8>,
+    response: &mut Response<'_>,
 ) -> Result<u32, MailFault>
-    requires room { vec_len out.old + keep ≤ vec_capacity out.old }
-    ensures done { (next : ℕ → Exchange) → Does S.step
-        (Count mailbox (λ status. showing selected (next status.uidvalidity))) next store.old store.new out.old.items out.new.items result }
-    ensures room { vec_len out.new + keep ≤ vec_capacity out.new }
+    ensures { (next : ℕ → Exchange) → Does S.step
+        (Count mailbox (λ status. showing selected (next status.uidvalidity))) next store.old store.new response.old response.new result }
 {
-    let status = match store.status(mailbox) {
-        Err(fault) => return Err(fault),
-        Ok(status) => status,
-    };
-    match show_pending(selected, store, keep, out) {
-        Err(fault) => Err(fault),
-        Ok(()) => Ok(status.uidvalidity),
-    }
+    let status = store.status(mailbox)?;
+    show_pending(selected, store, response)?;
+    Ok(status.uidvalidity)
 }
 
-// Writes the line that tells where a message was stored, in room that was reserved.
+// Ends a response with the line that tells where a message was stored.
 #[tactic(auto, using(crate::proofs::Verdicts::ten_digits))]
-fn put_appended(tag: &[u8], uidvalidity: u32, uid: u32, out: &mut Vec<u8>)
-    requires room { vec_len out.old + (length tag.now + STORED) ≤ vec_capacity out.old }
-    ensures text { out.new.items ≡ out.old.items ++ tagged tag.now (appended_words uidvalidity uid) }
+fn end_appended(response: Response<'_>, uidvalidity: u32, uid: u32, out: &mut Vec<u8>)
+    requires long { length response.tag + STORED ≤ response.held }
+    ensures { out.new.items ≡ response.entry.text ++ tagged response.entry.tag (appended_words uidvalidity uid) }
 {
     let mut validity = itoa::Buffer::new();
     let mut number = itoa::Buffer::new();
+    let tag = response.release(out);
     put(tag, out);
     put(b" OK [APPENDUID ", out);
     put(validity.format(uidvalidity).as_bytes(), out);
@@ -74,43 +66,43 @@ fn put_appended(tag: &[u8], uidvalidity: u32, uid: u32, out: &mut Vec<u8>)
 
 // Tells that a message has this UID in this mailbox, behind what is pending in the selected one.
 fn tell_stored<S: Store>(
-    tag: &[u8],
     mailbox: u8,
     uid: u32,
     selected: Option<Selected>,
     store: &mut S,
+    mut response: Response<'_>,
     out: &mut Vec<u8>,
 ) -> After
-    requires room { vec_len out.old + (length tag.now + STORED) ≤ vec_capacity out.old }
-    ensures plays { (now : Standing) → Plays S.step tag.now now now
-        (on_verdict selected mailbox (Stored uid)) store.old store.new out.old.items out.new.items result }
+    requires long { length response.tag + STORED ≤ response.held }
+    ensures plays { (now : Standing) → Plays S.step response.entry.tag now now
+        (on_verdict selected mailbox (Stored uid)) store.old store.new response.entry.text out.new.items result }
     ensures only { (result ≡ After.Go) ⊎ (result ≡ After.Bye) }
 {
-    match count_and_show(mailbox, selected, store, tag.len() + STORED, out) {
+    match count_and_show(mailbox, selected, store, &mut response) {
         Ok(uidvalidity) => {
-            put_appended(tag, uidvalidity, uid, out);
+            end_appended(response, uidvalidity, uid, out);
             After::Go
         }
-        Err(fault) => conclude(tag, After::Go, Err(fault), out),
+        Err(fault) => response.conclude(After::Go, Err(fault), out),
     }
 }
 
 // Answers the verdict on a message that was for this mailbox.
 pub(crate) fn tell_verdict<S: Store>(
-    tag: &[u8],
     mailbox: u8,
     verdict: Verdict,
     selected: Option<Selected>,
     store: &mut S,
+    response: Response<'_>,
     out: &mut Vec<u8>,
 ) -> After
-    requires room { vec_len out.old + (length tag.now + STORED) ≤ vec_capacity out.old }
-    ensures plays { (now : Standing) → Plays S.step tag.now now now
-        (on_verdict selected mailbox verdict) store.old store.new out.old.items out.new.items result }
+    requires long { length response.tag + STORED ≤ response.held }
+    ensures plays { (now : Standing) → Plays S.step response.entry.tag now now
+        (on_verdict selected mailbox verdict) store.old store.new response.entry.text out.new.items result }
     ensures only { (result ≡ After.Go) ⊎ (result ≡ After.Bye) }
 {
     match verdict {
-        Verdict::Refused(why) => conclude(tag, After::Go, Ok(refused_words(why)), out),
-        Verdict::Stored { uid } => tell_stored(tag, mailbox, uid, selected, store, out),
+        Verdict::Refused(why) => response.conclude(After::Go, Ok(refused_words(why)), out),
+        Verdict::Stored { uid } => tell_stored(mailbox, uid, selected, store, response, out),
     }
 }

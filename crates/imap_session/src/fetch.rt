@@ -1,42 +1,37 @@
 //! FETCH and UID FETCH (RFC 9051, 6.4.5 and 6.4.9).
 
-ghost use Rattle.std.specs.Prelude.{◌≡◌, ◌+◌, ◌≤◌, Bool, false, List, ℕ, ◌++◌, map, OnOk, OnErr, IfOk, IfErr, if◌then◌else◌, length, vec_len};
-ghost use Rattle.std.specs.Vec.{vec_capacity};
+ghost use Rattle.std.specs.Prelude.{◌≡◌, ◌≤◌, Bool, false, List, ℕ, map, OnOk, OnErr, IfOk, IfErr, if◌then◌else◌, length};
 ghost use Rattle.imap_grammar.specs.Answers.{row_answer};
 ghost use Rattle.imap_grammar.specs.Sets.{named_at};
 ghost use Rattle.imap_session.specs.Exchange.{Exchange, Read, Write};
 ghost use Rattle.imap_session.specs.Commands.{on_found, fetched, fetching, messages_done, on_set};
+ghost use Rattle.imap_session.specs.inner.Response.{adding};
 ghost use Rattle.imap_session.specs.inner.Store.{Does, last};
 ghost use Rattle.imap_grammar.specs.declared.command.Command.TheVariants as commands;
 
-use crate::say::hold_room;
-use crate::show::show;
+use crate::response::{MOST_WORDS, Response, hold_room};
 use crate::store::Store;
-use crate::turn::MOST_WORDS;
 use imap_grammar::{Fetch, FetchItem, Named, write_row};
 use mailbox::{MailFault, Row};
-use std::alloc::{AllocError, Global};
+use std::alloc::Global;
 
-// Writes the answer for the message at this position, with room for `keep` more bytes behind it.
+// Writes the answer for the message at this position.
 fn write_fetched(
     by_uid: bool,
     items: &[FetchItem],
     position: usize,
     row: &Row,
-    keep: usize,
-    out: &mut Vec<u8>,
+    response: &mut Response<'_>,
 ) -> Result<(), MailFault>
-    requires room { vec_len out.old + keep ≤ vec_capacity out.old }
-    ensures text { OnOk result (out.new.items ≡ out.old.items ++ row_answer position by_uid items.now row.now) }
-    ensures err { OnErr result (out.new.items ≡ out.old.items) }
+    ensures text { OnOk result (response.new ≡ adding (row_answer position by_uid items.now row.now) response.old) }
+    ensures err { OnErr result (response.new ≡ response.old) }
     ensures fault { IfErr result (λ f. f ≡ MailFault.NoMemory) }
-    ensures room { vec_len out.new + keep ≤ vec_capacity out.new }
 {
-    let start = out.len();
-    if write_row(position, by_uid, items, row, out).is_err() {
+    let start = response.out.len();
+    if write_row(position, by_uid, items, row, &mut response.out).is_err() {
         return Err(MailFault::NoMemory);
     }
-    hold_room(start, keep, out)
+    hold_room(start, response.held, &mut response.out)
 }
 
 // Answers for one message, and says whether it is there.
@@ -46,31 +41,18 @@ fn fetch_one<S: Store>(
     mark: bool,
     message: Named,
     store: &mut S,
-    keep: usize,
-    out: &mut Vec<u8>,
+    response: &mut Response<'_>,
 ) -> Result<bool, MailFault>
     requires items { items.now ≡ fetch.now.items }
-    requires room { vec_len out.old + keep ≤ vec_capacity out.old }
-    ensures done { (view : List ℕ) (uid : ℕ) → message ≡ named_at view uid → (x y : Exchange) → Does S.step
+    ensures { (view : List ℕ) (uid : ℕ) → message ≡ named_at view uid → (x y : Exchange) → Does S.step
         (Read uid mark (on_found (λ row. Write (fetched fetch.now view uid row) x) y))
-        (λ here. if here then x else y) store.old store.new out.old.items out.new.items result }
-    ensures room { vec_len out.new + keep ≤ vec_capacity out.new }
+        (λ here. if here then x else y) store.old store.new response.old response.new result }
 {
-    match store.read(message.uid, mark) {
-        Err(fault) => Err(fault),
-        Ok(None) => Ok(false),
-        Ok(Some(row)) => match write_fetched(
-            fetch.by_uid,
-            items,
-            message.position,
-            &row,
-            keep,
-            out,
-        ) {
-            Err(fault) => Err(fault),
-            Ok(()) => Ok(true),
-        },
-    }
+    let Some(row) = store.read(message.uid, mark)? else {
+        return Ok(false);
+    };
+    write_fetched(fetch.by_uid, items, message.position, &row, response)?;
+    Ok(true)
 }
 
 // Answers for these messages, and says whether one of them is gone.
@@ -80,24 +62,17 @@ fn fetch_all<S: Store>(
     mark: bool,
     messages: &[Named],
     store: &mut S,
-    keep: usize,
-    out: &mut Vec<u8>,
+    response: &mut Response<'_>,
 ) -> Result<bool, MailFault>
     requires items { items.now ≡ fetch.now.items }
-    requires room { vec_len out.old + keep ≤ vec_capacity out.old }
-    ensures done { (view uids : List ℕ) → messages.now ≡ map (named_at view) uids → (done : Bool → Exchange) → Does S.step
-        (fetching fetch.now mark view done uids false) done store.old store.new out.old.items out.new.items result }
-    ensures room { vec_len out.new + keep ≤ vec_capacity out.new }
+    ensures { (view uids : List ℕ) → messages.now ≡ map (named_at view) uids → (done : Bool → Exchange) → Does S.step
+        (fetching fetch.now mark view done uids false) done store.old store.new response.old response.new result }
 {
     let mut gone = false;
     for message in messages {
-        match fetch_one(fetch, items, mark, *message, store, keep, out) {
-            Err(fault) => return Err(fault),
-            Ok(here) => {
-                if !here {
-                    gone = true;
-                }
-            }
+        let here = fetch_one(fetch, items, mark, *message, store, response)?;
+        if !here {
+            gone = true;
         }
     }
     Ok(gone)
@@ -108,20 +83,15 @@ fn finish_fetch<S: Store>(
     fetch: &Fetch<'_>,
     gone: bool,
     store: &mut S,
-    keep: usize,
-    out: &mut Vec<u8>,
+    response: &mut Response<'_>,
 ) -> Result<&'static [u8], MailFault>
-    requires room { vec_len out.old + keep ≤ vec_capacity out.old }
     ensures done { Does S.step
-        (messages_done (commands.Fetch fetch.now) fetch.now.by_uid gone) last store.old store.new out.old.items out.new.items result }
+        (messages_done (commands.Fetch fetch.now) fetch.now.by_uid gone) last store.old store.new response.old response.new result }
     ensures short { IfOk result (λ words. length words.now ≤ MOST_WORDS) }
-    ensures room { vec_len out.new + keep ≤ vec_capacity out.new }
 {
     if fetch.by_uid {
-        match show(usize::MAX, store, keep, out) {
-            Err(fault) => Err(fault),
-            Ok(_) => Ok(b"OK UID FETCH completed"),
-        }
+        response.show(usize::MAX, store)?;
+        Ok(b"OK UID FETCH completed")
     } else if gone {
         Ok(b"NO [EXPUNGEISSUED] Some messages are gone")
     } else {
@@ -135,37 +105,21 @@ pub(crate) fn fetch_messages<S: Store>(
     fetch: &Fetch<'_>,
     mark: bool,
     store: &mut S,
-    keep: usize,
-    out: &mut Vec<u8>,
+    response: &mut Response<'_>,
 ) -> Result<&'static [u8], MailFault>
-    requires room { vec_len out.old + keep ≤ vec_capacity out.old }
     ensures done { Does S.step
         (on_set fetch.now.by_uid fetch.now.set (λ view uids. fetching fetch.now mark view
         (messages_done (commands.Fetch fetch.now) fetch.now.by_uid) uids false))
-        last store.old store.new out.old.items out.new.items result }
+        last store.old store.new response.old response.new result }
     ensures short { IfOk result (λ words. length words.now ≤ MOST_WORDS) }
-    ensures room { vec_len out.new + keep ≤ vec_capacity out.new }
 {
-    let items = match fetch.items.list(alloc) {
-        Err(AllocError) => return Err(MailFault::NoMemory),
-        Ok(items) => items,
+    let Ok(items) = fetch.items.list(alloc) else {
+        return Err(MailFault::NoMemory);
     };
-    let messages = match store.choose(alloc, &fetch.set, fetch.by_uid) {
-        Err(fault) => return Err(fault),
-        Ok(None) => return Ok(b"BAD Sequence number too high"),
-        Ok(Some(messages)) => messages,
+    let items = items.as_slice();
+    let Some(messages) = store.choose(alloc, &fetch.set, fetch.by_uid)? else {
+        return Ok(b"BAD Sequence number too high");
     };
-    let gone = match fetch_all(
-        fetch,
-        items.as_slice(),
-        mark,
-        messages.as_slice(),
-        store,
-        keep,
-        out,
-    ) {
-        Err(fault) => return Err(fault),
-        Ok(gone) => gone,
-    };
-    finish_fetch(fetch, gone, store, keep, out)
+    let gone = fetch_all(fetch, items, mark, messages.as_slice(), store, response)?;
+    finish_fetch(fetch, gone, store, response)
 }

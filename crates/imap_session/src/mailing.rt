@@ -1,16 +1,16 @@
 //! A message that a client appends: its bytes as they come, what is said of it when all are there, and its way to the mailbox.
 //! What is said where is told in specs/Commands.antt; no mailbox is asked here.
 
-ghost use Rattle.std.specs.Prelude.{◌≡◌, ◌^◌, ◌<◌, ◌≤◌, ◌==◌, ℕ, Bool, [], length, IfErr, IfOk, IfSome, None, true, false};
+ghost use Rattle.std.specs.Prelude.{◌≡◌, ◌^◌, ◌<◌, ◌≤◌, ◌==◌, Bool, [], length, IfErr, IfOk, IfSome, None, true, false};
 ghost use Rattle.std.specs.List.{list_any};
 ghost use Rattle.std.specs.Option.{option_map};
 ghost use Rattle.imap_session.specs.Commands.{is_over, on_rest, over, says, taking, wanting};
 ghost use Rattle.imap_session.specs.Exchange.{Appending as AppendingSpec, Mailing as MailingSpec, ForVerdict, Wait};
 ghost use Rattle.imap_session.specs.inner.Seen.{appending_of};
 
+use crate::response::MOST_WORDS;
 use crate::standing::Append;
 use crate::tag::Tag;
-use crate::turn::MOST_WORDS;
 use change_ring::Flags;
 use std::alloc::Global;
 use std::marker::Model;

@@ -1,22 +1,22 @@
 //! The commands of the selected state (RFC 9051, 6.4). In another state each is refused, and what would change the mailbox is refused
 //! where EXAMINE selected it, before anything else is looked at.
 
-ghost use Rattle.std.specs.Prelude.{◌≡◌, ◌+◌, ◌≤◌, not, ◌&&◌, false, List, ℕ, None, IfOk, IfSome, IfNone, length, vec_len};
+ghost use Rattle.std.specs.Prelude.{◌≡◌, ◌≤◌, not, ◌&&◌, false, None, IfOk, IfSome, IfNone, length};
 ghost use Rattle.std.specs.List.{list_any};
-ghost use Rattle.std.specs.Vec.{vec_capacity};
 ghost use Rattle.imap_grammar.specs.Answers.{marks_seen};
 ghost use Rattle.imap_grammar.specs.declared.command.Command.TheVariants as commands;
 ghost use Rattle.imap_session.specs.Exchange.{Exchange, Expunge, Feed, Leave};
 ghost use Rattle.imap_session.specs.Commands.{completed, expunge_set, fetch_messages, if_writable, on_found, says, store_messages, unlimited, wrong_state};
+ghost use Rattle.imap_session.specs.inner.Response.{Response as ResponseSpec};
 ghost use Rattle.imap_session.specs.inner.Store.{Does, Moves, last};
 
 use crate::expunge::{expunge_all, expunge_set};
 use crate::fetch::fetch_messages;
+use crate::response::{MOST_WORDS, Response};
 use crate::select::leave_mailbox;
 use crate::set_flags::store_messages;
 use crate::standing::Selected;
 use crate::store::Store;
-use crate::turn::MOST_WORDS;
 use imap_grammar::{Fetch, SeqSet, Store as StoreCommand};
 use mailbox::MailFault;
 use std::alloc::Global;
@@ -52,20 +52,17 @@ pub(crate) fn fetch<S: Store>(
     command: &Fetch<'_>,
     selected: Option<Selected>,
     store: &mut S,
-    keep: usize,
-    out: &mut Vec<u8>,
+    response: &mut Response<'_>,
 ) -> Result<&'static [u8], MailFault>
-    requires room { vec_len out.old + keep ≤ vec_capacity out.old }
     ensures done { Does S.step
-        (on_found (fetch_messages command.now) wrong_state selected) last store.old store.new out.old.items out.new.items result }
+        (on_found (fetch_messages command.now) wrong_state selected) last store.old store.new response.old response.new result }
     ensures short { IfOk result (λ words. length words.now ≤ MOST_WORDS) }
-    ensures room { vec_len out.new + keep ≤ vec_capacity out.new }
 {
     match selected {
         None => Ok(b"BAD Wrong state"),
         Some(mailbox) => {
             let mark = sets_seen(command, mailbox);
-            fetch_messages(alloc, command, mark, store, keep, out)
+            fetch_messages(alloc, command, mark, store, response)
         }
     }
 }
@@ -76,18 +73,15 @@ pub(crate) fn store_flags<S: Store>(
     command: &StoreCommand<'_>,
     selected: Option<Selected>,
     store: &mut S,
-    keep: usize,
-    out: &mut Vec<u8>,
+    response: &mut Response<'_>,
 ) -> Result<&'static [u8], MailFault>
-    requires room { vec_len out.old + keep ≤ vec_capacity out.old }
     ensures done { Does S.step (on_found (if_writable
-        (store_messages command.now)) wrong_state selected) last store.old store.new out.old.items out.new.items result }
+        (store_messages command.now)) wrong_state selected) last store.old store.new response.old response.new result }
     ensures short { IfOk result (λ words. length words.now ≤ MOST_WORDS) }
-    ensures room { vec_len out.new + keep ≤ vec_capacity out.new }
 {
     match refusal(selected) {
         Some(words) => Ok(words),
-        None => store_messages(alloc, command, store, keep, out),
+        None => store_messages(alloc, command, store, response),
     }
 }
 
@@ -95,19 +89,16 @@ pub(crate) fn store_flags<S: Store>(
 pub(crate) fn expunge<S: Store>(
     selected: Option<Selected>,
     store: &mut S,
-    keep: usize,
-    out: &mut Vec<u8>,
+    response: &mut Response<'_>,
 ) -> Result<&'static [u8], MailFault>
-    requires room { vec_len out.old + keep ≤ vec_capacity out.old }
     ensures done { Does S.step (on_found (if_writable
         (Expunge None (Feed unlimited (completed commands.Expunge)))) wrong_state selected)
-        last store.old store.new out.old.items out.new.items result }
+        last store.old store.new response.old response.new result }
     ensures short { IfOk result (λ words. length words.now ≤ MOST_WORDS) }
-    ensures room { vec_len out.new + keep ≤ vec_capacity out.new }
 {
     match refusal(selected) {
         Some(words) => Ok(words),
-        None => expunge_all(store, keep, out),
+        None => expunge_all(store, response),
     }
 }
 
@@ -117,18 +108,15 @@ pub(crate) fn uid_expunge<S: Store>(
     set: &SeqSet<'_>,
     selected: Option<Selected>,
     store: &mut S,
-    keep: usize,
-    out: &mut Vec<u8>,
+    response: &mut Response<'_>,
 ) -> Result<&'static [u8], MailFault>
-    requires room { vec_len out.old + keep ≤ vec_capacity out.old }
     ensures done { Does S.step (on_found (if_writable
-        (expunge_set set.now)) wrong_state selected) last store.old store.new out.old.items out.new.items result }
+        (expunge_set set.now)) wrong_state selected) last store.old store.new response.old response.new result }
     ensures short { IfOk result (λ words. length words.now ≤ MOST_WORDS) }
-    ensures room { vec_len out.new + keep ≤ vec_capacity out.new }
 {
     match refusal(selected) {
         Some(words) => Ok(words),
-        None => expunge_set(alloc, set, store, keep, out),
+        None => expunge_set(alloc, set, store, response),
     }
 }
 
@@ -137,18 +125,16 @@ pub(crate) fn close<S: Store>(
     selected: &mut Option<Selected>,
     store: &mut S,
 ) -> Result<&'static [u8], MailFault>
-    ensures done { (text : List ℕ) → Moves S.step selected.old selected.new
+    ensures done { (response : ResponseSpec) → Moves S.step selected.old selected.new
         (on_found (λ mailbox. Leave (not mailbox.read_only) (completed commands.Close)) wrong_state selected.old)
-        last store.old store.new text text result }
+        last store.old store.new response response result }
     ensures short { IfOk result (λ words. length words.now ≤ MOST_WORDS) }
 {
-    match *selected {
-        None => Ok(b"BAD Wrong state"),
-        Some(mailbox) => match leave_mailbox(!mailbox.read_only, selected, store) {
-            Err(fault) => Err(fault),
-            Ok(()) => Ok(b"OK CLOSE completed"),
-        },
-    }
+    let Some(mailbox) = *selected else {
+        return Ok(b"BAD Wrong state");
+    };
+    leave_mailbox(!mailbox.read_only, selected, store)?;
+    Ok(b"OK CLOSE completed")
 }
 
 // UNSELECT.
@@ -156,15 +142,13 @@ pub(crate) fn unselect<S: Store>(
     selected: &mut Option<Selected>,
     store: &mut S,
 ) -> Result<&'static [u8], MailFault>
-    ensures done { (text : List ℕ) → Moves S.step selected.old selected.new
-        (on_found (λ mailbox. Leave false (completed commands.Unselect)) wrong_state selected.old) last store.old store.new text text result }
+    ensures done { (response : ResponseSpec) → Moves S.step selected.old selected.new
+        (on_found (λ mailbox. Leave false (completed commands.Unselect)) wrong_state selected.old) last store.old store.new response response result }
     ensures short { IfOk result (λ words. length words.now ≤ MOST_WORDS) }
 {
-    match *selected {
-        None => Ok(b"BAD Wrong state"),
-        Some(_) => match leave_mailbox(false, selected, store) {
-            Err(fault) => Err(fault),
-            Ok(()) => Ok(b"OK UNSELECT completed"),
-        },
-    }
+    let Some(_) = *selected else {
+        return Ok(b"BAD Wrong state");
+    };
+    leave_mailbox(false, selected, store)?;
+    Ok(b"OK UNSELECT completed")
 }

@@ -4,13 +4,13 @@
 use crate::appended::{STORED, tell_verdict};
 use crate::folders::find_folder;
 use crate::mailing::{Appending, Mailing, Sent, begin_text, judge, refused_size};
+use crate::response::{LAST, MOST_WORDS, Response};
 use crate::say::{GREETING, IDLING, LONG_LINE, NOT_DONE, READY, put, put_tagged};
-use crate::show::show;
 use crate::standing::{After, Append, Folder, Selected, SessionFault};
 use crate::store::Store;
 use crate::tag::Tag;
 use crate::turn::{
-    FIRST, LAST, after_command, append_of, carry_out, conclude, end_idle, is_idle, put_fault,
+    FIRST, after_command, append_of, carry_out, end_idle, first_line, is_idle, put_fault,
 };
 use delivery_token::{Text, Verdict};
 use imap_grammar::{Append as AppendCommand, Command, Name, read_line};
@@ -48,15 +48,15 @@ impl Model for Session {
 }
 
 impl Session {
-    ghost use Rattle.std.specs.Prelude.{◌≡◌, ◌≢◌, ◌==◌, ◌^◌, ◌⊎◌, ◌+◌, ◌<◌, ◌≤◌, ◌++◌, ◌↔◌, ℕ, take, min, if◌then◌else◌, true, false, [], codes, length, is_some, None, Some, Err, OnOk, OnErr, IfOk, vec_len};
+    ghost use Rattle.std.specs.Prelude.{◌≡◌, ◌≢◌, ◌==◌, ◌^◌, ◌⊎◌, ◌+◌, ◌<◌, ◌≤◌, ◌++◌, ◌↔◌, ℕ, List, IfErr, take, min, if◌then◌else◌, true, false, [], codes, length, is_some, None, Some, Err, OnOk, OnErr, IfOk, vec_len};
     ghost use Rattle.std.specs.Option.{option_copied, option_map};
     ghost use Rattle.std.specs.Vec.{vec_capacity};
     ghost use Rattle.imap_session.specs.Exchange.{Sent as SentSpec, kept_tag, nothing_sent, Feed, Refused, closed, is_idling, may_send, refusal_text, tagged};
-    ghost use Rattle.imap_session.specs.Commands.{appending, awaiting, due_of, number_named, on_rest, on_verdict, wanting, greeting, long_line_text, most_changes, on_command, on_idle_line, turn_of_long_line};
+    ghost use Rattle.imap_session.specs.Commands.{appending, awaiting, due_of, number_named, on_rest, on_verdict, wanting, greeting, long_line_text, most_changes, on_idle_line, turn_of_long_line};
     ghost use Rattle.imap_session.specs.inner.Seen.{appending_of, sent_of};
     ghost use Rattle.imap_session.specs.inner.Appends.{Leads};
     ghost use Rattle.imap_session.specs.Store.{Answers, AnswersVerdict, IdleTurns, Starves, TakesBytes, room_for, room_for_verdict};
-    ghost use Rattle.imap_session.specs.inner.Store.{Plays, is_open};
+    ghost use Rattle.imap_session.specs.inner.Store.{Plays, behind_first_line, is_open};
 
     /// The session of a client whose mailboxes have these names, and which appends messages of so many bytes at most, or none. It has
     /// selected no mailbox. Where two have the same name, the first is found.
@@ -153,16 +153,20 @@ impl Session {
         }
     }
 
-    // Begins to idle, in the room that was reserved for a last line. Where memory for the tag is refused, that is told: of a tag of at
-    // most 32 bytes it isn't asked.
-    fn begin_idling(&mut self, alloc: Global, tag: &[u8], out: &mut Vec<u8>) -> After
-        requires room { vec_len out.old + (length tag.now + LAST) ≤ vec_capacity out.old }
-        ensures begun { result ≡ After.Idle → (self.new ≡ record self.old { idling = Some tag.now }) ×
-            (out.new.items ≡ out.old.items ++ codes "+ idling\r\n") }
-        ensures starved { result ≡ After.Go → (32 < length tag.now) × (self.new ≡ self.old) ×
-            (out.new.items ≡ out.old.items ++ tagged tag.now (codes "NO Out of memory")) }
+    // Begins to idle. Where memory for the tag is refused, that is told: of a tag of at most 32 bytes it isn't asked.
+    fn begin_idling(
+        &mut self,
+        alloc: Global,
+        response: Response<'_>,
+        out: &mut Vec<u8>,
+    ) -> After
+        ensures begun { result ≡ After.Idle → (self.new ≡ record self.old { idling = Some response.entry.tag }) ×
+            (out.new.items ≡ response.entry.text ++ codes "+ idling\r\n") }
+        ensures starved { result ≡ After.Go → (32 < length response.entry.tag) × (self.new ≡ self.old) ×
+            (out.new.items ≡ response.entry.text ++ tagged response.entry.tag (codes "NO Out of memory")) }
         ensures only { (result ≡ After.Idle) ⊎ (result ≡ After.Go) }
     {
+        let tag = response.release(out);
         let Ok(kept) = Tag::new(alloc, tag) else {
             put_tagged(tag, b"NO Out of memory", out);
             return After::Go;
@@ -176,23 +180,23 @@ impl Session {
     fn await_literal(
         &mut self,
         alloc: Global,
-        tag: &[u8],
         mailbox: Option<u8>,
         append: &AppendCommand<'_>,
+        response: Response<'_>,
         out: &mut Vec<u8>,
     ) -> After
         requires going { self.old.ended ≡ false }
         requires awake { self.old.idling ≡ None }
         requires alone { self.old.mailing.begun ≡ None }
         requires unsent { self.old.mailing.sent ≡ None }
-        requires room { vec_len out.old + (length tag.now + LAST) ≤ vec_capacity out.old }
         requires size { append.now.literal.size < 2 ^ 32 }
-        ensures leads { Leads tag.now self.old (wanting (awaiting
+        ensures leads { Leads response.entry.tag self.old (wanting (awaiting
             (if append.now.literal.waits then codes "+ ready\r\n" else []) mailbox append.now.flags append.now.literal.size))
-            out.old.items out.new.items result self.new }
+            response.entry.text out.new.items result self.new }
         ensures folders { self.new.folders ≡ self.old.folders }
         ensures sends { result ≡ may_send self.new }
     {
+        let tag = response.release(out);
         let Ok(own_tag) = Tag::new(alloc, tag) else {
             put_tagged(tag, b"NO Out of memory", out);
             return After::Go;
@@ -228,76 +232,75 @@ impl Session {
     fn ask_for_literal(
         &mut self,
         alloc: Global,
-        tag: &[u8],
         append: &AppendCommand<'_>,
+        response: Response<'_>,
         out: &mut Vec<u8>,
     ) -> After
         requires going { self.old.ended ≡ false }
         requires awake { self.old.idling ≡ None }
         requires alone { self.old.mailing.begun ≡ None }
         requires unsent { self.old.mailing.sent ≡ None }
-        requires room { vec_len out.old + (length tag.now + LAST) ≤ vec_capacity out.old }
         requires waits { append.now.literal.waits ≡ true }
-        ensures leads { Leads tag.now self.old
-            (appending self.old.mailing.most self.old.folders append.now) out.old.items out.new.items result self.new }
+        ensures leads { Leads response.entry.tag self.old
+            (appending self.old.mailing.most self.old.folders append.now) response.entry.text out.new.items result self.new }
         ensures folders { self.new.folders ≡ self.old.folders }
         ensures sends { result ≡ may_send self.new }
     {
         let Ok(mailbox) = self.number_of(alloc, &append.name) else {
-            put_tagged(tag, b"NO Out of memory", out);
+            response.end(b"NO Out of memory", out);
             return After::Go;
         };
         let Some(number) = mailbox else {
-            put_tagged(tag, b"NO [TRYCREATE] No such mailbox", out);
+            response.end(b"NO [TRYCREATE] No such mailbox", out);
             return After::Go;
         };
         if let Some(words) = refused_size(self.mailing.most, append.literal.size) {
-            put_tagged(tag, words, out);
+            response.end(words, out);
             return After::Go;
         }
-        self.await_literal(alloc, tag, Some(number), append, out)
+        self.await_literal(alloc, Some(number), append, response, out)
     }
 
-    // Takes the line of an APPEND, in the room that was reserved for a last line.
+    // Takes the line of an APPEND.
     fn begin_append(
         &mut self,
         alloc: Global,
-        tag: &[u8],
         append: &AppendCommand<'_>,
+        response: Response<'_>,
         out: &mut Vec<u8>,
     ) -> After
         requires going { self.old.ended ≡ false }
         requires awake { self.old.idling ≡ None }
         requires alone { self.old.mailing.begun ≡ None }
         requires unsent { self.old.mailing.sent ≡ None }
-        requires room { vec_len out.old + (length tag.now + LAST) ≤ vec_capacity out.old }
-        ensures leads { Leads tag.now self.old
-            (appending self.old.mailing.most self.old.folders append.now) out.old.items out.new.items result self.new }
+        ensures leads { Leads response.entry.tag self.old
+            (appending self.old.mailing.most self.old.folders append.now) response.entry.text out.new.items result self.new }
         ensures folders { self.new.folders ≡ self.old.folders }
         ensures sends { result ≡ may_send self.new }
     {
         if append.literal.waits {
-            return self.ask_for_literal(alloc, tag, append, out);
+            return self.ask_for_literal(alloc, append, response, out);
         }
         if append.literal.size > MOST_UNASKED {
+            response.release(out);
             put(b"* BYE Literal too big\r\n", out);
             self.ended = true;
             return After::Bye;
         }
         let Ok(mailbox) = self.number_of(alloc, &append.name) else {
-            put_tagged(tag, b"NO Out of memory", out);
+            response.end(b"NO Out of memory", out);
             return After::Go;
         };
-        self.await_literal(alloc, tag, mailbox, append, out)
+        self.await_literal(alloc, mailbox, append, response, out)
     }
 
-    // Answers a command other than IDLE and APPEND, in the room that was reserved for its last line and the one before it of CAPABILITY, NAMESPACE and LOGOUT.
+    // Answers a command other than IDLE and APPEND, behind its first line.
     fn answer<S: Store>(
         &mut self,
         alloc: Global,
-        tag: &[u8],
         command: &Command<'_>,
         store: &mut S,
+        mut response: Response<'_>,
         out: &mut Vec<u8>,
     ) -> After
         requires going { self.old.ended ≡ false }
@@ -305,23 +308,20 @@ impl Session {
         requires alone { self.old.mailing.begun ≡ None }
         requires unsent { self.old.mailing.sent ≡ None }
         requires other { is_open command.now ≡ false }
-        requires room { vec_len out.old + (length tag.now + LAST + FIRST) ≤ vec_capacity out.old }
-        ensures plays { Plays S.step tag.now self.old (record self.old { selected = self.new.selected })
-            (on_command self.old command.now) store.old store.new out.old.items out.new.items result }
+        ensures plays { Plays S.step response.entry.tag self.old (record self.old { selected = self.new.selected })
+            (behind_first_line self.old command.now) store.old store.new response.entry.text out.new.items result }
         ensures standing { self.new ≡ (closed (record self.old { selected = self.new.selected }) result).standing }
         ensures sends { result ≡ may_send self.new }
     {
-        let keep = tag.len() + LAST;
         let done = carry_out(
             alloc,
             &self.folders,
             command,
             &mut self.selected,
             store,
-            keep,
-            out,
+            &mut response,
         );
-        let after = conclude(tag, after_command(command), done, out);
+        let after = response.conclude(after_command(command), done, out);
         self.ended = matches!(after, After::Bye);
         after
     }
@@ -354,39 +354,41 @@ impl Session {
                 Ok(After::Go)
             }
             Ok((tag, command)) => {
-                match append_of(&command) {
-                    Some(append) => Ok(self.begin_append(alloc, tag.as_bytes(), append, out)),
-                    None => {
-                        if is_idle(&command) {
-                            return Ok(self.begin_idling(alloc, tag.as_bytes(), out));
-                        }
-                        Ok(self.answer(alloc, tag.as_bytes(), &command, store, out))
-                    }
+                let tag = tag.as_bytes();
+                if let Some(append) = append_of(&command) {
+                    let response = Response::new(tag, LAST, out);
+                    return Ok(self.begin_append(alloc, append, response, out));
                 }
+                if is_idle(&command) {
+                    let response = Response::new(tag, LAST, out);
+                    return Ok(self.begin_idling(alloc, response, out));
+                }
+                put(first_line(&command), out);
+                let response = Response::new(tag, LAST, out);
+                Ok(self.answer(alloc, &command, store, response, out))
             }
         }
     }
 
-    // Answers the line that ended an IDLE of this tag, in the room that was reserved for its last line.
+    // Answers the line that ended an IDLE.
     fn end_idling<S: Store>(
         &mut self,
-        tag: &[u8],
         line: &[u8],
         store: &mut S,
+        mut response: Response<'_>,
         out: &mut Vec<u8>,
     ) -> After
         requires going { self.old.ended ≡ false }
         requires awake { self.old.idling ≡ None }
         requires alone { self.old.mailing.begun ≡ None }
         requires unsent { self.old.mailing.sent ≡ None }
-        requires room { vec_len out.old + (length tag.now + LAST) ≤ vec_capacity out.old }
-        ensures plays { Plays S.step tag.now self.old self.old
-            (on_idle_line self.old.selected line.now) store.old store.new out.old.items out.new.items result }
+        ensures plays { Plays S.step response.entry.tag self.old self.old
+            (on_idle_line self.old.selected line.now) store.old store.new response.entry.text out.new.items result }
         ensures standing { self.new ≡ (closed self.old result).standing }
         ensures sends { result ≡ may_send self.new }
     {
-        let done = end_idle(line, self.selected, store, tag.len() + LAST, out);
-        let after = conclude(tag, After::Go, done, out);
+        let done = end_idle(line, self.selected, store, &mut response);
+        let after = response.conclude(After::Go, done, out);
         self.ended = matches!(after, After::Bye);
         after
     }
@@ -416,7 +418,8 @@ impl Session {
             self.idling = Some(tag);
             return Err(SessionFault::NoMemory);
         }
-        Ok(self.end_idling(tag.as_slice(), line, store, out))
+        let response = Response::new(tag.as_slice(), LAST, out);
+        Ok(self.end_idling(line, store, response, out))
     }
 
     /// Answers a line, which comes without its CRLF and may have any bytes (RFC 9051, 6 and 7): asks the store for what its command needs,
@@ -532,19 +535,30 @@ impl Session {
             return Err(SessionFault::NoMemory);
         }
         self.idling = None;
-        Ok(self.submit(begun, line.is_empty(), out))
+        match self.submit(begun, line.is_empty()) {
+            Ok(()) => Ok(After::Submit),
+            Err((tag, words)) => {
+                put_tagged(tag.as_slice(), words, out);
+                Ok(After::Go)
+            }
+        }
     }
 
-    // Submits a message whose bytes are all there, or says why not, in the room that was reserved for a last line.
-    fn submit(&mut self, begun: Appending, ends: bool, out: &mut Vec<u8>) -> After
+    // Submits a message whose bytes are all there, or gives its tag back with what the last line says.
+    fn submit(&mut self, begun: Appending, ends: bool) -> Result<(), (Tag, &'static [u8])>
         requires going { self.old.ended ≡ false }
         requires awake { self.old.idling ≡ None }
         requires alone { self.old.mailing.begun ≡ None }
         requires unsent { self.old.mailing.sent ≡ None }
-        requires room { vec_len out.old + (length begun.tag + LAST) ≤ vec_capacity out.old }
-        ensures leads { Leads begun.tag self.old (on_rest self.old.mailing (appending_of begun) ends) out.old.items out.new.items result self.new }
+        ensures sent { OnOk result ((before : List ℕ) → Leads begun.tag self.old (on_rest self.old.mailing (appending_of begun) ends) before before
+            After.Submit self.new) }
+        ensures refused { IfErr result (λ told. (before : List ℕ) → Leads begun.tag self.old (on_rest self.old.mailing (appending_of begun) ends)
+            before (before ++ tagged told.0 told.1.now) After.Go self.new) }
+        ensures tag { IfErr result (λ told. told.0 ≡ begun.tag) }
+        ensures short { IfErr result (λ told. length told.1.now ≤ MOST_WORDS) }
         ensures folders { self.new.folders ≡ self.old.folders }
-        ensures sends { result ≡ may_send self.new }
+        ensures waits { OnOk result (may_send self.new ≡ After.Submit) }
+        ensures goes { OnErr result (may_send self.new ≡ After.Go) }
     {
         let Appending {
             tag,
@@ -557,14 +571,10 @@ impl Session {
         let most = self.mailing.most;
         let message = self.mailing.number;
         match judge(text, mailbox, size, most, message, ends) {
-            Err(words) => {
-                put_tagged(tag.as_slice(), words, out);
-                After::Go
-            }
+            Err(words) => Err((tag, words)),
             Ok((mailbox, text)) => {
                 let Ok(text) = Text::new(text) else {
-                    put_tagged(tag.as_slice(), b"NO Out of memory", out);
-                    return After::Go;
+                    return Err((tag, b"NO Out of memory"));
                 };
                 self.mailing.number = message + 1;
                 self.mailing.sent = Some(Sent {
@@ -576,32 +586,32 @@ impl Session {
                         flags,
                     },
                 });
-                After::Submit
+                Ok(())
             }
         }
     }
 
-    // Answers the verdict on a message under its tag, in the room that was reserved.
+    // Answers the verdict on a message.
     fn answer_verdict<S: Store>(
         &mut self,
-        tag: &[u8],
         mailbox: u8,
         verdict: Verdict,
         store: &mut S,
+        response: Response<'_>,
         out: &mut Vec<u8>,
     ) -> After
         requires going { self.old.ended ≡ false }
         requires awake { self.old.idling ≡ None }
         requires alone { self.old.mailing.begun ≡ None }
         requires unsent { self.old.mailing.sent ≡ None }
-        requires room { vec_len out.old + (length tag.now + STORED) ≤ vec_capacity out.old }
-        ensures plays { Plays S.step tag.now self.old self.old
-            (on_verdict self.old.selected mailbox verdict) store.old store.new out.old.items out.new.items result }
+        requires long { length response.tag + STORED ≤ response.held }
+        ensures plays { Plays S.step response.entry.tag self.old self.old
+            (on_verdict self.old.selected mailbox verdict) store.old store.new response.entry.text out.new.items result }
         ensures standing { self.new ≡ (closed self.old result).standing }
         ensures mailing { self.new.mailing ≡ self.old.mailing }
         ensures sends { result ≡ may_send self.new }
     {
-        let after = tell_verdict(tag, mailbox, verdict, self.selected, store, out);
+        let after = tell_verdict(mailbox, verdict, self.selected, store, response, out);
         self.ended = matches!(after, After::Bye);
         after
     }
@@ -637,13 +647,8 @@ impl Session {
         }
         self.idling = None;
         self.mailing.begun = None;
-        Ok(self.answer_verdict(
-            sent.tag.as_slice(),
-            sent.append.mailbox,
-            verdict,
-            store,
-            out,
-        ))
+        let response = Response::new(sent.tag.as_slice(), STORED, out);
+        Ok(self.answer_verdict(sent.append.mailbox, verdict, store, response, out))
     }
 
     /// For how many bytes there has to be room before the verdict on the message that was submitted is answered; 0 where none is waited for.
@@ -736,12 +741,11 @@ impl Session {
     }
 
     // Says BYE for a fault that ends the session.
-    fn part(&mut self, fault: MailFault, out: &mut Vec<u8>)
-        requires room { vec_len out.old + LAST ≤ vec_capacity out.old }
-        ensures text { out.new.items ≡ out.old.items ++ refusal_text [] fault }
+    fn part(&mut self, fault: MailFault, response: Response<'_>, out: &mut Vec<u8>)
+        ensures text { out.new.items ≡ response.entry.text ++ refusal_text response.entry.tag fault }
         ensures standing { self.new ≡ record self.old { ended = true } }
     {
-        let _ = conclude(b"", After::Bye, Err(fault), out);
+        let _ = response.conclude(After::Bye, Err(fault), out);
         self.ended = true;
     }
 
@@ -780,18 +784,25 @@ impl Session {
         if out.reserve(LAST).is_err() {
             return Err(SessionFault::NoMemory);
         }
-        match show(MOST_CHANGES, store, LAST, out) {
-            Ok(count) => Ok(count),
+        let mut response = Response::new(b"", LAST, out);
+        match response.show(MOST_CHANGES, store) {
+            Ok(count) => {
+                response.release(out);
+                Ok(count)
+            }
             Err(MailFault::Stranger) => {
-                self.part(MailFault::Stranger, out);
+                self.part(MailFault::Stranger, response, out);
                 Ok(0)
             }
             Err(MailFault::Lapped) => {
-                self.part(MailFault::Lapped, out);
+                self.part(MailFault::Lapped, response, out);
                 Ok(0)
             }
             Err(MailFault::Spent) => unreachable!(),
-            Err(MailFault::NoMemory) => Err(SessionFault::NoMemory),
+            Err(MailFault::NoMemory) => {
+                response.release(out);
+                Err(SessionFault::NoMemory)
+            }
         }
     }
 }

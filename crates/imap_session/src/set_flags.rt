@@ -1,6 +1,6 @@
 //! STORE and UID STORE (RFC 9051, 6.4.6 and 6.4.9).
 
-ghost use Rattle.std.specs.Prelude.{◌≡◌, ◌+◌, ◌≤◌, Bool, false, List, [], codes, decimal, ℕ, ◌++◌, map, OnOk, OnErr, IfOk, IfErr, if◌then◌else◌, length, vec_len};
+ghost use Rattle.std.specs.Prelude.{◌≡◌, ◌≤◌, Bool, false, List, [], codes, decimal, ℕ, ◌++◌, map, OnOk, OnErr, IfOk, IfErr, if◌then◌else◌, length};
 ghost use Rattle.std.specs.Io.{StartsWith};
 ghost use Rattle.std.specs.Vec.{vec_capacity};
 ghost use Rattle.imap_grammar.specs.declared.command.Command.TheVariants as commands;
@@ -8,12 +8,11 @@ ghost use Rattle.imap_grammar.specs.Sets.{named_at};
 ghost use Rattle.cursor_set.specs.Lines.{flag_words, spaced};
 ghost use Rattle.imap_session.specs.Exchange.{Exchange, Alter, Write};
 ghost use Rattle.imap_session.specs.Commands.{on_found, on_set, flags_answer, stored, storing, messages_done};
+ghost use Rattle.imap_session.specs.inner.Response.{adding};
 ghost use Rattle.imap_session.specs.inner.Store.{Does, last};
 
-use crate::say::hold_room;
-use crate::show::show;
+use crate::response::{MOST_WORDS, Response, hold_room};
 use crate::store::Store;
-use crate::turn::MOST_WORDS;
 use change_ring::Flags;
 use cursor_set::{FLAGS_ROOM, put_flags};
 use imap_grammar::{Named, Store as StoreCommand};
@@ -71,30 +70,28 @@ fn append_answer(
     Ok(())
 }
 
-// Writes the answer for a message, unless the client asked for silence, with room for `keep` more bytes behind it.
+// Writes the answer for a message, unless the client asked for silence.
 fn write_stored(
     command: &StoreCommand<'_>,
     message: Named,
     flags: Flags,
-    keep: usize,
-    out: &mut Vec<u8>,
+    response: &mut Response<'_>,
 ) -> Result<(), MailFault>
-    requires room { vec_len out.old + keep ≤ vec_capacity out.old }
-    ensures text { OnOk result (out.new.items ≡ out.old.items ++
-        (if command.now.silent then [] else flags_answer command.now.by_uid message.position message.uid flags)) }
-    ensures err { OnErr result (out.new.items ≡ out.old.items) }
+    ensures text { OnOk result (response.new ≡ adding
+        ((if command.now.silent then [] else flags_answer command.now.by_uid message.position message.uid flags)) response.old) }
+    ensures err { OnErr result (response.new ≡ response.old) }
     ensures fault { IfErr result (λ f. f ≡ MailFault.NoMemory) }
-    ensures room { vec_len out.new + keep ≤ vec_capacity out.new }
 {
     if command.silent {
         return Ok(());
     }
-    let start = out.len();
-    if append_answer(command.by_uid, message.position, message.uid, flags, out).is_err() {
-        out.truncate(start);
+    let start = response.out.len();
+    let Named { position, uid } = message;
+    if append_answer(command.by_uid, position, uid, flags, &mut response.out).is_err() {
+        response.out.truncate(start);
         return Err(MailFault::NoMemory);
     }
-    hold_room(start, keep, out)
+    hold_room(start, response.held, &mut response.out)
 }
 
 // Changes the flags of one message, and says whether it is there.
@@ -102,23 +99,17 @@ fn store_one<S: Store>(
     command: &StoreCommand<'_>,
     message: Named,
     store: &mut S,
-    keep: usize,
-    out: &mut Vec<u8>,
+    response: &mut Response<'_>,
 ) -> Result<bool, MailFault>
-    requires room { vec_len out.old + keep ≤ vec_capacity out.old }
-    ensures done { (view : List ℕ) (uid : ℕ) → message ≡ named_at view uid → (x y : Exchange) → Does S.step
+    ensures { (view : List ℕ) (uid : ℕ) → message ≡ named_at view uid → (x y : Exchange) → Does S.step
         (Alter uid command.now.change (on_found (λ flags. Write (stored command.now view uid flags) x) y))
-        (λ here. if here then x else y) store.old store.new out.old.items out.new.items result }
-    ensures room { vec_len out.new + keep ≤ vec_capacity out.new }
+        (λ here. if here then x else y) store.old store.new response.old response.new result }
 {
-    match store.store(message.uid, command.change) {
-        Err(fault) => Err(fault),
-        Ok(None) => Ok(false),
-        Ok(Some(flags)) => match write_stored(command, message, flags, keep, out) {
-            Err(fault) => Err(fault),
-            Ok(()) => Ok(true),
-        },
-    }
+    let Some(flags) = store.store(message.uid, command.change)? else {
+        return Ok(false);
+    };
+    write_stored(command, message, flags, response)?;
+    Ok(true)
 }
 
 // Changes the flags of these messages, and says whether one of them is gone.
@@ -126,23 +117,16 @@ fn store_all<S: Store>(
     command: &StoreCommand<'_>,
     messages: &[Named],
     store: &mut S,
-    keep: usize,
-    out: &mut Vec<u8>,
+    response: &mut Response<'_>,
 ) -> Result<bool, MailFault>
-    requires room { vec_len out.old + keep ≤ vec_capacity out.old }
-    ensures done { (view uids : List ℕ) → messages.now ≡ map (named_at view) uids → (done : Bool → Exchange) → Does S.step
-        (storing command.now view done uids false) done store.old store.new out.old.items out.new.items result }
-    ensures room { vec_len out.new + keep ≤ vec_capacity out.new }
+    ensures { (view uids : List ℕ) → messages.now ≡ map (named_at view) uids → (done : Bool → Exchange) → Does S.step
+        (storing command.now view done uids false) done store.old store.new response.old response.new result }
 {
     let mut gone = false;
     for message in messages {
-        match store_one(command, *message, store, keep, out) {
-            Err(fault) => return Err(fault),
-            Ok(here) => {
-                if !here {
-                    gone = true;
-                }
-            }
+        let here = store_one(command, *message, store, response)?;
+        if !here {
+            gone = true;
         }
     }
     Ok(gone)
@@ -153,20 +137,15 @@ fn finish_store<S: Store>(
     command: &StoreCommand<'_>,
     gone: bool,
     store: &mut S,
-    keep: usize,
-    out: &mut Vec<u8>,
+    response: &mut Response<'_>,
 ) -> Result<&'static [u8], MailFault>
-    requires room { vec_len out.old + keep ≤ vec_capacity out.old }
     ensures done { Does S.step
-        (messages_done (commands.Store command.now) command.now.by_uid gone) last store.old store.new out.old.items out.new.items result }
+        (messages_done (commands.Store command.now) command.now.by_uid gone) last store.old store.new response.old response.new result }
     ensures short { IfOk result (λ words. length words.now ≤ MOST_WORDS) }
-    ensures room { vec_len out.new + keep ≤ vec_capacity out.new }
 {
     if command.by_uid {
-        match show(usize::MAX, store, keep, out) {
-            Err(fault) => Err(fault),
-            Ok(_) => Ok(b"OK UID STORE completed"),
-        }
+        response.show(usize::MAX, store)?;
+        Ok(b"OK UID STORE completed")
     } else if gone {
         Ok(b"NO [EXPUNGEISSUED] Some messages are gone")
     } else {
@@ -179,25 +158,17 @@ pub(crate) fn store_messages<S: Store>(
     alloc: Global,
     command: &StoreCommand<'_>,
     store: &mut S,
-    keep: usize,
-    out: &mut Vec<u8>,
+    response: &mut Response<'_>,
 ) -> Result<&'static [u8], MailFault>
-    requires room { vec_len out.old + keep ≤ vec_capacity out.old }
     ensures done { Does S.step
         (on_set command.now.by_uid command.now.set (λ view uids. storing command.now view
         (messages_done (commands.Store command.now) command.now.by_uid) uids false))
-        last store.old store.new out.old.items out.new.items result }
+        last store.old store.new response.old response.new result }
     ensures short { IfOk result (λ words. length words.now ≤ MOST_WORDS) }
-    ensures room { vec_len out.new + keep ≤ vec_capacity out.new }
 {
-    let messages = match store.choose(alloc, &command.set, command.by_uid) {
-        Err(fault) => return Err(fault),
-        Ok(None) => return Ok(b"BAD Sequence number too high"),
-        Ok(Some(messages)) => messages,
+    let Some(messages) = store.choose(alloc, &command.set, command.by_uid)? else {
+        return Ok(b"BAD Sequence number too high");
     };
-    let gone = match store_all(command, messages.as_slice(), store, keep, out) {
-        Err(fault) => return Err(fault),
-        Ok(gone) => gone,
-    };
-    finish_store(command, gone, store, keep, out)
+    let gone = store_all(command, messages.as_slice(), store, response)?;
+    finish_store(command, gone, store, response)
 }

@@ -1,15 +1,16 @@
-//! One command, carried out: the part that fits it, in the state that it wants, and then its last line in the room that was kept for it.
+//! One command, carried out: the part that fits it, in the state that it wants, and what its last line says.
 //! What each part does is told in the modules of the commands.
 
-ghost use Rattle.std.specs.Prelude.{◌≡◌, ◌↔◌, ◌+◌, ◌≤◌, ◌++◌, length, true, false, None, IfOk, IfSome, IfNone, vec_len};
+ghost use Rattle.std.specs.Prelude.{◌≡◌, ◌+◌, ◌≤◌, ◌++◌, length, true, false, None, IfOk, IfSome, IfNone, vec_len};
 ghost use Rattle.std.specs.Vec.{vec_capacity};
 ghost use Rattle.imap_grammar.specs.declared.command.Command.TheVariants as commands;
-ghost use Rattle.imap_session.specs.Commands.{completed, fault_text, on_command, on_idle_line, showing};
+ghost use Rattle.imap_session.specs.Commands.{completed, fault_text, on_idle_line, showing};
 ghost use Rattle.imap_session.specs.Exchange.{Mailing};
-ghost use Rattle.imap_session.specs.inner.Store.{Does, Moves, after_command, after_result, ending, is_idle, is_open, last, last_words};
+ghost use Rattle.imap_session.specs.inner.Store.{Does, Moves, after_command, behind_first_line, ending, first_line, is_idle, is_open, last};
 
 use crate::count::{count_mailbox, list_folders};
 use crate::expunge::show_pending;
+use crate::response::{MOST_WORDS, Response};
 use crate::say::{put, put_tagged};
 use crate::select::select_mailbox;
 use crate::selected::{close, expunge, fetch, store_flags, uid_expunge, unselect};
@@ -19,54 +20,8 @@ use imap_grammar::{Append, Command, ImapFault, is_done};
 use mailbox::MailFault;
 use std::alloc::Global;
 
-/// What a last line says behind its tag has at most so many bytes.
-pub(crate) const MOST_WORDS: usize = 45;
-
-/// Room for the last line of any answer beside its tag, a space and CRLF among it; and for a line that says BYE.
-pub(crate) const LAST: usize = 48;
-
 /// Room for the line that CAPABILITY, NAMESPACE or LOGOUT writes before its last one.
 pub(crate) const FIRST: usize = 32;
-
-const CAPABILITY: &[u8] = b"* CAPABILITY IMAP4rev2 IDLE\r\n";
-
-const NAMESPACE: &[u8] = b"* NAMESPACE ((\"\" \"/\")) NIL NIL\r\n";
-
-// Ends an answer: its last line, or what is said of the fault that stopped it.
-pub(crate) fn conclude(
-    tag: &[u8],
-    after: After,
-    done: Result<&'static [u8], MailFault>,
-    out: &mut Vec<u8>,
-) -> After
-    requires room { vec_len out.old + (length tag.now + LAST) ≤ vec_capacity out.old }
-    requires short { IfOk done (λ words. length words.now ≤ MOST_WORDS) }
-    ensures text { out.new.items ≡ out.old.items ++ last_words tag.now done.entry }
-    ensures after { result ≡ after_result after done.entry }
-{
-    match done {
-        Ok(words) => {
-            put_tagged(tag, words, out);
-            after
-        }
-        Err(MailFault::Stranger) => {
-            put(b"* BYE Internal fault\r\n", out);
-            After::Bye
-        }
-        Err(MailFault::Lapped) => {
-            put(b"* BYE Too many changes were missed\r\n", out);
-            After::Bye
-        }
-        Err(MailFault::Spent) => {
-            put_tagged(tag, b"NO Mailbox is spent", out);
-            After::Go
-        }
-        Err(MailFault::NoMemory) => {
-            put_tagged(tag, b"NO Out of memory", out);
-            After::Go
-        }
-    }
-}
 
 // Writes what is said of a line that is no command, in room that was reserved.
 pub(crate) fn put_fault(fault: &ImapFault<'_>, out: &mut Vec<u8>)
@@ -115,18 +70,15 @@ pub(crate) fn end_idle<S: Store>(
     line: &[u8],
     selected: Option<Selected>,
     store: &mut S,
-    keep: usize,
-    out: &mut Vec<u8>,
+    response: &mut Response<'_>,
 ) -> Result<&'static [u8], MailFault>
-    requires room { vec_len out.old + keep ≤ vec_capacity out.old }
-    ensures done { Does S.step (on_idle_line selected line.now) last store.old store.new out.old.items out.new.items result }
+    ensures done { Does S.step (on_idle_line selected line.now) last store.old store.new response.old response.new result }
     ensures short { IfOk result (λ words. length words.now ≤ MOST_WORDS) }
-    ensures room { vec_len out.new + keep ≤ vec_capacity out.new }
 {
     if !is_done(line) {
         return Ok(b"BAD Expected DONE");
     }
-    show_pending(selected, store, keep, out)?;
+    show_pending(selected, store, response)?;
     Ok(b"OK IDLE completed")
 }
 
@@ -134,74 +86,70 @@ pub(crate) fn end_idle<S: Store>(
 fn note_nothing<S: Store>(
     selected: Option<Selected>,
     store: &mut S,
-    keep: usize,
-    out: &mut Vec<u8>,
+    response: &mut Response<'_>,
 ) -> Result<&'static [u8], MailFault>
-    requires room { vec_len out.old + keep ≤ vec_capacity out.old }
-    ensures done { Does S.step (showing selected (completed commands.Noop)) last store.old store.new out.old.items out.new.items result }
+    ensures done { Does S.step (showing selected (completed commands.Noop)) last store.old store.new response.old response.new result }
     ensures short { IfOk result (λ words. length words.now ≤ MOST_WORDS) }
-    ensures room { vec_len out.new + keep ≤ vec_capacity out.new }
 {
-    match show_pending(selected, store, keep, out) {
-        Err(fault) => Err(fault),
-        Ok(()) => Ok(b"OK NOOP completed"),
+    show_pending(selected, store, response)?;
+    Ok(b"OK NOOP completed")
+}
+
+/// What a command says of the server before all else, with its CRLF. Most say nothing.
+pub(crate) fn first_line(command: &Command<'_>) -> &'static [u8]
+    ensures line { result.now ≡ first_line command.now }
+    ensures short { length result.now ≤ FIRST }
+{
+    match command {
+        Command::Capability => b"* CAPABILITY IMAP4rev2 IDLE\r\n",
+        Command::Namespace => b"* NAMESPACE ((\"\" \"/\")) NIL NIL\r\n",
+        Command::Logout => b"* BYE Logging out\r\n",
+        _ => b"",
     }
 }
 
-// Carries out a command other than IDLE and APPEND but for its last line, and answers what that says.
+// Carries out a command other than IDLE and APPEND but for its first line and its last, and answers what that says.
 pub(crate) fn carry_out<S: Store>(
     alloc: Global,
     folders: &[Folder],
     command: &Command<'_>,
     selected: &mut Option<Selected>,
     store: &mut S,
-    keep: usize,
-    out: &mut Vec<u8>,
+    response: &mut Response<'_>,
 ) -> Result<&'static [u8], MailFault>
-    requires room { vec_len out.old + (keep + FIRST) ≤ vec_capacity out.old }
     requires other { is_open command.now ≡ false }
     ensures done { (mailing : Mailing) → Moves S.step selected.old selected.new
-        (on_command (record { folders = folders.now; selected = selected.old; idling = None; ended = false; mailing = mailing }) command.now)
-        (ending (after_command command.now)) store.old store.new out.old.items out.new.items result }
+        (behind_first_line (record { folders = folders.now; selected = selected.old; idling = None; ended = false; mailing = mailing }) command.now)
+        (ending (after_command command.now)) store.old store.new response.old response.new result }
     ensures short { IfOk result (λ words. length words.now ≤ MOST_WORDS) }
-    ensures room { vec_len out.new + keep ≤ vec_capacity out.new }
 {
     match command {
-        Command::Capability => {
-            put(CAPABILITY, out);
-            Ok(b"OK CAPABILITY completed")
-        }
-        Command::Namespace => {
-            put(NAMESPACE, out);
-            Ok(b"OK NAMESPACE completed")
-        }
-        Command::Noop => note_nothing(*selected, store, keep, out),
-        Command::Logout => {
-            put(b"* BYE Logging out\r\n", out);
-            Ok(b"OK LOGOUT completed")
-        }
+        Command::Capability => Ok(b"OK CAPABILITY completed"),
+        Command::Namespace => Ok(b"OK NAMESPACE completed"),
+        Command::Noop => note_nothing(*selected, store, response),
+        Command::Logout => Ok(b"OK LOGOUT completed"),
         Command::Idle => unreachable!(),
         Command::Append(_) => unreachable!(),
         Command::Login => Ok(b"BAD Wrong state"),
         Command::Authenticate => Ok(b"BAD Wrong state"),
         Command::StartTls => Ok(b"BAD Wrong state"),
         Command::Select(name) => {
-            select_mailbox(alloc, folders, false, name, selected, store, keep, out)
+            select_mailbox(alloc, folders, false, name, selected, store, response)
         }
         Command::Examine(name) => {
-            select_mailbox(alloc, folders, true, name, selected, store, keep, out)
+            select_mailbox(alloc, folders, true, name, selected, store, response)
         }
         Command::List { reference, pattern } => list_folders(
-            alloc, folders, reference, pattern, *selected, store, keep, out,
+            alloc, folders, reference, pattern, *selected, store, response,
         ),
         Command::Status { name, items } => {
-            count_mailbox(alloc, folders, name, items, *selected, store, keep, out)
+            count_mailbox(alloc, folders, name, items, *selected, store, response)
         }
         Command::Close => close(selected, store),
         Command::Unselect => unselect(selected, store),
-        Command::Expunge => expunge(*selected, store, keep, out),
-        Command::UidExpunge(set) => uid_expunge(alloc, set, *selected, store, keep, out),
-        Command::Fetch(command) => fetch(alloc, command, *selected, store, keep, out),
-        Command::Store(command) => store_flags(alloc, command, *selected, store, keep, out),
+        Command::Expunge => expunge(*selected, store, response),
+        Command::UidExpunge(set) => uid_expunge(alloc, set, *selected, store, response),
+        Command::Fetch(command) => fetch(alloc, command, *selected, store, response),
+        Command::Store(command) => store_flags(alloc, command, *selected, store, response),
     }
 }

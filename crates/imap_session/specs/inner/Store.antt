@@ -3,12 +3,14 @@ use Rattle.std.specs.Borrow.{Bor}
 use Rattle.imap_session.specs.declared.standing.After.TheVariants.{Go, Bye}
 use Rattle.imap_grammar.specs.declared.command.Command.{Command}
 use Rattle.imap_grammar.specs.declared.command.Command.TheVariants as commands
-use Rattle.std.specs.Prelude.{◌≡◌, ℕ, Bool, true, false, List, ◌++◌, Option, Some, Result, Ok, Err}
+use Rattle.std.specs.Prelude.{◌≡◌, ℕ, Bool, true, false, codes, List, [], ◌++◌, Option, Some, Result, Ok, Err}
 use Rattle.mailbox.specs.declared.clients.MailFault.{MailFault}
 use Rattle.imap_session.specs.declared.standing.After.{After}
 use Rattle.imap_session.specs.declared.standing.Selected.{Selected}
-use Rattle.imap_session.specs.Exchange.{Call, Answer, Event, Exchange, Done, Standing, Turn, played, refused, refusal_text, refusal_after, closed, tagged}
+use Rattle.imap_session.specs.Exchange.{Call, Answer, Event, Exchange, Done, Standing, Turn, played, refused, refusal_text, refusal_after, bye, closed, tagged}
+use Rattle.imap_session.specs.Commands.{completed, on_command}
 use Rattle.imap_session.specs.Store.{Met}
+use Rattle.imap_session.specs.inner.Response.{Response, adding}
 
 -- ---- part of a turn
 
@@ -21,28 +23,28 @@ LeadsOn tag now next x y events bytes = (more : List Answer) (turn : Turn) → p
     → (whole : List Answer) × (played tag now x whole ≡ Some (onward events bytes turn))
 
 -- an exchange has come so far that y is what is left of x
-pub record Reaches {S : Type 0} (step : S → Call → Answer → S → Type 0) (tag : List ℕ) (now next : Standing) (x y : Exchange) (old new : S) (before after : List ℕ) : Type 0 where
+pub record Reaches {S : Type 0} (step : S → Call → Answer → S → Type 0) (tag : List ℕ) (now next : Standing) (x y : Exchange) (old new : S) (before after : Response) : Type 0 where
   pub events : List Event
   pub bytes : List ℕ
   pub leads : LeadsOn tag now next x y events bytes
   pub met : Met step old events new
-  pub wrote : after ≡ before ++ bytes
+  pub wrote : after ≡ adding bytes before
 
 -- an exchange was stopped by a fault, of which nothing was written yet
-pub record Stops {S : Type 0} (step : S → Call → Answer → S → Type 0) (tag : List ℕ) (now next : Standing) (x : Exchange) (fault : MailFault) (old new : S) (before after : List ℕ) : Type 0 where
+pub record Stops {S : Type 0} (step : S → Call → Answer → S → Type 0) (tag : List ℕ) (now next : Standing) (x : Exchange) (fault : MailFault) (old new : S) (before after : Response) : Type 0 where
   pub events : List Event
   pub bytes : List ℕ
   pub leads : (whole : List Answer) × (played tag now x whole ≡ Some (onward events bytes (refused tag next fault)))
   pub met : Met step old events new
-  pub wrote : after ≡ before ++ bytes
+  pub wrote : after ≡ adding bytes before
 
 -- Part of an exchange was done, with this result: y is left, or a fault stopped it.
-abbrev pub Does : {S V : Type 0} → (S → Call → Answer → S → Type 0) → Exchange → (V → Exchange) → S → S → List ℕ → List ℕ → Result V MailFault → Type 0
+abbrev pub Does : {S V : Type 0} → (S → Call → Answer → S → Type 0) → Exchange → (V → Exchange) → S → S → Response → Response → Result V MailFault → Type 0
 Does step x y old new before after (Ok v) = (tag : List ℕ) (now : Standing) → Reaches step tag now now x (y v) old new before after
 Does step x y old new before after (Err fault) = (tag : List ℕ) (now : Standing) → Stops step tag now now x fault old new before after
 
 -- The same where the selected mailbox may change: it was `from` before, and is `to` after the part that was done.
-abbrev pub Moves : {S V : Type 0} → (S → Call → Answer → S → Type 0) → Option Selected → Option Selected → Exchange → (V → Exchange) → S → S → List ℕ → List ℕ → Result V MailFault → Type 0
+abbrev pub Moves : {S V : Type 0} → (S → Call → Answer → S → Type 0) → Option Selected → Option Selected → Exchange → (V → Exchange) → S → S → Response → Response → Result V MailFault → Type 0
 Moves step from to x y old new before after (Ok v) =
     (tag : List ℕ) (now : Standing) → now.selected ≡ from → Reaches step tag now (record now { selected = to }) x (y v) old new before after
 Moves step from to x y old new before after (Err fault) =
@@ -71,6 +73,19 @@ pub record Plays {S : Type 0} (step : S → Call → Answer → S → Type 0) (t
   pub leads : played tag now x answers ≡ Some (record { events = events; bytes = bytes; after = how; standing = (closed next how).standing })
   pub met : Met step old events new
   pub wrote : after ≡ before ++ bytes
+
+-- what a command says of the server before all else, in room that was reserved, and what is done then
+abbrev pub first_line : Command → List ℕ
+first_line commands.Capability = codes "* CAPABILITY IMAP4rev2 IDLE\r\n"
+first_line commands.Namespace = codes "* NAMESPACE ((\"\" \"/\")) NIL NIL\r\n"
+first_line commands.Logout = bye (codes "Logging out")
+first_line _ = []
+
+abbrev pub behind_first_line : Standing → Command → Exchange
+behind_first_line now commands.Capability = completed commands.Capability
+behind_first_line now commands.Namespace = completed commands.Namespace
+behind_first_line now commands.Logout = Done (codes "OK LOGOUT completed") Bye
+behind_first_line now command = on_command now command
 
 -- what a client may send after a command that was done
 abbrev pub after_command : Command → After

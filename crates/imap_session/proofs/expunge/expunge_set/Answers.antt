@@ -1,46 +1,46 @@
-use Rattle.std.proofs.Common.{rules, ◌≡◌, ◌∙◌, ℕ, true, List, Some, map, ap, sym}
-use Rattle.imap_grammar.specs.Sets.{named_in}
+use Rattle.std.proofs.Common.{rules, ◌≡◌, ◌∙◌, ℕ, true, List, Some, Err, Ok, map, ap}
+use Rattle.std.specs.Borrow.{Bor}
+use Rattle.std.proofs.lemmas.Result.{err_from_is_err_and}
+use Rattle.imap_grammar.specs.Sets.{named_at}
+use Rattle.imap_grammar.specs.declared.set.SeqRange.{SeqRange}
 use Rattle.imap_grammar.specs.declared.command.Command.TheVariants as commands
 use Rattle.imap_grammar.specs.declared.view.Named.{Named}
 use Rattle.imap_session.specs.Exchange.{Exchange, Expunge, Feed}
 use Rattle.imap_session.specs.Commands.{completed, unlimited}
-use Rattle.imap_session.proofs.Runs.{stops_look, starves_look, stops_then, reaches_then}
-use Rattle.imap_session.proofs.Choosing.{chosen_none, chosen_some, reaches_chosen, reaches_too_high, uids_chosen}
+use Rattle.imap_session.specs.inner.Store.{last}
+use Rattle.imap_session.proofs.Runs.{stops_look, starves_look}
+use Rattle.imap_session.proofs.Choosing.{does_chosen, uids_chosen}
 use Rattle.imap_session.proofs.expunge.expunge_set.Goals as goal
 
-pub returns-in-Err-clause-done : goal.returns-in-Err-clause-done
-returns-in-Err-clause-done g c tag now = stops_look g.S.Store.step tag now _ c.in-Err.fault _ _ c.in-Err.ensures.event
+pub returns-in_err-messages-clause-done : goal.returns-in_err-messages-clause-done
+returns-in_err-messages-clause-done g c =
+    let p = err_from_is_err_and c.from_residual.result c.from_residual.ensures.1 in
+    rw (p.1, p.2) (λ tag now. stops_look g.S.Store.step tag now _ _ _ _ c.in_err-messages.ensures.event)
 
-pub returns-in-Ok-None-clause-done : goal.returns-in-Ok-None-clause-done
-returns-in-Ok-None-clause-done g c tag now =
-    let next : List ℕ → List ℕ → Exchange = λ v uids. Expunge (Some uids) (Feed unlimited (completed (commands.UidExpunge c.args.set.now))) in
-    let looks = rw c.in-Ok-None.field-0-is at c.in-Ok-None.ensures.event in
-    let view : List ℕ = looks.0 in
-    reaches_too_high g.S.Store.step true c.args.set.now next view _ _ looks.1 (chosen_none view (named_in true c.args.set.now view) looks.2) tag now
+pub returns-in_default-uids_of-clause-done : goal.returns-in_default-uids_of-clause-done
+returns-in_default-uids_of-clause-done g c tag now = starves_look g.S.Store.step tag now _ _ _
 
-pub returns-in-Err-uids_of-clause-done : goal.returns-in-Err-uids_of-clause-done
-returns-in-Err-uids_of-clause-done g c tag now = starves_look g.S.Store.step tag now _ _ _
+removing : List SeqRange → List ℕ → List ℕ → Exchange
+removing set view uids = Expunge (Some uids) (Feed unlimited (completed (commands.UidExpunge set)))
 
-pub returns-in-Err-remove_and_show-clause-done : goal.returns-in-Err-remove_and_show-clause-done
-returns-in-Err-remove_and_show-clause-done g c tag now =
-    let next : List ℕ → List ℕ → Exchange = λ v uids. Expunge (Some uids) (Feed unlimited (completed (commands.UidExpunge c.args.set.now))) in
-    let looks = rw c.in-Ok-Some.field-0-is at c.in-Ok-Some.ensures.event in
-    let view : List ℕ = looks.0 in
-    let found = chosen_some view (named_in true c.args.set.now view) c.in-Ok-Some.messages.items looks.2 in
-    let told : c.as_slice-2.result.now ≡ map (λ (m : Named). m.uid) c.in-Ok-Some.messages.items = search rules in
-    let are : c.as_slice-2.result.now ≡ found.0 = told ∙ ap (map (λ (m : Named). m.uid)) found.2 ∙ uids_chosen view found.0 in
-    stops_then g.S.Store.step tag now now now _ _ c.in-Err-remove_and_show.fault _ _ _ _ _ _
-    (reaches_chosen g.S.Store.step true c.args.set.now next view c.as_slice-2.result.now _ _ looks.1 (found.1 ∙ ap (λ (l : List ℕ). Some l) (sym are)) tag now)
-    (c.in-Err-remove_and_show.ensures.done (completed (commands.UidExpunge c.args.set.now)) tag now)
+named : (view : List ℕ) (uids : List ℕ) (messages : List Named) (told : List ℕ) → told ≡ map (λ (m : Named). m.uid) messages → messages ≡ map (named_at view) uids → told ≡ uids
+named view uids messages told e are = e ∙ ap (map (λ (m : Named). m.uid)) are ∙ uids_chosen view uids
+
+pub returns-in_err-remove_and_show-clause-done : goal.returns-in_err-remove_and_show-clause-done
+unfolding removing
+returns-in_err-remove_and_show-clause-done g c =
+    let set = c.args.set.now in
+    let p = err_from_is_err_and c.from_residual-in_err-remove_and_show.result c.from_residual-in_err-remove_and_show.ensures.1 in
+    let looks = rw c.in-Some.is at c.in_ok-messages.ensures.event in
+    let told : c.as_slice-2.result.now ≡ map (λ (m : Named). m.uid) c.in-Some.messages.items = search rules in
+    rw (p.1, p.2) (does_chosen {V = Bor (List ℕ)} g.S.Store.step true set (removing set) last looks.0 c.in-Some.messages.items _ _ _ _ (Err _) looks.1 looks.2
+    (λ uids are. rw (← named looks.0 uids c.in-Some.messages.items c.as_slice-2.result.now told are) (c.in_err-remove_and_show.ensures (completed (commands.UidExpunge set)))))
 
 pub returns-clause-done : goal.returns-clause-done
-returns-clause-done g c tag now =
-    let next : List ℕ → List ℕ → Exchange = λ v uids. Expunge (Some uids) (Feed unlimited (completed (commands.UidExpunge c.args.set.now))) in
-    let looks = rw c.in-Ok-Some.field-0-is at c.in-Ok-Some.ensures.event in
-    let view : List ℕ = looks.0 in
-    let found = chosen_some view (named_in true c.args.set.now view) c.in-Ok-Some.messages.items looks.2 in
-    let told : c.as_slice-2.result.now ≡ map (λ (m : Named). m.uid) c.in-Ok-Some.messages.items = search rules in
-    let are : c.as_slice-2.result.now ≡ found.0 = told ∙ ap (map (λ (m : Named). m.uid)) found.2 ∙ uids_chosen view found.0 in
-    reaches_then g.S.Store.step tag now now now _ _ _ _ _ _ _ _ _
-    (reaches_chosen g.S.Store.step true c.args.set.now next view c.as_slice-2.result.now _ _ looks.1 (found.1 ∙ ap (λ (l : List ℕ). Some l) (sym are)) tag now)
-    (c.in-Ok-remove_and_show.ensures.done (completed (commands.UidExpunge c.args.set.now)) tag now)
+unfolding removing
+returns-clause-done g c =
+    let set = c.args.set.now in
+    let looks = rw c.in-Some.is at c.in_ok-messages.ensures.event in
+    let told : c.as_slice-2.result.now ≡ map (λ (m : Named). m.uid) c.in-Some.messages.items = search rules in
+    does_chosen {V = Unit {0}} g.S.Store.step true set (removing set) (λ u. completed (commands.UidExpunge set)) looks.0 c.in-Some.messages.items _ _ _ _ (Ok tt) looks.1 looks.2
+    (λ uids are. rw (← named looks.0 uids c.in-Some.messages.items c.as_slice-2.result.now told are) (c.in_ok-remove_and_show.ensures (completed (commands.UidExpunge set))))

@@ -1,5 +1,4 @@
-use Rattle.std.proofs.Common.{◌≡◌, ℕ, ◌+◌, ◌≤◌, Bool, false, List, drop, map, vec_len}
-use Rattle.std.specs.Vec.{vec_capacity}
+use Rattle.std.proofs.Common.{◌≡◌, ℕ, Bool, false, List, drop, map}
 use Rattle.imap_grammar.specs.Sets.{named_at}
 use Rattle.imap_session.specs.Exchange.{Exchange, Standing}
 use Rattle.imap_session.specs.Commands.{fetching}
@@ -7,9 +6,7 @@ use Rattle.imap_session.specs.inner.Store.{Reaches}
 use Rattle.imap_session.proofs.fetch.fetch_all.Given as goal
 
 abbrev pub invariant-loop-message : goal.invariant-loop-message
-invariant-loop-message g l = record {
-  room : vec_len l.out + l.keep ≤ vec_capacity l.out;
-  reaches : (view uids : List ℕ) → l.messages ≡ map (named_at view) uids → (done : Bool → Exchange) (tag : List ℕ) (now : Standing) → Reaches g.S.Store.step tag now now
-      (fetching l.fetch l.mark view done uids false) (fetching l.fetch l.mark view done (drop l.message-index uids) l.gone)
-      l.fn.store l.store l.fn.out.items l.out.items;
-}
+invariant-loop-message g l =
+    (view uids : List ℕ) → l.messages ≡ map (named_at view) uids → (done : Bool → Exchange) (tag : List ℕ) (now : Standing) → Reaches g.S.Store.step tag now now
+    (fetching l.fetch l.mark view done uids false) (fetching l.fetch l.mark view done (drop l.message-index uids) l.gone)
+    l.fn.store l.store l.fn.response l.response

@@ -1,27 +1,30 @@
 use Rattle.std.proofs.Common.{◌≡◌, ap, None}
+use Rattle.std.proofs.lemmas.Result.{err_from_is_err_and}
 use Rattle.imap_grammar.specs.declared.view.Named.{Named}
 use Rattle.imap_session.proofs.Runs.{reaches_read, stops_read}
 use Rattle.imap_session.proofs.Fetching.{reads_there, reads_starved}
 use Rattle.imap_session.proofs.fetch.fetch_one.Goals as goal
 
-pub returns-in-Err-clause-done : goal.returns-in-Err-clause-done
-returns-in-Err-clause-done g c view uid is x y tag now =
+pub returns-in_err-row : goal.returns-in_err-row
+returns-in_err-row g c view uid is x y =
     let same : c.args.message.uid ≡ uid = ap (λ (m : Named). m.uid) is in
-    stops_read g.S.Store.step tag now uid c.args.mark _ c.in-Err.fault _ _ _ (rw same at c.in-Err.ensures)
+    let p = err_from_is_err_and c.from_residual.result c.from_residual.ensures.1 in
+    rw (p.1, p.2) (λ tag now. stops_read g.S.Store.step tag now uid c.args.mark _ _ _ _ _ (rw same at c.in_err-row.ensures))
 
-pub returns-in-Ok-None-clause-done : goal.returns-in-Ok-None-clause-done
-returns-in-Ok-None-clause-done g c view uid is x y tag now =
+pub returns-in_default : goal.returns-in_default
+returns-in_default g c view uid is x y tag now =
     let same : c.args.message.uid ≡ uid = ap (λ (m : Named). m.uid) is in
-    reaches_read g.S.Store.step tag now uid c.args.mark _ None _ _ _ (rw (same, c.in-Ok-None.field-0-is) at c.in-Ok-None.ensures)
+    reaches_read g.S.Store.step tag now uid c.args.mark _ None _ _ _ (rw (same, c.in_default.is) at c.in_ok-row.ensures)
 
-pub returns-in-Err-write_fetched-clause-done : goal.returns-in-Err-write_fetched-clause-done
-returns-in-Err-write_fetched-clause-done g c view uid is x y tag now =
+pub returns-in_err-write_fetched : goal.returns-in_err-write_fetched
+returns-in_err-write_fetched g c view uid is x y =
     let same : c.args.message.uid ≡ uid = ap (λ (m : Named). m.uid) is in
-    reads_starved g.S.Store.step tag now uid c.args.mark _ x y c.in-Ok-Some.row c.in-Err-write_fetched.fault _ _ _ _
-    (rw (same, c.in-Ok-Some.field-0-is) at c.in-Ok-Some.ensures) c.in-Err-write_fetched.ensures.fault c.in-Err-write_fetched.ensures.err
+    let p = err_from_is_err_and c.from_residual-in_err-write_fetched.result c.from_residual-in_err-write_fetched.ensures.1 in
+    rw (p.1, p.2) (λ tag now. reads_starved g.S.Store.step tag now uid c.args.mark _ x y c.in-Some.row _ _ _ _ _
+    (rw (same, c.in-Some.is) at c.in_ok-row.ensures) c.in_err-write_fetched.ensures.fault c.in_err-write_fetched.ensures.err)
 
-pub returns-clause-done : goal.returns-clause-done
-returns-clause-done g c view uid is x y tag now =
+pub returns : goal.returns
+returns g c view uid is x y tag now =
     let same : c.args.message.uid ≡ uid = ap (λ (m : Named). m.uid) is in
-    reads_there g.S.Store.step tag now uid c.args.mark _ x y c.in-Ok-Some.row _ _ _ _
-    (rw (same, c.in-Ok-Some.field-0-is) at c.in-Ok-Some.ensures) (rw (is, c.requires.items) at c.in-Ok.ensures.text)
+    reads_there g.S.Store.step tag now uid c.args.mark _ x y c.in-Some.row _ _ _ _
+    (rw (same, c.in-Some.is) at c.in_ok-row.ensures) (rw (is, c.requires.items) at c.in_ok-write_fetched.ensures.text)

@@ -3,8 +3,8 @@ use Rattle.imap_session.specs.Commands.{says}
 use Rattle.imap_session.proofs.Runs.{reaches_here}
 use Rattle.imap_session.proofs.set_flags.finish_store.Goals as goal
 
-pub returns-in-Ok-clause-done : goal.returns-in-Ok-clause-done
-returns-in-Ok-clause-done g c tag now = rw c.if-command.true (c.in-Ok.ensures.done (says (codes "OK UID STORE completed")) tag now)
+pub returns-in_ok-show-clause-done : goal.returns-in_ok-show-clause-done
+returns-in_ok-show-clause-done g c tag now = rw c.if-command.true (c.in_ok-show.ensures.done (says (codes "OK UID STORE completed")) tag now)
 
 pub returns-then-gone-clause-done : goal.returns-then-gone-clause-done
 returns-then-gone-clause-done g c tag now = rw (c.if-command.false, c.if-gone.true)

@@ -1,5 +1,6 @@
 use Rattle.std.proofs.Common.{rules, ◌≡◌, ◌+◌, ◌<◌, ◌≤◌, true, false, if◌then◌else◌, drop, get_or, length, [], ℕ, subst}
 use Rattle.std.proofs.lemmas.List.{drop_all}
+use Rattle.std.proofs.lemmas.Result.{err_from_is_err_and}
 use Rattle.imap_session.specs.Exchange.{Exchange}
 use Rattle.imap_session.specs.Commands.{storing}
 use Rattle.imap_session.specs.inner.Store.{Reaches}
@@ -10,43 +11,39 @@ use Rattle.imap_session.proofs.set_flags.store_all.Goals as goal
 use Rattle.imap_session.proofs.set_flags.store_all.Goals.{then-not-here, else-not-here}
 
 pub loop-message-init : goal.loop-message-init
-loop-message-init g c = record {
-  room = c.requires.room;
-  reaches = λ view uids are done tag now. reaches_here g.S.Store.step tag now _ _ _;
-}
+loop-message-init g c = λ view uids are done tag now. reaches_here g.S.Store.step tag now _ _ _
 
 pub loop-message-preserved : goal.loop-message-preserved
 loop-message-preserved g c =
     let i = c.loop-message.message-index in
-    let gone-is : c.if-not-here.gone ≡ (if c.in-Ok.here then c.loop-message.gone else true) =
+    let gone-is : c.if-not-here.gone ≡ (if c.in_ok-here.here then c.loop-message.gone else true) =
     elim c.if-not-here.branch [ then-not-here w ↦ search rules | else-not-here w ↦ search rules ] in
-    record {
-      room = c.in-Ok.ensures.room;
-      reaches = λ view uids are done tag now.
-          let within : i < length uids = subst (λ (n : ℕ). i < n) (as_many view uids c.args.messages.now are) c.loop-message-test.true in
-          rw gone-is
-          (stores_more g.S.Store.step tag now c.args.command.now view done uids i c.loop-message.gone c.in-Ok.here
-          _ _ _ _ _ _ _ within (c.loop-message.invariant.reaches view uids are done tag now)
-          (c.in-Ok.ensures.done view (get_or uids i 0) (message_at view uids c.args.messages.now i _ are c.loop-message-test.true)
-          (storing c.args.command.now view done (drop (i + 1) uids) c.loop-message.gone)
-          (storing c.args.command.now view done (drop (i + 1) uids) true) tag now));
-    }
+    λ view uids are done tag now.
+    let within : i < length uids = subst (λ (n : ℕ). i < n) (as_many view uids c.args.messages.now are) c.loop-message-test.true in
+    rw gone-is
+    (stores_more g.S.Store.step tag now c.args.command.now view done uids i c.loop-message.gone c.in_ok-here.here
+    _ _ _ _ _ _ _ within (c.loop-message.invariant view uids are done tag now)
+    (c.in_ok-here.ensures view (get_or uids i 0) (message_at view uids c.args.messages.now i _ are c.loop-message-test.true)
+    (storing c.args.command.now view done (drop (i + 1) uids) c.loop-message.gone)
+    (storing c.args.command.now view done (drop (i + 1) uids) true) tag now))
 
-pub returns-in-Err-clause-done : goal.returns-in-Err-clause-done
-returns-in-Err-clause-done g c view uids are done tag now =
+pub returns-in_err-here : goal.returns-in_err-here
+returns-in_err-here g c view uids are done =
     let i = c.loop-message.message-index in
     let within : i < length uids = subst (λ (n : ℕ). i < n) (as_many view uids c.args.messages.now are) c.loop-message-test.true in
-    let P : Exchange → Type 0 = λ y. Reaches g.S.Store.step tag now now (storing c.args.command.now view done uids false) y c.args.store.now c.loop-message.store c.args.out.now.items c.loop-message.out.items in
-    stops_then g.S.Store.step tag now now now _ _ c.in-Err.fault _ _ _ _ _ _
+    let p = err_from_is_err_and c.from_residual.result c.from_residual.ensures.1 in
+    rw (p.1, p.2) (λ tag now.
+    let P : Exchange → Type 0 = λ y. Reaches g.S.Store.step tag now now (storing c.args.command.now view done uids false) y c.args.store.now c.loop-message.store c.args.response.now c.loop-message.response in
+    stops_then g.S.Store.step tag now now now _ _ _ _ _ _ _ _ _
     (subst P (storing_next c.args.command.now view done uids i c.loop-message.gone within)
-    (c.loop-message.invariant.reaches view uids are done tag now))
-    (c.in-Err.ensures.done view (get_or uids i 0) (message_at view uids c.args.messages.now i _ are c.loop-message-test.true)
+    (c.loop-message.invariant view uids are done tag now))
+    (c.in_err-here.ensures view (get_or uids i 0) (message_at view uids c.args.messages.now i _ are c.loop-message-test.true)
     (storing c.args.command.now view done (drop (i + 1) uids) c.loop-message.gone)
-    (storing c.args.command.now view done (drop (i + 1) uids) true) tag now)
+    (storing c.args.command.now view done (drop (i + 1) uids) true) tag now))
 
-pub returns-clause-done : goal.returns-clause-done
-returns-clause-done g c view uids are done tag now =
+pub returns : goal.returns
+returns g c view uids are done tag now =
     let i = c.loop-message.message-index in
     let past : length uids ≤ i = subst (λ (n : ℕ). n ≤ i) (as_many view uids c.args.messages.now are) c.loop-message-test.false in
     let e : drop i uids ≡ [] = drop_all i uids past in
-    rw e at (c.loop-message.invariant.reaches view uids are done tag now)
+    rw e at (c.loop-message.invariant view uids are done tag now)

@@ -1,47 +1,39 @@
-use Rattle.std.proofs.Common.{◌≡◌, ℕ, Bool, false, List, map}
-use Rattle.imap_grammar.specs.Sets.{named_at, named_in}
+use Rattle.std.proofs.Common.{◌∙◌, ℕ, Bool, false, List, Err}
+use Rattle.std.specs.Borrow.{Bor}
+use Rattle.std.proofs.lemmas.Result.{err_from_is_err_and}
 use Rattle.imap_grammar.specs.declared.command.Command.TheVariants as commands
 use Rattle.imap_session.specs.Exchange.{Exchange}
 use Rattle.imap_session.specs.Commands.{storing, messages_done}
 use Rattle.imap_session.specs.inner.Store.{last}
-use Rattle.imap_session.proofs.Runs.{stops_look, stops_then, reaches_then}
+use Rattle.imap_session.proofs.Runs.{stops_look}
 use Rattle.imap_session.proofs.Saying.{does_then}
-use Rattle.imap_session.proofs.Choosing.{chosen_none, chosen_some, reaches_chosen, reaches_too_high}
+use Rattle.imap_session.proofs.Choosing.{does_chosen, reaches_too_high}
 use Rattle.imap_session.proofs.set_flags.store_messages.Goals as goal
 
-pub returns-in-Err-clause-done : goal.returns-in-Err-clause-done
-returns-in-Err-clause-done g c tag now = stops_look g.S.Store.step tag now _ c.in-Err.fault _ _ c.in-Err.ensures.event
+pub returns-in_err-messages-clause-done : goal.returns-in_err-messages-clause-done
+returns-in_err-messages-clause-done g c =
+    let p = err_from_is_err_and c.from_residual.result c.from_residual.ensures.1 in
+    rw (p.1, p.2) (λ tag now. stops_look g.S.Store.step tag now _ _ _ _ c.in_err-messages.ensures.event)
 
-pub returns-in-Ok-None-clause-done : goal.returns-in-Ok-None-clause-done
-returns-in-Ok-None-clause-done g c tag now =
-    let looks = rw c.in-Ok-None.field-0-is at c.in-Ok-None.ensures.event in
-    let view : List ℕ = looks.0 in
-    reaches_too_high g.S.Store.step c.args.command.now.by_uid c.args.command.now.set
-    (λ v uids. storing c.args.command.now v (messages_done (commands.Store c.args.command.now) c.args.command.now.by_uid) uids false)
-    view _ _ looks.1 (chosen_none view (named_in c.args.command.now.by_uid c.args.command.now.set view) looks.2) tag now
+pub returns-in_default-clause-done : goal.returns-in_default-clause-done
+returns-in_default-clause-done g c tag now =
+    let command = c.args.command.now in
+    let looks = rw c.in_default.is at c.in_ok-messages.ensures.event in
+    reaches_too_high g.S.Store.step command.by_uid command.set (λ view uids. storing command view (messages_done (commands.Store command) command.by_uid) uids false) looks.0 _ _ looks.1 looks.2 tag now
 
-pub returns-in-Err-store_all-clause-done : goal.returns-in-Err-store_all-clause-done
-returns-in-Err-store_all-clause-done g c tag now =
-    let looks = rw c.in-Ok-Some.field-0-is at c.in-Ok-Some.ensures.event in
-    let view : List ℕ = looks.0 in
-    let found = chosen_some view (named_in c.args.command.now.by_uid c.args.command.now.set view) c.in-Ok-Some.messages.items looks.2 in
-    let done : Bool → Exchange = messages_done (commands.Store c.args.command.now) c.args.command.now.by_uid in
-    let next : List ℕ → List ℕ → Exchange = λ v uids. storing c.args.command.now v done uids false in
-    let are : c.as_slice.result.now ≡ map (named_at view) found.0 = rw c.as_slice.ensures.value found.2 in
-    stops_then g.S.Store.step tag now now now _ _ c.in-Err-store_all.fault _ _ _ _ _ _
-    (reaches_chosen g.S.Store.step c.args.command.now.by_uid c.args.command.now.set next view found.0 _ _ looks.1 found.1 tag now)
-    (c.in-Err-store_all.ensures.done view found.0 are done tag now)
+pub returns-in_err-gone-clause-done : goal.returns-in_err-gone-clause-done
+returns-in_err-gone-clause-done g c =
+    let command = c.args.command.now in
+    let looks = rw c.in-Some.is at c.in_ok-messages.ensures.event in
+    let done : Bool → Exchange = messages_done (commands.Store command) command.by_uid in
+    let p = err_from_is_err_and c.from_residual-in_err-gone.result c.from_residual-in_err-gone.ensures.1 in
+    rw (p.1, p.2) (does_chosen {V = Bor (List ℕ)} g.S.Store.step command.by_uid command.set (λ view uids. storing command view done uids false) last looks.0 c.in-Some.messages.items _ _ _ _ (Err _) looks.1 looks.2
+    (λ uids are. c.in_err-gone.ensures looks.0 uids (c.as_slice.ensures.value ∙ are) done))
 
 pub returns-clause-done : goal.returns-clause-done
 returns-clause-done g c =
-    let looks = rw c.in-Ok-Some.field-0-is at c.in-Ok-Some.ensures.event in
-    let view : List ℕ = looks.0 in
-    let found = chosen_some view (named_in c.args.command.now.by_uid c.args.command.now.set view) c.in-Ok-Some.messages.items looks.2 in
-    let done : Bool → Exchange = messages_done (commands.Store c.args.command.now) c.args.command.now.by_uid in
-    let next : List ℕ → List ℕ → Exchange = λ v uids. storing c.args.command.now v done uids false in
-    let are : c.as_slice.result.now ≡ map (named_at view) found.0 = rw c.as_slice.ensures.value found.2 in
-    does_then g.S.Store.step _ (done c.in-Ok.gone) last _ _ _ _ _ _ c.finish_store.result
-    (λ tag now. reaches_then g.S.Store.step tag now now now _ _ _ _ _ _ _ _ _
-    (reaches_chosen g.S.Store.step c.args.command.now.by_uid c.args.command.now.set next view found.0 _ _ looks.1 found.1 tag now)
-    (c.in-Ok.ensures.done view found.0 are done tag now))
-    c.finish_store.ensures.done
+    let command = c.args.command.now in
+    let looks = rw c.in-Some.is at c.in_ok-messages.ensures.event in
+    let done : Bool → Exchange = messages_done (commands.Store command) command.by_uid in
+    does_chosen g.S.Store.step command.by_uid command.set (λ view uids. storing command view done uids false) last looks.0 c.in-Some.messages.items _ _ _ _ c.finish_store.result looks.1 looks.2
+    (λ uids are. does_then g.S.Store.step _ (done c.in_ok-gone.gone) last _ _ _ _ _ _ c.finish_store.result (c.in_ok-gone.ensures looks.0 uids (c.as_slice.ensures.value ∙ are) done) c.finish_store.ensures.done)

@@ -1,27 +1,30 @@
 use Rattle.std.proofs.Common.{◌≡◌, ap, None}
+use Rattle.std.proofs.lemmas.Result.{err_from_is_err_and}
 use Rattle.imap_grammar.specs.declared.view.Named.{Named}
 use Rattle.imap_session.proofs.Runs.{reaches_alter, stops_alter}
 use Rattle.imap_session.proofs.Storing.{alters_there, alters_starved}
 use Rattle.imap_session.proofs.set_flags.store_one.Goals as goal
 
-pub returns-in-Err-clause-done : goal.returns-in-Err-clause-done
-returns-in-Err-clause-done g c view uid is x y tag now =
+pub returns-in_err-flags : goal.returns-in_err-flags
+returns-in_err-flags g c view uid is x y =
     let same : c.args.message.uid ≡ uid = ap (λ (m : Named). m.uid) is in
-    stops_alter g.S.Store.step tag now uid _ _ c.in-Err.fault _ _ _ (rw same at c.in-Err.ensures)
+    let p = err_from_is_err_and c.from_residual.result c.from_residual.ensures.1 in
+    rw (p.1, p.2) (λ tag now. stops_alter g.S.Store.step tag now uid _ _ _ _ _ _ (rw same at c.in_err-flags.ensures))
 
-pub returns-in-Ok-None-clause-done : goal.returns-in-Ok-None-clause-done
-returns-in-Ok-None-clause-done g c view uid is x y tag now =
+pub returns-in_default : goal.returns-in_default
+returns-in_default g c view uid is x y tag now =
     let same : c.args.message.uid ≡ uid = ap (λ (m : Named). m.uid) is in
-    reaches_alter g.S.Store.step tag now uid _ _ None _ _ _ (rw (same, c.in-Ok-None.field-0-is) at c.in-Ok-None.ensures)
+    reaches_alter g.S.Store.step tag now uid _ _ None _ _ _ (rw (same, c.in_default.is) at c.in_ok-flags.ensures)
 
-pub returns-in-Err-write_stored-clause-done : goal.returns-in-Err-write_stored-clause-done
-returns-in-Err-write_stored-clause-done g c view uid is x y tag now =
+pub returns-in_err-write_stored : goal.returns-in_err-write_stored
+returns-in_err-write_stored g c view uid is x y =
     let same : c.args.message.uid ≡ uid = ap (λ (m : Named). m.uid) is in
-    alters_starved g.S.Store.step tag now uid _ _ x y c.in-Ok-Some.flags c.in-Err-write_stored.fault _ _ _ _
-    (rw (same, c.in-Ok-Some.field-0-is) at c.in-Ok-Some.ensures) c.in-Err-write_stored.ensures.fault c.in-Err-write_stored.ensures.err
+    let p = err_from_is_err_and c.from_residual-in_err-write_stored.result c.from_residual-in_err-write_stored.ensures.1 in
+    rw (p.1, p.2) (λ tag now. alters_starved g.S.Store.step tag now uid _ _ x y c.in-Some.flags _ _ _ _ _
+    (rw (same, c.in-Some.is) at c.in_ok-flags.ensures) c.in_err-write_stored.ensures.fault c.in_err-write_stored.ensures.err)
 
-pub returns-in-Ok-clause-done : goal.returns-in-Ok-clause-done
-returns-in-Ok-clause-done g c view uid is x y tag now =
+pub returns : goal.returns
+returns g c view uid is x y tag now =
     let same : c.args.message.uid ≡ uid = ap (λ (m : Named). m.uid) is in
-    alters_there g.S.Store.step tag now uid _ _ x y c.in-Ok-Some.flags _ _ _ _
-    (rw (same, c.in-Ok-Some.field-0-is) at c.in-Ok-Some.ensures) (rw is at c.in-Ok.ensures.text)
+    alters_there g.S.Store.step tag now uid _ _ x y c.in-Some.flags _ _ _ _
+    (rw (same, c.in-Some.is) at c.in_ok-flags.ensures) (rw is at c.in_ok-write_stored.ensures.text)

@@ -1,22 +1,20 @@
 use Rattle.std.proofs.Common.{codes}
-use Rattle.imap_session.specs.declared.standing.After.TheVariants.{Go, Bye}
-use Rattle.imap_session.specs.Exchange.{bye}
-use Rattle.imap_session.specs.Commands.{wrong_state}
+use Rattle.imap_grammar.specs.declared.command.Command.TheVariants as commands
+use Rattle.imap_session.specs.declared.standing.After.TheVariants.{Bye}
+use Rattle.imap_session.specs.Exchange.{Done}
+use Rattle.imap_session.specs.Commands.{completed, wrong_state}
 use Rattle.imap_session.proofs.Runs.{reaches_here}
-use Rattle.imap_session.proofs.Ending.{moves_still, moves_told}
+use Rattle.imap_session.proofs.Ending.{moves_still}
 use Rattle.imap_session.proofs.turn.carry_out.Goals as goal
 
 pub returns-in-Capability-clause-done : goal.returns-in-Capability-clause-done
-returns-in-Capability-clause-done g c mailing = rw c.in-Capability.is
-    (moves_told g.S.Store.step c.args.selected.now (codes "* CAPABILITY IMAP4rev2 IDLE\r\n") (codes "OK CAPABILITY completed") Go _ _ _ c.put.ensures.text)
+returns-in-Capability-clause-done g c mailing tag now was = rw (c.in-Capability.is, ← was) (reaches_here g.S.Store.step tag now (completed commands.Capability) _ _)
 
 pub returns-in-Namespace-clause-done : goal.returns-in-Namespace-clause-done
-returns-in-Namespace-clause-done g c mailing = rw c.in-Namespace.is
-    (moves_told g.S.Store.step c.args.selected.now (codes "* NAMESPACE ((\"\" \"/\")) NIL NIL\r\n") (codes "OK NAMESPACE completed") Go _ _ _ c.put-in-Namespace.ensures.text)
+returns-in-Namespace-clause-done g c mailing tag now was = rw (c.in-Namespace.is, ← was) (reaches_here g.S.Store.step tag now (completed commands.Namespace) _ _)
 
 pub returns-in-Logout-clause-done : goal.returns-in-Logout-clause-done
-returns-in-Logout-clause-done g c mailing = rw c.in-Logout.is
-    (moves_told g.S.Store.step c.args.selected.now (bye (codes "Logging out")) (codes "OK LOGOUT completed") Bye _ _ _ c.put-in-Logout.ensures.text)
+returns-in-Logout-clause-done g c mailing tag now was = rw (c.in-Logout.is, ← was) (reaches_here g.S.Store.step tag now (Done (codes "OK LOGOUT completed") Bye) _ _)
 
 pub returns-in-Login-clause-done : goal.returns-in-Login-clause-done
 returns-in-Login-clause-done g c mailing tag now was = rw (c.in-Login.is, ← was) (reaches_here g.S.Store.step tag now wrong_state _ _)
@@ -49,7 +47,7 @@ pub returns-in-Store-clause-done : goal.returns-in-Store-clause-done
 returns-in-Store-clause-done g c mailing = rw c.in-Store.is (moves_still g.S.Store.step c.args.selected.now _ _ _ _ _ _ c.store_flags.result c.store_flags.ensures.done)
 
 pub returns-in-Close-clause-done : goal.returns-in-Close-clause-done
-returns-in-Close-clause-done g c mailing = rw c.in-Close.is (c.close.ensures.done c.args.out.now.items)
+returns-in-Close-clause-done g c mailing = rw c.in-Close.is (c.close.ensures.done c.args.response.now)
 
 pub returns-in-Unselect-clause-done : goal.returns-in-Unselect-clause-done
-returns-in-Unselect-clause-done g c mailing = rw c.in-Unselect.is (c.unselect.ensures.done c.args.out.now.items)
+returns-in-Unselect-clause-done g c mailing = rw c.in-Unselect.is (c.unselect.ensures.done c.args.response.now)

@@ -9,15 +9,15 @@ pub returns-in_default-clause-leads : goal.returns-in_default-clause-leads
 returns-in_default-clause-leads c =
     let now = c.args.self.now in
     let a = c.args.append.now in
-    leads_starved c.args.tag.now now now (appending now.mailing.most now.folders a) (asked_at now.mailing.most a (number_named a.name now.folders)) c.args.out.now.items c.put_tagged.new.out.items
-    (asked now.mailing.most now.folders a c.requires.waits) c.put_tagged.ensures.text refl
+    leads_starved c.args.response.tag now now (appending now.mailing.most now.folders a) (asked_at now.mailing.most a (number_named a.name now.folders)) c.args.response.text c.end.new.out.items
+    (asked now.mailing.most now.folders a c.requires.waits) c.end.ensures refl
 
 pub returns-in_default-mailbox-clause-leads : goal.returns-in_default-mailbox-clause-leads
 returns-in_default-mailbox-clause-leads c =
     let now = c.args.self.now in
     let a = c.args.append.now in
-    leads_wanting_says c.args.tag.now (codes "NO [TRYCREATE] No such mailbox") now now (appending now.mailing.most now.folders a) c.args.out.now.items c.put_tagged-in_default-mailbox.new.out.items
-    (asked_nowhere now.mailing.most now.folders a c.requires.waits (sym c.in-Ok.ensures ∙ c.in_default-mailbox.is)) c.put_tagged-in_default-mailbox.ensures.text refl
+    leads_wanting_says c.args.response.tag (codes "NO [TRYCREATE] No such mailbox") now now (appending now.mailing.most now.folders a) c.args.response.text c.end-in_default-mailbox.new.out.items
+    (asked_nowhere now.mailing.most now.folders a c.requires.waits (sym c.in-Ok.ensures ∙ c.in_default-mailbox.is)) c.end-in_default-mailbox.ensures refl
 
 pub returns-in-Some-refused_size-clause-leads : goal.returns-in-Some-refused_size-clause-leads
 returns-in-Some-refused_size-clause-leads c =
@@ -25,5 +25,5 @@ returns-in-Some-refused_size-clause-leads c =
     let a = c.args.append.now in
     let words = c.in-Some-refused_size.words.now in
     let over_most = subst (λ (most : Option ℕ). (is_over most a.literal.size ≡ true) × (over most ≡ says words)) (ap (λ (s : Standing). s.mailing.most) (ap the_view c.self-inside.view_is ∙ c.self.view_is)) c.in-Some-refused_size.ensures.refused in
-    leads_wanting_says c.args.tag.now words now now (appending now.mailing.most now.folders a) c.args.out.now.items c.put_tagged-in-Some-refused_size.new.out.items
-    (asked_over now.mailing.most c.in-Some.number now.folders a c.requires.waits (sym c.in-Ok.ensures ∙ c.in-Some.is) over_most.0 ∙ ap wanting over_most.1) c.put_tagged-in-Some-refused_size.ensures.text refl
+    leads_wanting_says c.args.response.tag words now now (appending now.mailing.most now.folders a) c.args.response.text c.end-in-Some-refused_size.new.out.items
+    (asked_over now.mailing.most c.in-Some.number now.folders a c.requires.waits (sym c.in-Ok.ensures ∙ c.in-Some.is) over_most.0 ∙ ap wanting over_most.1) c.end-in-Some-refused_size.ensures refl

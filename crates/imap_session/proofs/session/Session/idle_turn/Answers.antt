@@ -2,6 +2,7 @@ use Rattle.std.proofs.Common.{◌≡◌, ◌++◌, List, ℕ, [], true, Some, ap
 use Rattle.cursor_set.specs.Lines.{lines}
 use Rattle.mailbox.specs.declared.clients.MailFault.TheVariants.{Lapped, Stranger}
 use Rattle.imap_session.specs.Exchange.{Standing, is_idling, refusal_text}
+use Rattle.imap_session.specs.inner.Response.{Response}
 use Rattle.imap_session.proofs.Turns.{turns_awake, turns_lapped, turns_shown, turns_unknown, turns_unselected}
 use Rattle.imap_session.proofs.session.Session.idle_turn.Goals as goal
 
@@ -16,23 +17,26 @@ pub returns-in-Ok-clause-turned : goal.returns-in-Ok-clause-turned
 returns-in-Ok-clause-turned g c =
     let there : c.args.self.now.selected ≡ Some c.in-Some.field-0 = ap (λ (s : Standing). s.selected) (sym c.self.view_is) ∙ c.in-Some.is in
     let idles : is_idling c.args.self.now ≡ true = sym c.is_idling.ensures ∙ c.if-not-is_idling.false in
+    let kept : c.new-response.result.text ≡ c.args.out.now.items = ap (λ (r : Response). r.text) c.new-response.ensures ∙ c.reserve.ensures.items in
     let e = c.in-Ok.ensures.event in
-    turns_shown g.S.Store.step c.args.self.now c.in-Some.field-0 c.args.store.now c.show.new.store e.0 e.1 c.in-Ok.count c.args.out.now.items c.show.new.out.items there idles e.2 e.3
-    (e.5 ∙ ap (λ (t : List ℕ). t ++ lines e.0 e.1) c.reserve.ensures.items)
+    turns_shown g.S.Store.step c.args.self.now c.in-Some.field-0 c.args.store.now c.show.new.store e.0 e.1 c.in-Ok.count c.args.out.now.items c.release.new.out.items there idles e.2 e.3
+    (c.release.ensures.text ∙ e.5 ∙ ap (λ (t : List ℕ). t ++ lines e.0 e.1) kept)
 
 pub returns-in-Err-Stranger-clause-turned : goal.returns-in-Err-Stranger-clause-turned
 returns-in-Err-Stranger-clause-turned g c =
     let there : c.args.self.now.selected ≡ Some c.in-Some.field-0 = ap (λ (s : Standing). s.selected) (sym c.self.view_is) ∙ c.in-Some.is in
     let idles : is_idling c.args.self.now ≡ true = sym c.is_idling.ensures ∙ c.if-not-is_idling.false in
+    let kept : c.new-response.result.text ≡ c.args.out.now.items = ap (λ (r : Response). r.text) c.new-response.ensures ∙ c.reserve.ensures.items in
     let e = c.in-Err-Stranger.ensures.event in
     turns_unknown g.S.Store.step c.args.self.now c.part.new.self c.in-Some.field-0 c.args.store.now c.show.new.store c.args.out.now.items c.part.new.out.items there idles (rw c.in-Err-Stranger.field-0-is at e.0)
-    (c.part.ensures.text ∙ ap (λ (l : List ℕ). l ++ refusal_text [] Stranger) (e.1 ∙ c.reserve.ensures.items)) c.part.ensures.standing
+    (c.part.ensures.text ∙ ap (λ (l : List ℕ). l ++ refusal_text [] Stranger) (e.1 ∙ kept)) c.part.ensures.standing
 
 pub returns-in-Err-Lapped-clause-turned : goal.returns-in-Err-Lapped-clause-turned
 returns-in-Err-Lapped-clause-turned g c =
     let there : c.args.self.now.selected ≡ Some c.in-Some.field-0 = ap (λ (s : Standing). s.selected) (sym c.self.view_is) ∙ c.in-Some.is in
     let idles : is_idling c.args.self.now ≡ true = sym c.is_idling.ensures ∙ c.if-not-is_idling.false in
+    let kept : c.new-response.result.text ≡ c.args.out.now.items = ap (λ (r : Response). r.text) c.new-response.ensures ∙ c.reserve.ensures.items in
     let e = c.in-Err-Lapped.ensures.event in
     turns_lapped g.S.Store.step c.args.self.now c.part-in-Err-Lapped.new.self c.in-Some.field-0 c.args.store.now c.show.new.store c.args.out.now.items c.part-in-Err-Lapped.new.out.items there idles
     (rw c.in-Err-Lapped.field-0-is at e.0)
-    (c.part-in-Err-Lapped.ensures.text ∙ ap (λ (l : List ℕ). l ++ refusal_text [] Lapped) (e.1 ∙ c.reserve.ensures.items)) c.part-in-Err-Lapped.ensures.standing
+    (c.part-in-Err-Lapped.ensures.text ∙ ap (λ (l : List ℕ). l ++ refusal_text [] Lapped) (e.1 ∙ kept)) c.part-in-Err-Lapped.ensures.standing

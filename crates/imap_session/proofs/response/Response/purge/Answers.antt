@@ -1,0 +1,30 @@
+use Rattle.std.proofs.Common.{rules, ◌≡◌, true, replicate, ◌++◌, ◌∙◌, is_ok}
+use Rattle.cursor_set.specs.Lines.{lines}
+use Rattle.imap_session.proofs.Runs.{reaches_expunge, stops_expunge}
+use Rattle.imap_session.proofs.Showing.{filled, without_filling, front_of_filling, text_added, text_kept}
+use Rattle.imap_session.proofs.response.Response.purge.Goals as goal
+
+pub returns-in-Err : goal.returns-in-Err
+returns-in-Err g c x tag now =
+    let before = c.self.inside in
+    let ok : is_ok c.resize.result ≡ true = search rules in
+    let full : c.resize.new.self.items ≡ before.out.items ++ replicate before.held 0 =
+    filled _ _ _ _ _ before.held before.out.ok.0 c.len-start.ensures ok c.resize.ensures.items in
+    let kept : c.truncate.new.self.items ≡ before.out.items =
+    rw (c.truncate.ensures.items, c.in-Err.ensures.event.1)
+    (front_of_filling _ _ _ before.held (c.len-start.ensures ∙ before.out.ok.0) full) in
+    stops_expunge g.S.Store.step tag now _ x c.in-Err.fault _ _ _ _ c.in-Err.ensures.event.0
+    (text_kept before.tag.now before.held before.out.items c.truncate.new.self.items kept c.self.view_is)
+
+pub returns-in-Ok : goal.returns-in-Ok
+returns-in-Ok g c x tag now =
+    let before = c.self.inside in
+    let event = c.in-Ok.ensures.event in
+    let ok : is_ok c.resize.result ≡ true = search rules in
+    let full : c.resize.new.self.items ≡ before.out.items ++ replicate before.held 0 =
+    filled _ _ _ _ _ before.held before.out.ok.0 c.len-start.ensures ok c.resize.ensures.items in
+    let added : c.cut_out.new.out.items ≡ before.out.items ++ lines event.0 event.1 =
+    rw (c.cut_out.ensures.items, event.3)
+    (without_filling _ _ _ _ before.held (c.len-start.ensures ∙ before.out.ok.0) full) in
+    reaches_expunge g.S.Store.step tag now _ x event.0 event.1 c.in-Ok._gone _ _ _ _ event.2
+    (text_added before.tag.now before.held before.out.items c.cut_out.new.out.items (lines event.0 event.1) added c.self.view_is)

@@ -1,0 +1,239 @@
+//! A response: what a server sends in answer to a command (RFC 9051, 7). Room for its last line is held from the beginning on, so that
+//! it can always be written; whatever else is written comes with room behind it.
+
+ghost use Rattle.std.specs.Prelude.{◌≡◌, ◌+◌, ◌≤◌, ◌++◌, OnOk, OnErr, IfErr, vec_len, length, take, drop};
+ghost use Rattle.std.specs.Vec.{vec_capacity};
+
+use crate::say::{put, put_tagged};
+use crate::standing::After;
+use crate::store::Store;
+use line_io::append_parts;
+use mailbox::MailFault;
+use std::marker::Model;
+use std::mem;
+
+/// What a last line says behind its tag has at most so many bytes.
+pub(crate) const MOST_WORDS: usize = 45;
+
+/// Room for the last line of any answer beside its tag, a space and CRLF among it; and for a line that says BYE.
+pub(crate) const LAST: usize = 48;
+
+/// A response to a command of this tag, as it is written behind those before it. It has the bytes till its last line is written, or it waits
+/// with none; they are given back with that.
+#[derive(Drop)]
+pub(crate) struct Response<'a> {
+    pub(crate) tag: &'a [u8],
+    // So many bytes are held for the last line.
+    pub(crate) held: usize,
+    pub(crate) out: Vec<u8>,
+}
+
+impl<'a> Model for Response<'a> {
+    ghost use Rattle.std.specs.Prelude.{◌≤◌, ◌+◌, length, vec_len};
+    ghost use Rattle.std.specs.Vec.{vec_capacity};
+    ghost use Rattle.imap_session.specs.inner.Response.{Response as Written};
+    ghost use Rattle.imap_session.specs.declared.response.TheConstants.{LAST};
+
+    ghost Value = { Written };
+
+    ghost view = { λ r. record { tag = r.tag.now; held = r.held; text = r.out.items } };
+
+    ghost invariant = { λ r. (length r.tag.now + LAST ≤ r.held) × (vec_len r.out + r.held ≤ vec_capacity r.out) };
+}
+
+// Takes bytes out of their place, and leaves none.
+fn take_bytes(out: &mut Vec<u8>) -> Vec<u8>
+    ensures { result ≡ out.old }
+{
+    let none = Vec::new(*out.allocator());
+    mem::replace(out, none)
+}
+
+// Takes out so many bytes from `start` on.
+fn cut_out(out: &mut Vec<u8>, start: usize, count: usize)
+    requires within { start + count ≤ length out.old.items }
+    ensures items { out.new.items ≡ take start out.old.items ++ drop (start + count) out.old.items }
+    ensures len { vec_len out.new + count ≡ vec_len out.old }
+    ensures capacity { vec_capacity out.new ≡ vec_capacity out.old }
+{
+    let len = out.as_slice().len();
+    out[start..].rotate_left(count);
+    out.truncate(len - count);
+}
+
+// Reserves room for `held` more bytes. Where memory is refused, what was written from `start` on goes again.
+pub(crate) fn hold_room(start: usize, held: usize, out: &mut Vec<u8>) -> Result<(), MailFault>
+    requires within { start ≤ length out.old.items }
+    ensures text { OnOk result (out.new.items ≡ out.old.items) }
+    ensures err { OnErr result (out.new.items ≡ take start out.old.items) }
+    ensures fault { IfErr result (λ f. f ≡ MailFault.NoMemory) }
+    ensures room { OnOk result (vec_len out.new + held ≤ vec_capacity out.new) }
+    ensures len { OnErr result (vec_len out.new ≡ start) }
+    ensures capacity { vec_capacity out.old ≤ vec_capacity out.new }
+{
+    if out.reserve(held).is_err() {
+        out.truncate(start);
+        return Err(MailFault::NoMemory);
+    }
+    Ok(())
+}
+
+impl<'a> Response<'a> {
+    ghost use Rattle.std.specs.Prelude.{◌≡◌, ◌≢◌, ◌+◌, ◌≤◌, ◌++◌, OnOk, OnErr, IfOk, IfErr, vec_len, length, flat_map};
+    ghost use Rattle.std.specs.Option.{option_copied};
+    ghost use Rattle.std.specs.Vec.{vec_capacity};
+    ghost use Rattle.imap_session.specs.Exchange.{Exchange, Expunge, Feed, tagged};
+    ghost use Rattle.imap_session.specs.Store.{Feeds};
+    ghost use Rattle.imap_session.specs.inner.Response.{adding};
+    ghost use Rattle.imap_session.specs.inner.Store.{Does, after_result, last_words};
+
+    // Begins behind the bytes of `out`, in room that was reserved for the tag and so many bytes more.
+    pub(crate) fn new(tag: &'a [u8], beside: usize, out: &mut Vec<u8>) -> Response<'a>
+        requires last { LAST ≤ beside }
+        requires fits { vec_len out.old + (length tag.now + beside) ≤ vec_capacity out.old }
+        ensures { result ≡ record { tag = tag.now; held = length tag.now + beside; text = out.old.items } }
+    {
+        Response {
+            tag,
+            held: tag.len() + beside,
+            out: take_bytes(out),
+        }
+    }
+
+    // Writes a line, or nothing where memory is refused.
+    pub(crate) fn write(&mut self, line: &[u8]) -> Result<(), MailFault>
+        ensures text { OnOk result (self.new ≡ adding line.now self.old) }
+        ensures err { OnErr result (self.new ≡ self.old) }
+        ensures fault { IfErr result (λ f. f ≡ MailFault.NoMemory) }
+    {
+        if self.out.reserve(line.len() + self.held).is_err() {
+            return Err(MailFault::NoMemory);
+        }
+        put(line, &mut self.out);
+        Ok(())
+    }
+
+    // Writes the parts in their order, or nothing where memory is refused.
+    pub(crate) fn write_parts(&mut self, parts: &[&[u8]]) -> Result<(), MailFault>
+        ensures text { OnOk result (self.new ≡ adding (flat_map (λ part. part.now) parts.now) self.old) }
+        ensures err { OnErr result (self.new ≡ self.old) }
+        ensures fault { IfErr result (λ f. f ≡ MailFault.NoMemory) }
+    {
+        let start = self.out.len();
+        if append_parts(parts, &mut self.out).is_err() {
+            return Err(MailFault::NoMemory);
+        }
+        hold_room(start, self.held, &mut self.out)
+    }
+
+    /// Shows changes, at most so many. The store writes their lines; what it wrote can't be taken back, so the room for the last line is held
+    /// by bytes that go again.
+    pub(crate) fn show<S: Store>(&mut self, limit: usize, store: &mut S) -> Result<usize, MailFault>
+        ensures done { (x : Exchange) → Does S.step (Feed limit x) (λ n. x) store.old store.new self.old self.new result }
+        // It is one call of the store.
+        ensures event { Feeds (λ a. S.step store.old (Feed limit) a store.new) limit self.old.text self.new.text result }
+        ensures faults { IfErr result (λ f. f ≢ MailFault.Spent) }
+    {
+        let start = self.out.len();
+        let held = self.held;
+        if self.out.resize(start + held, 0).is_err() {
+            return Err(MailFault::NoMemory);
+        }
+        match store.feed(limit, &mut self.out) {
+            Err(fault) => {
+                self.out.truncate(start);
+                Err(fault)
+            }
+            Ok(n) => {
+                cut_out(&mut self.out, start, held);
+                Ok(n)
+            }
+        }
+    }
+
+    /// Shows what is pending and removes messages, in the same way.
+    pub(crate) fn purge<S: Store>(
+        &mut self,
+        uids: Option<&[u32]>,
+        store: &mut S,
+    ) -> Result<(), MailFault>
+        ensures { (x : Exchange) → Does S.step (Expunge (option_copied uids.entry) x) (λ _. x) store.old store.new self.old self.new result }
+    {
+        let start = self.out.len();
+        let held = self.held;
+        if self.out.resize(start + held, 0).is_err() {
+            return Err(MailFault::NoMemory);
+        }
+        match store.expunge(uids, &mut self.out) {
+            Err(fault) => {
+                self.out.truncate(start);
+                Err(fault)
+            }
+            Ok(_gone) => {
+                cut_out(&mut self.out, start, held);
+                Ok(())
+            }
+        }
+    }
+
+    /// Gives the bytes back, with the room that was held, and answers the tag.
+    pub(crate) fn release(self, out: &mut Vec<u8>) -> &'a [u8]
+        ensures tag { result.now ≡ self.entry.tag }
+        ensures text { out.new.items ≡ self.entry.text }
+        ensures last { length self.entry.tag + LAST ≤ self.entry.held }
+        ensures room { vec_len out.new + self.entry.held ≤ vec_capacity out.new }
+    {
+        let Response {
+            tag,
+            held: _,
+            out: bytes,
+        } = self;
+        *out = bytes;
+        tag
+    }
+
+    /// Ends with a last line, which says this behind the tag.
+    pub(crate) fn end(self, words: &[u8], out: &mut Vec<u8>)
+        requires short { length words.now ≤ MOST_WORDS }
+        ensures { out.new.items ≡ self.entry.text ++ tagged self.entry.tag words.now }
+    {
+        let tag = self.release(out);
+        put_tagged(tag, words, out);
+    }
+
+    /// Ends with a last line, or with what is said of the fault that stopped the command.
+    pub(crate) fn conclude(
+        self,
+        after: After,
+        done: Result<&'static [u8], MailFault>,
+        out: &mut Vec<u8>,
+    ) -> After
+        requires short { IfOk done (λ words. length words.now ≤ MOST_WORDS) }
+        ensures text { out.new.items ≡ self.entry.text ++ last_words self.entry.tag done.entry }
+        ensures after { result ≡ after_result after done.entry }
+    {
+        let tag = self.release(out);
+        match done {
+            Ok(words) => {
+                put_tagged(tag, words, out);
+                after
+            }
+            Err(MailFault::Stranger) => {
+                put(b"* BYE Internal fault\r\n", out);
+                After::Bye
+            }
+            Err(MailFault::Lapped) => {
+                put(b"* BYE Too many changes were missed\r\n", out);
+                After::Bye
+            }
+            Err(MailFault::Spent) => {
+                put_tagged(tag, b"NO Mailbox is spent", out);
+                After::Go
+            }
+            Err(MailFault::NoMemory) => {
+                put_tagged(tag, b"NO Out of memory", out);
+                After::Go
+            }
+        }
+    }
+}
