@@ -1,12 +1,11 @@
 -- Mailboxes selected and left.
-use Rattle.std.proofs.Common.{◌≡◌, ℕ, Bool, true, false, codes, decimal, if◌then◌else◌, List, [], ◌++◌, Option, Some, None, is_none, Result, Ok, Err, OnOk, OnErr, IfErr, refl, append_assoc}
+use Rattle.std.proofs.Common.{◌≡◌, ℕ, Bool, true, false, codes, List, Option, Some, None, is_none, Result, Ok, Err, OnOk, OnErr, IfErr, refl}
 use Rattle.mailbox.specs.declared.clients.MailFault.{MailFault}
 use Rattle.mailbox.specs.declared.clients.MailFault.TheVariants.{NoMemory}
 use Rattle.imap_session.specs.declared.standing.Selected.{Selected}
 use Rattle.imap_session.specs.Exchange as ex
 use Rattle.imap_session.specs.Exchange.{Call, Answer, Left, Exchange, Standing}
-use Rattle.mailbox.specs.declared.clients.Opening.{Opening}
-use Rattle.imap_session.specs.Commands.{all_flags, closing, opening_text}
+use Rattle.imap_session.specs.Commands.{closing}
 use Rattle.imap_session.specs.inner.Response.{Response, adding}
 use Rattle.imap_session.specs.inner.Store.{Reaches, Moves}
 use Rattle.imap_session.proofs.Runs.{reaches_here, reaches_leave, reaches_write, reaches_then, stops_write, stops_then}
@@ -37,15 +36,3 @@ moves_closed step sel x gone old new before after (Err fault) s h t e f = λ tag
     (stops_then step tag now (record now { selected = None }) (record now { selected = None }) (ex.Leave false (ex.Write closed_line x)) (ex.Write closed_line x) NoMemory old new new before before before
     (reaches_leave step tag now false (ex.Write closed_line x) gone old new before h)
     (stops_write step tag (record now { selected = None }) closed_line x new before))
-
--- ---- what is told of a mailbox that was entered, in its parts
-
-pub opening_parts : (read_only : Bool) (name : List ℕ) (o : Opening) (a all b count c valid d next e kept f g : List ℕ)
-    → a ≡ codes "* FLAGS (" → all ≡ all_flags → b ≡ codes ")\r\n* " → count ≡ decimal o.count
-    → c ≡ codes " EXISTS\r\n* OK [UIDVALIDITY " → valid ≡ decimal o.uidvalidity
-    → d ≡ codes "] UIDs valid\r\n* OK [UIDNEXT " → next ≡ decimal o.uidnext
-    → e ≡ codes "] Predicted next UID\r\n* OK [PERMANENTFLAGS (" → kept ≡ (if read_only then [] else all)
-    → f ≡ codes ")] Flags kept\r\n* LIST () \"/\" " → g ≡ codes "\r\n"
-    → a ++ (all ++ (b ++ (count ++ (c ++ (valid ++ (d ++ (next ++ (e ++ (kept ++ (f ++ (name ++ (g ++ [])))))))))))) ≡ opening_text read_only name o
-opening_parts read_only name o a all b count c valid d next e kept f g ha hall hb hcount hc hvalid hd hnext he hkept hf hg =
-    rw (ha, hb, hcount, hc, hvalid, hd, hnext, he, hkept, hf, hg, hall) (simp append_assoc)

@@ -1,7 +1,7 @@
 //! STATUS (RFC 9051, 6.3.11) and LIST (6.3.9): mailboxes counted, and named. Both show what is pending behind their answer.
 
 ghost use Rattle.std.specs.Prelude.{◌≡◌, ◌≤◌, false, length, map, OnOk, OnErr, IfOk, IfErr};
-ghost use Rattle.imap_grammar.specs.Answers.{list_answer, status_answer};
+ghost use Rattle.imap_answers.specs.Answers.{list_answer, status_answer};
 ghost use Rattle.imap_grammar.specs.declared.command.Command.TheVariants as commands;
 ghost use Rattle.imap_session.specs.Exchange.{Exchange, Count, Folder as FolderSpec, Write, nothing_sent};
 ghost use Rattle.imap_session.specs.Commands.{completed, counting, on_folder, showing, wanting};
@@ -13,7 +13,8 @@ use crate::folders::find_folder;
 use crate::response::{MOST_WORDS, Response, hold_room};
 use crate::standing::{Folder, Selected};
 use crate::store::Store;
-use imap_grammar::{Name, StatusItems, write_list, write_status};
+use imap_answers::{write_list, write_status};
+use imap_grammar::{Name, StatusItems};
 use mailbox::{MailFault, Status};
 use std::alloc::{AllocError, Global};
 

@@ -1,7 +1,7 @@
 //! FETCH and UID FETCH (RFC 9051, 6.4.5 and 6.4.9).
 
 ghost use Rattle.std.specs.Prelude.{◌≡◌, ◌≤◌, Bool, false, List, ℕ, map, OnOk, OnErr, IfOk, IfErr, if◌then◌else◌, length};
-ghost use Rattle.imap_grammar.specs.Answers.{row_answer};
+ghost use Rattle.imap_answers.specs.Answers.{row_answer};
 ghost use Rattle.imap_grammar.specs.Sets.{named_at};
 ghost use Rattle.imap_session.specs.Exchange.{Exchange, Read, Write};
 ghost use Rattle.imap_session.specs.Commands.{on_found, fetched, fetching, messages_done, on_set};
@@ -11,7 +11,8 @@ ghost use Rattle.imap_grammar.specs.declared.command.Command.TheVariants as comm
 
 use crate::response::{MOST_WORDS, Response, hold_room};
 use crate::store::Store;
-use imap_grammar::{Fetch, FetchItem, Named, write_row};
+use imap_answers::write_row;
+use imap_grammar::{Fetch, FetchItem, Named};
 use mailbox::{MailFault, Row};
 use std::alloc::Global;
 

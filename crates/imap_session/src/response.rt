@@ -7,7 +7,6 @@ ghost use Rattle.std.specs.Vec.{vec_capacity};
 use crate::say::{put, put_tagged};
 use crate::standing::After;
 use crate::store::Store;
-use line_io::append_parts;
 use mailbox::MailFault;
 use std::marker::Model;
 use std::mem;
@@ -79,7 +78,7 @@ pub(crate) fn hold_room(start: usize, held: usize, out: &mut Vec<u8>) -> Result<
 }
 
 impl<'a> Response<'a> {
-    ghost use Rattle.std.specs.Prelude.{◌≡◌, ◌≢◌, ◌+◌, ◌≤◌, ◌++◌, OnOk, OnErr, IfOk, IfErr, vec_len, length, flat_map};
+    ghost use Rattle.std.specs.Prelude.{◌≡◌, ◌≢◌, ◌+◌, ◌≤◌, ◌++◌, OnOk, OnErr, IfOk, IfErr, vec_len, length};
     ghost use Rattle.std.specs.Option.{option_copied};
     ghost use Rattle.std.specs.Vec.{vec_capacity};
     ghost use Rattle.imap_session.specs.Exchange.{Exchange, Expunge, Feed, tagged};
@@ -111,19 +110,6 @@ impl<'a> Response<'a> {
         }
         put(line, &mut self.out);
         Ok(())
-    }
-
-    // Writes the parts in their order, or nothing where memory is refused.
-    pub(crate) fn write_parts(&mut self, parts: &[&[u8]]) -> Result<(), MailFault>
-        ensures text { OnOk result (self.new ≡ adding (flat_map (λ part. part.now) parts.now) self.old) }
-        ensures err { OnErr result (self.new ≡ self.old) }
-        ensures fault { IfErr result (λ f. f ≡ MailFault.NoMemory) }
-    {
-        let start = self.out.len();
-        if append_parts(parts, &mut self.out).is_err() {
-            return Err(MailFault::NoMemory);
-        }
-        hold_room(start, self.held, &mut self.out)
     }
 
     /// Shows changes, at most so many. The store writes their lines; what it wrote can't be taken back, so the room for the last line is held

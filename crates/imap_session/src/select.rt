@@ -3,28 +3,22 @@
 ghost use Rattle.std.specs.Prelude.{◌≡◌, ◌≤◌, [], codes, false, length, OnOk, OnErr, IfOk, IfErr, None, Some, if◌then◌else◌};
 ghost use Rattle.mailbox.specs.declared.clients.Opening.{Opening as OpeningSpec};
 ghost use Rattle.imap_session.specs.Exchange.{Exchange, Enter, Leave, nothing_sent};
-ghost use Rattle.imap_session.specs.Commands.{closing, entering, on_folder, opening_text, selecting};
+ghost use Rattle.imap_session.specs.Commands.{closing, entering, on_folder, selecting};
+ghost use Rattle.imap_answers.specs.Answers.{opening_text};
 ghost use Rattle.imap_session.specs.inner.Response.{Response as ResponseSpec, adding};
 ghost use Rattle.imap_session.specs.inner.Store.{Moves, last};
 
 use crate::folders::find_folder;
-use crate::response::{MOST_WORDS, Response};
+use crate::response::{MOST_WORDS, Response, hold_room};
 use crate::standing::{Folder, Selected};
 use crate::store::Store;
+use imap_answers::write_opening;
 use imap_grammar::Name;
-use itoa::Buffer;
 use mailbox::{MailFault, Opening};
 use std::alloc::Global;
 
-// Which of all flags a client can change for good in a mailbox: none where it was selected by EXAMINE.
-fn kept_flags(read_only: bool, all: &[u8]) -> &[u8]
-    ensures { result.now ≡ (if read_only then [] else all.now) }
-{
-    if read_only { &all[..0] } else { all }
-}
-
 // Writes what is told of a mailbox that was entered.
-fn write_opening(
+fn tell_opening(
     read_only: bool,
     name: &[u8],
     opening: &Opening,
@@ -34,29 +28,11 @@ fn write_opening(
     ensures err { OnErr result (response.new ≡ response.old) }
     ensures fault { IfErr result (λ f. f ≡ MailFault.NoMemory) }
 {
-    let mut count = Buffer::new();
-    let mut uidvalidity = Buffer::new();
-    let mut uidnext = Buffer::new();
-    let count = count.format(opening.count).as_bytes();
-    let uidvalidity = uidvalidity.format(opening.uidvalidity).as_bytes();
-    let uidnext = uidnext.format(opening.uidnext).as_bytes();
-    let all = b"\\Answered \\Flagged \\Deleted \\Seen \\Draft".as_slice();
-    let kept = kept_flags(read_only, all);
-    response.write_parts(&[
-        b"* FLAGS (".as_slice(),
-        all,
-        b")\r\n* ".as_slice(),
-        count,
-        b" EXISTS\r\n* OK [UIDVALIDITY ".as_slice(),
-        uidvalidity,
-        b"] UIDs valid\r\n* OK [UIDNEXT ".as_slice(),
-        uidnext,
-        b"] Predicted next UID\r\n* OK [PERMANENTFLAGS (".as_slice(),
-        kept,
-        b")] Flags kept\r\n* LIST () \"/\" ".as_slice(),
-        name,
-        b"\r\n".as_slice(),
-    ])
+    let start = response.out.len();
+    if write_opening(read_only, name, opening, &mut response.out).is_err() {
+        return Err(MailFault::NoMemory);
+    }
+    hold_room(start, response.held, &mut response.out)
 }
 
 // Leaves the mailbox that was selected, if one was.
@@ -137,7 +113,7 @@ fn enter_folder<S: Store>(
         read_only,
     };
     let opening = enter_mailbox(wanted, selected, store)?;
-    write_opening(read_only, folder.name(), &opening, response)?;
+    tell_opening(read_only, folder.name(), &opening, response)?;
     Ok(entered_words(read_only))
 }
 

@@ -1,84 +1,31 @@
 //! STORE and UID STORE (RFC 9051, 6.4.6 and 6.4.9).
 
-ghost use Rattle.std.specs.Prelude.{◌≡◌, ◌≤◌, Bool, false, List, [], codes, decimal, ℕ, ◌++◌, map, OnOk, OnErr, IfOk, IfErr, if◌then◌else◌, length};
-ghost use Rattle.std.specs.Io.{StartsWith};
-ghost use Rattle.std.specs.Vec.{vec_capacity};
+ghost use Rattle.std.specs.Prelude.{◌≡◌, ◌≤◌, Bool, false, List, [], ℕ, map, OnOk, OnErr, IfOk, IfErr, if◌then◌else◌, length};
 ghost use Rattle.imap_grammar.specs.declared.command.Command.TheVariants as commands;
 ghost use Rattle.imap_grammar.specs.Sets.{named_at};
-ghost use Rattle.cursor_set.specs.Lines.{flag_words, spaced};
 ghost use Rattle.imap_session.specs.Exchange.{Exchange, Alter, Write};
-ghost use Rattle.imap_session.specs.Commands.{on_found, on_set, flags_answer, stored, storing, messages_done};
+ghost use Rattle.imap_session.specs.Commands.{on_found, on_set, stored, storing, messages_done};
+ghost use Rattle.imap_answers.specs.Answers.{flags_answer};
 ghost use Rattle.imap_session.specs.inner.Response.{adding};
 ghost use Rattle.imap_session.specs.inner.Store.{Does, last};
 
 use crate::response::{MOST_WORDS, Response, hold_room};
 use crate::store::Store;
 use change_ring::Flags;
-use cursor_set::{FLAGS_ROOM, put_flags};
+use imap_answers::write_stored;
 use imap_grammar::{Named, Store as StoreCommand};
-use itoa::Buffer;
 use mailbox::MailFault;
-use std::alloc::{AllocError, Global};
-
-// Appends a UID where it is told, or a part of that.
-fn append_uid(by_uid: bool, uid: u32, out: &mut Vec<u8>) -> Result<(), AllocError>
-    ensures ok { OnOk result (out.new.items ≡ out.old.items ++ (if by_uid then codes "UID " ++ decimal uid ++ codes " " else [])) }
-    ensures err { OnErr result (StartsWith out.new.items out.old.items) }
-    ensures room { vec_capacity out.old ≤ vec_capacity out.new }
-{
-    if !by_uid {
-        return Ok(());
-    }
-    let mut digits = Buffer::new();
-    out.extend_from_slice(b"UID ")?;
-    out.extend_from_slice(digits.format(uid).as_bytes())?;
-    out.extend_from_slice(b" ")?;
-    Ok(())
-}
-
-// Appends the names of the flags that are set, or nothing where memory is refused.
-fn append_flags(flags: Flags, out: &mut Vec<u8>) -> Result<(), AllocError>
-    ensures ok { OnOk result (out.new.items ≡ out.old.items ++ spaced (flag_words flags)) }
-    ensures err { OnErr result (out.new.items ≡ out.old.items) }
-    ensures room { vec_capacity out.old ≤ vec_capacity out.new }
-{
-    out.reserve(FLAGS_ROOM)?;
-    put_flags(flags, out);
-    Ok(())
-}
-
-// Appends the answer to a STORE, or a part of it.
-fn append_answer(
-    by_uid: bool,
-    position: usize,
-    uid: u32,
-    flags: Flags,
-    out: &mut Vec<u8>,
-) -> Result<(), AllocError>
-    ensures ok { OnOk result (out.new.items ≡ out.old.items ++ flags_answer by_uid position uid flags) }
-    ensures err { OnErr result (StartsWith out.new.items out.old.items) }
-    ensures room { vec_capacity out.old ≤ vec_capacity out.new }
-{
-    let mut digits = Buffer::new();
-    out.extend_from_slice(b"* ")?;
-    out.extend_from_slice(digits.format(position).as_bytes())?;
-    out.extend_from_slice(b" FETCH (")?;
-    append_uid(by_uid, uid, out)?;
-    out.extend_from_slice(b"FLAGS (")?;
-    append_flags(flags, out)?;
-    out.extend_from_slice(b"))\r\n")?;
-    Ok(())
-}
+use std::alloc::Global;
 
 // Writes the answer for a message, unless the client asked for silence.
-fn write_stored(
+fn write_changed(
     command: &StoreCommand<'_>,
     message: Named,
     flags: Flags,
     response: &mut Response<'_>,
 ) -> Result<(), MailFault>
     ensures text { OnOk result (response.new ≡ adding
-        ((if command.now.silent then [] else flags_answer command.now.by_uid message.position message.uid flags)) response.old) }
+        (if command.now.silent then [] else flags_answer command.now.by_uid message.position message.uid flags) response.old) }
     ensures err { OnErr result (response.new ≡ response.old) }
     ensures fault { IfErr result (λ f. f ≡ MailFault.NoMemory) }
 {
@@ -87,8 +34,7 @@ fn write_stored(
     }
     let start = response.out.len();
     let Named { position, uid } = message;
-    if append_answer(command.by_uid, position, uid, flags, &mut response.out).is_err() {
-        response.out.truncate(start);
+    if write_stored(position, command.by_uid, uid, flags, &mut response.out).is_err() {
         return Err(MailFault::NoMemory);
     }
     hold_room(start, response.held, &mut response.out)
@@ -108,7 +54,7 @@ fn store_one<S: Store>(
     let Some(flags) = store.store(message.uid, command.change)? else {
         return Ok(false);
     };
-    write_stored(command, message, flags, response)?;
+    write_changed(command, message, flags, response)?;
     Ok(true)
 }
 

@@ -16,15 +16,15 @@ returns-in_default g c view uid is x y tag now =
     let same : c.args.message.uid ≡ uid = ap (λ (m : Named). m.uid) is in
     reaches_alter g.S.Store.step tag now uid _ _ None _ _ _ (rw (same, c.in_default.is) at c.in_ok-flags.ensures)
 
-pub returns-in_err-write_stored : goal.returns-in_err-write_stored
-returns-in_err-write_stored g c view uid is x y =
+pub returns-in_err-write_changed : goal.returns-in_err-write_changed
+returns-in_err-write_changed g c view uid is x y =
     let same : c.args.message.uid ≡ uid = ap (λ (m : Named). m.uid) is in
-    let p = err_from_is_err_and c.from_residual-in_err-write_stored.result c.from_residual-in_err-write_stored.ensures.1 in
+    let p = err_from_is_err_and c.from_residual-in_err-write_changed.result c.from_residual-in_err-write_changed.ensures.1 in
     rw (p.1, p.2) (λ tag now. alters_starved g.S.Store.step tag now uid _ _ x y c.in-Some.flags _ _ _ _ _
-    (rw (same, c.in-Some.is) at c.in_ok-flags.ensures) c.in_err-write_stored.ensures.fault c.in_err-write_stored.ensures.err)
+    (rw (same, c.in-Some.is) at c.in_ok-flags.ensures) c.in_err-write_changed.ensures.fault c.in_err-write_changed.ensures.err)
 
 pub returns : goal.returns
 returns g c view uid is x y tag now =
     let same : c.args.message.uid ≡ uid = ap (λ (m : Named). m.uid) is in
     alters_there g.S.Store.step tag now uid _ _ x y c.in-Some.flags _ _ _ _
-    (rw (same, c.in-Some.is) at c.in_ok-flags.ensures) (rw is at c.in_ok-write_stored.ensures.text)
+    (rw (same, c.in-Some.is) at c.in_ok-flags.ensures) (rw is at c.in_ok-write_changed.ensures.text)
