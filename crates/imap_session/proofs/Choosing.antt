@@ -8,7 +8,7 @@ use Rattle.imap_grammar.specs.declared.view.Named.{Named}
 use Rattle.imap_session.specs.Exchange as ex
 use Rattle.imap_session.specs.Exchange.{Call, Answer, Looked, Exchange, Standing}
 use Rattle.imap_session.specs.Commands.{on_set, on_chosen, says}
-use Rattle.imap_session.specs.inner.Response.{Response}
+use Rattle.imap_session.specs.Response.{Response}
 use Rattle.mailbox.specs.declared.clients.MailFault.{MailFault}
 use Rattle.imap_session.specs.inner.Store.{Does, Reaches}
 use Rattle.imap_session.proofs.Saying.{does_then}

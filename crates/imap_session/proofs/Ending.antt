@@ -12,7 +12,7 @@ use Rattle.imap_session.specs.Exchange as ex
 use Rattle.imap_session.specs.Exchange.{Call, Answer, Exchange, Folder, Mailing, Standing, Event, played, saying, closed, tagged, refusal_text, refusal_after}
 use Rattle.imap_session.specs.Commands.{completed, on_found, wrong_state, on_command}
 use Rattle.imap_session.specs.Store.{Met}
-use Rattle.imap_session.specs.inner.Response.{Response}
+use Rattle.imap_session.specs.Response.{Response}
 use Rattle.imap_session.specs.inner.Store.{Reaches, Stops, Does, Moves, Plays, after_command, behind_first_line, ending, first_line, last_words, after_result, onward}
 use Rattle.imap_session.proofs.Runs.{Met-append, reaches_here}
 

@@ -7,7 +7,8 @@ use Rattle.imap_grammar.specs.declared.command.Fetch.{Fetch}
 use Rattle.imap_session.specs.Exchange as ex
 use Rattle.imap_session.specs.Exchange.{Call, Answer, Found, Exchange, Standing}
 use Rattle.imap_session.specs.Commands.{on_found, fetched, fetching}
-use Rattle.imap_session.specs.inner.Response.{Response, adding}
+use Rattle.imap_session.specs.Response.{Response}
+use Rattle.imap_session.specs.inner.Response.{adding}
 use Rattle.imap_session.specs.inner.Store.{Reaches, Stops}
 use Rattle.imap_session.proofs.Runs.{reaches_read, reaches_write, reaches_then, stops_write, stops_then}
 

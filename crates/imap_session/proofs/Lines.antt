@@ -15,7 +15,7 @@ use Rattle.imap_session.specs.declared.standing.Selected.{Selected}
 use Rattle.imap_session.specs.Exchange.{Answer, Appending, Call, Standing, Starved, closed, tagged}
 use Rattle.imap_session.specs.Commands.{completed, fault_text, on_command, on_idle_line, on_read, says, appending, showing, on_rest, turn_behind, turn_of, turn_while, without_begun}
 use Rattle.imap_session.specs.Store.{Answers}
-use Rattle.imap_session.specs.inner.Response.{Response}
+use Rattle.imap_session.specs.Response.{Response}
 use Rattle.imap_session.specs.inner.Store.{Does, Plays, Reaches, after_result, is_idle, last, last_words}
 use Rattle.imap_grammar.specs.declared.command.Append.{Append}
 use Rattle.imap_session.specs.inner.Appends.{Leads}

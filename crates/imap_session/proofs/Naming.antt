@@ -10,7 +10,8 @@ use Rattle.imap_session.specs.Exchange as ex
 use Rattle.imap_session.specs.Exchange.{Call, Answer, Counted, Refused, Exchange, Folder, Standing, nothing_sent}
 use Rattle.imap_session.specs.Commands.{closing, entering, folder_of, on_folder, opened, says, selecting, wanting}
 use Rattle.imap_answers.specs.Answers.{opening_text}
-use Rattle.imap_session.specs.inner.Response.{Response, adding}
+use Rattle.imap_session.specs.Response.{Response}
+use Rattle.imap_session.specs.inner.Response.{adding}
 use Rattle.imap_session.specs.inner.Store.{Reaches, Stops, Does, Moves, last}
 use Rattle.imap_session.proofs.Runs.{nothing_added, reaches_count, reaches_here, reaches_write, reaches_then, stops_count, stops_write, stops_then}
 use Rattle.imap_session.proofs.Saying.{does_then}

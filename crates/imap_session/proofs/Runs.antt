@@ -14,7 +14,8 @@ use Rattle.imap_session.specs.declared.standing.Selected.{Selected}
 use Rattle.imap_session.specs.Exchange as ex
 use Rattle.imap_session.specs.Exchange.{Call, Answer, Entered, Looked, Found, Counted, Altered, Expunged, Fed, Left, Refused, Starved, Event, Exchange, Standing, refused, saying, having}
 use Rattle.imap_session.specs.Store.{Met}
-use Rattle.imap_session.specs.inner.Response.{Response, adding}
+use Rattle.imap_session.specs.Response.{Response}
+use Rattle.imap_session.specs.inner.Response.{adding}
 use Rattle.imap_session.specs.inner.Store.{LeadsOn, onward, Reaches, Stops}
 
 -- ---- what was written

@@ -2,7 +2,7 @@
 use Rattle.std.proofs.Common.{ℕ, List, Result, Ok, Err}
 use Rattle.mailbox.specs.declared.clients.MailFault.{MailFault}
 use Rattle.imap_session.specs.Exchange.{Call, Answer, Exchange, Standing}
-use Rattle.imap_session.specs.inner.Response.{Response}
+use Rattle.imap_session.specs.Response.{Response}
 use Rattle.imap_session.specs.inner.Store.{Reaches, Does}
 use Rattle.imap_session.proofs.Runs.{reaches_then, stops_then}
 

@@ -1,7 +1,8 @@
 -- Bytes that hold room, and go again.
 use Rattle.std.proofs.Common.{◌≡◌, ℕ, Bool, true, if◌then◌else◌, ◌+◌, ◌-◌, List, ◌++◌, length, take, drop, replicate, arith, ap, ◌∙◌}
 use Rattle.std.proofs.lemmas.Grind.{common_steps}
-use Rattle.imap_session.specs.inner.Response.{Response, adding}
+use Rattle.imap_session.specs.Response.{Response}
+use Rattle.imap_session.specs.inner.Response.{adding}
 
 -- what was filled up has the old bytes first
 pub filled : (old new : List ℕ) (ok : Bool) (len start keep : ℕ) → len ≡ length old → start ≡ len → ok ≡ true

@@ -8,7 +8,8 @@ use Rattle.imap_grammar.specs.declared.command.Store.{Store}
 use Rattle.imap_session.specs.Exchange as ex
 use Rattle.imap_session.specs.Exchange.{Call, Answer, Altered, Exchange, Standing}
 use Rattle.imap_session.specs.Commands.{on_found, stored, storing}
-use Rattle.imap_session.specs.inner.Response.{Response, adding}
+use Rattle.imap_session.specs.Response.{Response}
+use Rattle.imap_session.specs.inner.Response.{adding}
 use Rattle.imap_session.specs.inner.Store.{Reaches, Stops}
 use Rattle.imap_session.proofs.Runs.{reaches_alter, reaches_write, reaches_then, stops_write, stops_then}
 

@@ -1,5 +1,6 @@
 pub mod Exchange
 pub mod Commands
+pub mod Response
 pub mod Store
 pub mod Shows
 pub mod Telling

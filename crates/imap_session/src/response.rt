@@ -30,7 +30,7 @@ pub(crate) struct Response<'a> {
 impl<'a> Model for Response<'a> {
     ghost use Rattle.std.specs.Prelude.{◌≤◌, ◌+◌, length, vec_len};
     ghost use Rattle.std.specs.Vec.{vec_capacity};
-    ghost use Rattle.imap_session.specs.inner.Response.{Response as Written};
+    ghost use Rattle.imap_session.specs.Response.{Response as Written};
     ghost use Rattle.imap_session.specs.declared.response.TheConstants.{LAST};
 
     ghost Value = { Written };

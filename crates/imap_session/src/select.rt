@@ -5,7 +5,8 @@ ghost use Rattle.mailbox.specs.declared.clients.Opening.{Opening as OpeningSpec}
 ghost use Rattle.imap_session.specs.Exchange.{Exchange, Enter, Leave, nothing_sent};
 ghost use Rattle.imap_session.specs.Commands.{closing, entering, on_folder, selecting};
 ghost use Rattle.imap_answers.specs.Answers.{opening_text};
-ghost use Rattle.imap_session.specs.inner.Response.{Response as ResponseSpec, adding};
+ghost use Rattle.imap_session.specs.Response.{Response as ResponseSpec};
+ghost use Rattle.imap_session.specs.inner.Response.{adding};
 ghost use Rattle.imap_session.specs.inner.Store.{Moves, last};
 
 use crate::folders::find_folder;

@@ -7,7 +7,7 @@ ghost use Rattle.imap_grammar.specs.Items.{marks_seen};
 ghost use Rattle.imap_grammar.specs.declared.command.Command.TheVariants as commands;
 ghost use Rattle.imap_session.specs.Exchange.{Exchange, Expunge, Feed, Leave};
 ghost use Rattle.imap_session.specs.Commands.{completed, expunge_set, fetch_messages, if_writable, on_found, says, store_messages, unlimited, wrong_state};
-ghost use Rattle.imap_session.specs.inner.Response.{Response as ResponseSpec};
+ghost use Rattle.imap_session.specs.Response.{Response as ResponseSpec};
 ghost use Rattle.imap_session.specs.inner.Store.{Does, Moves, last};
 
 use crate::expunge::{expunge_all, expunge_set};

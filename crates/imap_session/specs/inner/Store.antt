@@ -10,7 +10,8 @@ use Rattle.imap_session.specs.declared.standing.Selected.{Selected}
 use Rattle.imap_session.specs.Exchange.{Call, Answer, Event, Exchange, Done, Standing, Turn, played, refused, refusal_text, refusal_after, bye, closed, tagged}
 use Rattle.imap_session.specs.Commands.{completed, on_command}
 use Rattle.imap_session.specs.Store.{Met}
-use Rattle.imap_session.specs.inner.Response.{Response, adding}
+use Rattle.imap_session.specs.Response.{Response}
+use Rattle.imap_session.specs.inner.Response.{adding}
 
 -- ---- part of a turn
 

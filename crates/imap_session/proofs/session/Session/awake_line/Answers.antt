@@ -1,7 +1,7 @@
 use Rattle.std.proofs.Common.{◌≡◌, ◌++◌, ap₂, Err, List, ℕ, Ok, ◌∙◌, ap, subst, sym}
 use Rattle.imap_grammar.specs.Reading.{read}
 use Rattle.imap_session.specs.inner.Appends.{Leads}
-use Rattle.imap_session.specs.inner.Response.{Response}
+use Rattle.imap_session.specs.Response.{Response}
 use Rattle.imap_session.specs.Commands.{appending, fault_text}
 use Rattle.imap_session.specs.inner.Store.{first_line}
 use Rattle.imap_session.proofs.Ending.{plays_first_line}

@@ -1,6 +1,6 @@
 use Rattle.std.proofs.Common.{List, ℕ, subst}
 use Rattle.imap_session.specs.Commands.{on_idle_line}
-use Rattle.imap_session.specs.inner.Response.{Response}
+use Rattle.imap_session.specs.Response.{Response}
 use Rattle.imap_session.specs.inner.Store.{Plays}
 use Rattle.imap_session.proofs.Lines.{answers_idle_line}
 use Rattle.imap_session.proofs.session.Session.idle_line.Goals as goal

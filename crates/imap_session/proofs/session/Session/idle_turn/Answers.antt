@@ -2,7 +2,7 @@ use Rattle.std.proofs.Common.{◌≡◌, ◌++◌, List, ℕ, [], true, Some, ap
 use Rattle.cursor_set.specs.Lines.{lines}
 use Rattle.mailbox.specs.declared.clients.MailFault.TheVariants.{Lapped, Stranger}
 use Rattle.imap_session.specs.Exchange.{Standing, is_idling, refusal_text}
-use Rattle.imap_session.specs.inner.Response.{Response}
+use Rattle.imap_session.specs.Response.{Response}
 use Rattle.imap_session.proofs.Turns.{turns_awake, turns_lapped, turns_shown, turns_unknown, turns_unselected}
 use Rattle.imap_session.proofs.session.Session.idle_turn.Goals as goal
 
