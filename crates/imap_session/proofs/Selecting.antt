@@ -1,5 +1,5 @@
 -- Mailboxes selected and left.
-use Rattle.std.proofs.Common.{◌≡◌, ℕ, Bool, true, false, codes, List, Option, Some, None, is_none, Result, Ok, Err, OnOk, OnErr, IfErr, refl}
+use Rattle.std.proofs.Common.{◌≡◌, ℕ, true, false, codes, List, Option, Some, None, is_none, Result, Ok, Err, OnOk, OnErr, IfErr, refl}
 use Rattle.mailbox.specs.declared.clients.MailFault.{MailFault}
 use Rattle.mailbox.specs.declared.clients.MailFault.TheVariants.{NoMemory}
 use Rattle.imap_session.specs.declared.standing.Selected.{Selected}
