@@ -36,11 +36,6 @@ moves_refused step sel f s text n tag now was =
 
 -- ---- the last words
 
--- as much room is held as before
-pub held_still : {S : Type 0} (step : S → Call → Answer → S → Type 0) (tag : List ℕ) (now next : Standing) (x y : Exchange) (old new : S) (before after : Response) (beside : ℕ)
-    → Reaches step tag now next x y old new before after → length before.tag + beside ≤ before.held → length after.tag + beside ≤ after.held
-held_still step tag now next x y old new before after beside p fits = subst (λ (r : Response). length r.tag + beside ≤ r.held) (sym p.wrote) fits
-
 ends : {S : Type 0} (step : S → Call → Answer → S → Type 0) (tag : List ℕ) (now next : Standing) (x : Exchange) (old new : S) (before mid final : List ℕ) (events : List Event) (bytes words : List ℕ) (how : After)
     → (whole : List Answer) → played tag now x whole ≡ Some (onward events bytes (saying words (closed next how)))
     → Met step old events new → mid ≡ before ++ bytes → final ≡ mid ++ words
@@ -94,13 +89,13 @@ plays_moved step now to after x old new before mid final (Ok words) m e =
     let p = m before.tag now refl in
     let next : Standing = record now { selected = to } in
     let led = p.leads [] (saying (tagged before.tag words.now) (closed next after)) refl in
-    ends step before.tag now next x old new before.text mid.text final p.events p.bytes (tagged before.tag words.now) after led.0 led.1 p.met (ap (λ (r : Response). r.text) p.wrote)
-    (e ∙ ap (λ (t : List ℕ). mid.text ++ tagged t words.now) (ap (λ (r : Response). r.tag) p.wrote))
+    ends step before.tag now next x old new before.text mid.text final p.events p.bytes (tagged before.tag words.now) after led.0 led.1 p.met p.wrote.1
+    (e ∙ ap (λ (t : List ℕ). mid.text ++ tagged t words.now) p.wrote.0)
 plays_moved step now to after x old new before mid final (Err fault) m e =
     let p = m before.tag now refl in
     let next : Standing = record now { selected = to } in
-    ends step before.tag now next x old new before.text mid.text final p.events p.bytes (refusal_text before.tag fault) (refusal_after fault) p.leads.0 p.leads.1 p.met (ap (λ (r : Response). r.text) p.wrote)
-    (e ∙ ap (λ (t : List ℕ). mid.text ++ refusal_text t fault) (ap (λ (r : Response). r.tag) p.wrote))
+    ends step before.tag now next x old new before.text mid.text final p.events p.bytes (refusal_text before.tag fault) (refusal_after fault) p.leads.0 p.leads.1 p.met p.wrote.1
+    (e ∙ ap (λ (t : List ℕ). mid.text ++ refusal_text t fault) p.wrote.0)
 
 standing_of : List Folder → Option Selected → Option (List ℕ) → Bool → Mailing → Standing
 standing_of folders selected idling ended mailing = record { folders = folders; selected = selected; idling = idling; ended = ended; mailing = mailing }
@@ -150,12 +145,12 @@ pub plays_said : {S : Type 0} (step : S → Call → Answer → S → Type 0) (w
     → Reaches step before.tag now now x (ex.Done words Go) old new before mid → final ≡ mid.text ++ tagged mid.tag words → Plays step before.tag now now x old new before.text final Go
 plays_said step words now x old new before mid final p e =
     let led = p.leads [] (saying (tagged before.tag words) (closed now Go)) refl in
-    ends step before.tag now now x old new before.text mid.text final p.events p.bytes (tagged before.tag words) Go led.0 led.1 p.met (ap (λ (r : Response). r.text) p.wrote)
-    (e ∙ ap (λ (t : List ℕ). mid.text ++ tagged t words) (ap (λ (r : Response). r.tag) p.wrote))
+    ends step before.tag now now x old new before.text mid.text final p.events p.bytes (tagged before.tag words) Go led.0 led.1 p.met p.wrote.1
+    (e ∙ ap (λ (t : List ℕ). mid.text ++ tagged t words) p.wrote.0)
 
 -- a fault stopped it, and that was said
 pub plays_stopped : {S : Type 0} (step : S → Call → Answer → S → Type 0) (now : Standing) (x : Exchange) (fault : MailFault) (old new : S) (before mid : Response) (final : List ℕ) (how : After)
     → Stops step before.tag now now x fault old new before mid → final ≡ mid.text ++ refusal_text mid.tag fault → how ≡ refusal_after fault → Plays step before.tag now now x old new before.text final how
 plays_stopped step now x fault old new before mid final how p e h =
-    rw h (ends step before.tag now now x old new before.text mid.text final p.events p.bytes (refusal_text before.tag fault) (refusal_after fault) p.leads.0 p.leads.1 p.met (ap (λ (r : Response). r.text) p.wrote)
-    (e ∙ ap (λ (t : List ℕ). mid.text ++ refusal_text t fault) (ap (λ (r : Response). r.tag) p.wrote)))
+    rw h (ends step before.tag now now x old new before.text mid.text final p.events p.bytes (refusal_text before.tag fault) (refusal_after fault) p.leads.0 p.leads.1 p.met p.wrote.1
+    (e ∙ ap (λ (t : List ℕ). mid.text ++ refusal_text t fault) p.wrote.0))

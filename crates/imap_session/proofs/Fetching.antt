@@ -10,7 +10,7 @@ use Rattle.imap_session.specs.Commands.{on_found, fetched, fetching}
 use Rattle.imap_session.specs.Response.{Response}
 use Rattle.imap_session.specs.inner.Response.{adding}
 use Rattle.imap_session.specs.inner.Store.{Reaches, Stops}
-use Rattle.imap_session.proofs.Runs.{reaches_read, reaches_write, reaches_then, stops_write, stops_then}
+use Rattle.imap_session.proofs.Runs.{added, reaches_read, reaches_write, reaches_then, stops_write, stops_then}
 
 -- a message that is there: its answer is what is left to write
 pub reads_there : {S : Type 0} (step : S → Call → Answer → S → Type 0) (tag : List ℕ) (now : Standing) (uid : ℕ) (mark : Bool) (text : Row → List ℕ) (x y : Exchange) (row : Row) (old new : S) (before after : Response)
@@ -20,7 +20,7 @@ reads_there step tag now uid mark text x y row old new before after h e =
     let next : Option Row → Exchange = on_found (λ r. ex.Write (text r) x) y in
     reaches_then step tag now now now (ex.Read uid mark next) (ex.Write (text row) x) x old new new before before after
     (reaches_read step tag now uid mark next (Some row) old new before h)
-    (reaches_write step tag now (text row) x new before after e)
+    (reaches_write step tag now (text row) x new before after (added (text row) before after e))
 
 -- the same, where memory for its answer is refused
 pub reads_starved : {S : Type 0} (step : S → Call → Answer → S → Type 0) (tag : List ℕ) (now : Standing) (uid : ℕ) (mark : Bool) (text : Row → List ℕ) (x y : Exchange) (row : Row) (fault : MailFault) (old new : S) (before after : Response)

@@ -15,16 +15,26 @@ use Rattle.imap_session.specs.Exchange as ex
 use Rattle.imap_session.specs.Exchange.{Call, Answer, Entered, Looked, Found, Counted, Altered, Expunged, Fed, Left, Refused, Starved, Event, Exchange, Standing, refused, saying, having}
 use Rattle.imap_session.specs.Store.{Met}
 use Rattle.imap_session.specs.Response.{Response}
-use Rattle.imap_session.specs.inner.Response.{adding}
+use Rattle.imap_session.specs.inner.Response.{Adds, adding}
 use Rattle.imap_session.specs.inner.Store.{LeadsOn, onward, Reaches, Stops}
 
 -- ---- what was written
 
-pub nothing_added : (r : Response) → r ≡ adding [] r
-nothing_added r = ap (λ t. record r { text = t }) (sym (append-nil r.text))
+pub nothing_added : (r : Response) → Adds [] r r
+nothing_added r = (refl, sym (append-nil r.text))
 
-pub added_twice : (r : Response) (a b : List ℕ) → adding b (adding a r) ≡ adding (a ++ b) r
-added_twice r a b = ap (λ t. record r { text = t }) (append_assoc r.text a b)
+pub added : (bytes : List ℕ) (before after : Response) → after ≡ adding bytes before → Adds bytes before after
+added bytes before after e = (ap (λ (r : Response). r.tag) e, ap (λ (r : Response). r.text) e)
+
+pub same_still : (before after : Response) → after ≡ before → Adds [] before after
+same_still before after e = (ap (λ (r : Response). r.tag) e, ap (λ (r : Response). r.text) e ∙ sym (append-nil before.text))
+
+-- nothing was written, and more room is held
+pub held_more : (before after : Response) (held : ℕ) → after ≡ record before { held = held } → Adds [] before after
+held_more before after held e = (ap (λ (r : Response). r.tag) e, ap (λ (r : Response). r.text) e ∙ sym (append-nil before.text))
+
+pub added_twice : (a b : List ℕ) (first second third : Response) → Adds a first second → Adds b second third → Adds (a ++ b) first third
+added_twice a b first second third p q = (q.0 ∙ p.0, q.1 ∙ (ap (λ (t : List ℕ). t ++ b) p.1 ∙ append_assoc first.text a b))
 
 -- ---- runs of the store
 
@@ -60,7 +70,7 @@ reaches_then step tag a b c x y z old mid new first second third p q = record {
   bytes = p.bytes ++ q.bytes;
   leads = leads_then tag a b c x y z p.events q.events p.bytes q.bytes p.leads q.leads;
   met = Met-append step old mid new p.events q.events p.met q.met;
-  wrote = q.wrote ∙ (ap (adding q.bytes) p.wrote ∙ added_twice first p.bytes q.bytes);
+  wrote = added_twice p.bytes q.bytes first second third p.wrote q.wrote;
 }
 
 pub stops_then : {S : Type 0} (step : S → Call → Answer → S → Type 0) (tag : List ℕ) (a b c : Standing) (x y : Exchange) (fault : MailFault) (old mid new : S) (first second third : Response)
@@ -73,7 +83,7 @@ stops_then step tag a b c x y fault old mid new first second third p q =
       bytes = p.bytes ++ q.bytes;
       leads = (led.0, simp append_assoc led.1);
       met = Met-append step old mid new p.events q.events p.met q.met;
-      wrote = q.wrote ∙ (ap (adding q.bytes) p.wrote ∙ added_twice first p.bytes q.bytes);
+      wrote = added_twice p.bytes q.bytes first second third p.wrote q.wrote;
     }
 
 -- ---- writes
@@ -94,7 +104,7 @@ leads_write tag now bytes x (Left n ∷ more) turn h = (Left n ∷ more, ap (opt
 leads_write tag now bytes x (Refused f ∷ more) turn h = (Refused f ∷ more, ap (option_map (saying bytes)) h)
 
 pub reaches_write : {S : Type 0} (step : S → Call → Answer → S → Type 0) (tag : List ℕ) (now : Standing) (bytes : List ℕ) (x : Exchange) (s : S) (before after : Response)
-    → after ≡ adding bytes before → Reaches step tag now now (ex.Write bytes x) x s s before after
+    → Adds bytes before after → Reaches step tag now now (ex.Write bytes x) x s s before after
 reaches_write step tag now bytes x s before after h = record {
   events = [];
   bytes = bytes;
@@ -111,6 +121,20 @@ stops_write step tag now bytes x s text = record {
   leads = (Starved zero ∷ [], refl);
   met = refl;
   wrote = nothing_added text;
+}
+
+-- in room that was held
+leads_put : (tag : List ℕ) (now : Standing) (bytes : List ℕ) (x : Exchange) → LeadsOn tag now now (ex.Put bytes x) x [] bytes
+leads_put tag now bytes x more turn h = (more, ap (option_map (saying bytes)) h)
+
+pub reaches_put : {S : Type 0} (step : S → Call → Answer → S → Type 0) (tag : List ℕ) (now : Standing) (bytes : List ℕ) (x : Exchange) (s : S) (before after : Response)
+    → Adds bytes before after → Reaches step tag now now (ex.Put bytes x) x s s before after
+reaches_put step tag now bytes x s before after h = record {
+  events = [];
+  bytes = bytes;
+  leads = leads_put tag now bytes x;
+  met = refl;
+  wrote = h;
 }
 
 -- ---- reads
@@ -145,7 +169,7 @@ reaches_feed step tag now limit x view changes old new before after h e = record
   bytes = lines view changes;
   leads = λ more turn p. (Fed view changes ∷ more, ap (option_map (λ t. having (ex.Feed limit) (Fed view changes) (saying (lines view changes) t))) p);
   met = (new, h, refl);
-  wrote = e;
+  wrote = added (lines view changes) before after e;
 }
 
 pub stops_feed : {S : Type 0} (step : S → Call → Answer → S → Type 0) (tag : List ℕ) (now : Standing) (limit : ℕ) (x : Exchange) (fault : MailFault) (old new : S) (before after : Response)
@@ -155,7 +179,7 @@ stops_feed step tag now limit x fault old new before after h e = record {
   bytes = [];
   leads = (Refused fault ∷ [], refl);
   met = (new, h, refl);
-  wrote = e ∙ nothing_added before;
+  wrote = same_still before after e;
 }
 
 -- ---- looks
@@ -285,7 +309,7 @@ reaches_expunge step tag now uids x view changes gone old new before after h e =
   bytes = lines view changes;
   leads = λ more turn p. (Expunged view changes gone ∷ more, ap (option_map (λ t. having (ex.Expunge uids) (Expunged view changes gone) (saying (lines view changes) t))) p);
   met = (new, h, refl);
-  wrote = e;
+  wrote = added (lines view changes) before after e;
 }
 
 pub stops_expunge : {S : Type 0} (step : S → Call → Answer → S → Type 0) (tag : List ℕ) (now : Standing) (uids : Option (List ℕ)) (x : Exchange) (fault : MailFault) (old new : S) (before after : Response)
@@ -295,5 +319,5 @@ stops_expunge step tag now uids x fault old new before after h e = record {
   bytes = [];
   leads = (Refused fault ∷ [], refl);
   met = (new, h, refl);
-  wrote = e ∙ nothing_added before;
+  wrote = same_still before after e;
 }

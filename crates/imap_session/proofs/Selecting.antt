@@ -1,20 +1,18 @@
 -- Mailboxes selected and left.
-use Rattle.std.proofs.Common.{◌≡◌, ℕ, true, false, codes, List, Option, Some, None, is_none, Result, Ok, Err, OnOk, OnErr, IfErr, refl}
-use Rattle.mailbox.specs.declared.clients.MailFault.{MailFault}
-use Rattle.mailbox.specs.declared.clients.MailFault.TheVariants.{NoMemory}
+use Rattle.std.proofs.Common.{◌≡◌, ℕ, true, false, codes, List, Option, Some, None, is_none, Ok, refl}
 use Rattle.imap_session.specs.declared.standing.Selected.{Selected}
 use Rattle.imap_session.specs.Exchange as ex
 use Rattle.imap_session.specs.Exchange.{Call, Answer, Left, Exchange, Standing}
 use Rattle.imap_session.specs.Commands.{closing}
 use Rattle.imap_session.specs.Response.{Response}
-use Rattle.imap_session.specs.inner.Response.{adding}
+use Rattle.imap_session.specs.inner.Response.{Adds}
 use Rattle.imap_session.specs.inner.Store.{Reaches, Moves}
-use Rattle.imap_session.proofs.Runs.{reaches_here, reaches_leave, reaches_write, reaches_then, stops_write, stops_then}
+use Rattle.imap_session.proofs.Runs.{reaches_here, reaches_leave, reaches_put, reaches_then}
 
 abbrev pub closed_line : List ℕ
 closed_line = codes "* OK [CLOSED] Previous mailbox is closed\r\n"
 
-pub closing_some : (sel : Option Selected) (x : Exchange) → is_none sel ≡ false → closing sel x ≡ ex.Leave false (ex.Write closed_line x)
+pub closing_some : (sel : Option Selected) (x : Exchange) → is_none sel ≡ false → closing sel x ≡ ex.Leave false (ex.Put closed_line x)
 closing_some None x h = cc
 closing_some (Some s) x h = refl
 
@@ -23,17 +21,11 @@ pub reaches_unclosed : {S : Type 0} (step : S → Call → Answer → S → Type
 reaches_unclosed step tag now None x s text h = reaches_here step tag now x s text
 reaches_unclosed step tag now (Some sel) x s text h = cc
 
-pub moves_closed : {S : Type 0} (step : S → Call → Answer → S → Type 0) (sel : Option Selected) (x : Exchange) (gone : ℕ) (old new : S) (before after : Response) (r : Result (Unit {0}) MailFault)
-    → is_none sel ≡ false → step old (ex.Leave false) (Left gone) new
-    → OnOk r (after ≡ adding closed_line before) → OnErr r (after ≡ before) → IfErr r (λ f. f ≡ NoMemory)
-    → Moves step sel None (closing sel x) (λ _. x) old new before after r
-moves_closed step sel x gone old new before after (Ok u) s h t e f = λ tag now was.
+pub moves_closed : {S : Type 0} (step : S → Call → Answer → S → Type 0) (sel : Option Selected) (x : Exchange) (gone : ℕ) (old new : S) (before after : Response) (u : Unit {0})
+    → is_none sel ≡ false → step old (ex.Leave false) (Left gone) new → Adds closed_line before after
+    → Moves step sel None (closing sel x) (λ _. x) old new before after (Ok u)
+moves_closed step sel x gone old new before after u s h t = λ tag now was.
     rw (closing_some sel x s)
-    (reaches_then step tag now (record now { selected = None }) (record now { selected = None }) (ex.Leave false (ex.Write closed_line x)) (ex.Write closed_line x) x old new new before before after
-    (reaches_leave step tag now false (ex.Write closed_line x) gone old new before h)
-    (reaches_write step tag (record now { selected = None }) closed_line x new before after t))
-moves_closed step sel x gone old new before after (Err fault) s h t e f = λ tag now was.
-    rw (closing_some sel x s, f, e)
-    (stops_then step tag now (record now { selected = None }) (record now { selected = None }) (ex.Leave false (ex.Write closed_line x)) (ex.Write closed_line x) NoMemory old new new before before before
-    (reaches_leave step tag now false (ex.Write closed_line x) gone old new before h)
-    (stops_write step tag (record now { selected = None }) closed_line x new before))
+    (reaches_then step tag now (record now { selected = None }) (record now { selected = None }) (ex.Leave false (ex.Put closed_line x)) (ex.Put closed_line x) x old new new before before after
+    (reaches_leave step tag now false (ex.Put closed_line x) gone old new before h)
+    (reaches_put step tag (record now { selected = None }) closed_line x new before after t))

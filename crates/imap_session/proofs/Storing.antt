@@ -11,7 +11,7 @@ use Rattle.imap_session.specs.Commands.{on_found, stored, storing}
 use Rattle.imap_session.specs.Response.{Response}
 use Rattle.imap_session.specs.inner.Response.{adding}
 use Rattle.imap_session.specs.inner.Store.{Reaches, Stops}
-use Rattle.imap_session.proofs.Runs.{reaches_alter, reaches_write, reaches_then, stops_write, stops_then}
+use Rattle.imap_session.proofs.Runs.{added, reaches_alter, reaches_write, reaches_then, stops_write, stops_then}
 
 -- a message that is there: its answer is what is left to write
 pub alters_there : {S : Type 0} (step : S → Call → Answer → S → Type 0) (tag : List ℕ) (now : Standing) (uid : ℕ) (op : FlagOp) (text : Flags → List ℕ) (x y : Exchange) (flags : Flags) (old new : S) (before after : Response)
@@ -21,7 +21,7 @@ alters_there step tag now uid op text x y flags old new before after h e =
     let next : Option Flags → Exchange = on_found (λ r. ex.Write (text r) x) y in
     reaches_then step tag now now now (ex.Alter uid op next) (ex.Write (text flags) x) x old new new before before after
     (reaches_alter step tag now uid op next (Some flags) old new before h)
-    (reaches_write step tag now (text flags) x new before after e)
+    (reaches_write step tag now (text flags) x new before after (added (text flags) before after e))
 
 -- the same, where memory for its answer is refused
 pub alters_starved : {S : Type 0} (step : S → Call → Answer → S → Type 0) (tag : List ℕ) (now : Standing) (uid : ℕ) (op : FlagOp) (text : Flags → List ℕ) (x y : Exchange) (flags : Flags) (fault : MailFault) (old new : S) (before after : Response)

@@ -1,7 +1,7 @@
 //! What is answered to an APPEND once the verdict on its message is there (RFC 9051, 6.3.12; RFC 4315, 3).
 //! How a message comes so far is told in `mailing`; which verdict there is, whoever holds the session knows.
 
-ghost use Rattle.std.specs.Prelude.{◌≡◌, ◌⊎◌, ◌+◌, ◌≤◌, ◌++◌, ℕ, length};
+ghost use Rattle.std.specs.Prelude.{◌≡◌, ◌⊎◌, ◌+◌, ◌≤◌, ◌++◌, ℕ, length, OnOk};
 ghost use Rattle.delivery_token.specs.declared.Verdict.TheVariants.{Stored};
 ghost use Rattle.imap_session.specs.Exchange.{Exchange, Count, Standing, tagged};
 ghost use Rattle.imap_session.specs.Commands.{appended_words, on_verdict, refused_words, showing};
@@ -39,8 +39,9 @@ fn count_and_show<S: Store>(
     store: &mut S,
     response: &mut Response<'_>,
 ) -> Result<u32, MailFault>
-    ensures { (next : ℕ → Exchange) → Does S.step
+    ensures done { (next : ℕ → Exchange) → Does S.step
         (Count mailbox (λ status. showing selected (next status.uidvalidity))) next store.old store.new response.old response.new result }
+    ensures held { OnOk result ((response.new.tag ≡ response.old.tag) × (response.new.held ≡ response.old.held)) }
 {
     let status = store.status(mailbox)?;
     show_pending(selected, store, response)?;

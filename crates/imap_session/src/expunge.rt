@@ -20,7 +20,8 @@ pub(crate) fn show_pending<S: Store>(
     store: &mut S,
     response: &mut Response<'_>,
 ) -> Result<(), MailFault>
-    ensures { (x : Exchange) → Does S.step (showing selected x) (λ _. x) store.old store.new response.old response.new result }
+    ensures done { (x : Exchange) → Does S.step (showing selected x) (λ _. x) store.old store.new response.old response.new result }
+    ensures held { (response.new.tag ≡ response.old.tag) × (response.new.held ≡ response.old.held) }
 {
     let Some(_) = selected else {
         return Ok(());

@@ -7,7 +7,8 @@ ghost use Rattle.std.specs.Vec.{vec_capacity};
 use crate::say::{put, put_tagged};
 use crate::standing::After;
 use crate::store::Store;
-use mailbox::MailFault;
+use imap_answers::{OPENING_ROOM, put_opening};
+use mailbox::{MailFault, Opening};
 use std::marker::Model;
 use std::mem;
 
@@ -83,7 +84,8 @@ impl<'a> Response<'a> {
     ghost use Rattle.std.specs.Vec.{vec_capacity};
     ghost use Rattle.imap_session.specs.Exchange.{Exchange, Expunge, Feed, tagged};
     ghost use Rattle.imap_session.specs.Store.{Feeds};
-    ghost use Rattle.imap_session.specs.inner.Response.{adding};
+    ghost use Rattle.imap_answers.specs.Answers.{opening_text};
+    ghost use Rattle.imap_session.specs.inner.Response.{Adds, adding};
     ghost use Rattle.imap_session.specs.inner.Store.{Does, after_result, last_words};
 
     // Begins behind the bytes of `out`, in room that was reserved for the tag and so many bytes more.
@@ -97,6 +99,40 @@ impl<'a> Response<'a> {
             held: tag.len() + beside,
             out: take_bytes(out),
         }
+    }
+
+    // Writes a line in room that is held beside the last line's.
+    pub(crate) fn put(&mut self, line: &[u8])
+        requires fits { length self.old.tag + (LAST + length line.now) ≤ self.old.held }
+        ensures { Adds line.now self.old self.new }
+    {
+        put(line, &mut self.out);
+        self.held -= line.len();
+    }
+
+    // Holds room besides for what is told of a mailbox of this name once it is entered.
+    pub(crate) fn hold_opening(&mut self, name: &[u8]) -> Result<(), MailFault>
+        ensures held { OnOk result (self.new ≡ record self.old { held = self.old.held + (length name.now + OPENING_ROOM) }) }
+        ensures fits { OnOk result (length self.new.tag + (LAST + (length name.now + OPENING_ROOM)) ≤ self.new.held) }
+        ensures err { OnErr result (self.new ≡ self.old) }
+        ensures fault { IfErr result (λ f. f ≡ MailFault.NoMemory) }
+    {
+        let more = name.len().saturating_add(OPENING_ROOM);
+        let held = self.held.saturating_add(more);
+        if self.out.reserve(held).is_err() {
+            return Err(MailFault::NoMemory);
+        }
+        self.held = held;
+        Ok(())
+    }
+
+    // Writes what is told of a mailbox that was entered, in the room that is held for it.
+    pub(crate) fn put_opening(&mut self, read_only: bool, name: &[u8], opening: &Opening)
+        requires fits { length self.old.tag + (LAST + (length name.now + OPENING_ROOM)) ≤ self.old.held }
+        ensures { Adds (opening_text read_only name.now opening.now) self.old self.new }
+    {
+        put_opening(read_only, name, opening, &mut self.out);
+        self.held -= name.len() + OPENING_ROOM;
     }
 
     // Writes a line, or nothing where memory is refused.
@@ -119,6 +155,7 @@ impl<'a> Response<'a> {
         // It is one call of the store.
         ensures event { Feeds (λ a. S.step store.old (Feed limit) a store.new) limit self.old.text self.new.text result }
         ensures faults { IfErr result (λ f. f ≢ MailFault.Spent) }
+        ensures held { (self.new.tag ≡ self.old.tag) × (self.new.held ≡ self.old.held) }
     {
         let start = self.out.len();
         let held = self.held;

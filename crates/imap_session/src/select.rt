@@ -1,47 +1,28 @@
 //! SELECT and EXAMINE (RFC 9051, 6.3.2 and 6.3.3), CLOSE and UNSELECT (6.4.1 and 6.4.2): mailboxes entered and left.
 
-ghost use Rattle.std.specs.Prelude.{◌≡◌, ◌≤◌, [], codes, false, length, OnOk, OnErr, IfOk, IfErr, None, Some, if◌then◌else◌};
+ghost use Rattle.std.specs.Prelude.{◌≡◌, ◌+◌, ◌≤◌, codes, false, length, OnOk, OnErr, IfOk, None, Some, if◌then◌else◌};
 ghost use Rattle.mailbox.specs.declared.clients.Opening.{Opening as OpeningSpec};
 ghost use Rattle.imap_session.specs.Exchange.{Exchange, Enter, Leave, nothing_sent};
-ghost use Rattle.imap_session.specs.Commands.{closing, entering, on_folder, selecting};
-ghost use Rattle.imap_answers.specs.Answers.{opening_text};
+ghost use Rattle.imap_session.specs.Commands.{closing, entering, on_folder, selecting, wanting};
 ghost use Rattle.imap_session.specs.Response.{Response as ResponseSpec};
-ghost use Rattle.imap_session.specs.inner.Response.{adding};
 ghost use Rattle.imap_session.specs.inner.Store.{Moves, last};
 
 use crate::folders::find_folder;
-use crate::response::{MOST_WORDS, Response, hold_room};
+use crate::response::{LAST, MOST_WORDS, Response};
 use crate::standing::{Folder, Selected};
 use crate::store::Store;
-use imap_answers::write_opening;
+use crate::turn::FIRST;
 use imap_grammar::Name;
 use mailbox::{MailFault, Opening};
 use std::alloc::Global;
 
-// Writes what is told of a mailbox that was entered.
-fn tell_opening(
-    read_only: bool,
-    name: &[u8],
-    opening: &Opening,
-    response: &mut Response<'_>,
-) -> Result<(), MailFault>
-    ensures text { OnOk result (response.new ≡ adding (opening_text read_only name.now opening.now) response.old) }
-    ensures err { OnErr result (response.new ≡ response.old) }
-    ensures fault { IfErr result (λ f. f ≡ MailFault.NoMemory) }
-{
-    let start = response.out.len();
-    if write_opening(read_only, name, opening, &mut response.out).is_err() {
-        return Err(MailFault::NoMemory);
-    }
-    hold_room(start, response.held, &mut response.out)
-}
-
-// Leaves the mailbox that was selected, if one was.
+// Leaves the mailbox that was selected, if one was, and tells that in room that is held.
 fn leave_previous<S: Store>(
     selected: &mut Option<Selected>,
     store: &mut S,
     response: &mut Response<'_>,
 ) -> Result<(), MailFault>
+    requires long { length response.old.tag + (LAST + FIRST) ≤ response.old.held }
     ensures done { (x : Exchange) → Moves S.step selected.old selected.new (closing selected.old x) (λ _.
         x) store.old store.new response.old response.new result }
     ensures none { OnOk result (selected.new ≡ None) }
@@ -51,7 +32,8 @@ fn leave_previous<S: Store>(
     }
     store.leave(false)?;
     *selected = None;
-    response.write(b"* OK [CLOSED] Previous mailbox is closed\r\n")
+    response.put(b"* OK [CLOSED] Previous mailbox is closed\r\n");
+    Ok(())
 }
 
 // Enters a mailbox, which is selected from then on.
@@ -97,7 +79,7 @@ fn entered_words(read_only: bool) -> &'static [u8]
     }
 }
 
-// Enters a folder's mailbox and tells of it. Answers what the last line says.
+// Enters a folder's mailbox and tells of it: memory is wanted before that. Answers what the last line says.
 fn enter_folder<S: Store>(
     folder: &Folder,
     read_only: bool,
@@ -106,15 +88,17 @@ fn enter_folder<S: Store>(
     response: &mut Response<'_>,
 ) -> Result<&'static [u8], MailFault>
     ensures done { Moves S.step selected.old selected.new
-        (entering read_only folder.now) last store.old store.new response.old response.new result }
+        (wanting (entering read_only folder.now)) last store.old store.new response.old response.new result }
     ensures short { IfOk result (λ words. length words.now ≤ MOST_WORDS) }
 {
+    let name = folder.name();
+    response.hold_opening(name)?;
     let wanted = Selected {
         mailbox: folder.mailbox(),
         read_only,
     };
     let opening = enter_mailbox(wanted, selected, store)?;
-    tell_opening(read_only, folder.name(), &opening, response)?;
+    response.put_opening(read_only, name, &opening);
     Ok(entered_words(read_only))
 }
 
@@ -128,7 +112,7 @@ fn enter_named<S: Store>(
     response: &mut Response<'_>,
 ) -> Result<&'static [u8], MailFault>
     ensures done { Moves S.step selected.old selected.new
-        (on_folder name.now folders.now (entering read_only)) last store.old store.new response.old response.new result }
+        (wanting (on_folder name.now folders.now (entering read_only))) last store.old store.new response.old response.new result }
     ensures short { IfOk result (λ words. length words.now ≤ MOST_WORDS) }
 {
     match find_folder(name, folders) {
@@ -137,7 +121,8 @@ fn enter_named<S: Store>(
     }
 }
 
-// SELECT and EXAMINE: leaves the mailbox that was selected, then enters the one of this name. Answers what the last line says.
+// SELECT and EXAMINE: leaves the mailbox that was selected, then enters the one of this name. Answers what the last line says. Where it isn't entered
+// none is selected, also where memory is refused.
 pub(crate) fn select_mailbox<S: Store>(
     alloc: Global,
     folders: &[Folder],
@@ -147,6 +132,7 @@ pub(crate) fn select_mailbox<S: Store>(
     store: &mut S,
     response: &mut Response<'_>,
 ) -> Result<&'static [u8], MailFault>
+    requires long { length response.old.tag + (LAST + FIRST) ≤ response.old.held }
     ensures done { Moves S.step selected.old selected.new
         (selecting (record {
           folders = folders.now;
@@ -157,10 +143,10 @@ pub(crate) fn select_mailbox<S: Store>(
         }) read_only name.now) last store.old store.new response.old response.new result }
     ensures short { IfOk result (λ words. length words.now ≤ MOST_WORDS) }
 {
+    leave_previous(selected, store, response)?;
     let Ok(name) = name.to_bytes(alloc) else {
         return Err(MailFault::NoMemory);
     };
-    leave_previous(selected, store, response)?;
     let name = name.as_slice();
     enter_named(folders, read_only, name, selected, store, response)
 }

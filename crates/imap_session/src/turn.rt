@@ -10,7 +10,7 @@ ghost use Rattle.imap_session.specs.inner.Store.{Does, Moves, after_command, beh
 
 use crate::count::{count_mailbox, list_folders};
 use crate::expunge::show_pending;
-use crate::response::{MOST_WORDS, Response};
+use crate::response::{LAST, MOST_WORDS, Response};
 use crate::say::{put, put_tagged};
 use crate::select::select_mailbox;
 use crate::selected::{close, expunge, fetch, store_flags, uid_expunge, unselect};
@@ -20,8 +20,8 @@ use imap_grammar::{Append, Command, ImapFault, is_done};
 use mailbox::MailFault;
 use std::alloc::Global;
 
-/// Room for the line that CAPABILITY, NAMESPACE or LOGOUT writes before its last one.
-pub(crate) const FIRST: usize = 32;
+/// Room for the line that CAPABILITY, NAMESPACE or LOGOUT writes before its last one, or by which SELECT or EXAMINE tells that a mailbox was left.
+pub(crate) const FIRST: usize = 42;
 
 // Writes what is said of a line that is no command, in room that was reserved.
 pub(crate) fn put_fault(fault: &ImapFault<'_>, out: &mut Vec<u8>)
@@ -118,6 +118,7 @@ pub(crate) fn carry_out<S: Store>(
     response: &mut Response<'_>,
 ) -> Result<&'static [u8], MailFault>
     requires other { is_open command.now ≡ false }
+    requires long { length response.old.tag + (LAST + FIRST) ≤ response.old.held + length (first_line command.now) }
     ensures done { (mailing : Mailing) → Moves S.step selected.old selected.new
         (behind_first_line (record { folders = folders.now; selected = selected.old; idling = None; ended = false; mailing = mailing }) command.now)
         (ending (after_command command.now)) store.old store.new response.old response.new result }

@@ -11,7 +11,7 @@ use Rattle.imap_session.specs.Exchange.{Call, Answer, Event, Exchange, Done, Sta
 use Rattle.imap_session.specs.Commands.{completed, on_command}
 use Rattle.imap_session.specs.Store.{Met}
 use Rattle.imap_session.specs.Response.{Response}
-use Rattle.imap_session.specs.inner.Response.{adding}
+use Rattle.imap_session.specs.inner.Response.{Adds}
 
 -- ---- part of a turn
 
@@ -29,7 +29,7 @@ pub record Reaches {S : Type 0} (step : S → Call → Answer → S → Type 0) 
   pub bytes : List ℕ
   pub leads : LeadsOn tag now next x y events bytes
   pub met : Met step old events new
-  pub wrote : after ≡ adding bytes before
+  pub wrote : Adds bytes before after
 
 -- an exchange was stopped by a fault, of which nothing was written yet
 pub record Stops {S : Type 0} (step : S → Call → Answer → S → Type 0) (tag : List ℕ) (now next : Standing) (x : Exchange) (fault : MailFault) (old new : S) (before after : Response) : Type 0 where
@@ -37,7 +37,7 @@ pub record Stops {S : Type 0} (step : S → Call → Answer → S → Type 0) (t
   pub bytes : List ℕ
   pub leads : (whole : List Answer) × (played tag now x whole ≡ Some (onward events bytes (refused tag next fault)))
   pub met : Met step old events new
-  pub wrote : after ≡ adding bytes before
+  pub wrote : Adds bytes before after
 
 -- Part of an exchange was done, with this result: y is left, or a fault stopped it.
 abbrev pub Does : {S V : Type 0} → (S → Call → Answer → S → Type 0) → Exchange → (V → Exchange) → S → S → Response → Response → Result V MailFault → Type 0

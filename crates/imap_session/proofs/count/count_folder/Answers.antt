@@ -26,4 +26,4 @@ returns g c x =
     counts_then g.S.Store.step c.mailbox.result c.args.folder.now.mailbox next c.in_ok-status.status (λ u. x) _ _ _ _ _ c.show_pending.result
     c.mailbox.ensures c.in_ok-status.ensures.event
     (writes_then g.S.Store.step _ _ (λ u. x) _ _ _ _ _ c.show_pending.result (rw c.name.ensures at c.in_ok-write_counted.ensures.text)
-    (c.show_pending.ensures x))
+    (c.show_pending.ensures.done x))

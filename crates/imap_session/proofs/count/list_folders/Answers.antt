@@ -17,9 +17,9 @@ returns-in_err-show_pending-clause-done g c =
     let listed = completed (commands.List c.args.reference.now c.args.pattern.now) in
     let p = err_from_is_err_and c.from_residual-in_err-show_pending.result c.from_residual-in_err-show_pending.ensures.1 in
     rw (p.1, p.2) (writes_then {V = Bor (List ℕ)} g.S.Store.step _ (showing c.args.selected listed) last _ _ _ _ _ (Err _) c.in_ok-write_names.ensures.text
-    (c.in_err-show_pending.ensures listed))
+    (c.in_err-show_pending.ensures.done listed))
 
 pub returns-clause-done : goal.returns-clause-done
 returns-clause-done g c =
     let listed = completed (commands.List c.args.reference.now c.args.pattern.now) in
-    writes_then g.S.Store.step _ (showing c.args.selected listed) (λ (u : Unit {0}). listed) _ _ _ _ _ (Ok tt) c.in_ok-write_names.ensures.text (c.in_ok-show_pending.ensures listed)
+    writes_then g.S.Store.step _ (showing c.args.selected listed) (λ (u : Unit {0}). listed) _ _ _ _ _ (Ok tt) c.in_ok-write_names.ensures.text (c.in_ok-show_pending.ensures.done listed)

@@ -21,5 +21,4 @@ returns-in_err-leave-clause-done g c x =
 pub returns-clause-done : goal.returns-clause-done
 returns-clause-done g c x =
     let some : is_none c.args.selected.now ≡ false = search rules in
-    moves_closed g.S.Store.step c.args.selected.now x c.in_ok-leave.field-0 _ _ _ _ c.write.result some c.in_ok-leave.ensures
-    c.write.ensures.text c.write.ensures.err c.write.ensures.fault
+    moves_closed g.S.Store.step c.args.selected.now x c.in_ok-leave.field-0 _ _ _ _ _ some c.in_ok-leave.ensures c.put.ensures

@@ -1,20 +1,24 @@
-use Rattle.std.proofs.Common.{ℕ, List, [], Err, ◌∙◌}
+use Rattle.std.proofs.Common.{ℕ, List, Err, ◌∙◌}
 use Rattle.std.specs.Borrow.{Bor}
 use Rattle.std.proofs.lemmas.Result.{err_from_is_err_and}
+use Rattle.mailbox.specs.declared.clients.MailFault.TheVariants.{NoMemory}
+use Rattle.imap_session.specs.Exchange.{Exchange}
+use Rattle.imap_session.specs.Commands.{closing, entering, on_folder, wanting}
 use Rattle.imap_session.specs.inner.Store.{last}
-use Rattle.imap_session.specs.Commands.{entering, on_folder}
-use Rattle.imap_session.proofs.Runs.{stops_write}
-use Rattle.imap_session.proofs.Naming.{moves_wanting, selects}
+use Rattle.imap_session.proofs.Naming.{moves_then, selects, starves_wanting}
 use Rattle.imap_session.proofs.select.select_mailbox.Goals as goal
-
-pub returns-in_default-clause-done : goal.returns-in_default-clause-done
-returns-in_default-clause-done g c tag now was = rw (← was) (stops_write g.S.Store.step tag now [] _ _ _)
 
 pub returns-in_err-leave_previous-clause-done : goal.returns-in_err-leave_previous-clause-done
 returns-in_err-leave_previous-clause-done g c =
+    let rest : Exchange = wanting (on_folder c.args.name.now c.args.folders.now (entering c.args.read_only)) in
     let p = err_from_is_err_and c.from_residual.result c.from_residual.ensures.1 in
-    rw (p.1, p.2) (moves_wanting {V = Bor (List ℕ)} g.S.Store.step _ _ _ last _ _ _ _ (Err _)
-    (c.in_err-leave_previous.ensures.done (on_folder c.args.name.now c.args.folders.now (entering c.args.read_only))))
+    rw (p.1, p.2) (c.in_err-leave_previous.ensures.done rest)
+
+pub returns-in_default-clause-done : goal.returns-in_default-clause-done
+returns-in_default-clause-done g c =
+    let rest : Exchange = wanting (on_folder c.args.name.now c.args.folders.now (entering c.args.read_only)) in
+    moves_then {V = Bor (List ℕ)} g.S.Store.step _ _ _ (closing c.args.selected.now rest) rest last _ _ _ _ _ _ (Err NoMemory)
+    (c.in_ok-leave_previous.ensures.done rest) (starves_wanting {V = Bor (List ℕ)} g.S.Store.step _ _ last _ _)
 
 pub returns-clause-done : goal.returns-clause-done
 returns-clause-done g c =

@@ -11,4 +11,4 @@ returns-then-not-is_done-clause-done g c tag now =
 pub returns-clause-done : goal.returns-clause-done
 returns-clause-done g c tag now =
     says_done g.S.Store.step tag now c.args.selected c.args.line.now _ _ _ _ (sym c.is_done.ensures.exact ∙ c.if-not-is_done.false)
-    (c.in_ok-show_pending.ensures (completed commands.Idle) tag now)
+    (c.in_ok-show_pending.ensures.done (completed commands.Idle) tag now)
