@@ -2,7 +2,6 @@
 use Rattle.std.proofs.Common.{◌≡◌, ℕ, List, [], ◌∷◌, ◌++◌, Bool, true, false, codes, Option, Some, None, Result, Ok, Err, refl, ap, sym, ◌∙◌, subst, append-nil, if◌then◌else◌, ◌⊎◌, inl, inr, length, ◌<◌, ◌==◌, IfOk}
 use Rattle.std.specs.Prelude.{zero}
 use Rattle.std.proofs.lemmas.Bool.{lt-ltb}
-use Rattle.std.specs.Borrow.{Bor}
 use Rattle.mailbox.specs.declared.clients.MailFault.{MailFault}
 use Rattle.imap_grammar.specs.declared.command.Command.{Command}
 use Rattle.imap_grammar.specs.declared.command.Command.TheVariants as commands
@@ -142,7 +141,7 @@ answers_idle step now next line response command s before after Go alone awake h
     })
 
 -- the line that ends it
-pub plays_idle_line : {S : Type 0} (step : S → Call → Answer → S → Type 0) (now : Standing) (line : List ℕ) (old new : S) (before mid : Response) (final : List ℕ) (r : Result (Bor (List ℕ)) MailFault) (how : After)
+pub plays_idle_line : {S : Type 0} (step : S → Call → Answer → S → Type 0) (now : Standing) (line : List ℕ) (old new : S) (before mid : Response) (final : List ℕ) (r : Result (List ℕ) MailFault) (how : After)
     → Does step (on_idle_line now.selected line) last old new before mid r → final ≡ mid.text ++ last_words mid.tag r → how ≡ after_result Go r
     → Plays step before.tag now now (on_idle_line now.selected line) old new before.text final how
 plays_idle_line step now line old new before mid final r how d f h =

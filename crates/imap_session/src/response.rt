@@ -18,6 +18,21 @@ pub(crate) const MOST_WORDS: usize = 45;
 /// Room for the last line of any answer beside its tag, a space and CRLF among it; and for a line that says BYE.
 pub(crate) const LAST: usize = 48;
 
+/// What a last line says behind its tag: no more than fits in the room that is held.
+#[derive(Drop)]
+pub(crate) struct LastWords(pub(crate) &'static [u8]);
+
+impl Model for LastWords {
+    ghost use Rattle.std.specs.Prelude.{◌≤◌, length, List, ℕ};
+    ghost use Rattle.imap_session.specs.declared.response.TheConstants.{MOST_WORDS};
+
+    ghost Value = { List ℕ };
+
+    ghost view = { λ w. w.0.now };
+
+    ghost invariant = { λ w. length w.0.now ≤ MOST_WORDS };
+}
+
 /// A response to a command of this tag, as it is written behind those before it. It has the bytes till its last line is written, or it waits
 /// with none; they are given back with that.
 #[derive(Drop)]
@@ -79,7 +94,7 @@ pub(crate) fn hold_room(start: usize, held: usize, out: &mut Vec<u8>) -> Result<
 }
 
 impl<'a> Response<'a> {
-    ghost use Rattle.std.specs.Prelude.{◌≡◌, ◌≢◌, ◌+◌, ◌≤◌, ◌++◌, OnOk, OnErr, IfOk, IfErr, vec_len, length, flat_map};
+    ghost use Rattle.std.specs.Prelude.{◌≡◌, ◌≢◌, ◌+◌, ◌≤◌, ◌++◌, OnOk, OnErr, IfErr, vec_len, length, flat_map};
     ghost use Rattle.std.specs.Option.{option_copied};
     ghost use Rattle.std.specs.Vec.{vec_capacity};
     ghost use Rattle.imap_session.specs.Exchange.{Exchange, Expunge, Feed, tagged};
@@ -193,29 +208,27 @@ impl<'a> Response<'a> {
     }
 
     /// Ends with a last line, which says this behind the tag.
-    pub(crate) fn end(self, words: &[u8], out: &mut Vec<u8>)
-        requires short { length words.now ≤ MOST_WORDS }
-        ensures { out.new.items ≡ self.entry.text ++ tagged self.entry.tag words.now }
+    pub(crate) fn end(self, words: LastWords, out: &mut Vec<u8>)
+        ensures { out.new.items ≡ self.entry.text ++ tagged self.entry.tag words }
     {
         let tag = self.release(out);
-        put_tagged(tag, words, out);
+        put_tagged(tag, words.0, out);
     }
 
     /// Ends with a last line, or with what is said of the fault that stopped the command.
     pub(crate) fn conclude(
         self,
         after: After,
-        done: Result<&'static [u8], MailFault>,
+        done: Result<LastWords, MailFault>,
         out: &mut Vec<u8>,
     ) -> After
-        requires short { IfOk done (λ words. length words.now ≤ MOST_WORDS) }
-        ensures text { out.new.items ≡ self.entry.text ++ last_words self.entry.tag done.entry }
-        ensures after { result ≡ after_result after done.entry }
+        ensures text { out.new.items ≡ self.entry.text ++ last_words self.entry.tag done }
+        ensures after { result ≡ after_result after done }
     {
         let tag = self.release(out);
         match done {
             Ok(words) => {
-                put_tagged(tag, words, out);
+                put_tagged(tag, words.0, out);
                 after
             }
             Err(MailFault::Stranger) => {
