@@ -126,7 +126,8 @@ fn write_names(
     let Ok(names) = names_of(alloc, folders) else {
         return Err(MailFault::NoMemory);
     };
-    if write_list(alloc, reference, pattern, names.as_slice(), &mut response.out).is_err() {
+    let names = names.as_slice();
+    if write_list(alloc, reference, pattern, names, &mut response.out).is_err() {
         return Err(MailFault::NoMemory);
     }
     hold_room(start, response.held, &mut response.out)

@@ -154,12 +154,7 @@ impl Session {
     }
 
     // Begins to idle. Where memory for the tag is refused, that is told: of a tag of at most 32 bytes it isn't asked.
-    fn begin_idling(
-        &mut self,
-        alloc: Global,
-        response: Response<'_>,
-        out: &mut Vec<u8>,
-    ) -> After
+    fn begin_idling(&mut self, alloc: Global, response: Response<'_>, out: &mut Vec<u8>) -> After
         ensures begun { result ≡ After.Idle → (self.new ≡ record self.old { idling = Some response.entry.tag }) ×
             (out.new.items ≡ response.entry.text ++ codes "+ idling\r\n") }
         ensures starved { result ≡ After.Go → (32 < length response.entry.tag) × (self.new ≡ self.old) ×
