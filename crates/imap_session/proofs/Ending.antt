@@ -5,7 +5,7 @@ use Rattle.imap_grammar.specs.declared.command.Command.{Command}
 use Rattle.imap_grammar.specs.declared.command.Command.TheVariants as commands
 use Rattle.std.specs.Option.{option_map}
 use Rattle.imap_session.specs.declared.standing.After.{After}
-use Rattle.imap_session.specs.declared.standing.After.TheVariants.{Go, Idle, Literal, Submit, Bye}
+use Rattle.imap_session.specs.declared.standing.After.TheVariants.{Go, Bye}
 use Rattle.imap_session.specs.declared.standing.Selected.{Selected}
 use Rattle.imap_session.specs.Exchange as ex
 use Rattle.imap_session.specs.Exchange.{Call, Answer, Exchange, Folder, Mailing, Standing, Event, played, saying, closed, tagged, refusal_text, refusal_after}
@@ -52,31 +52,7 @@ ends step tag now next x old new before mid final events bytes words Go whole p 
   met = Met-append step old new new events [] m refl;
   wrote = e ∙ (ap (λ t. t ++ words) w ∙ (append_assoc before bytes words ∙ ap (λ t. before ++ (bytes ++ t)) (sym (append-nil words))));
 }
-ends step tag now next x old new before mid final events bytes words Bye whole p m w e = record {
-  answers = whole;
-  events = events ++ [];
-  bytes = bytes ++ (words ++ []);
-  leads = p;
-  met = Met-append step old new new events [] m refl;
-  wrote = e ∙ (ap (λ t. t ++ words) w ∙ (append_assoc before bytes words ∙ ap (λ t. before ++ (bytes ++ t)) (sym (append-nil words))));
-}
-ends step tag now next x old new before mid final events bytes words Idle whole p m w e = record {
-  answers = whole;
-  events = events ++ [];
-  bytes = bytes ++ (words ++ []);
-  leads = p;
-  met = Met-append step old new new events [] m refl;
-  wrote = e ∙ (ap (λ t. t ++ words) w ∙ (append_assoc before bytes words ∙ ap (λ t. before ++ (bytes ++ t)) (sym (append-nil words))));
-}
-ends step tag now next x old new before mid final events bytes words (Literal n) whole p m w e = record {
-  answers = whole;
-  events = events ++ [];
-  bytes = bytes ++ (words ++ []);
-  leads = p;
-  met = Met-append step old new new events [] m refl;
-  wrote = e ∙ (ap (λ t. t ++ words) w ∙ (append_assoc before bytes words ∙ ap (λ t. before ++ (bytes ++ t)) (sym (append-nil words))));
-}
-ends step tag now next x old new before mid final events bytes words Submit whole p m w e = record {
+ends step tag now next x old new before mid final events bytes words how whole p m w e = record {
   answers = whole;
   events = events ++ [];
   bytes = bytes ++ (words ++ []);

@@ -33,8 +33,8 @@ impl Model for LastWords {
     ghost invariant = { λ w. length w.0.now ≤ MOST_WORDS };
 }
 
-/// A response to a command of this tag, as it is written behind those before it. It has the bytes till its last line is written, or it waits
-/// with none; they are given back with that.
+/// The response to a command of this tag, written behind those before it. It has the bytes of `out` meanwhile, and gives them back where it ends:
+/// with its last line, or with what is said while the session waits.
 #[derive(Drop)]
 pub(crate) struct Response<'a> {
     pub(crate) tag: &'a [u8],
@@ -56,7 +56,7 @@ impl<'a> Model for Response<'a> {
     ghost invariant = { λ r. (length r.tag.now + LAST ≤ r.held) × (vec_len r.out + r.held ≤ vec_capacity r.out) };
 }
 
-// Takes bytes out of their place, and leaves none.
+// Takes bytes out of their place, and leaves none. A response that borrowed them would be harder to prove.
 fn take_bytes(out: &mut Vec<u8>) -> Vec<u8>
     ensures { result ≡ out.old }
 {
@@ -76,7 +76,8 @@ fn cut_out(out: &mut Vec<u8>, start: usize, count: usize)
     out.truncate(len - count);
 }
 
-// Reserves room for `held` more bytes. Where memory is refused, what was written from `start` on goes again.
+// Reserves room for `held` more bytes. Where memory is refused, what was written from `start` on goes again. It takes a response's fields: what was
+// written stands in the room that is held, so there is no response till then.
 pub(crate) fn hold_room(start: usize, held: usize, out: &mut Vec<u8>) -> Result<(), MailFault>
     requires within { start ≤ length out.old.items }
     ensures text { OnOk result (out.new.items ≡ out.old.items) }
@@ -102,7 +103,7 @@ impl<'a> Response<'a> {
     ghost use Rattle.imap_session.specs.inner.Response.{adding};
     ghost use Rattle.imap_session.specs.inner.Store.{Does, after_result, last_words};
 
-    // Begins behind the bytes of `out`, in room that was reserved for the tag and so many bytes more.
+    /// Begins behind the bytes of `out`, in room that was reserved for the tag and so many bytes more.
     pub(crate) fn new(tag: &'a [u8], beside: usize, out: &mut Vec<u8>) -> Response<'a>
         requires last { LAST ≤ beside }
         requires fits { vec_len out.old + (length tag.now + beside) ≤ vec_capacity out.old }
@@ -115,7 +116,7 @@ impl<'a> Response<'a> {
         }
     }
 
-    // Writes a line, or nothing where memory is refused.
+    /// Writes a line, or nothing where memory is refused.
     pub(crate) fn write(&mut self, line: &[u8]) -> Result<(), MailFault>
         ensures text { OnOk result (self.new ≡ adding line.now self.old) }
         ensures err { OnErr result (self.new ≡ self.old) }
@@ -128,7 +129,7 @@ impl<'a> Response<'a> {
         Ok(())
     }
 
-    // Writes the parts in their order, or nothing where memory is refused.
+    /// Writes the parts in their order, or nothing where memory is refused.
     pub(crate) fn write_parts(&mut self, parts: &[&[u8]]) -> Result<(), MailFault>
         ensures text { OnOk result (self.new ≡ adding (flat_map (λ part. part.now) parts.now) self.old) }
         ensures err { OnErr result (self.new ≡ self.old) }
