@@ -1,12 +1,11 @@
 -- How an exchange ends: the last words are written, and the whole answers a line.
 use Rattle.std.proofs.Common.{◌≡◌, ◌+◌, ◌≤◌, length, ℕ, Bool, false, codes, List, [], ◌++◌, Option, Some, None, Result, Ok, Err, refl, ap, sym, ◌∙◌, subst, append_assoc, append-nil}
-use Rattle.std.specs.Borrow.{Bor}
 use Rattle.mailbox.specs.declared.clients.MailFault.{MailFault}
 use Rattle.imap_grammar.specs.declared.command.Command.{Command}
 use Rattle.imap_grammar.specs.declared.command.Command.TheVariants as commands
 use Rattle.std.specs.Option.{option_map}
 use Rattle.imap_session.specs.declared.standing.After.{After}
-use Rattle.imap_session.specs.declared.standing.After.TheVariants.{Go, Idle, Literal, Submit, Bye}
+use Rattle.imap_session.specs.declared.standing.After.TheVariants.{Go, Bye}
 use Rattle.imap_session.specs.declared.standing.Selected.{Selected}
 use Rattle.imap_session.specs.Exchange as ex
 use Rattle.imap_session.specs.Exchange.{Call, Answer, Exchange, Folder, Mailing, Standing, Event, played, saying, closed, tagged, refusal_text, refusal_after}
@@ -48,31 +47,7 @@ ends step tag now next x old new before mid final events bytes words Go whole p 
   met = Met-append step old new new events [] m refl;
   wrote = e ∙ (ap (λ t. t ++ words) w ∙ (append_assoc before bytes words ∙ ap (λ t. before ++ (bytes ++ t)) (sym (append-nil words))));
 }
-ends step tag now next x old new before mid final events bytes words Bye whole p m w e = record {
-  answers = whole;
-  events = events ++ [];
-  bytes = bytes ++ (words ++ []);
-  leads = p;
-  met = Met-append step old new new events [] m refl;
-  wrote = e ∙ (ap (λ t. t ++ words) w ∙ (append_assoc before bytes words ∙ ap (λ t. before ++ (bytes ++ t)) (sym (append-nil words))));
-}
-ends step tag now next x old new before mid final events bytes words Idle whole p m w e = record {
-  answers = whole;
-  events = events ++ [];
-  bytes = bytes ++ (words ++ []);
-  leads = p;
-  met = Met-append step old new new events [] m refl;
-  wrote = e ∙ (ap (λ t. t ++ words) w ∙ (append_assoc before bytes words ∙ ap (λ t. before ++ (bytes ++ t)) (sym (append-nil words))));
-}
-ends step tag now next x old new before mid final events bytes words (Literal n) whole p m w e = record {
-  answers = whole;
-  events = events ++ [];
-  bytes = bytes ++ (words ++ []);
-  leads = p;
-  met = Met-append step old new new events [] m refl;
-  wrote = e ∙ (ap (λ t. t ++ words) w ∙ (append_assoc before bytes words ∙ ap (λ t. before ++ (bytes ++ t)) (sym (append-nil words))));
-}
-ends step tag now next x old new before mid final events bytes words Submit whole p m w e = record {
+ends step tag now next x old new before mid final events bytes words how whole p m w e = record {
   answers = whole;
   events = events ++ [];
   bytes = bytes ++ (words ++ []);
@@ -82,15 +57,15 @@ ends step tag now next x old new before mid final events bytes words Submit whol
 }
 
 -- an exchange that was done but for its last line, and then that line, or what is said of the fault that stopped it
-pub plays_moved : {S : Type 0} (step : S → Call → Answer → S → Type 0) (now : Standing) (to : Option Selected) (after : After) (x : Exchange) (old new : S) (before mid : Response) (final : List ℕ) (r : Result (Bor (List ℕ)) MailFault)
+pub plays_moved : {S : Type 0} (step : S → Call → Answer → S → Type 0) (now : Standing) (to : Option Selected) (after : After) (x : Exchange) (old new : S) (before mid : Response) (final : List ℕ) (r : Result (List ℕ) MailFault)
     → Moves step now.selected to x (ending after) old new before mid r → final ≡ mid.text ++ last_words mid.tag r
     → Plays step before.tag now (record now { selected = to }) x old new before.text final (after_result after r)
 plays_moved step now to after x old new before mid final (Ok words) m e =
     let p = m before.tag now refl in
     let next : Standing = record now { selected = to } in
-    let led = p.leads [] (saying (tagged before.tag words.now) (closed next after)) refl in
-    ends step before.tag now next x old new before.text mid.text final p.events p.bytes (tagged before.tag words.now) after led.0 led.1 p.met p.wrote.1
-    (e ∙ ap (λ (t : List ℕ). mid.text ++ tagged t words.now) p.wrote.0)
+    let led = p.leads [] (saying (tagged before.tag words) (closed next after)) refl in
+    ends step before.tag now next x old new before.text mid.text final p.events p.bytes (tagged before.tag words) after led.0 led.1 p.met p.wrote.1
+    (e ∙ ap (λ (t : List ℕ). mid.text ++ tagged t words) p.wrote.0)
 plays_moved step now to after x old new before mid final (Err fault) m e =
     let p = m before.tag now refl in
     let next : Standing = record now { selected = to } in
@@ -101,7 +76,7 @@ standing_of : List Folder → Option Selected → Option (List ℕ) → Bool →
 standing_of folders selected idling ended mailing = record { folders = folders; selected = selected; idling = idling; ended = ended; mailing = mailing }
 
 -- a command that was carried out behind its first line, and its last line
-pub plays_command : {S : Type 0} (step : S → Call → Answer → S → Type 0) (now : Standing) (folders : List Folder) (from to : Option Selected) (idling : Option (List ℕ)) (ended : Bool) (mailing : Mailing) (command : Command) (old new : S) (before mid : Response) (final : List ℕ) (r : Result (Bor (List ℕ)) MailFault) (after how : After)
+pub plays_command : {S : Type 0} (step : S → Call → Answer → S → Type 0) (now : Standing) (folders : List Folder) (from to : Option Selected) (idling : Option (List ℕ)) (ended : Bool) (mailing : Mailing) (command : Command) (old new : S) (before mid : Response) (final : List ℕ) (r : Result (List ℕ) MailFault) (after how : After)
     → (let s : Standing = record { folders = folders; selected = from; idling = idling; ended = ended; mailing = mailing } in s) ≡ now → now.ended ≡ false → now.idling ≡ None
     → Moves step from to (behind_first_line (record { folders = folders; selected = from; idling = None; ended = false; mailing = mailing }) command) (ending (after_command command)) old new before mid r
     → after ≡ after_command command → final ≡ mid.text ++ last_words mid.tag r → how ≡ after_result after r

@@ -2,14 +2,13 @@
 use Rattle.std.proofs.Common.{◌≡◌, ℕ, List, [], ◌∷◌, ◌++◌, Bool, true, false, codes, Option, Some, None, Result, Ok, Err, refl, ap, sym, ◌∙◌, subst, append-nil, if◌then◌else◌, ◌⊎◌, inl, inr, length, ◌<◌, ◌==◌, IfOk}
 use Rattle.std.specs.Prelude.{zero}
 use Rattle.std.proofs.lemmas.Bool.{lt-ltb}
-use Rattle.std.specs.Borrow.{Bor}
 use Rattle.mailbox.specs.declared.clients.MailFault.{MailFault}
 use Rattle.imap_grammar.specs.declared.command.Command.{Command}
 use Rattle.imap_grammar.specs.declared.command.Command.TheVariants as commands
 use Rattle.imap_grammar.specs.declared.command.ImapFault.{ImapFault}
 use Rattle.imap_grammar.specs.Reading.{is_done, read}
 use Rattle.imap_session.specs.declared.standing.After.{After}
-use Rattle.imap_session.specs.declared.standing.After.TheVariants.{Go, Idle, Literal, Submit, Bye}
+use Rattle.imap_session.specs.declared.standing.After.TheVariants.{Go, Idle}
 use Rattle.imap_session.specs.declared.standing.SessionFault.{SessionFault}
 use Rattle.imap_session.specs.declared.standing.Selected.{Selected}
 use Rattle.imap_session.specs.Exchange.{Answer, Appending, Call, Standing, Starved, closed, tagged}
@@ -115,12 +114,6 @@ pub answers_idle : {S : Type 0} (step : S → Call → Answer → S → Type 0) 
     → (how ≡ Idle → (next ≡ record now { idling = Some response.tag }) × (after ≡ response.text ++ codes "+ idling\r\n"))
     → (how ≡ Go → (32 < length response.tag) × (next ≡ now) × (after ≡ response.text ++ tagged response.tag (codes "NO Out of memory")))
     → Answers step now line s s before after how next
-answers_idle step now next line response command s before after Bye alone awake h kept i (inl e) begun starved = absurd cc
-answers_idle step now next line response command s before after Bye alone awake h kept i (inr e) begun starved = absurd cc
-answers_idle step now next line response command s before after (Literal n) alone awake h kept i (inl e) begun starved = absurd cc
-answers_idle step now next line response command s before after (Literal n) alone awake h kept i (inr e) begun starved = absurd cc
-answers_idle step now next line response command s before after Submit alone awake h kept i (inl e) begun starved = absurd cc
-answers_idle step now next line response command s before after Submit alone awake h kept i (inr e) begun starved = absurd cc
 answers_idle step now next line response command s before after Idle alone awake h kept i on begun starved =
     subst (λ (n : Standing). Answers step now line s s before after Idle n) (sym (begun refl).0) (record {
       answers = [];
@@ -140,9 +133,11 @@ answers_idle step now next line response command s before after Go alone awake h
       met = refl;
       wrote = (starved refl).2 ∙ ap (λ t. t ++ tagged response.tag (codes "NO Out of memory")) kept ∙ ap (λ t. before ++ t) (sym (append-nil (tagged response.tag (codes "NO Out of memory"))));
     })
+answers_idle step now next line response command s before after how alone awake h kept i (inl e) begun starved = absurd cc
+answers_idle step now next line response command s before after how alone awake h kept i (inr e) begun starved = absurd cc
 
 -- the line that ends it
-pub plays_idle_line : {S : Type 0} (step : S → Call → Answer → S → Type 0) (now : Standing) (line : List ℕ) (old new : S) (before mid : Response) (final : List ℕ) (r : Result (Bor (List ℕ)) MailFault) (how : After)
+pub plays_idle_line : {S : Type 0} (step : S → Call → Answer → S → Type 0) (now : Standing) (line : List ℕ) (old new : S) (before mid : Response) (final : List ℕ) (r : Result (List ℕ) MailFault) (how : After)
     → Does step (on_idle_line now.selected line) last old new before mid r → final ≡ mid.text ++ last_words mid.tag r → how ≡ after_result Go r
     → Plays step before.tag now now (on_idle_line now.selected line) old new before.text final how
 plays_idle_line step now line old new before mid final r how d f h =

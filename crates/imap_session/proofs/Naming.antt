@@ -1,6 +1,5 @@
 -- Mailboxes by name, and parts of an exchange that follow one another where the selected mailbox may change.
 use Rattle.std.proofs.Common.{◌≡◌, ℕ, Bool, false, codes, List, [], if◌then◌else◌, Option, Some, None, Result, Ok, Err, refl}
-use Rattle.std.specs.Borrow.{Bor}
 use Rattle.mailbox.specs.declared.clients.MailFault.{MailFault}
 use Rattle.mailbox.specs.declared.clients.MailFault.TheVariants.{NoMemory}
 use Rattle.mailbox.specs.declared.clients.Opening.{Opening}
@@ -88,9 +87,9 @@ starves_write step tag now bytes x fault s before after f e = rw (f, e) (stops_w
 
 -- ---- a mailbox that was entered
 
-pub tells_opening : {S : Type 0} (step : S → Call → Answer → S → Type 0) (read_only : Bool) (name : List ℕ) (opening : Opening) (words : Bor (List ℕ)) (s : S) (before after : Response)
+pub tells_opening : {S : Type 0} (step : S → Call → Answer → S → Type 0) (read_only : Bool) (name : List ℕ) (opening : Opening) (words : List ℕ) (s : S) (before after : Response)
     → Adds (opening_text read_only name opening) before after
-    → words.now ≡ (if read_only then codes "OK [READ-ONLY] EXAMINE completed" else codes "OK [READ-WRITE] SELECT completed")
+    → words ≡ (if read_only then codes "OK [READ-ONLY] EXAMINE completed" else codes "OK [READ-WRITE] SELECT completed")
     → Does step (opened read_only name opening) last s s before after (Ok words)
 tells_opening step read_only name opening words s before after t w = λ tag now. rw w
     (reaches_put step tag now (opening_text read_only name opening)

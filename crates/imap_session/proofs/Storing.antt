@@ -1,5 +1,5 @@
 -- The parts of a STORE.
-use Rattle.std.proofs.Common.{◌≡◌, ℕ, ◌+◌, ◌<◌, Bool, true, false, if◌then◌else◌, length, drop, get_or, add-one, drop-cons, List, Option, Some, refl, subst}
+use Rattle.std.proofs.Common.{◌≡◌, ℕ, ◌+◌, ◌<◌, Bool, true, if◌then◌else◌, length, drop, get_or, add-one, drop-cons, List, Option, Some, refl, subst}
 use Rattle.mailbox.specs.declared.clients.MailFault.{MailFault}
 use Rattle.mailbox.specs.declared.clients.MailFault.TheVariants.{NoMemory}
 use Rattle.change_ring.specs.declared.change.Flags.{Flags}
@@ -11,6 +11,7 @@ use Rattle.imap_session.specs.Commands.{on_found, stored, storing}
 use Rattle.imap_session.specs.Response.{Response}
 use Rattle.imap_session.specs.inner.Response.{adding}
 use Rattle.imap_session.specs.inner.Store.{Reaches, Stops}
+use Rattle.imap_session.proofs.Fetching.{one_of_two}
 use Rattle.imap_session.proofs.Runs.{added, reaches_alter, reaches_write, reaches_then, stops_write, stops_then}
 
 -- a message that is there: its answer is what is left to write
@@ -40,10 +41,6 @@ pub storing_next : (store : Store) (view : List ℕ) (done : Bool → Exchange) 
     (storing store view done (drop (i + 1) uids) true))
 storing_next store view done uids i gone h = rw (add-one, drop-cons uids i 0) refl
 
-pub one_of_both : (f : Bool → Exchange) (here gone : Bool) → (if here then f gone else f true) ≡ f (if here then gone else true)
-one_of_both f true gone = refl
-one_of_both f false gone = refl
-
 -- a STORE goes on by one message
 pub stores_more : {S : Type 0} (step : S → Call → Answer → S → Type 0) (tag : List ℕ) (now : Standing) (store : Store) (view : List ℕ) (done : Bool → Exchange) (uids : List ℕ) (i : ℕ) (gone here : Bool) (x : Exchange) (old mid new : S) (first second third : Response)
     → i < length uids
@@ -58,6 +55,6 @@ stores_more {S} step tag now store view done uids i gone here x old mid new firs
     let f : Bool → Exchange = λ g. storing store view done (drop (i + 1) uids) g in
     let P : Exchange → Type 0 = λ y. Reaches step tag now now x y old mid first second in
     let Q : Exchange → Type 0 = λ z. Reaches step tag now now x z old new first third in
-    subst Q (one_of_both f here gone)
+    subst Q (one_of_two f here gone)
     (reaches_then step tag now now now x _ (if here then f gone else f true) old mid new first second third
     (subst P (storing_next store view done uids i gone lt) p) q)

@@ -8,7 +8,7 @@ ghost use Rattle.imap_session.specs.Commands.{appended_words, on_verdict, refuse
 ghost use Rattle.imap_session.specs.inner.Store.{Does, Plays};
 
 use crate::expunge::show_pending;
-use crate::response::{MOST_WORDS, Response};
+use crate::response::{LastWords, Response};
 use crate::say::put;
 use crate::standing::{After, Selected};
 use crate::store::Store;
@@ -19,16 +19,15 @@ use mailbox::MailFault;
 pub(crate) const STORED: usize = 56;
 
 // What the last line says where the message was refused.
-fn refused_words(why: Refusal) -> &'static [u8]
-    ensures words { result.now ≡ refused_words why }
-    ensures short { length result.now ≤ MOST_WORDS }
+fn refused_words(why: Refusal) -> LastWords
+    ensures { result ≡ refused_words why }
 {
     match why {
-        Refusal::Full => b"NO Shard full",
-        Refusal::MailboxFull => b"NO Mailbox full",
-        Refusal::NoMemory => b"NO Out of memory",
-        Refusal::UidSpent => b"NO No UID left",
-        Refusal::Shut => b"NO Shard closed",
+        Refusal::Full => LastWords(b"NO Shard full"),
+        Refusal::MailboxFull => LastWords(b"NO Mailbox full"),
+        Refusal::NoMemory => LastWords(b"NO Out of memory"),
+        Refusal::UidSpent => LastWords(b"NO No UID left"),
+        Refusal::Shut => LastWords(b"NO Shard closed"),
     }
 }
 

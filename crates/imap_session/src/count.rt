@@ -1,6 +1,6 @@
 //! STATUS (RFC 9051, 6.3.11) and LIST (6.3.9): mailboxes counted, and named. Both show what is pending behind their answer.
 
-ghost use Rattle.std.specs.Prelude.{◌≡◌, ◌≤◌, false, length, map, OnOk, OnErr, IfOk, IfErr};
+ghost use Rattle.std.specs.Prelude.{◌≡◌, false, map, OnOk, OnErr, IfOk, IfErr};
 ghost use Rattle.imap_answers.specs.Answers.{list_answer, status_answer};
 ghost use Rattle.imap_grammar.specs.declared.command.Command.TheVariants as commands;
 ghost use Rattle.imap_session.specs.Exchange.{Exchange, Count, Folder as FolderSpec, Write, nothing_sent};
@@ -10,7 +10,7 @@ ghost use Rattle.imap_session.specs.inner.Store.{Does, last};
 
 use crate::expunge::show_pending;
 use crate::folders::find_folder;
-use crate::response::{MOST_WORDS, Response, hold_room};
+use crate::response::{LastWords, Response, hold_room};
 use crate::standing::{Folder, Selected};
 use crate::store::Store;
 use imap_answers::{write_list, write_status};
@@ -61,19 +61,18 @@ fn count_named<S: Store>(
     selected: Option<Selected>,
     store: &mut S,
     response: &mut Response<'_>,
-) -> Result<&'static [u8], MailFault>
-    ensures done { Does S.step
+) -> Result<LastWords, MailFault>
+    ensures { Does S.step
         (on_folder name.now folders.now
         (counting (record { folders = folders.now; selected = selected; idling = None; ended = false; mailing = nothing_sent None })
         name.now items.now))
         last store.old store.new response.old response.new result }
-    ensures short { IfOk result (λ words. length words.now ≤ MOST_WORDS) }
 {
     let Some(folder) = find_folder(name, folders) else {
-        return Ok(b"NO [NONEXISTENT] No such mailbox");
+        return Ok(LastWords(b"NO [NONEXISTENT] No such mailbox"));
     };
     count_folder(folder, items, selected, store, response)?;
-    Ok(b"OK STATUS completed")
+    Ok(LastWords(b"OK STATUS completed"))
 }
 
 // STATUS: tells the numbers of the mailbox of this name. Answers what the last line says.
@@ -85,13 +84,12 @@ pub(crate) fn count_mailbox<S: Store>(
     selected: Option<Selected>,
     store: &mut S,
     response: &mut Response<'_>,
-) -> Result<&'static [u8], MailFault>
-    ensures done { Does S.step
+) -> Result<LastWords, MailFault>
+    ensures { Does S.step
         (wanting (on_folder name.now folders.now
         (counting (record { folders = folders.now; selected = selected; idling = None; ended = false; mailing = nothing_sent None })
         name.now items.now)))
         last store.old store.new response.old response.new result }
-    ensures short { IfOk result (λ words. length words.now ≤ MOST_WORDS) }
 {
     let Ok(name) = name.to_bytes(alloc) else {
         return Err(MailFault::NoMemory);
@@ -129,7 +127,8 @@ fn write_names(
     let Ok(names) = names_of(alloc, folders) else {
         return Err(MailFault::NoMemory);
     };
-    if write_list(alloc, reference, pattern, names.as_slice(), &mut response.out).is_err() {
+    let names = names.as_slice();
+    if write_list(alloc, reference, pattern, names, &mut response.out).is_err() {
         return Err(MailFault::NoMemory);
     }
     hold_room(start, response.held, &mut response.out)
@@ -144,14 +143,13 @@ pub(crate) fn list_folders<S: Store>(
     selected: Option<Selected>,
     store: &mut S,
     response: &mut Response<'_>,
-) -> Result<&'static [u8], MailFault>
-    ensures done { Does S.step
+) -> Result<LastWords, MailFault>
+    ensures { Does S.step
         (Write (list_answer reference.now pattern.now (map (λ (folder : FolderSpec). folder.name) folders.now))
         (showing selected (completed (commands.List reference.now pattern.now))))
         last store.old store.new response.old response.new result }
-    ensures short { IfOk result (λ words. length words.now ≤ MOST_WORDS) }
 {
     write_names(alloc, folders, reference, pattern, response)?;
     show_pending(selected, store, response)?;
-    Ok(b"OK LIST completed")
+    Ok(LastWords(b"OK LIST completed"))
 }

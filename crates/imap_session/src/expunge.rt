@@ -1,13 +1,13 @@
 //! EXPUNGE and UID EXPUNGE (RFC 9051, 6.4.3 and 6.4.9), and what is pending, shown where a mailbox is selected.
 
-ghost use Rattle.std.specs.Prelude.{◌≡◌, ◌≤◌, None, IfOk, length, map};
+ghost use Rattle.std.specs.Prelude.{◌≡◌, None, IfOk, map};
 ghost use Rattle.std.specs.Option.{option_copied};
 ghost use Rattle.imap_grammar.specs.declared.command.Command.TheVariants as commands;
 ghost use Rattle.imap_session.specs.Exchange.{Exchange, Expunge, Feed};
 ghost use Rattle.imap_session.specs.Commands.{completed, expunge_set, showing, unlimited};
 ghost use Rattle.imap_session.specs.inner.Store.{Does, last};
 
-use crate::response::{MOST_WORDS, Response};
+use crate::response::{LastWords, Response};
 use crate::standing::Selected;
 use crate::store::Store;
 use imap_grammar::{Named, SeqSet};
@@ -48,13 +48,12 @@ fn remove_and_show<S: Store>(
 pub(crate) fn expunge_all<S: Store>(
     store: &mut S,
     response: &mut Response<'_>,
-) -> Result<&'static [u8], MailFault>
-    ensures done { Does S.step (Expunge None (Feed unlimited
+) -> Result<LastWords, MailFault>
+    ensures { Does S.step (Expunge None (Feed unlimited
         (completed commands.Expunge))) last store.old store.new response.old response.new result }
-    ensures short { IfOk result (λ words. length words.now ≤ MOST_WORDS) }
 {
     remove_and_show(None, store, response)?;
-    Ok(b"OK EXPUNGE completed")
+    Ok(LastWords(b"OK EXPUNGE completed"))
 }
 
 // The UIDs of these messages.
@@ -70,16 +69,15 @@ pub(crate) fn expunge_set<S: Store>(
     set: &SeqSet<'_>,
     store: &mut S,
     response: &mut Response<'_>,
-) -> Result<&'static [u8], MailFault>
-    ensures done { Does S.step (expunge_set set.now) last store.old store.new response.old response.new result }
-    ensures short { IfOk result (λ words. length words.now ≤ MOST_WORDS) }
+) -> Result<LastWords, MailFault>
+    ensures { Does S.step (expunge_set set.now) last store.old store.new response.old response.new result }
 {
     let Some(messages) = store.choose(alloc, set, true)? else {
-        return Ok(b"BAD Sequence number too high");
+        return Ok(LastWords(b"BAD Sequence number too high"));
     };
     let Ok(uids) = uids_of(alloc, messages.as_slice()) else {
         return Err(MailFault::NoMemory);
     };
     remove_and_show(Some(uids.as_slice()), store, response)?;
-    Ok(b"OK UID EXPUNGE completed")
+    Ok(LastWords(b"OK UID EXPUNGE completed"))
 }

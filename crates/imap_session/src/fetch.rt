@@ -1,6 +1,6 @@
 //! FETCH and UID FETCH (RFC 9051, 6.4.5 and 6.4.9).
 
-ghost use Rattle.std.specs.Prelude.{◌≡◌, ◌≤◌, Bool, false, List, ℕ, map, OnOk, OnErr, IfOk, IfErr, if◌then◌else◌, length};
+ghost use Rattle.std.specs.Prelude.{◌≡◌, Bool, false, List, ℕ, map, OnOk, OnErr, IfErr, if◌then◌else◌};
 ghost use Rattle.imap_answers.specs.Answers.{row_answer};
 ghost use Rattle.imap_grammar.specs.Sets.{named_at};
 ghost use Rattle.imap_session.specs.Exchange.{Exchange, Read, Write};
@@ -9,7 +9,7 @@ ghost use Rattle.imap_session.specs.inner.Response.{adding};
 ghost use Rattle.imap_session.specs.inner.Store.{Does, last};
 ghost use Rattle.imap_grammar.specs.declared.command.Command.TheVariants as commands;
 
-use crate::response::{MOST_WORDS, Response, hold_room};
+use crate::response::{LastWords, Response, hold_room};
 use crate::store::Store;
 use imap_answers::write_row;
 use imap_grammar::{Fetch, FetchItem, Named};
@@ -85,18 +85,17 @@ fn finish_fetch<S: Store>(
     gone: bool,
     store: &mut S,
     response: &mut Response<'_>,
-) -> Result<&'static [u8], MailFault>
-    ensures done { Does S.step
+) -> Result<LastWords, MailFault>
+    ensures { Does S.step
         (messages_done (commands.Fetch fetch.now) fetch.now.by_uid gone) last store.old store.new response.old response.new result }
-    ensures short { IfOk result (λ words. length words.now ≤ MOST_WORDS) }
 {
     if fetch.by_uid {
         response.show(usize::MAX, store)?;
-        Ok(b"OK UID FETCH completed")
+        Ok(LastWords(b"OK UID FETCH completed"))
     } else if gone {
-        Ok(b"NO [EXPUNGEISSUED] Some messages are gone")
+        Ok(LastWords(b"NO [EXPUNGEISSUED] Some messages are gone"))
     } else {
-        Ok(b"OK FETCH completed")
+        Ok(LastWords(b"OK FETCH completed"))
     }
 }
 
@@ -107,19 +106,18 @@ pub(crate) fn fetch_messages<S: Store>(
     mark: bool,
     store: &mut S,
     response: &mut Response<'_>,
-) -> Result<&'static [u8], MailFault>
-    ensures done { Does S.step
+) -> Result<LastWords, MailFault>
+    ensures { Does S.step
         (on_set fetch.now.by_uid fetch.now.set (λ view uids. fetching fetch.now mark view
         (messages_done (commands.Fetch fetch.now) fetch.now.by_uid) uids false))
         last store.old store.new response.old response.new result }
-    ensures short { IfOk result (λ words. length words.now ≤ MOST_WORDS) }
 {
     let Ok(items) = fetch.items.list(alloc) else {
         return Err(MailFault::NoMemory);
     };
     let items = items.as_slice();
     let Some(messages) = store.choose(alloc, &fetch.set, fetch.by_uid)? else {
-        return Ok(b"BAD Sequence number too high");
+        return Ok(LastWords(b"BAD Sequence number too high"));
     };
     let gone = fetch_all(fetch, items, mark, messages.as_slice(), store, response)?;
     finish_fetch(fetch, gone, store, response)

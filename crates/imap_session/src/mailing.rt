@@ -8,7 +8,7 @@ ghost use Rattle.imap_session.specs.Commands.{is_over, on_rest, over, says, taki
 ghost use Rattle.imap_session.specs.Exchange.{Appending as AppendingSpec, Mailing as MailingSpec, ForVerdict, Wait};
 ghost use Rattle.imap_session.specs.inner.Seen.{appending_of};
 
-use crate::response::MOST_WORDS;
+use crate::response::LastWords;
 use crate::standing::Append;
 use crate::tag::Tag;
 use change_ring::Flags;
@@ -105,17 +105,16 @@ fn has_nul(text: &[u8]) -> bool
 }
 
 // What is said where a message of this size isn't taken.
-pub(crate) fn refused_size(most: Option<u32>, size: u64) -> Option<&'static [u8]>
+pub(crate) fn refused_size(most: Option<u32>, size: u64) -> Option<LastWords>
     ensures taken { result ≡ None → is_over most size ≡ false }
     ensures fits { result ≡ None → size < 2 ^ 32 }
-    ensures refused { IfSome result (λ words. (is_over most size ≡ true) × (over most ≡ says words.now)) }
-    ensures short { IfSome result (λ words. length words.now ≤ MOST_WORDS) }
+    ensures refused { IfSome result (λ words. (is_over most size ≡ true) × (over most ≡ says words)) }
 {
     let Some(most) = most else {
-        return Some(b"NO [CANNOT] Not offered here");
+        return Some(LastWords(b"NO [CANNOT] Not offered here"));
     };
     if size > most as u64 {
-        return Some(b"NO Message too big");
+        return Some(LastWords(b"NO Message too big"));
     }
     None
 }
@@ -128,33 +127,32 @@ pub(crate) fn judge(
     most: Option<u32>,
     number: u32,
     empty: bool,
-) -> Result<(u8, Vec<u8>), &'static [u8]>
+) -> Result<(u8, Vec<u8>), LastWords>
     ensures says { IfErr result (λ words. (mailing : MailingSpec) (a : AppendingSpec) → mailing.most ≡ most → mailing.number ≡ number →
         a.mailbox ≡ mailbox → a.size ≡ size → a.text ≡ option_map (λ t. t.items) text →
-        on_rest mailing a empty ≡ says words.now) }
-    ensures short { IfErr result (λ words. length words.now ≤ MOST_WORDS) }
+        on_rest mailing a empty ≡ says words) }
     ensures ready { IfOk result (λ made. (mailing : MailingSpec) (a : AppendingSpec) → mailing.most ≡ most → mailing.number ≡ number →
         a.mailbox ≡ mailbox → a.size ≡ size → a.text ≡ option_map (λ t. t.items) text →
         on_rest mailing a empty ≡ wanting (Wait [] (ForVerdict made.0 a.flags made.1.items))) }
     ensures numbered { IfOk result (λ made. number < 4294967295) }
 {
     let Some(mut text) = text else {
-        return Err(b"NO Out of memory");
+        return Err(LastWords(b"NO Out of memory"));
     };
     if !empty {
-        return Err(b"BAD Invalid arguments");
+        return Err(LastWords(b"BAD Invalid arguments"));
     }
     let Some(mailbox) = mailbox else {
-        return Err(b"NO [TRYCREATE] No such mailbox");
+        return Err(LastWords(b"NO [TRYCREATE] No such mailbox"));
     };
     if let Some(words) = refused_size(most, size as u64) {
         return Err(words);
     }
     if has_nul(&text) {
-        return Err(b"NO NUL byte");
+        return Err(LastWords(b"NO NUL byte"));
     }
     if number >= LAST_NUMBER {
-        return Err(b"NO Mailbox is spent");
+        return Err(LastWords(b"NO Mailbox is spent"));
     }
     trim(&mut text);
     Ok((mailbox, text))

@@ -18,8 +18,23 @@ pub(crate) const MOST_WORDS: usize = 45;
 /// Room for the last line of any answer beside its tag, a space and CRLF among it; and for a line that says BYE.
 pub(crate) const LAST: usize = 48;
 
-/// A response to a command of this tag, as it is written behind those before it. It has the bytes till its last line is written, or it waits
-/// with none; they are given back with that.
+/// What a last line says behind its tag: no more than fits in the room that is held.
+#[derive(Drop)]
+pub(crate) struct LastWords(pub(crate) &'static [u8]);
+
+impl Model for LastWords {
+    ghost use Rattle.std.specs.Prelude.{◌≤◌, length, List, ℕ};
+    ghost use Rattle.imap_session.specs.declared.response.TheConstants.{MOST_WORDS};
+
+    ghost Value = { List ℕ };
+
+    ghost view = { λ w. w.0.now };
+
+    ghost invariant = { λ w. length w.0.now ≤ MOST_WORDS };
+}
+
+/// The response to a command of this tag, written behind those before it. It has the bytes of `out` meanwhile, and gives them back where it ends:
+/// with its last line, or with what is said while the session waits.
 #[derive(Drop)]
 pub(crate) struct Response<'a> {
     pub(crate) tag: &'a [u8],
@@ -41,7 +56,7 @@ impl<'a> Model for Response<'a> {
     ghost invariant = { λ r. (length r.tag.now + LAST ≤ r.held) × (vec_len r.out + r.held ≤ vec_capacity r.out) };
 }
 
-// Takes bytes out of their place, and leaves none.
+// Takes bytes out of their place, and leaves none. A response that borrowed them would be harder to prove.
 fn take_bytes(out: &mut Vec<u8>) -> Vec<u8>
     ensures { result ≡ out.old }
 {
@@ -61,7 +76,8 @@ fn cut_out(out: &mut Vec<u8>, start: usize, count: usize)
     out.truncate(len - count);
 }
 
-// Reserves room for `held` more bytes. Where memory is refused, what was written from `start` on goes again.
+// Reserves room for `held` more bytes. Where memory is refused, what was written from `start` on goes again. It takes a response's fields: what was
+// written stands in the room that is held, so there is no response till then.
 pub(crate) fn hold_room(start: usize, held: usize, out: &mut Vec<u8>) -> Result<(), MailFault>
     requires within { start ≤ length out.old.items }
     ensures text { OnOk result (out.new.items ≡ out.old.items) }
@@ -79,7 +95,7 @@ pub(crate) fn hold_room(start: usize, held: usize, out: &mut Vec<u8>) -> Result<
 }
 
 impl<'a> Response<'a> {
-    ghost use Rattle.std.specs.Prelude.{◌≡◌, ◌≢◌, ◌+◌, ◌≤◌, ◌++◌, OnOk, OnErr, IfOk, IfErr, vec_len, length};
+    ghost use Rattle.std.specs.Prelude.{◌≡◌, ◌≢◌, ◌+◌, ◌≤◌, ◌++◌, OnOk, OnErr, IfErr, vec_len, length};
     ghost use Rattle.std.specs.Option.{option_copied};
     ghost use Rattle.std.specs.Vec.{vec_capacity};
     ghost use Rattle.imap_session.specs.Exchange.{Exchange, Expunge, Feed, tagged};
@@ -88,7 +104,7 @@ impl<'a> Response<'a> {
     ghost use Rattle.imap_session.specs.inner.Response.{Adds, adding};
     ghost use Rattle.imap_session.specs.inner.Store.{Does, after_result, last_words};
 
-    // Begins behind the bytes of `out`, in room that was reserved for the tag and so many bytes more.
+    /// Begins behind the bytes of `out`, in room that was reserved for the tag and so many bytes more.
     pub(crate) fn new(tag: &'a [u8], beside: usize, out: &mut Vec<u8>) -> Response<'a>
         requires last { LAST ≤ beside }
         requires fits { vec_len out.old + (length tag.now + beside) ≤ vec_capacity out.old }
@@ -101,7 +117,7 @@ impl<'a> Response<'a> {
         }
     }
 
-    // Writes a line in room that is held beside the last line's.
+    /// Writes a line in room that is held beside the last line's.
     pub(crate) fn put(&mut self, line: &[u8])
         requires fits { length self.old.tag + (LAST + length line.now) ≤ self.old.held }
         ensures { Adds line.now self.old self.new }
@@ -110,7 +126,7 @@ impl<'a> Response<'a> {
         self.held -= line.len();
     }
 
-    // Holds room besides for what is told of a mailbox of this name once it is entered.
+    /// Holds room besides for what is told of a mailbox of this name once it is entered.
     pub(crate) fn hold_opening(&mut self, name: &[u8]) -> Result<(), MailFault>
         ensures held { OnOk result (self.new ≡ record self.old { held = self.old.held + (length name.now + OPENING_ROOM) }) }
         ensures fits { OnOk result (length self.new.tag + (LAST + (length name.now + OPENING_ROOM)) ≤ self.new.held) }
@@ -126,7 +142,7 @@ impl<'a> Response<'a> {
         Ok(())
     }
 
-    // Writes what is told of a mailbox that was entered, in the room that is held for it.
+    /// Writes what is told of a mailbox that was entered, in the room that is held for it.
     pub(crate) fn put_opening(&mut self, read_only: bool, name: &[u8], opening: &Opening)
         requires fits { length self.old.tag + (LAST + (length name.now + OPENING_ROOM)) ≤ self.old.held }
         ensures { Adds (opening_text read_only name.now opening.now) self.old self.new }
@@ -135,7 +151,7 @@ impl<'a> Response<'a> {
         self.held -= name.len() + OPENING_ROOM;
     }
 
-    // Writes a line, or nothing where memory is refused.
+    /// Writes a line, or nothing where memory is refused.
     pub(crate) fn write(&mut self, line: &[u8]) -> Result<(), MailFault>
         ensures text { OnOk result (self.new ≡ adding line.now self.old) }
         ensures err { OnErr result (self.new ≡ self.old) }
@@ -216,29 +232,27 @@ impl<'a> Response<'a> {
     }
 
     /// Ends with a last line, which says this behind the tag.
-    pub(crate) fn end(self, words: &[u8], out: &mut Vec<u8>)
-        requires short { length words.now ≤ MOST_WORDS }
-        ensures { out.new.items ≡ self.entry.text ++ tagged self.entry.tag words.now }
+    pub(crate) fn end(self, words: LastWords, out: &mut Vec<u8>)
+        ensures { out.new.items ≡ self.entry.text ++ tagged self.entry.tag words }
     {
         let tag = self.release(out);
-        put_tagged(tag, words, out);
+        put_tagged(tag, words.0, out);
     }
 
     /// Ends with a last line, or with what is said of the fault that stopped the command.
     pub(crate) fn conclude(
         self,
         after: After,
-        done: Result<&'static [u8], MailFault>,
+        done: Result<LastWords, MailFault>,
         out: &mut Vec<u8>,
     ) -> After
-        requires short { IfOk done (λ words. length words.now ≤ MOST_WORDS) }
-        ensures text { out.new.items ≡ self.entry.text ++ last_words self.entry.tag done.entry }
-        ensures after { result ≡ after_result after done.entry }
+        ensures text { out.new.items ≡ self.entry.text ++ last_words self.entry.tag done }
+        ensures after { result ≡ after_result after done }
     {
         let tag = self.release(out);
         match done {
             Ok(words) => {
-                put_tagged(tag, words, out);
+                put_tagged(tag, words.0, out);
                 after
             }
             Err(MailFault::Stranger) => {

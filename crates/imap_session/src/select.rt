@@ -1,6 +1,6 @@
 //! SELECT and EXAMINE (RFC 9051, 6.3.2 and 6.3.3), CLOSE and UNSELECT (6.4.1 and 6.4.2): mailboxes entered and left.
 
-ghost use Rattle.std.specs.Prelude.{◌≡◌, ◌+◌, ◌≤◌, codes, false, length, OnOk, OnErr, IfOk, None, Some, if◌then◌else◌};
+ghost use Rattle.std.specs.Prelude.{◌≡◌, ◌+◌, ◌≤◌, codes, false, length, OnOk, OnErr, None, Some, if◌then◌else◌};
 ghost use Rattle.mailbox.specs.declared.clients.Opening.{Opening as OpeningSpec};
 ghost use Rattle.imap_session.specs.Exchange.{Exchange, Enter, Leave, nothing_sent};
 ghost use Rattle.imap_session.specs.Commands.{closing, entering, on_folder, selecting, wanting};
@@ -8,7 +8,7 @@ ghost use Rattle.imap_session.specs.Response.{Response as ResponseSpec};
 ghost use Rattle.imap_session.specs.inner.Store.{Moves, last};
 
 use crate::folders::find_folder;
-use crate::response::{LAST, MOST_WORDS, Response};
+use crate::response::{LAST, LastWords, Response};
 use crate::standing::{Folder, Selected};
 use crate::store::Store;
 use crate::turn::FIRST;
@@ -68,14 +68,13 @@ pub(crate) fn leave_mailbox<S: Store>(
 }
 
 // What the last line says after a mailbox was entered.
-fn entered_words(read_only: bool) -> &'static [u8]
-    ensures words { result.now ≡ (if read_only then codes "OK [READ-ONLY] EXAMINE completed" else codes "OK [READ-WRITE] SELECT completed") }
-    ensures short { length result.now ≤ MOST_WORDS }
+fn entered_words(read_only: bool) -> LastWords
+    ensures { result ≡ (if read_only then codes "OK [READ-ONLY] EXAMINE completed" else codes "OK [READ-WRITE] SELECT completed") }
 {
     if read_only {
-        b"OK [READ-ONLY] EXAMINE completed"
+        LastWords(b"OK [READ-ONLY] EXAMINE completed")
     } else {
-        b"OK [READ-WRITE] SELECT completed"
+        LastWords(b"OK [READ-WRITE] SELECT completed")
     }
 }
 
@@ -86,10 +85,9 @@ fn enter_folder<S: Store>(
     selected: &mut Option<Selected>,
     store: &mut S,
     response: &mut Response<'_>,
-) -> Result<&'static [u8], MailFault>
-    ensures done { Moves S.step selected.old selected.new
+) -> Result<LastWords, MailFault>
+    ensures { Moves S.step selected.old selected.new
         (wanting (entering read_only folder.now)) last store.old store.new response.old response.new result }
-    ensures short { IfOk result (λ words. length words.now ≤ MOST_WORDS) }
 {
     let name = folder.name();
     response.hold_opening(name)?;
@@ -110,13 +108,12 @@ fn enter_named<S: Store>(
     selected: &mut Option<Selected>,
     store: &mut S,
     response: &mut Response<'_>,
-) -> Result<&'static [u8], MailFault>
-    ensures done { Moves S.step selected.old selected.new
+) -> Result<LastWords, MailFault>
+    ensures { Moves S.step selected.old selected.new
         (wanting (on_folder name.now folders.now (entering read_only))) last store.old store.new response.old response.new result }
-    ensures short { IfOk result (λ words. length words.now ≤ MOST_WORDS) }
 {
     match find_folder(name, folders) {
-        None => Ok(b"NO [NONEXISTENT] No such mailbox"),
+        None => Ok(LastWords(b"NO [NONEXISTENT] No such mailbox")),
         Some(folder) => enter_folder(folder, read_only, selected, store, response),
     }
 }
@@ -131,9 +128,9 @@ pub(crate) fn select_mailbox<S: Store>(
     selected: &mut Option<Selected>,
     store: &mut S,
     response: &mut Response<'_>,
-) -> Result<&'static [u8], MailFault>
+) -> Result<LastWords, MailFault>
     requires long { length response.old.tag + (LAST + FIRST) ≤ response.old.held }
-    ensures done { Moves S.step selected.old selected.new
+    ensures { Moves S.step selected.old selected.new
         (selecting (record {
           folders = folders.now;
           selected = selected.old;
@@ -141,7 +138,6 @@ pub(crate) fn select_mailbox<S: Store>(
           ended = false;
           mailing = nothing_sent None;
         }) read_only name.now) last store.old store.new response.old response.new result }
-    ensures short { IfOk result (λ words. length words.now ≤ MOST_WORDS) }
 {
     leave_previous(selected, store, response)?;
     let Ok(name) = name.to_bytes(alloc) else {

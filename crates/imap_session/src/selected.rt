@@ -1,7 +1,7 @@
 //! The commands of the selected state (RFC 9051, 6.4). In another state each is refused, and what would change the mailbox is refused
 //! where EXAMINE selected it, before anything else is looked at.
 
-ghost use Rattle.std.specs.Prelude.{◌≡◌, ◌≤◌, not, ◌&&◌, false, None, IfOk, IfSome, IfNone, length};
+ghost use Rattle.std.specs.Prelude.{◌≡◌, not, ◌&&◌, false, None, IfSome, IfNone};
 ghost use Rattle.std.specs.List.{list_any};
 ghost use Rattle.imap_grammar.specs.Items.{marks_seen};
 ghost use Rattle.imap_grammar.specs.declared.command.Command.TheVariants as commands;
@@ -12,7 +12,7 @@ ghost use Rattle.imap_session.specs.inner.Store.{Does, Moves, last};
 
 use crate::expunge::{expunge_all, expunge_set};
 use crate::fetch::fetch_messages;
-use crate::response::{MOST_WORDS, Response};
+use crate::response::{LastWords, Response};
 use crate::select::leave_mailbox;
 use crate::set_flags::store_messages;
 use crate::standing::Selected;
@@ -29,16 +29,15 @@ fn sets_seen(command: &Fetch<'_>, mailbox: Selected) -> bool
 }
 
 // Why a command that changes the mailbox is refused, where it is: what its last line says.
-fn refusal(selected: Option<Selected>) -> Option<&'static [u8]>
-    ensures refused { IfSome result (λ words. (x : Exchange) → on_found (if_writable x) wrong_state selected ≡ says words.now) }
+fn refusal(selected: Option<Selected>) -> Option<LastWords>
+    ensures refused { IfSome result (λ words. (x : Exchange) → on_found (if_writable x) wrong_state selected ≡ says words) }
     ensures taken { IfNone result ((x : Exchange) → on_found (if_writable x) wrong_state selected ≡ x) }
-    ensures short { IfSome result (λ words. length words.now ≤ MOST_WORDS) }
 {
     match selected {
-        None => Some(b"BAD Wrong state"),
+        None => Some(LastWords(b"BAD Wrong state")),
         Some(mailbox) => {
             if mailbox.read_only {
-                Some(b"NO Mailbox is read-only")
+                Some(LastWords(b"NO Mailbox is read-only"))
             } else {
                 None
             }
@@ -53,13 +52,12 @@ pub(crate) fn fetch<S: Store>(
     selected: Option<Selected>,
     store: &mut S,
     response: &mut Response<'_>,
-) -> Result<&'static [u8], MailFault>
-    ensures done { Does S.step
+) -> Result<LastWords, MailFault>
+    ensures { Does S.step
         (on_found (fetch_messages command.now) wrong_state selected) last store.old store.new response.old response.new result }
-    ensures short { IfOk result (λ words. length words.now ≤ MOST_WORDS) }
 {
     match selected {
-        None => Ok(b"BAD Wrong state"),
+        None => Ok(LastWords(b"BAD Wrong state")),
         Some(mailbox) => {
             let mark = sets_seen(command, mailbox);
             fetch_messages(alloc, command, mark, store, response)
@@ -74,10 +72,9 @@ pub(crate) fn store_flags<S: Store>(
     selected: Option<Selected>,
     store: &mut S,
     response: &mut Response<'_>,
-) -> Result<&'static [u8], MailFault>
-    ensures done { Does S.step (on_found (if_writable
+) -> Result<LastWords, MailFault>
+    ensures { Does S.step (on_found (if_writable
         (store_messages command.now)) wrong_state selected) last store.old store.new response.old response.new result }
-    ensures short { IfOk result (λ words. length words.now ≤ MOST_WORDS) }
 {
     match refusal(selected) {
         Some(words) => Ok(words),
@@ -90,11 +87,10 @@ pub(crate) fn expunge<S: Store>(
     selected: Option<Selected>,
     store: &mut S,
     response: &mut Response<'_>,
-) -> Result<&'static [u8], MailFault>
-    ensures done { Does S.step (on_found (if_writable
+) -> Result<LastWords, MailFault>
+    ensures { Does S.step (on_found (if_writable
         (Expunge None (Feed unlimited (completed commands.Expunge)))) wrong_state selected)
         last store.old store.new response.old response.new result }
-    ensures short { IfOk result (λ words. length words.now ≤ MOST_WORDS) }
 {
     match refusal(selected) {
         Some(words) => Ok(words),
@@ -109,10 +105,9 @@ pub(crate) fn uid_expunge<S: Store>(
     selected: Option<Selected>,
     store: &mut S,
     response: &mut Response<'_>,
-) -> Result<&'static [u8], MailFault>
-    ensures done { Does S.step (on_found (if_writable
+) -> Result<LastWords, MailFault>
+    ensures { Does S.step (on_found (if_writable
         (expunge_set set.now)) wrong_state selected) last store.old store.new response.old response.new result }
-    ensures short { IfOk result (λ words. length words.now ≤ MOST_WORDS) }
 {
     match refusal(selected) {
         Some(words) => Ok(words),
@@ -124,31 +119,29 @@ pub(crate) fn uid_expunge<S: Store>(
 pub(crate) fn close<S: Store>(
     selected: &mut Option<Selected>,
     store: &mut S,
-) -> Result<&'static [u8], MailFault>
-    ensures done { (response : ResponseSpec) → Moves S.step selected.old selected.new
+) -> Result<LastWords, MailFault>
+    ensures { (response : ResponseSpec) → Moves S.step selected.old selected.new
         (on_found (λ mailbox. Leave (not mailbox.read_only) (completed commands.Close)) wrong_state selected.old)
         last store.old store.new response response result }
-    ensures short { IfOk result (λ words. length words.now ≤ MOST_WORDS) }
 {
     let Some(mailbox) = *selected else {
-        return Ok(b"BAD Wrong state");
+        return Ok(LastWords(b"BAD Wrong state"));
     };
     leave_mailbox(!mailbox.read_only, selected, store)?;
-    Ok(b"OK CLOSE completed")
+    Ok(LastWords(b"OK CLOSE completed"))
 }
 
 // UNSELECT.
 pub(crate) fn unselect<S: Store>(
     selected: &mut Option<Selected>,
     store: &mut S,
-) -> Result<&'static [u8], MailFault>
-    ensures done { (response : ResponseSpec) → Moves S.step selected.old selected.new
+) -> Result<LastWords, MailFault>
+    ensures { (response : ResponseSpec) → Moves S.step selected.old selected.new
         (on_found (λ mailbox. Leave false (completed commands.Unselect)) wrong_state selected.old) last store.old store.new response response result }
-    ensures short { IfOk result (λ words. length words.now ≤ MOST_WORDS) }
 {
     let Some(_) = *selected else {
-        return Ok(b"BAD Wrong state");
+        return Ok(LastWords(b"BAD Wrong state"));
     };
     leave_mailbox(false, selected, store)?;
-    Ok(b"OK UNSELECT completed")
+    Ok(LastWords(b"OK UNSELECT completed"))
 }

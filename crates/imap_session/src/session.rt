@@ -4,7 +4,7 @@
 use crate::appended::{STORED, tell_verdict};
 use crate::folders::find_folder;
 use crate::mailing::{Appending, Mailing, Sent, begin_text, judge, refused_size};
-use crate::response::{LAST, MOST_WORDS, Response};
+use crate::response::{LAST, LastWords, Response};
 use crate::say::{GREETING, IDLING, LONG_LINE, NOT_DONE, READY, put, put_tagged};
 use crate::standing::{After, Append, Folder, Selected, SessionFault};
 use crate::store::Store;
@@ -154,12 +154,7 @@ impl Session {
     }
 
     // Begins to idle. Where memory for the tag is refused, that is told: of a tag of at most 32 bytes it isn't asked.
-    fn begin_idling(
-        &mut self,
-        alloc: Global,
-        response: Response<'_>,
-        out: &mut Vec<u8>,
-    ) -> After
+    fn begin_idling(&mut self, alloc: Global, response: Response<'_>, out: &mut Vec<u8>) -> After
         ensures begun { result ≡ After.Idle → (self.new ≡ record self.old { idling = Some response.entry.tag }) ×
             (out.new.items ≡ response.entry.text ++ codes "+ idling\r\n") }
         ensures starved { result ≡ After.Go → (32 < length response.entry.tag) × (self.new ≡ self.old) ×
@@ -247,11 +242,11 @@ impl Session {
         ensures sends { result ≡ may_send self.new }
     {
         let Ok(mailbox) = self.number_of(alloc, &append.name) else {
-            response.end(b"NO Out of memory", out);
+            response.end(LastWords(b"NO Out of memory"), out);
             return After::Go;
         };
         let Some(number) = mailbox else {
-            response.end(b"NO [TRYCREATE] No such mailbox", out);
+            response.end(LastWords(b"NO [TRYCREATE] No such mailbox"), out);
             return After::Go;
         };
         if let Some(words) = refused_size(self.mailing.most, append.literal.size) {
@@ -288,7 +283,7 @@ impl Session {
             return After::Bye;
         }
         let Ok(mailbox) = self.number_of(alloc, &append.name) else {
-            response.end(b"NO Out of memory", out);
+            response.end(LastWords(b"NO Out of memory"), out);
             return After::Go;
         };
         self.await_literal(alloc, mailbox, append, response, out)
@@ -541,14 +536,14 @@ impl Session {
         match self.submit(begun, line.is_empty()) {
             Ok(()) => Ok(After::Submit),
             Err((tag, words)) => {
-                put_tagged(tag.as_slice(), words, out);
+                put_tagged(tag.as_slice(), words.0, out);
                 Ok(After::Go)
             }
         }
     }
 
     // Submits a message whose bytes are all there, or gives its tag back with what the last line says.
-    fn submit(&mut self, begun: Appending, ends: bool) -> Result<(), (Tag, &'static [u8])>
+    fn submit(&mut self, begun: Appending, ends: bool) -> Result<(), (Tag, LastWords)>
         requires going { self.old.ended ≡ false }
         requires awake { self.old.idling ≡ None }
         requires alone { self.old.mailing.begun ≡ None }
@@ -556,9 +551,8 @@ impl Session {
         ensures sent { OnOk result ((before : List ℕ) → Leads begun.tag self.old (on_rest self.old.mailing (appending_of begun) ends) before before
             After.Submit self.new) }
         ensures refused { IfErr result (λ told. (before : List ℕ) → Leads begun.tag self.old (on_rest self.old.mailing (appending_of begun) ends)
-            before (before ++ tagged told.0 told.1.now) After.Go self.new) }
+            before (before ++ tagged told.0 told.1) After.Go self.new) }
         ensures tag { IfErr result (λ told. told.0 ≡ begun.tag) }
-        ensures short { IfErr result (λ told. length told.1.now ≤ MOST_WORDS) }
         ensures folders { self.new.folders ≡ self.old.folders }
         ensures waits { OnOk result (may_send self.new ≡ After.Submit) }
         ensures goes { OnErr result (may_send self.new ≡ After.Go) }
@@ -577,7 +571,7 @@ impl Session {
             Err(words) => Err((tag, words)),
             Ok((mailbox, text)) => {
                 let Ok(text) = Text::new(text) else {
-                    return Err((tag, b"NO Out of memory"));
+                    return Err((tag, LastWords(b"NO Out of memory")));
                 };
                 self.mailing.number = message + 1;
                 self.mailing.sent = Some(Sent {

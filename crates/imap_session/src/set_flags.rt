@@ -1,6 +1,6 @@
 //! STORE and UID STORE (RFC 9051, 6.4.6 and 6.4.9).
 
-ghost use Rattle.std.specs.Prelude.{◌≡◌, ◌≤◌, Bool, false, List, [], ℕ, map, OnOk, OnErr, IfOk, IfErr, if◌then◌else◌, length};
+ghost use Rattle.std.specs.Prelude.{◌≡◌, Bool, false, List, [], ℕ, map, OnOk, OnErr, IfErr, if◌then◌else◌};
 ghost use Rattle.imap_grammar.specs.declared.command.Command.TheVariants as commands;
 ghost use Rattle.imap_grammar.specs.Sets.{named_at};
 ghost use Rattle.imap_session.specs.Exchange.{Exchange, Alter, Write};
@@ -9,7 +9,7 @@ ghost use Rattle.imap_answers.specs.Answers.{flags_answer};
 ghost use Rattle.imap_session.specs.inner.Response.{adding};
 ghost use Rattle.imap_session.specs.inner.Store.{Does, last};
 
-use crate::response::{MOST_WORDS, Response, hold_room};
+use crate::response::{LastWords, Response, hold_room};
 use crate::store::Store;
 use change_ring::Flags;
 use imap_answers::write_stored;
@@ -84,18 +84,17 @@ fn finish_store<S: Store>(
     gone: bool,
     store: &mut S,
     response: &mut Response<'_>,
-) -> Result<&'static [u8], MailFault>
-    ensures done { Does S.step
+) -> Result<LastWords, MailFault>
+    ensures { Does S.step
         (messages_done (commands.Store command.now) command.now.by_uid gone) last store.old store.new response.old response.new result }
-    ensures short { IfOk result (λ words. length words.now ≤ MOST_WORDS) }
 {
     if command.by_uid {
         response.show(usize::MAX, store)?;
-        Ok(b"OK UID STORE completed")
+        Ok(LastWords(b"OK UID STORE completed"))
     } else if gone {
-        Ok(b"NO [EXPUNGEISSUED] Some messages are gone")
+        Ok(LastWords(b"NO [EXPUNGEISSUED] Some messages are gone"))
     } else {
-        Ok(b"OK STORE completed")
+        Ok(LastWords(b"OK STORE completed"))
     }
 }
 
@@ -105,15 +104,14 @@ pub(crate) fn store_messages<S: Store>(
     command: &StoreCommand<'_>,
     store: &mut S,
     response: &mut Response<'_>,
-) -> Result<&'static [u8], MailFault>
-    ensures done { Does S.step
+) -> Result<LastWords, MailFault>
+    ensures { Does S.step
         (on_set command.now.by_uid command.now.set (λ view uids. storing command.now view
         (messages_done (commands.Store command.now) command.now.by_uid) uids false))
         last store.old store.new response.old response.new result }
-    ensures short { IfOk result (λ words. length words.now ≤ MOST_WORDS) }
 {
     let Some(messages) = store.choose(alloc, &command.set, command.by_uid)? else {
-        return Ok(b"BAD Sequence number too high");
+        return Ok(LastWords(b"BAD Sequence number too high"));
     };
     let gone = store_all(command, messages.as_slice(), store, response)?;
     finish_store(command, gone, store, response)

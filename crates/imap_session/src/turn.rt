@@ -1,7 +1,7 @@
 //! One command, carried out: the part that fits it, in the state that it wants, and what its last line says.
 //! What each part does is told in the modules of the commands.
 
-ghost use Rattle.std.specs.Prelude.{◌≡◌, ◌+◌, ◌≤◌, ◌++◌, length, true, false, None, IfOk, IfSome, IfNone, vec_len};
+ghost use Rattle.std.specs.Prelude.{◌≡◌, ◌+◌, ◌≤◌, ◌++◌, length, true, false, None, IfSome, IfNone, vec_len};
 ghost use Rattle.std.specs.Vec.{vec_capacity};
 ghost use Rattle.imap_grammar.specs.declared.command.Command.TheVariants as commands;
 ghost use Rattle.imap_session.specs.Commands.{completed, fault_text, on_idle_line, showing};
@@ -10,7 +10,7 @@ ghost use Rattle.imap_session.specs.inner.Store.{Does, Moves, after_command, beh
 
 use crate::count::{count_mailbox, list_folders};
 use crate::expunge::show_pending;
-use crate::response::{LAST, MOST_WORDS, Response};
+use crate::response::{LAST, LastWords, Response};
 use crate::say::{put, put_tagged};
 use crate::select::select_mailbox;
 use crate::selected::{close, expunge, fetch, store_flags, uid_expunge, unselect};
@@ -71,15 +71,14 @@ pub(crate) fn end_idle<S: Store>(
     selected: Option<Selected>,
     store: &mut S,
     response: &mut Response<'_>,
-) -> Result<&'static [u8], MailFault>
-    ensures done { Does S.step (on_idle_line selected line.now) last store.old store.new response.old response.new result }
-    ensures short { IfOk result (λ words. length words.now ≤ MOST_WORDS) }
+) -> Result<LastWords, MailFault>
+    ensures { Does S.step (on_idle_line selected line.now) last store.old store.new response.old response.new result }
 {
     if !is_done(line) {
-        return Ok(b"BAD Expected DONE");
+        return Ok(LastWords(b"BAD Expected DONE"));
     }
     show_pending(selected, store, response)?;
-    Ok(b"OK IDLE completed")
+    Ok(LastWords(b"OK IDLE completed"))
 }
 
 // NOOP: what is pending is shown, where a mailbox is selected.
@@ -87,12 +86,11 @@ fn note_nothing<S: Store>(
     selected: Option<Selected>,
     store: &mut S,
     response: &mut Response<'_>,
-) -> Result<&'static [u8], MailFault>
-    ensures done { Does S.step (showing selected (completed commands.Noop)) last store.old store.new response.old response.new result }
-    ensures short { IfOk result (λ words. length words.now ≤ MOST_WORDS) }
+) -> Result<LastWords, MailFault>
+    ensures { Does S.step (showing selected (completed commands.Noop)) last store.old store.new response.old response.new result }
 {
     show_pending(selected, store, response)?;
-    Ok(b"OK NOOP completed")
+    Ok(LastWords(b"OK NOOP completed"))
 }
 
 /// What a command says of the server before all else, with its CRLF. Most say nothing.
@@ -116,24 +114,23 @@ pub(crate) fn carry_out<S: Store>(
     selected: &mut Option<Selected>,
     store: &mut S,
     response: &mut Response<'_>,
-) -> Result<&'static [u8], MailFault>
+) -> Result<LastWords, MailFault>
     requires other { is_open command.now ≡ false }
     requires long { length response.old.tag + (LAST + FIRST) ≤ response.old.held + length (first_line command.now) }
-    ensures done { (mailing : Mailing) → Moves S.step selected.old selected.new
+    ensures { (mailing : Mailing) → Moves S.step selected.old selected.new
         (behind_first_line (record { folders = folders.now; selected = selected.old; idling = None; ended = false; mailing = mailing }) command.now)
         (ending (after_command command.now)) store.old store.new response.old response.new result }
-    ensures short { IfOk result (λ words. length words.now ≤ MOST_WORDS) }
 {
     match command {
-        Command::Capability => Ok(b"OK CAPABILITY completed"),
-        Command::Namespace => Ok(b"OK NAMESPACE completed"),
+        Command::Capability => Ok(LastWords(b"OK CAPABILITY completed")),
+        Command::Namespace => Ok(LastWords(b"OK NAMESPACE completed")),
         Command::Noop => note_nothing(*selected, store, response),
-        Command::Logout => Ok(b"OK LOGOUT completed"),
+        Command::Logout => Ok(LastWords(b"OK LOGOUT completed")),
         Command::Idle => unreachable!(),
         Command::Append(_) => unreachable!(),
-        Command::Login => Ok(b"BAD Wrong state"),
-        Command::Authenticate => Ok(b"BAD Wrong state"),
-        Command::StartTls => Ok(b"BAD Wrong state"),
+        Command::Login => Ok(LastWords(b"BAD Wrong state")),
+        Command::Authenticate => Ok(LastWords(b"BAD Wrong state")),
+        Command::StartTls => Ok(LastWords(b"BAD Wrong state")),
         Command::Select(name) => {
             select_mailbox(alloc, folders, false, name, selected, store, response)
         }

@@ -1,5 +1,4 @@
 -- What bodies and proofs say besides: what happens between a session and its store.
-use Rattle.std.specs.Borrow.{Bor}
 use Rattle.imap_session.specs.declared.standing.After.TheVariants.{Go, Bye}
 use Rattle.imap_grammar.specs.declared.command.Command.{Command}
 use Rattle.imap_grammar.specs.declared.command.Command.TheVariants as commands
@@ -54,12 +53,12 @@ Moves step from to x y old new before after (Err fault) =
 -- ---- a whole exchange
 
 -- what a command leaves to the outermost call: the words of the last line
-abbrev pub last : Bor (List ℕ) → Exchange
-last words = Done words.now Go
+abbrev pub last : List ℕ → Exchange
+last words = Done words Go
 
 -- the last line, or what is said of a fault
-abbrev pub last_words : List ℕ → Result (Bor (List ℕ)) MailFault → List ℕ
-last_words tag (Ok words) = tagged tag words.now
+abbrev pub last_words : List ℕ → Result (List ℕ) MailFault → List ℕ
+last_words tag (Ok words) = tagged tag words
 last_words tag (Err fault) = refusal_text tag fault
 
 abbrev pub after_result : {V : Type 0} → After → Result V MailFault → After
@@ -104,5 +103,5 @@ is_open (commands.Append append) = true
 is_open _ = false
 
 -- the last line of a command, after which a client may send this
-abbrev pub ending : After → Bor (List ℕ) → Exchange
-ending after words = Done words.now after
+abbrev pub ending : After → List ℕ → Exchange
+ending after words = Done words after

@@ -8,9 +8,9 @@ use Rattle.imap_session.proofs.appended.tell_verdict.Goals as goal
 
 pub returns-in-Refused-clause-plays : goal.returns-in-Refused-clause-plays
 returns-in-Refused-clause-plays g c now =
-    let words : List ℕ = c.refused_words.result.now in
+    let words : List ℕ = c.refused_words.result in
     let response = c.args.response in
     let said = plays_said g.S.Store.step words now (says words) c.args.store.now c.args.store.now response response c.conclude.new.out.items
     (reaches_here g.S.Store.step response.tag now (says words) c.args.store.now response) c.conclude.ensures.text in
     let at : List ℕ → Type 0 = λ w. Plays g.S.Store.step response.tag now now (says w) c.args.store.now c.args.store.now response.text c.conclude.new.out.items Go in
-    rw (c.in-Refused.is, c.conclude.ensures.after) (subst at c.refused_words.ensures.words said)
+    rw (c.in-Refused.is, c.conclude.ensures.after) (subst at c.refused_words.ensures said)

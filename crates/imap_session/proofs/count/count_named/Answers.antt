@@ -1,5 +1,4 @@
 use Rattle.std.proofs.Common.{ℕ, false, List, Ok, Err, sym, None}
-use Rattle.std.specs.Borrow.{Bor}
 use Rattle.std.proofs.lemmas.Result.{err_from_is_err_and}
 use Rattle.imap_grammar.specs.declared.command.Command.TheVariants as commands
 use Rattle.imap_session.specs.Exchange.{Exchange, Standing, Folder, nothing_sent}
@@ -8,20 +7,20 @@ use Rattle.imap_session.specs.inner.Store.{last}
 use Rattle.imap_session.proofs.Naming.{does_found, reaches_missing}
 use Rattle.imap_session.proofs.count.count_named.Goals as goal
 
-pub returns-in_default-clause-done : goal.returns-in_default-clause-done
-returns-in_default-clause-done g c tag now =
+pub returns-in_default : goal.returns-in_default
+returns-in_default g c tag now =
     reaches_missing g.S.Store.step tag now c.args.name.now c.args.folders.now _ _ _ (sym c.in_default.ensures)
 
-pub returns-in_err-count_folder-clause-done : goal.returns-in_err-count_folder-clause-done
-returns-in_err-count_folder-clause-done g c =
+pub returns-in_err-count_folder : goal.returns-in_err-count_folder
+returns-in_err-count_folder g c =
     let standing : Standing = record { folders = c.args.folders.now; selected = c.args.selected; idling = None; ended = false; mailing = nothing_sent None } in
     let next : Folder → Exchange = counting standing c.args.name.now c.args.items.now in
     let p = err_from_is_err_and c.from_residual.result c.from_residual.ensures.1 in
-    rw (p.1, p.2) (does_found {V = Bor (List ℕ)} g.S.Store.step c.args.name.now c.args.folders.now _ next last _ _ _ _ (Err _)
+    rw (p.1, p.2) (does_found {V = List ℕ} g.S.Store.step c.args.name.now c.args.folders.now _ next last _ _ _ _ (Err _)
     c.in-Some.ensures (c.in_err-count_folder.ensures (completed (commands.Status c.args.name.now c.args.items.now))))
 
-pub returns-clause-done : goal.returns-clause-done
-returns-clause-done g c =
+pub returns : goal.returns
+returns g c =
     let standing : Standing = record { folders = c.args.folders.now; selected = c.args.selected; idling = None; ended = false; mailing = nothing_sent None } in
     let next : Folder → Exchange = counting standing c.args.name.now c.args.items.now in
     does_found g.S.Store.step c.args.name.now c.args.folders.now _ next (λ (u : Unit {0}). completed (commands.Status c.args.name.now c.args.items.now)) _ _ _ _ (Ok tt)

@@ -1,5 +1,4 @@
 use Rattle.std.proofs.Common.{rules, ◌≡◌, ◌∙◌, ℕ, true, List, Some, Err, Ok, map, ap}
-use Rattle.std.specs.Borrow.{Bor}
 use Rattle.std.proofs.lemmas.Result.{err_from_is_err_and}
 use Rattle.imap_grammar.specs.Sets.{named_at}
 use Rattle.imap_grammar.specs.declared.set.SeqRange.{SeqRange}
@@ -12,13 +11,13 @@ use Rattle.imap_session.proofs.Runs.{stops_look, starves_look}
 use Rattle.imap_session.proofs.Choosing.{does_chosen, uids_chosen}
 use Rattle.imap_session.proofs.expunge.expunge_set.Goals as goal
 
-pub returns-in_err-messages-clause-done : goal.returns-in_err-messages-clause-done
-returns-in_err-messages-clause-done g c =
+pub returns-in_err-messages : goal.returns-in_err-messages
+returns-in_err-messages g c =
     let p = err_from_is_err_and c.from_residual.result c.from_residual.ensures.1 in
     rw (p.1, p.2) (λ tag now. stops_look g.S.Store.step tag now _ _ _ _ c.in_err-messages.ensures.event)
 
-pub returns-in_default-uids_of-clause-done : goal.returns-in_default-uids_of-clause-done
-returns-in_default-uids_of-clause-done g c tag now = starves_look g.S.Store.step tag now _ _ _
+pub returns-in_default-uids_of : goal.returns-in_default-uids_of
+returns-in_default-uids_of g c tag now = starves_look g.S.Store.step tag now _ _ _
 
 removing : List SeqRange → List ℕ → List ℕ → Exchange
 removing set view uids = Expunge (Some uids) (Feed unlimited (completed (commands.UidExpunge set)))
@@ -26,19 +25,19 @@ removing set view uids = Expunge (Some uids) (Feed unlimited (completed (command
 named : (view : List ℕ) (uids : List ℕ) (messages : List Named) (told : List ℕ) → told ≡ map (λ (m : Named). m.uid) messages → messages ≡ map (named_at view) uids → told ≡ uids
 named view uids messages told e are = e ∙ ap (map (λ (m : Named). m.uid)) are ∙ uids_chosen view uids
 
-pub returns-in_err-remove_and_show-clause-done : goal.returns-in_err-remove_and_show-clause-done
+pub returns-in_err-remove_and_show : goal.returns-in_err-remove_and_show
 unfolding removing
-returns-in_err-remove_and_show-clause-done g c =
+returns-in_err-remove_and_show g c =
     let set = c.args.set.now in
     let p = err_from_is_err_and c.from_residual-in_err-remove_and_show.result c.from_residual-in_err-remove_and_show.ensures.1 in
     let looks = rw c.in-Some.is at c.in_ok-messages.ensures.event in
     let told : c.as_slice-2.result.now ≡ map (λ (m : Named). m.uid) c.in-Some.messages.items = search rules in
-    rw (p.1, p.2) (does_chosen {V = Bor (List ℕ)} g.S.Store.step true set (removing set) last looks.0 c.in-Some.messages.items _ _ _ _ (Err _) looks.1 looks.2
+    rw (p.1, p.2) (does_chosen {V = List ℕ} g.S.Store.step true set (removing set) last looks.0 c.in-Some.messages.items _ _ _ _ (Err _) looks.1 looks.2
     (λ uids are. rw (← named looks.0 uids c.in-Some.messages.items c.as_slice-2.result.now told are) (c.in_err-remove_and_show.ensures (completed (commands.UidExpunge set)))))
 
-pub returns-clause-done : goal.returns-clause-done
+pub returns : goal.returns
 unfolding removing
-returns-clause-done g c =
+returns g c =
     let set = c.args.set.now in
     let looks = rw c.in-Some.is at c.in_ok-messages.ensures.event in
     let told : c.as_slice-2.result.now ≡ map (λ (m : Named). m.uid) c.in-Some.messages.items = search rules in

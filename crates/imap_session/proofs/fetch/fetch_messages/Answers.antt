@@ -1,5 +1,4 @@
 use Rattle.std.proofs.Common.{◌∙◌, ℕ, Bool, false, List, Err}
-use Rattle.std.specs.Borrow.{Bor}
 use Rattle.std.proofs.lemmas.Result.{err_from_is_err_and}
 use Rattle.imap_grammar.specs.declared.command.Command.TheVariants as commands
 use Rattle.imap_session.specs.Exchange.{Exchange}
@@ -10,33 +9,33 @@ use Rattle.imap_session.proofs.Saying.{does_then}
 use Rattle.imap_session.proofs.Choosing.{does_chosen, reaches_too_high}
 use Rattle.imap_session.proofs.fetch.fetch_messages.Goals as goal
 
-pub returns-in_default-clause-done : goal.returns-in_default-clause-done
-returns-in_default-clause-done g c tag now = starves_look g.S.Store.step tag now _ _ _
+pub returns-in_default : goal.returns-in_default
+returns-in_default g c tag now = starves_look g.S.Store.step tag now _ _ _
 
-pub returns-in_err-messages-clause-done : goal.returns-in_err-messages-clause-done
-returns-in_err-messages-clause-done g c =
+pub returns-in_err-messages : goal.returns-in_err-messages
+returns-in_err-messages g c =
     let p = err_from_is_err_and c.from_residual.result c.from_residual.ensures.1 in
     rw (p.1, p.2) (λ tag now. stops_look g.S.Store.step tag now _ _ _ _ c.in_err-messages.ensures.event)
 
-pub returns-in_default-2-clause-done : goal.returns-in_default-2-clause-done
-returns-in_default-2-clause-done g c tag now =
+pub returns-in_default-2 : goal.returns-in_default-2
+returns-in_default-2 g c tag now =
     let command = c.args.fetch.now in
     let looks = rw c.in_default-2.is at c.in_ok-messages.ensures.event in
     reaches_too_high g.S.Store.step command.by_uid command.set (λ view uids. fetching command c.args.mark view (messages_done (commands.Fetch command) command.by_uid) uids false) looks.0 _ _ looks.1 looks.2 tag now
 
-pub returns-in_err-gone-clause-done : goal.returns-in_err-gone-clause-done
-returns-in_err-gone-clause-done g c =
+pub returns-in_err-gone : goal.returns-in_err-gone
+returns-in_err-gone g c =
     let command = c.args.fetch.now in
     let looks = rw c.in-Some.is at c.in_ok-messages.ensures.event in
     let done : Bool → Exchange = messages_done (commands.Fetch command) command.by_uid in
     let p = err_from_is_err_and c.from_residual-in_err-gone.result c.from_residual-in_err-gone.ensures.1 in
-    rw (p.1, p.2) (does_chosen {V = Bor (List ℕ)} g.S.Store.step command.by_uid command.set (λ view uids. fetching command c.args.mark view done uids false) last looks.0 c.in-Some.messages.items _ _ _ _ (Err _) looks.1 looks.2
+    rw (p.1, p.2) (does_chosen {V = List ℕ} g.S.Store.step command.by_uid command.set (λ view uids. fetching command c.args.mark view done uids false) last looks.0 c.in-Some.messages.items _ _ _ _ (Err _) looks.1 looks.2
     (λ uids are. c.in_err-gone.ensures looks.0 uids (c.as_slice.ensures.value ∙ are) done))
 
-pub returns-clause-done : goal.returns-clause-done
-returns-clause-done g c =
+pub returns : goal.returns
+returns g c =
     let command = c.args.fetch.now in
     let looks = rw c.in-Some.is at c.in_ok-messages.ensures.event in
     let done : Bool → Exchange = messages_done (commands.Fetch command) command.by_uid in
     does_chosen g.S.Store.step command.by_uid command.set (λ view uids. fetching command c.args.mark view done uids false) last looks.0 c.in-Some.messages.items _ _ _ _ c.finish_fetch.result looks.1 looks.2
-    (λ uids are. does_then g.S.Store.step _ (done c.in_ok-gone.gone) last _ _ _ _ _ _ c.finish_fetch.result (c.in_ok-gone.ensures looks.0 uids (c.as_slice.ensures.value ∙ are) done) c.finish_fetch.ensures.done)
+    (λ uids are. does_then g.S.Store.step _ (done c.in_ok-gone.gone) last _ _ _ _ _ _ c.finish_fetch.result (c.in_ok-gone.ensures looks.0 uids (c.as_slice.ensures.value ∙ are) done) c.finish_fetch.ensures)

@@ -3,13 +3,13 @@ use Rattle.imap_session.specs.Commands.{says}
 use Rattle.imap_session.proofs.Runs.{reaches_here}
 use Rattle.imap_session.proofs.fetch.finish_fetch.Goals as goal
 
-pub returns-in_ok-show-clause-done : goal.returns-in_ok-show-clause-done
-returns-in_ok-show-clause-done g c tag now = rw c.if-fetch.true (c.in_ok-show.ensures.done (says (codes "OK UID FETCH completed")) tag now)
+pub returns-in_ok-show : goal.returns-in_ok-show
+returns-in_ok-show g c tag now = rw c.if-fetch.true (c.in_ok-show.ensures.done (says (codes "OK UID FETCH completed")) tag now)
 
-pub returns-then-gone-clause-done : goal.returns-then-gone-clause-done
-returns-then-gone-clause-done g c tag now = rw (c.if-fetch.false, c.if-gone.true)
+pub returns-then-gone : goal.returns-then-gone
+returns-then-gone g c tag now = rw (c.if-fetch.false, c.if-gone.true)
     (reaches_here g.S.Store.step tag now (says (codes "NO [EXPUNGEISSUED] Some messages are gone")) _ _)
 
-pub returns-else-gone-clause-done : goal.returns-else-gone-clause-done
-returns-else-gone-clause-done g c tag now = rw (c.if-fetch.false, c.if-gone.false)
+pub returns-else-gone : goal.returns-else-gone
+returns-else-gone g c tag now = rw (c.if-fetch.false, c.if-gone.false)
     (reaches_here g.S.Store.step tag now (says (codes "OK FETCH completed")) _ _)

@@ -1,5 +1,4 @@
 use Rattle.std.proofs.Common.{ℕ, List, [], Ok, Err}
-use Rattle.std.specs.Borrow.{Bor}
 use Rattle.std.proofs.lemmas.Result.{err_from_is_err_and}
 use Rattle.imap_session.specs.Commands.{entering, opened}
 use Rattle.imap_session.specs.inner.Store.{last}
@@ -7,23 +6,23 @@ use Rattle.imap_session.proofs.Naming.{entering_refused, entering_then, moves_ho
 use Rattle.imap_session.proofs.Runs.{held_more}
 use Rattle.imap_session.proofs.select.enter_folder.Goals as goal
 
-pub returns-in_err-hold_opening-clause-done : goal.returns-in_err-hold_opening-clause-done
-returns-in_err-hold_opening-clause-done g c =
+pub returns-in_err-hold_opening : goal.returns-in_err-hold_opening
+returns-in_err-hold_opening g c =
     let p = err_from_is_err_and c.from_residual.result c.from_residual.ensures.1 in
     rw (p.1, p.2) (λ tag now was. rw (← was) (starves_write g.S.Store.step tag now [] _ _ _ _ _ c.in_err-hold_opening.ensures.fault c.in_err-hold_opening.ensures.err))
 
-pub returns-in_err-opening-clause-done : goal.returns-in_err-opening-clause-done
-returns-in_err-opening-clause-done g c =
+pub returns-in_err-opening : goal.returns-in_err-opening
+returns-in_err-opening g c =
     let p = err_from_is_err_and c.from_residual-in_err-opening.result c.from_residual-in_err-opening.ensures.1 in
-    rw (p.1, p.2) (entering_refused {V = Bor (List ℕ)} g.S.Store.step _ _ c.args.read_only c.args.folder.now c.mailbox.result c.name-name.result.now _ last _ _ c.args.response.now _
+    rw (p.1, p.2) (entering_refused {V = List ℕ} g.S.Store.step _ _ c.args.read_only c.args.folder.now c.mailbox.result c.name-name.result.now _ last _ _ c.args.response.now _
     c.mailbox.ensures c.name-name.ensures (held_more c.args.response.now c.hold_opening.new.self _ c.in_ok-hold_opening.ensures.held)
     (c.in_err-opening.ensures.done (opened c.args.read_only c.name-name.result.now) c.hold_opening.new.self))
 
-pub returns-clause-done : goal.returns-clause-done
-returns-clause-done g c =
-    moves_holding {V = Bor (List ℕ)} g.S.Store.step _ _ (entering c.args.read_only c.args.folder.now) last _ _ c.args.response.now c.hold_opening.new.self _ (Ok c.entered_words.result)
+pub returns : goal.returns
+returns g c =
+    moves_holding {V = List ℕ} g.S.Store.step _ _ (entering c.args.read_only c.args.folder.now) last _ _ c.args.response.now c.hold_opening.new.self _ (Ok c.entered_words.result)
     (held_more c.args.response.now c.hold_opening.new.self _ c.in_ok-hold_opening.ensures.held)
-    (entering_then {V = Bor (List ℕ)} g.S.Store.step _ _ c.args.read_only c.args.folder.now c.mailbox.result c.name-name.result.now c.in_ok-opening.opening last _ _ _ c.hold_opening.new.self _
+    (entering_then {V = List ℕ} g.S.Store.step _ _ c.args.read_only c.args.folder.now c.mailbox.result c.name-name.result.now c.in_ok-opening.opening last _ _ _ c.hold_opening.new.self _
     (Ok c.entered_words.result) c.mailbox.ensures c.name-name.ensures
     (c.in_ok-opening.ensures.done (opened c.args.read_only c.name-name.result.now) c.hold_opening.new.self)
-    (tells_opening g.S.Store.step c.args.read_only c.name-name.result.now c.in_ok-opening.opening c.entered_words.result _ _ _ c.put_opening.ensures c.entered_words.ensures.words))
+    (tells_opening g.S.Store.step c.args.read_only c.name-name.result.now c.in_ok-opening.opening c.entered_words.result _ _ _ c.put_opening.ensures c.entered_words.ensures))

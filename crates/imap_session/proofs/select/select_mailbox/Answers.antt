@@ -1,5 +1,4 @@
 use Rattle.std.proofs.Common.{ℕ, List, Err, ◌∙◌}
-use Rattle.std.specs.Borrow.{Bor}
 use Rattle.std.proofs.lemmas.Result.{err_from_is_err_and}
 use Rattle.mailbox.specs.declared.clients.MailFault.TheVariants.{NoMemory}
 use Rattle.imap_session.specs.Exchange.{Exchange}
@@ -8,19 +7,19 @@ use Rattle.imap_session.specs.inner.Store.{last}
 use Rattle.imap_session.proofs.Naming.{moves_then, selects, starves_wanting}
 use Rattle.imap_session.proofs.select.select_mailbox.Goals as goal
 
-pub returns-in_err-leave_previous-clause-done : goal.returns-in_err-leave_previous-clause-done
-returns-in_err-leave_previous-clause-done g c =
+pub returns-in_err-leave_previous : goal.returns-in_err-leave_previous
+returns-in_err-leave_previous g c =
     let rest : Exchange = wanting (on_folder c.args.name.now c.args.folders.now (entering c.args.read_only)) in
     let p = err_from_is_err_and c.from_residual.result c.from_residual.ensures.1 in
     rw (p.1, p.2) (c.in_err-leave_previous.ensures.done rest)
 
-pub returns-in_default-clause-done : goal.returns-in_default-clause-done
-returns-in_default-clause-done g c =
+pub returns-in_default : goal.returns-in_default
+returns-in_default g c =
     let rest : Exchange = wanting (on_folder c.args.name.now c.args.folders.now (entering c.args.read_only)) in
-    moves_then {V = Bor (List ℕ)} g.S.Store.step _ _ _ (closing c.args.selected.now rest) rest last _ _ _ _ _ _ (Err NoMemory)
-    (c.in_ok-leave_previous.ensures.done rest) (starves_wanting {V = Bor (List ℕ)} g.S.Store.step _ _ last _ _)
+    moves_then {V = List ℕ} g.S.Store.step _ _ _ (closing c.args.selected.now rest) rest last _ _ _ _ _ _ (Err NoMemory)
+    (c.in_ok-leave_previous.ensures.done rest) (starves_wanting {V = List ℕ} g.S.Store.step _ _ last _ _)
 
-pub returns-clause-done : goal.returns-clause-done
-returns-clause-done g c =
+pub returns : goal.returns
+returns g c =
     selects g.S.Store.step _ _ _ c.args.folders.now c.args.read_only c.args.name.now c.as_slice-name.result.now last _ _ _ _ _ _ c.enter_named.result
-    (c.as_slice-name.ensures.value ∙ c.in-Ok.ensures) c.in_ok-leave_previous.ensures.done c.enter_named.ensures.done
+    (c.as_slice-name.ensures.value ∙ c.in-Ok.ensures) c.in_ok-leave_previous.ensures.done c.enter_named.ensures

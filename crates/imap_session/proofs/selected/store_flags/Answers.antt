@@ -2,9 +2,9 @@ use Rattle.imap_session.specs.Commands.{says, store_messages}
 use Rattle.imap_session.proofs.Runs.{reaches_here}
 use Rattle.imap_session.proofs.selected.store_flags.Goals as goal
 
-pub returns-in-Some-clause-done : goal.returns-in-Some-clause-done
-returns-in-Some-clause-done g c tag now =
-    rw (c.in-Some.ensures.refused (store_messages c.args.command.now)) (reaches_here g.S.Store.step tag now (says c.in-Some.words.now) _ _)
+pub returns-in-Some : goal.returns-in-Some
+returns-in-Some g c tag now =
+    rw (c.in-Some.ensures.refused (store_messages c.args.command.now)) (reaches_here g.S.Store.step tag now (says c.in-Some.words) _ _)
 
-pub returns-in-None-clause-done : goal.returns-in-None-clause-done
-returns-in-None-clause-done g c = rw (c.in-None.ensures.taken (store_messages c.args.command.now)) c.store_messages.ensures.done
+pub returns-in-None : goal.returns-in-None
+returns-in-None g c = rw (c.in-None.ensures.taken (store_messages c.args.command.now)) c.store_messages.ensures

@@ -7,47 +7,47 @@ use Rattle.imap_session.proofs.Runs.{reaches_here}
 use Rattle.imap_session.proofs.Ending.{moves_still}
 use Rattle.imap_session.proofs.turn.carry_out.Goals as goal
 
-pub returns-in-Capability-clause-done : goal.returns-in-Capability-clause-done
-returns-in-Capability-clause-done g c mailing tag now was = rw (c.in-Capability.is, ← was) (reaches_here g.S.Store.step tag now (completed commands.Capability) _ _)
+pub returns-in-Capability : goal.returns-in-Capability
+returns-in-Capability g c mailing tag now was = rw (c.in-Capability.is, ← was) (reaches_here g.S.Store.step tag now (completed commands.Capability) _ _)
 
-pub returns-in-Namespace-clause-done : goal.returns-in-Namespace-clause-done
-returns-in-Namespace-clause-done g c mailing tag now was = rw (c.in-Namespace.is, ← was) (reaches_here g.S.Store.step tag now (completed commands.Namespace) _ _)
+pub returns-in-Namespace : goal.returns-in-Namespace
+returns-in-Namespace g c mailing tag now was = rw (c.in-Namespace.is, ← was) (reaches_here g.S.Store.step tag now (completed commands.Namespace) _ _)
 
-pub returns-in-Logout-clause-done : goal.returns-in-Logout-clause-done
-returns-in-Logout-clause-done g c mailing tag now was = rw (c.in-Logout.is, ← was) (reaches_here g.S.Store.step tag now (Done (codes "OK LOGOUT completed") Bye) _ _)
+pub returns-in-Logout : goal.returns-in-Logout
+returns-in-Logout g c mailing tag now was = rw (c.in-Logout.is, ← was) (reaches_here g.S.Store.step tag now (Done (codes "OK LOGOUT completed") Bye) _ _)
 
-pub returns-in-Login-clause-done : goal.returns-in-Login-clause-done
-returns-in-Login-clause-done g c mailing tag now was = rw (c.in-Login.is, ← was) (reaches_here g.S.Store.step tag now wrong_state _ _)
+pub returns-in-Login : goal.returns-in-Login
+returns-in-Login g c mailing tag now was = rw (c.in-Login.is, ← was) (reaches_here g.S.Store.step tag now wrong_state _ _)
 
-pub returns-in-Authenticate-clause-done : goal.returns-in-Authenticate-clause-done
-returns-in-Authenticate-clause-done g c mailing tag now was = rw (c.in-Authenticate.is, ← was) (reaches_here g.S.Store.step tag now wrong_state _ _)
+pub returns-in-Authenticate : goal.returns-in-Authenticate
+returns-in-Authenticate g c mailing tag now was = rw (c.in-Authenticate.is, ← was) (reaches_here g.S.Store.step tag now wrong_state _ _)
 
-pub returns-in-StartTls-clause-done : goal.returns-in-StartTls-clause-done
-returns-in-StartTls-clause-done g c mailing tag now was = rw (c.in-StartTls.is, ← was) (reaches_here g.S.Store.step tag now wrong_state _ _)
+pub returns-in-StartTls : goal.returns-in-StartTls
+returns-in-StartTls g c mailing tag now was = rw (c.in-StartTls.is, ← was) (reaches_here g.S.Store.step tag now wrong_state _ _)
 
-pub returns-in-Noop-clause-done : goal.returns-in-Noop-clause-done
-returns-in-Noop-clause-done g c mailing = rw c.in-Noop.is (moves_still g.S.Store.step c.args.selected.now _ _ _ _ _ _ c.note_nothing.result c.note_nothing.ensures.done)
+pub returns-in-Noop : goal.returns-in-Noop
+returns-in-Noop g c mailing = rw c.in-Noop.is (moves_still g.S.Store.step c.args.selected.now _ _ _ _ _ _ c.note_nothing.result c.note_nothing.ensures)
 
-pub returns-in-List-clause-done : goal.returns-in-List-clause-done
-returns-in-List-clause-done g c mailing = rw c.in-List.is (moves_still g.S.Store.step c.args.selected.now _ _ _ _ _ _ c.list_folders.result c.list_folders.ensures.done)
+pub returns-in-List : goal.returns-in-List
+returns-in-List g c mailing = rw c.in-List.is (moves_still g.S.Store.step c.args.selected.now _ _ _ _ _ _ c.list_folders.result c.list_folders.ensures)
 
-pub returns-in-Status-clause-done : goal.returns-in-Status-clause-done
-returns-in-Status-clause-done g c mailing = rw c.in-Status.is (moves_still g.S.Store.step c.args.selected.now _ _ _ _ _ _ c.count_mailbox.result c.count_mailbox.ensures.done)
+pub returns-in-Status : goal.returns-in-Status
+returns-in-Status g c mailing = rw c.in-Status.is (moves_still g.S.Store.step c.args.selected.now _ _ _ _ _ _ c.count_mailbox.result c.count_mailbox.ensures)
 
-pub returns-in-Expunge-clause-done : goal.returns-in-Expunge-clause-done
-returns-in-Expunge-clause-done g c mailing = rw c.in-Expunge.is (moves_still g.S.Store.step c.args.selected.now _ _ _ _ _ _ c.expunge.result c.expunge.ensures.done)
+pub returns-in-Expunge : goal.returns-in-Expunge
+returns-in-Expunge g c mailing = rw c.in-Expunge.is (moves_still g.S.Store.step c.args.selected.now _ _ _ _ _ _ c.expunge.result c.expunge.ensures)
 
-pub returns-in-UidExpunge-clause-done : goal.returns-in-UidExpunge-clause-done
-returns-in-UidExpunge-clause-done g c mailing = rw c.in-UidExpunge.is (moves_still g.S.Store.step c.args.selected.now _ _ _ _ _ _ c.uid_expunge.result c.uid_expunge.ensures.done)
+pub returns-in-UidExpunge : goal.returns-in-UidExpunge
+returns-in-UidExpunge g c mailing = rw c.in-UidExpunge.is (moves_still g.S.Store.step c.args.selected.now _ _ _ _ _ _ c.uid_expunge.result c.uid_expunge.ensures)
 
-pub returns-in-Fetch-clause-done : goal.returns-in-Fetch-clause-done
-returns-in-Fetch-clause-done g c mailing = rw c.in-Fetch.is (moves_still g.S.Store.step c.args.selected.now _ _ _ _ _ _ c.fetch.result c.fetch.ensures.done)
+pub returns-in-Fetch : goal.returns-in-Fetch
+returns-in-Fetch g c mailing = rw c.in-Fetch.is (moves_still g.S.Store.step c.args.selected.now _ _ _ _ _ _ c.fetch.result c.fetch.ensures)
 
-pub returns-in-Store-clause-done : goal.returns-in-Store-clause-done
-returns-in-Store-clause-done g c mailing = rw c.in-Store.is (moves_still g.S.Store.step c.args.selected.now _ _ _ _ _ _ c.store_flags.result c.store_flags.ensures.done)
+pub returns-in-Store : goal.returns-in-Store
+returns-in-Store g c mailing = rw c.in-Store.is (moves_still g.S.Store.step c.args.selected.now _ _ _ _ _ _ c.store_flags.result c.store_flags.ensures)
 
-pub returns-in-Close-clause-done : goal.returns-in-Close-clause-done
-returns-in-Close-clause-done g c mailing = rw c.in-Close.is (c.close.ensures.done c.args.response.now)
+pub returns-in-Close : goal.returns-in-Close
+returns-in-Close g c mailing = rw c.in-Close.is (c.close.ensures c.args.response.now)
 
-pub returns-in-Unselect-clause-done : goal.returns-in-Unselect-clause-done
-returns-in-Unselect-clause-done g c mailing = rw c.in-Unselect.is (c.unselect.ensures.done c.args.response.now)
+pub returns-in-Unselect : goal.returns-in-Unselect
+returns-in-Unselect g c mailing = rw c.in-Unselect.is (c.unselect.ensures c.args.response.now)

@@ -23,7 +23,7 @@ pub returns-in-Some-refused_size-clause-leads : goal.returns-in-Some-refused_siz
 returns-in-Some-refused_size-clause-leads c =
     let now = c.args.self.now in
     let a = c.args.append.now in
-    let words = c.in-Some-refused_size.words.now in
+    let words = c.in-Some-refused_size.words in
     let over_most = subst (λ (most : Option ℕ). (is_over most a.literal.size ≡ true) × (over most ≡ says words)) (ap (λ (s : Standing). s.mailing.most) (ap the_view c.self-inside.view_is ∙ c.self.view_is)) c.in-Some-refused_size.ensures.refused in
     leads_wanting_says c.args.response.tag words now now (appending now.mailing.most now.folders a) c.args.response.text c.end-in-Some-refused_size.new.out.items
     (asked_over now.mailing.most c.in-Some.number now.folders a c.requires.waits (sym c.in-Ok.ensures ∙ c.in-Some.is) over_most.0 ∙ ap wanting over_most.1) c.end-in-Some-refused_size.ensures refl

@@ -6,4 +6,4 @@ use Rattle.imap_session.proofs.session.Session.end_idling.Goals as goal
 pub returns-clause-plays : goal.returns-clause-plays
 returns-clause-plays g c =
     plays_idle_line g.S.Store.step c.args.self.now c.args.line.now _ _ _ _ _ c.end_idle-done.result c.conclude-after.result
-    (rw (ap (λ (s : Standing). s.selected) c.self.view_is) at c.end_idle-done.ensures.done) c.conclude-after.ensures.text c.conclude-after.ensures.after
+    (rw (ap (λ (s : Standing). s.selected) c.self.view_is) at c.end_idle-done.ensures) c.conclude-after.ensures.text c.conclude-after.ensures.after

@@ -1,4 +1,4 @@
-use Rattle.std.proofs.Common.{◌≡◌, ◌∙◌, ◌++◌, ap, refl, List, ℕ}
+use Rattle.std.proofs.Common.{◌≡◌, ◌∙◌, ◌++◌, ap₂, refl, List, ℕ}
 use Rattle.imap_session.specs.declared.standing.After.TheVariants.{Go, Submit}
 use Rattle.imap_session.specs.Exchange.{tagged}
 use Rattle.imap_session.specs.inner.Seen.{appending_of}
@@ -14,5 +14,5 @@ pub returns-in-Err-clause-answered : goal.returns-in-Err-clause-answered
 returns-in-Err-clause-answered c =
     let R = c.reserve.new.self.items in
     let own : c.as_slice-in-Err.result.now ≡ c.in-Err.tag = c.as_slice-in-Err.ensures in
-    rest_led c.args.begun.tag (appending_of c.args.begun) _ c.args.self.now c.submit.new.self _ _ R c.args.out.now.items (R ++ tagged c.in-Err.tag c.in-Err.words.now) c.put_tagged.new.out.items Go
-    c.self.view_is c.is_empty.ensures c.reserve.ensures.items (c.put_tagged.ensures.text ∙ ap (λ (t : List ℕ). R ++ tagged t c.in-Err.words.now) own) (c.in-Err.ensures.refused R)
+    rest_led c.args.begun.tag (appending_of c.args.begun) _ c.args.self.now c.submit.new.self _ _ R c.args.out.now.items (R ++ tagged c.in-Err.tag c.in-Err.words) c.put_tagged.new.out.items Go
+    c.self.view_is c.is_empty.ensures c.reserve.ensures.items (c.put_tagged.ensures.text ∙ ap₂ (λ (t w : List ℕ). R ++ tagged t w) own c.words.view_is) (c.in-Err.ensures.refused R)

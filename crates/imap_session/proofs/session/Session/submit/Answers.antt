@@ -10,7 +10,7 @@ pub returns-in-Err-clause-refused : goal.returns-in-Err-clause-refused
 returns-in-Err-clause-refused c before =
     let now = c.args.self.now in
     let same = ap the_view c.self-inside.view_is ∙ c.self.view_is in
-    leads_says c.args.begun.tag c.in-Err.words.now now now (on_rest now.mailing (appending_of c.args.begun) c.args.ends) before (before ++ tagged c.args.begun.tag c.in-Err.words.now)
+    leads_says c.args.begun.tag c.in-Err.words now now (on_rest now.mailing (appending_of c.args.begun) c.args.ends) before (before ++ tagged c.args.begun.tag c.in-Err.words)
     (c.in-Err.ensures.says now.mailing (appending_of c.args.begun) (sym (ap (λ (s : Standing). s.mailing.most) same)) (sym (ap (λ (s : Standing). s.mailing.number) same)) refl refl refl)
     refl refl
 
