@@ -8,7 +8,8 @@ use Rattle.mailbox.specs.declared.mailbox.Status.{Status}
 use Rattle.imap_session.specs.declared.standing.Selected.{Selected}
 use Rattle.imap_session.specs.Exchange as ex
 use Rattle.imap_session.specs.Exchange.{Call, Answer, Counted, Refused, Exchange, Folder, Standing, nothing_sent}
-use Rattle.imap_session.specs.Commands.{closing, entering, folder_of, on_folder, opened, opening_text, says, selecting, wanting}
+use Rattle.imap_session.specs.Commands.{closing, entering, folder_of, on_folder, opened, says, selecting, wanting}
+use Rattle.imap_answers.specs.Answers.{opening_text}
 use Rattle.imap_session.specs.inner.Store.{Reaches, Stops, Does, Moves, last}
 use Rattle.imap_session.proofs.Runs.{reaches_count, reaches_here, reaches_write, reaches_then, stops_count, stops_write, stops_then}
 use Rattle.imap_session.proofs.Saying.{does_then}

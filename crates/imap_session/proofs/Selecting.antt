@@ -6,7 +6,8 @@ use Rattle.imap_session.specs.declared.standing.Selected.{Selected}
 use Rattle.imap_session.specs.Exchange as ex
 use Rattle.imap_session.specs.Exchange.{Call, Answer, Left, Exchange, Standing}
 use Rattle.mailbox.specs.declared.clients.Opening.{Opening}
-use Rattle.imap_session.specs.Commands.{all_flags, closing, opening_text}
+use Rattle.imap_session.specs.Commands.{closing}
+use Rattle.imap_answers.specs.Answers.{all_flags, opening_text}
 use Rattle.imap_session.specs.inner.Store.{Reaches, Moves}
 use Rattle.imap_session.proofs.Runs.{reaches_here, reaches_leave, reaches_write, reaches_then, stops_write, stops_then}
 

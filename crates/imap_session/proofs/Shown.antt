@@ -5,7 +5,7 @@ use Rattle.change_ring.specs.declared.change.Flags.{Flags}
 use Rattle.mailbox.specs.declared.clients.Row.{Row}
 use Rattle.cursor_set.specs.Lines.{position, flag_words, spaced}
 use Rattle.std.specs.Prelude.{decimal, map}
-use Rattle.imap_grammar.specs.Answers.{answered, fetch_answer, item_text, status_text}
+use Rattle.imap_answers.specs.Answers.{answered, fetch_answer, item_text, status_text, flags_answer}
 use Rattle.imap_grammar.specs.Reading.{is_done}
 use Rattle.imap_grammar.specs.Sets.{named_in}
 use Rattle.imap_grammar.specs.declared.command.Command.{Command}
@@ -16,7 +16,7 @@ use Rattle.imap_session.specs.declared.standing.Selected.{Selected}
 use Rattle.std.specs.Prelude.{nat_lt}
 use Rattle.imap_grammar.specs.declared.command.Append.{Append}
 use Rattle.imap_session.specs.Exchange.{Exchange, Expunge, Feed, Folder, ForNothing, Standing, Wait, bye}
-use Rattle.imap_session.specs.Commands.{awaiting, most_unasked, nowhere, is_over, number_named, over, wanting, on_command, on_idle_line, counting, folder_of, showing, completed, closing, entering, on_folder, on_chosen, messages_done, on_found, fetching, storing, fetched, stored, flags_answer, if_writable, expunge_set, store_messages, fetch_messages, unlimited, wrong_state, says, notice, noticing}
+use Rattle.imap_session.specs.Commands.{awaiting, most_unasked, nowhere, is_over, number_named, over, wanting, on_command, on_idle_line, counting, folder_of, showing, completed, closing, entering, on_folder, on_chosen, messages_done, on_found, fetching, storing, fetched, stored, if_writable, expunge_set, store_messages, fetch_messages, unlimited, wrong_state, says, notice, noticing}
 use Rattle.imap_session.proofs.Appends.{asked_at, sent_at}
 use Rattle.imap_session.specs.Shows.{DoneShowsInOrder, IsFetchLine, IsNotice, MaySay, ShowsBefore, ShowsInOrder, may_show}
 

@@ -2,7 +2,7 @@
 
 ghost use Rattle.std.specs.Prelude.{◌≡◌, ◌+◌, ◌≤◌, ◌++◌, false, length, map, OnOk, OnErr, IfOk, IfErr, vec_len};
 ghost use Rattle.std.specs.Vec.{vec_capacity};
-ghost use Rattle.imap_grammar.specs.Answers.{list_answer, status_answer};
+ghost use Rattle.imap_answers.specs.Answers.{list_answer, status_answer};
 ghost use Rattle.imap_grammar.specs.declared.command.Command.TheVariants as commands;
 ghost use Rattle.imap_session.specs.Exchange.{Exchange, Count, Folder as FolderSpec, Write, nothing_sent};
 ghost use Rattle.imap_session.specs.Commands.{completed, counting, on_folder, showing, wanting};
@@ -14,7 +14,8 @@ use crate::say::hold_room;
 use crate::standing::{Folder, Selected};
 use crate::store::Store;
 use crate::turn::MOST_WORDS;
-use imap_grammar::{Name, StatusItems, write_list, write_status};
+use imap_answers::{write_list, write_status};
+use imap_grammar::{Name, StatusItems};
 use mailbox::{MailFault, Status};
 use std::alloc::{AllocError, Global};
 

@@ -2,7 +2,7 @@
 
 ghost use Rattle.std.specs.Prelude.{◌≡◌, ◌+◌, ◌≤◌, Bool, false, List, ℕ, ◌++◌, map, OnOk, OnErr, IfOk, IfErr, if◌then◌else◌, length, vec_len};
 ghost use Rattle.std.specs.Vec.{vec_capacity};
-ghost use Rattle.imap_grammar.specs.Answers.{row_answer};
+ghost use Rattle.imap_answers.specs.Answers.{row_answer};
 ghost use Rattle.imap_grammar.specs.Sets.{named_at};
 ghost use Rattle.imap_session.specs.Exchange.{Exchange, Read, Write};
 ghost use Rattle.imap_session.specs.Commands.{on_found, fetched, fetching, messages_done, on_set};
@@ -13,7 +13,8 @@ use crate::say::hold_room;
 use crate::show::show;
 use crate::store::Store;
 use crate::turn::MOST_WORDS;
-use imap_grammar::{Fetch, FetchItem, Named, write_row};
+use imap_answers::write_row;
+use imap_grammar::{Fetch, FetchItem, Named};
 use mailbox::{MailFault, Row};
 use std::alloc::{AllocError, Global};
 

@@ -4,7 +4,8 @@ ghost use Rattle.std.specs.Prelude.{◌≡◌, ℕ, ◌+◌, ◌≤◌, List, []
 ghost use Rattle.std.specs.Vec.{vec_capacity};
 ghost use Rattle.mailbox.specs.declared.clients.Opening.{Opening as OpeningSpec};
 ghost use Rattle.imap_session.specs.Exchange.{Exchange, Enter, Leave, nothing_sent};
-ghost use Rattle.imap_session.specs.Commands.{closing, entering, on_folder, opening_text, selecting};
+ghost use Rattle.imap_session.specs.Commands.{closing, entering, on_folder, selecting};
+ghost use Rattle.imap_answers.specs.Answers.{opening_text};
 ghost use Rattle.imap_session.specs.inner.Store.{Moves, last};
 
 use crate::folders::find_folder;

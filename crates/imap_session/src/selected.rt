@@ -4,7 +4,7 @@
 ghost use Rattle.std.specs.Prelude.{◌≡◌, ◌+◌, ◌≤◌, not, ◌&&◌, false, List, ℕ, None, IfOk, IfSome, IfNone, length, vec_len};
 ghost use Rattle.std.specs.List.{list_any};
 ghost use Rattle.std.specs.Vec.{vec_capacity};
-ghost use Rattle.imap_grammar.specs.Answers.{marks_seen};
+ghost use Rattle.imap_grammar.specs.Items.{marks_seen};
 ghost use Rattle.imap_grammar.specs.declared.command.Command.TheVariants as commands;
 ghost use Rattle.imap_session.specs.Exchange.{Exchange, Expunge, Feed, Leave};
 ghost use Rattle.imap_session.specs.Commands.{completed, expunge_set, fetch_messages, if_writable, on_found, says, store_messages, unlimited, wrong_state};

@@ -7,7 +7,8 @@ ghost use Rattle.imap_grammar.specs.declared.command.Command.TheVariants as comm
 ghost use Rattle.imap_grammar.specs.Sets.{named_at};
 ghost use Rattle.cursor_set.specs.Lines.{flag_words, spaced};
 ghost use Rattle.imap_session.specs.Exchange.{Exchange, Alter, Write};
-ghost use Rattle.imap_session.specs.Commands.{on_found, on_set, flags_answer, stored, storing, messages_done};
+ghost use Rattle.imap_session.specs.Commands.{on_found, on_set, stored, storing, messages_done};
+ghost use Rattle.imap_answers.specs.Answers.{flags_answer};
 ghost use Rattle.imap_session.specs.inner.Store.{Does, last};
 
 use crate::say::hold_room;

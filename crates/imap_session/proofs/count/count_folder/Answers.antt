@@ -2,7 +2,7 @@ use Rattle.std.proofs.Common.{Err}
 use Rattle.imap_session.specs.Exchange.{Exchange, Write}
 use Rattle.imap_session.specs.Commands.{showing}
 use Rattle.mailbox.specs.declared.mailbox.Status.{Status}
-use Rattle.imap_grammar.specs.Answers.{status_answer}
+use Rattle.imap_answers.specs.Answers.{status_answer}
 use Rattle.imap_session.proofs.Naming.{counts_then, refuses_count, starves_write, writes_then}
 use Rattle.imap_session.proofs.count.count_folder.Goals as goal
 
