@@ -1,21 +1,12 @@
 //! The flags of a message as an answer prints them, appended all or none. Their names are written by `cursor_set`, whose lines have them too.
 
-ghost use Rattle.std.specs.Prelude.{◌≡◌, ◌++◌, ◌+◌, ◌≤◌, length, OnOk, OnErr, vec_capacity, vec_len};
+ghost use Rattle.std.specs.Prelude.{◌≡◌, ◌++◌, ◌≤◌, OnOk, OnErr, vec_capacity};
 ghost use Rattle.imap_answers.specs.Answers.{flags_text};
 
+use crate::words::put;
 use change_ring::Flags;
 use cursor_set::{FLAGS_ROOM, put_flags};
 use std::alloc::AllocError;
-
-// Writes text in room that was reserved.
-fn put(text: &[u8], out: &mut Vec<u8>)
-    requires { vec_len out.old + length text.now ≤ vec_capacity out.old }
-    ensures items { out.new.items ≡ out.old.items ++ text.now }
-    ensures len { vec_len out.new ≡ vec_len out.old + length text.now }
-    ensures room { vec_capacity out.old ≤ vec_capacity out.new }
-{
-    let _ = out.extend_from_slice(text);
-}
 
 /// Appends the flags that are set, or nothing where memory is refused.
 pub(crate) fn write_flags(flags: Flags, out: &mut Vec<u8>) -> Result<(), AllocError>

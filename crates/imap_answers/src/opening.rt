@@ -1,32 +1,31 @@
 //! What is told of a mailbox that was entered (RFC 9051, 6.3.2): its flags, how many messages it has, and what its UIDs are worth.
 //! Which mailbox is entered is the session's matter.
 
-ghost use Rattle.std.specs.Prelude.{◌≡◌, ◌++◌, ◌≤◌, [], if◌then◌else◌, OnOk, OnErr, vec_capacity};
+ghost use Rattle.std.specs.Prelude.{◌≡◌, ◌++◌, ◌+◌, ◌≤◌, [], if◌then◌else◌, length, vec_capacity, vec_len};
 ghost use Rattle.imap_answers.specs.Answers.{opening_text};
 
+use crate::words::put_between;
 use itoa::Buffer;
-use line_io::append_parts;
 use mailbox::Opening;
-use std::alloc::AllocError;
+
+/// Room for what is told of a mailbox that was entered, beside its name: numbers of 20, 10 and 10 digits are the longest.
+pub const OPENING_ROOM: usize = 264;
 
 /// Which of all flags a client can change for good in a mailbox: none where it was selected by EXAMINE.
 fn kept_flags(read_only: bool, all: &[u8]) -> &[u8]
-    ensures { result.now ≡ (if read_only then [] else all.now) }
+    ensures kept { result.now ≡ (if read_only then [] else all.now) }
+    ensures short { length result.now ≤ length all.now }
 {
     if read_only { &all[..0] } else { all }
 }
 
-/// Appends what is told of the mailbox of this name that was entered, read-only where by EXAMINE.
-///
-/// Errors: `AllocError` where memory is refused; then `out` is as it was.
-pub fn write_opening(
-    read_only: bool,
-    name: &[u8],
-    opening: &Opening,
-    out: &mut Vec<u8>,
-) -> Result<(), AllocError>
-    ensures ok { OnOk result (out.new.items ≡ out.old.items ++ opening_text read_only name.now opening.now) }
-    ensures err { OnErr result (out.new.items ≡ out.old.items) }
+/// Writes what is told of the mailbox of this name that was entered, read-only where by EXAMINE, behind `out`, which has room
+/// for it: who enters one reserves that before, and so tells of each that was entered.
+#[tactic(auto, using(crate::proofs::OpeningParts::ten_digits, crate::proofs::OpeningParts::twenty_digits))]
+pub fn put_opening(read_only: bool, name: &[u8], opening: &Opening, out: &mut Vec<u8>)
+    requires { vec_len out.old + (length name.now + 264) ≤ vec_capacity out.old }
+    ensures items { out.new.items ≡ out.old.items ++ opening_text read_only name.now opening.now }
+    ensures len { vec_len out.new ≤ vec_len out.old + (length name.now + 264) }
     ensures room { vec_capacity out.old ≤ vec_capacity out.new }
 {
     let mut count = Buffer::new();
@@ -37,22 +36,10 @@ pub fn write_opening(
     let uidnext = uidnext.format(opening.uidnext).as_bytes();
     let all = b"\\Answered \\Flagged \\Deleted \\Seen \\Draft".as_slice();
     let kept = kept_flags(read_only, all);
-    append_parts(
-        &[
-            b"* FLAGS (".as_slice(),
-            all,
-            b")\r\n* ".as_slice(),
-            count,
-            b" EXISTS\r\n* OK [UIDVALIDITY ".as_slice(),
-            uidvalidity,
-            b"] UIDs valid\r\n* OK [UIDNEXT ".as_slice(),
-            uidnext,
-            b"] Predicted next UID\r\n* OK [PERMANENTFLAGS (".as_slice(),
-            kept,
-            b")] Flags kept\r\n* LIST () \"/\" ".as_slice(),
-            name,
-            b"\r\n".as_slice(),
-        ],
-        out,
-    )
+    put_between(b"* FLAGS (", all, b")\r\n", out);
+    put_between(b"* ", count, b" EXISTS\r\n", out);
+    put_between(b"* OK [UIDVALIDITY ", uidvalidity, b"] UIDs valid\r\n", out);
+    put_between(b"* OK [UIDNEXT ", uidnext, b"] Predicted next UID\r\n", out);
+    put_between(b"* OK [PERMANENTFLAGS (", kept, b")] Flags kept\r\n", out);
+    put_between(b"* LIST () \"/\" ", name, b"\r\n", out);
 }

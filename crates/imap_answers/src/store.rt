@@ -21,7 +21,14 @@ fn put_uid(by_uid: bool, uid: u32, out: &mut Vec<u8>) -> Result<(), AllocError>
         return Ok(());
     }
     let mut digits = Buffer::new();
-    append_parts(&[b"UID ".as_slice(), digits.format(uid).as_bytes(), b" ".as_slice()], out)
+    append_parts(
+        &[
+            b"UID ".as_slice(),
+            digits.format(uid).as_bytes(),
+            b" ".as_slice(),
+        ],
+        out,
+    )
 }
 
 /// Appends the answer to a STORE, or a part of it.

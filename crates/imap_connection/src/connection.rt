@@ -20,7 +20,7 @@ use std::marker::Model;
 const MAX_LINE: usize = 8_192;
 
 /// Room for what a line's answer reserves before anything is done, beside the tag of an IDLE or an APPEND.
-const ANSWER_ROOM: usize = MAX_LINE + 80;
+const ANSWER_ROOM: usize = MAX_LINE + 90;
 
 // What a call took of a piece, and what the client may send next.
 #[derive(Clone, Copy)]
@@ -245,7 +245,7 @@ impl ImapConnection {
         ensures ok { IfOk result (λ fed. (d : Dialogue) → StandsFor self.old d →
             Takes S.step d piece.now store.old store.new out.old.items out.new.items fed self.new) }
         ensures err { OnErr result ((self.new ≡ self.old) × (store.new ≡ store.old) × (out.new.items ≡ out.old.items)) }
-        ensures full { OnErr result (vec_capacity out.new < vec_len out.new + (8272 + tag_len (kept_tag self.new.session))) }
+        ensures full { OnErr result (vec_capacity out.new < vec_len out.new + (8282 + tag_len (kept_tag self.new.session))) }
         ensures sends { IfOk result (λ fed. fed.after ≡ may_send self.new.session) }
     {
         if self.session.ended() {
@@ -292,7 +292,7 @@ impl ImapConnection {
     /// Takes a piece to its end, or to the line that ends the session or submits a message: each line that ends in it is answered
     /// (RFC 9051, 2.2), one of more than 8,192 bytes with its CRLF as too long, and the bytes of a literal are kept for the line that announced
     /// it (4.3), wherever they are cut. Where memory is refused before a line is answered, what was taken till then stands, and the rest is for
-    /// the next call. It is refused only where `out` has no room, behind what it has by then, for 8,272 bytes and the tag of the IDLE or the
+    /// the next call. It is refused only where `out` has no room, behind what it has by then, for 8,282 bytes and the tag of the IDLE or the
     /// APPEND that isn't done. A message is submitted only by a byte that was taken; and whatever the connection stands for, the store was asked
     /// some calls, one after the other, or none.
     pub fn take<S: Store>(
@@ -306,7 +306,7 @@ impl ImapConnection {
         requires unsent { self.old.session.mailing.sent ≡ None }
         ensures used { result.used ≤ length piece.now }
         ensures all { IfSome result.after (λ after. may_follow after ≡ true → result.used ≡ length piece.now) }
-        ensures full { result.after ≡ None → vec_capacity out.new < vec_len out.new + (8272 + tag_len (kept_tag self.new.session)) }
+        ensures full { result.after ≡ None → vec_capacity out.new < vec_len out.new + (8282 + tag_len (kept_tag self.new.session)) }
         ensures unsent { result.after ≡ None → self.new.session.mailing.sent ≡ None }
         ensures moves { is_some self.new.session.mailing.sent ≡ true → 0 < result.used }
         ensures asked { Asks S.step store.old store.new }

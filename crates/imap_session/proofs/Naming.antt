@@ -11,7 +11,7 @@ use Rattle.imap_session.specs.Exchange.{Call, Answer, Counted, Refused, Exchange
 use Rattle.imap_session.specs.Commands.{closing, entering, folder_of, on_folder, opened, says, selecting, wanting}
 use Rattle.imap_answers.specs.Answers.{opening_text}
 use Rattle.imap_session.specs.inner.Store.{Reaches, Stops, Does, Moves, last}
-use Rattle.imap_session.proofs.Runs.{reaches_count, reaches_here, reaches_write, reaches_then, stops_count, stops_write, stops_then}
+use Rattle.imap_session.proofs.Runs.{reaches_count, reaches_here, reaches_put, reaches_write, reaches_then, stops_count, stops_write, stops_then}
 use Rattle.imap_session.proofs.Saying.{does_then}
 
 -- ---- one after the other
@@ -62,6 +62,12 @@ pub reaches_missing : {S : Type 0} (step : S → Call → Answer → S → Type 
     → folder_of name folders ≡ None → Reaches step tag now now (on_folder name folders next) (says (codes "NO [NONEXISTENT] No such mailbox")) s s text text
 reaches_missing step tag now name folders next s text h = rw h (reaches_here step tag now (says (codes "NO [NONEXISTENT] No such mailbox")) s text)
 
+-- the same where memory was wanted first
+pub reaches_wanted : {S : Type 0} (step : S → Call → Answer → S → Type 0) (tag : List ℕ) (now : Standing) (x y : Exchange) (s : S) (text : List ℕ)
+    → Reaches step tag now now x y s s text text → Reaches step tag now now (wanting x) y s s text text
+reaches_wanted step tag now x y s text p =
+    reaches_then step tag now now now (wanting x) x y s s s text text text (reaches_write step tag now [] x s text text (sym (append-nil text))) p
+
 -- ---- writes that are refused
 
 pub starves_write : {S : Type 0} (step : S → Call → Answer → S → Type 0) (tag : List ℕ) (now : Standing) (bytes : List ℕ) (x : Exchange) (fault : MailFault) (s : S) (before after : List ℕ)
@@ -75,7 +81,7 @@ pub tells_opening : {S : Type 0} (step : S → Call → Answer → S → Type 0)
     → words.now ≡ (if read_only then codes "OK [READ-ONLY] EXAMINE completed" else codes "OK [READ-WRITE] SELECT completed")
     → Does step (opened read_only name opening) last s s before after (Ok words)
 tells_opening step read_only name opening words s before after t w = λ tag now. rw w
-    (reaches_write step tag now (opening_text read_only name opening)
+    (reaches_put step tag now (opening_text read_only name opening)
     (says (if read_only then codes "OK [READ-ONLY] EXAMINE completed" else codes "OK [READ-WRITE] SELECT completed")) s before after t)
 
 pub entering_then : {S V : Type 0} (step : S → Call → Answer → S → Type 0) (from to : Option Selected) (read_only : Bool) (folder : Folder) (number : ℕ) (name : List ℕ) (opening : Opening) (z : V → Exchange) (old mid new : S) (before after : List ℕ) (r : Result V MailFault)
@@ -89,16 +95,34 @@ entering_then step from to read_only folder number name opening z old mid new be
     (moves_then_does step from to (ex.Enter (record { mailbox = number; read_only = read_only }) (opened read_only name)) (opened read_only name opening)
     z old mid new before before after r p q)
 
+-- the store refused to enter it
+pub entering_refused : {S V : Type 0} (step : S → Call → Answer → S → Type 0) (from to : Option Selected) (read_only : Bool) (folder : Folder) (number : ℕ) (name : List ℕ) (fault : MailFault) (z : V → Exchange) (old new : S) (before after : List ℕ)
+    → number ≡ folder.mailbox → name ≡ folder.name → after ≡ before
+    → ((tag : List ℕ) (now : Standing) → now.selected ≡ from → Stops step tag now (record now { selected = to })
+    (ex.Enter (record { mailbox = number; read_only = read_only }) (opened read_only name)) fault old new before before)
+    → Moves step from to (wanting (entering read_only folder)) z old new before after (Err fault)
+entering_refused {S} {V} step from to read_only folder number name fault z old new before after n m e p =
+    rw (← n, ← m, e)
+    (moves_wanting {V = V} step from to (ex.Enter (record { mailbox = number; read_only = read_only }) (opened read_only name)) z old new before before (Err fault) p)
+
+pub moves_found : {S V : Type 0} (step : S → Call → Answer → S → Type 0) (from to : Option Selected) (name : List ℕ) (folders : List Folder) (folder : Folder) (next : Folder → Exchange) (z : V → Exchange) (old new : S) (before after : List ℕ) (r : Result V MailFault)
+    → Some folder ≡ folder_of name folders → Moves step from to (wanting (next folder)) z old new before after r → Moves step from to (wanting (on_folder name folders next)) z old new before after r
+moves_found step from to name folders folder next z old new before after r h p = rw (← h) p
+
+-- memory was refused, or the store refused to leave; the rest isn't done
+pub starves_wanting : {S V : Type 0} (step : S → Call → Answer → S → Type 0) (sel : Option Selected) (x : Exchange) (z : V → Exchange) (s : S) (text : List ℕ)
+    → Moves step sel sel (wanting x) z s s text text (Err NoMemory)
+starves_wanting step sel x z s text = λ tag now was. rw (← was) (stops_write step tag now [] x s text)
+
 pub selects : {S V : Type 0} (step : S → Call → Answer → S → Type 0) (from between to : Option Selected) (folders : List Folder) (read_only : Bool) (name given : List ℕ) (z : V → Exchange) (old mid new : S) (first second third : List ℕ) (r : Result V MailFault)
     → given ≡ name
     → ((x : Exchange) (tag : List ℕ) (now : Standing) → now.selected ≡ from → Reaches step tag now (record now { selected = between }) (closing from x) x old mid first second)
-    → Moves step between to (on_folder given folders (entering read_only)) z mid new second third r
+    → Moves step between to (wanting (on_folder given folders (entering read_only))) z mid new second third r
     → Moves step from to (selecting (record { folders = folders; selected = from; idling = None; ended = false; mailing = nothing_sent None }) read_only name) z old new first third r
 selects step from between to folders read_only name given z old mid new first second third r e p q =
     rw (← e)
-    (moves_wanting step from to (closing from (on_folder given folders (entering read_only))) z old new first third r
-    (moves_then step from between to (closing from (on_folder given folders (entering read_only))) (on_folder given folders (entering read_only)) z old mid new first second third r
-    (p (on_folder given folders (entering read_only))) q))
+    (moves_then step from between to (closing from (wanting (on_folder given folders (entering read_only)))) (wanting (on_folder given folders (entering read_only))) z old mid new first second third r
+    (p (wanting (on_folder given folders (entering read_only)))) q)
 
 -- ---- mailboxes that were counted, and what was written
 

@@ -127,16 +127,16 @@ shown_in_order now commands.Idle = (refl, may_not_be (is_some now.selected))
 shown_in_order now commands.Login = λ must. refl
 shown_in_order now commands.Authenticate = λ must. refl
 shown_in_order now commands.StartTls = λ must. refl
-shown_in_order now (commands.Select name) = (
-  inl refl,
-  in_closing now (commands.Select name) now.selected (on_folder name now.folders (entering false)) (inr (inl refl))
-      (in_folder now (commands.Select name) (entering false) (λ folder opening. (inr (inr (folder.name, opening, refl)), λ must. absurd (may_not false (is_some now.selected) refl must))) (folder_of name now.folders)),
-)
-shown_in_order now (commands.Examine name) = (
-  inl refl,
-  in_closing now (commands.Examine name) now.selected (on_folder name now.folders (entering true)) (inr (inl refl))
-      (in_folder now (commands.Examine name) (entering true) (λ folder opening. (inr (inr (folder.name, opening, refl)), λ must. absurd (may_not false (is_some now.selected) refl must))) (folder_of name now.folders)),
-)
+shown_in_order now (commands.Select name) =
+    in_closing now (commands.Select name) now.selected (wanting (on_folder name now.folders (entering false))) (inr (inl refl)) (
+      inl refl,
+      in_folder now (commands.Select name) (entering false) (λ folder opening. (inr (inr (folder.name, opening, refl)), λ must. absurd (may_not false (is_some now.selected) refl must))) (folder_of name now.folders),
+    )
+shown_in_order now (commands.Examine name) =
+    in_closing now (commands.Examine name) now.selected (wanting (on_folder name now.folders (entering true))) (inr (inl refl)) (
+      inl refl,
+      in_folder now (commands.Examine name) (entering true) (λ folder opening. (inr (inr (folder.name, opening, refl)), λ must. absurd (may_not false (is_some now.selected) refl must))) (folder_of name now.folders),
+    )
 shown_in_order now (commands.List reference pattern) = (refl, in_showing now (commands.List reference pattern) refl now.selected refl)
 shown_in_order now (commands.Status name items) = (
   inl refl,

@@ -95,9 +95,9 @@ over_tells_none (Some most) = refl
 
 -- ---- commands
 
-selecting_tells_none : (now : Standing) (read_only : Bool) (name : List ℕ) → TellsNoUid (closing now.selected (on_folder name now.folders (entering read_only)))
+selecting_tells_none : (now : Standing) (read_only : Bool) (name : List ℕ) → TellsNoUid (closing now.selected (wanting (on_folder name now.folders (entering read_only))))
 selecting_tells_none now read_only name =
-    in_closing now.selected (on_folder name now.folders (entering read_only)) (in_folder name now.folders (entering read_only) (λ folder opening. entered_words read_only))
+    in_closing now.selected (wanting (on_folder name now.folders (entering read_only))) (in_folder name now.folders (entering read_only) (λ folder opening. entered_words read_only))
 
 append_tells_none : (most : Option ℕ) (a : Append) (found : Option ℕ) → TellsNoUid (if a.literal.waits then wanting (asked_at most a found) else sent_at most a found)
 append_tells_none most a found =

@@ -53,10 +53,7 @@ abbrev pub showing : Option Selected → Exchange → Exchange
 showing None x = x
 showing (Some selected) x = Feed unlimited x
 
-abbrev pub untagged : List ℕ → Exchange → Exchange
-untagged words x = Write (codes "* " ++ words ++ crlf) x
-
--- the same in room that was reserved
+-- an untagged line, in room that was reserved
 abbrev pub untagged_in_room : List ℕ → Exchange → Exchange
 untagged_in_room words x = Put (codes "* " ++ words ++ crlf) x
 
@@ -78,27 +75,31 @@ on_found found gone (Some x) = found x
 abbrev pub on_folder : List ℕ → List Folder → (Folder → Exchange) → Exchange
 on_folder name folders next = on_found next (says (codes "NO [NONEXISTENT] No such mailbox")) (folder_of name folders)
 
--- memory is wanted here for a name, and nothing is written
+-- memory is wanted here, for a name or for what will be told, and nothing is written
 abbrev pub wanting : Exchange → Exchange
 wanting x = Write [] x
 
 -- ---- SELECT and EXAMINE
 
+-- What is told of the mailbox that was entered. Room for it was reserved where memory was wanted, before the mailbox was entered, so memory can't be refused to it.
 abbrev pub opened : Bool → List ℕ → Opening → Exchange
 opened read_only name opening =
-    Write (opening_text read_only name opening)
+    Put (opening_text read_only name opening)
     (says (if read_only then codes "OK [READ-ONLY] EXAMINE completed" else codes "OK [READ-WRITE] SELECT completed"))
 
--- the mailbox that was selected is left first, also where the new one isn't there
+-- The mailbox that was selected is left first, also where the new one isn't there, and that is told: room for this line was reserved before anything was
+-- done, so memory can't be refused to it.
 abbrev pub closing : Option Selected → Exchange → Exchange
 closing None x = x
-closing (Some selected) x = Leave false (untagged (codes "OK [CLOSED] Previous mailbox is closed") x)
+closing (Some selected) x = Leave false (untagged_in_room (codes "OK [CLOSED] Previous mailbox is closed") x)
 
 abbrev pub entering : Bool → Folder → Exchange
 entering read_only folder = Enter (record { mailbox = folder.mailbox; read_only = read_only }) (opened read_only folder.name)
 
+-- Then memory is wanted, once, for the name and for what is told of the new mailbox. Where it is refused no mailbox is selected, as where the new one isn't there
+-- or the store refuses it (RFC 9051, 6.3.2).
 abbrev pub selecting : Standing → Bool → List ℕ → Exchange
-selecting now read_only name = wanting (closing now.selected (on_folder name now.folders (entering read_only)))
+selecting now read_only name = closing now.selected (wanting (on_folder name now.folders (entering read_only)))
 
 -- ---- sets of messages
 

@@ -234,7 +234,8 @@ keeps_tag (ForLiteral mailbox flags size) = true
 keeps_tag _ = false
 
 -- Where an exchange leads with these answers; nowhere where they are none to its calls. Memory is refused to the session itself only where it
--- may want some: at a Write, at a Look, and for a long tag that is kept. Nobody is told so who asks to leave a mailbox, or for lines whose room was reserved.
+-- may want some: at a Write, at a Look, and for a long tag that is kept. Nobody is told so who asks to leave a mailbox, or for lines whose room was reserved:
+-- so no mailbox is left or entered by SELECT or EXAMINE without a word.
 abbrev pub played : List ℕ → Standing → Exchange → List Answer → Option Turn
 played tag now (Done words how) [] = Some (saying (tagged tag words) (closed now how))
 played tag now (Done words how) (answer ∷ more) = None

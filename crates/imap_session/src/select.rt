@@ -1,85 +1,36 @@
 //! SELECT and EXAMINE (RFC 9051, 6.3.2 and 6.3.3), CLOSE and UNSELECT (6.4.1 and 6.4.2): mailboxes entered and left.
 
-ghost use Rattle.std.specs.Prelude.{◌≡◌, ℕ, ◌+◌, ◌≤◌, List, [], ◌++◌, codes, false, length, OnOk, OnErr, IfOk, IfErr, None, Some, if◌then◌else◌, vec_len};
+ghost use Rattle.std.specs.Prelude.{◌≡◌, ℕ, ◌+◌, ◌≤◌, List, codes, false, length, OnOk, OnErr, IfOk, IfErr, None, Some, if◌then◌else◌, vec_len};
 ghost use Rattle.std.specs.Vec.{vec_capacity};
 ghost use Rattle.mailbox.specs.declared.clients.Opening.{Opening as OpeningSpec};
 ghost use Rattle.imap_session.specs.Exchange.{Exchange, Enter, Leave, nothing_sent};
-ghost use Rattle.imap_session.specs.Commands.{closing, entering, on_folder, selecting};
-ghost use Rattle.imap_answers.specs.Answers.{opening_text};
+ghost use Rattle.imap_session.specs.Commands.{closing, entering, on_folder, selecting, wanting};
 ghost use Rattle.imap_session.specs.inner.Store.{Moves, last};
 
 use crate::folders::find_folder;
-use crate::say::{write_line, write_parts};
+use crate::say::put;
 use crate::standing::{Folder, Selected};
 use crate::store::Store;
-use crate::turn::MOST_WORDS;
+use crate::turn::{FIRST, MOST_WORDS};
+use imap_answers::{OPENING_ROOM, put_opening};
 use imap_grammar::Name;
-use itoa::Buffer;
 use mailbox::{MailFault, Opening};
 use std::alloc::Global;
 
-// Which of all flags a client can change for good in a mailbox: none where it was selected by EXAMINE.
-fn kept_flags(read_only: bool, all: &[u8]) -> &[u8]
-    ensures { result.now ≡ (if read_only then [] else all.now) }
-{
-    if read_only { &all[..0] } else { all }
-}
+const CLOSED: &[u8] = b"* OK [CLOSED] Previous mailbox is closed\r\n";
 
-// Writes what is told of a mailbox that was entered, with room for `keep` more bytes behind it.
-fn write_opening(
-    read_only: bool,
-    name: &[u8],
-    opening: &Opening,
-    keep: usize,
-    out: &mut Vec<u8>,
-) -> Result<(), MailFault>
-    requires room { vec_len out.old + keep ≤ vec_capacity out.old }
-    ensures text { OnOk result (out.new.items ≡ out.old.items ++ opening_text read_only name.now opening.now) }
-    ensures err { OnErr result (out.new.items ≡ out.old.items) }
-    ensures fault { IfErr result (λ f. f ≡ MailFault.NoMemory) }
-    ensures room { vec_len out.new + keep ≤ vec_capacity out.new }
-{
-    let mut count = Buffer::new();
-    let mut uidvalidity = Buffer::new();
-    let mut uidnext = Buffer::new();
-    let count = count.format(opening.count).as_bytes();
-    let uidvalidity = uidvalidity.format(opening.uidvalidity).as_bytes();
-    let uidnext = uidnext.format(opening.uidnext).as_bytes();
-    let all = b"\\Answered \\Flagged \\Deleted \\Seen \\Draft".as_slice();
-    let kept = kept_flags(read_only, all);
-    write_parts(
-        &[
-            b"* FLAGS (".as_slice(),
-            all,
-            b")\r\n* ".as_slice(),
-            count,
-            b" EXISTS\r\n* OK [UIDVALIDITY ".as_slice(),
-            uidvalidity,
-            b"] UIDs valid\r\n* OK [UIDNEXT ".as_slice(),
-            uidnext,
-            b"] Predicted next UID\r\n* OK [PERMANENTFLAGS (".as_slice(),
-            kept,
-            b")] Flags kept\r\n* LIST () \"/\" ".as_slice(),
-            name,
-            b"\r\n".as_slice(),
-        ],
-        keep,
-        out,
-    )
-}
-
-// Leaves the mailbox that was selected, if one was.
+// Leaves the mailbox that was selected, if one was, and tells that in room that was reserved.
 fn leave_previous<S: Store>(
     selected: &mut Option<Selected>,
     store: &mut S,
-    keep: usize,
     out: &mut Vec<u8>,
 ) -> Result<(), MailFault>
-    requires room { vec_len out.old + keep ≤ vec_capacity out.old }
+    requires room { vec_len out.old + FIRST ≤ vec_capacity out.old }
     ensures done { (x : Exchange) → Moves S.step selected.old selected.new (closing selected.old x) (λ _.
         x) store.old store.new out.old.items out.new.items result }
     ensures none { OnOk result (selected.new ≡ None) }
-    ensures room { vec_len out.new + keep ≤ vec_capacity out.new }
+    ensures len { vec_len out.new ≤ vec_len out.old + FIRST }
+    ensures capacity { vec_capacity out.old ≤ vec_capacity out.new }
 {
     if selected.is_none() {
         return Ok(());
@@ -88,8 +39,24 @@ fn leave_previous<S: Store>(
         Err(fault) => Err(fault),
         Ok(_) => {
             *selected = None;
-            write_line(b"* OK [CLOSED] Previous mailbox is closed\r\n", keep, out)
+            put(CLOSED, out);
+            Ok(())
         }
+    }
+}
+
+// Reserves room for what is told of a mailbox of this name once it is entered, and for `keep` bytes behind it.
+fn hold_opening(name: &[u8], keep: usize, out: &mut Vec<u8>) -> Result<(), MailFault>
+    requires room { vec_len out.old + keep ≤ vec_capacity out.old }
+    ensures same { out.new.items ≡ out.old.items }
+    ensures fault { IfErr result (λ f. f ≡ MailFault.NoMemory) }
+    ensures room { OnOk result (vec_len out.new + (length name.now + OPENING_ROOM + keep) ≤ vec_capacity out.new) }
+    ensures kept { vec_len out.new + keep ≤ vec_capacity out.new }
+{
+    let most = name.len().saturating_add(OPENING_ROOM + keep);
+    match out.reserve(most) {
+        Err(_) => Err(MailFault::NoMemory),
+        Ok(()) => Ok(()),
     }
 }
 
@@ -144,7 +111,7 @@ fn entered_words(read_only: bool) -> &'static [u8]
     }
 }
 
-// Enters a folder's mailbox and tells of it. Answers what the last line says.
+// Enters a folder's mailbox and tells of it: memory is wanted before that. Answers what the last line says.
 fn enter_folder<S: Store>(
     folder: &Folder,
     read_only: bool,
@@ -155,21 +122,24 @@ fn enter_folder<S: Store>(
 ) -> Result<&'static [u8], MailFault>
     requires room { vec_len out.old + keep ≤ vec_capacity out.old }
     ensures done { Moves S.step selected.old selected.new
-        (entering read_only folder.now) last store.old store.new out.old.items out.new.items result }
+        (wanting (entering read_only folder.now)) last store.old store.new out.old.items out.new.items result }
     ensures short { IfOk result (λ words. length words.now ≤ MOST_WORDS) }
     ensures room { vec_len out.new + keep ≤ vec_capacity out.new }
 {
+    match hold_opening(folder.name(), keep, out) {
+        Err(fault) => return Err(fault),
+        Ok(()) => {}
+    }
     let wanted = Selected {
         mailbox: folder.mailbox(),
         read_only,
     };
-    let opening = match enter_mailbox(wanted, selected, store) {
-        Err(fault) => return Err(fault),
-        Ok(opening) => opening,
-    };
-    match write_opening(read_only, folder.name(), &opening, keep, out) {
+    match enter_mailbox(wanted, selected, store) {
         Err(fault) => Err(fault),
-        Ok(()) => Ok(entered_words(read_only)),
+        Ok(opening) => {
+            put_opening(read_only, folder.name(), &opening, out);
+            Ok(entered_words(read_only))
+        }
     }
 }
 
@@ -185,7 +155,7 @@ fn enter_named<S: Store>(
 ) -> Result<&'static [u8], MailFault>
     requires room { vec_len out.old + keep ≤ vec_capacity out.old }
     ensures done { Moves S.step selected.old selected.new
-        (on_folder name.now folders.now (entering read_only)) last store.old store.new out.old.items out.new.items result }
+        (wanting (on_folder name.now folders.now (entering read_only))) last store.old store.new out.old.items out.new.items result }
     ensures short { IfOk result (λ words. length words.now ≤ MOST_WORDS) }
     ensures room { vec_len out.new + keep ≤ vec_capacity out.new }
 {
@@ -196,6 +166,7 @@ fn enter_named<S: Store>(
 }
 
 // SELECT and EXAMINE: leaves the mailbox that was selected, then enters the one of this name. Answers what the last line says.
+// Where it isn't entered none is selected, also where memory is refused.
 pub(crate) fn select_mailbox<S: Store>(
     alloc: Global,
     folders: &[Folder],
@@ -206,7 +177,7 @@ pub(crate) fn select_mailbox<S: Store>(
     keep: usize,
     out: &mut Vec<u8>,
 ) -> Result<&'static [u8], MailFault>
-    requires room { vec_len out.old + keep ≤ vec_capacity out.old }
+    requires room { vec_len out.old + (keep + FIRST) ≤ vec_capacity out.old }
     ensures done { Moves S.step selected.old selected.new
         (selecting (record {
           folders = folders.now;
@@ -218,13 +189,13 @@ pub(crate) fn select_mailbox<S: Store>(
     ensures short { IfOk result (λ words. length words.now ≤ MOST_WORDS) }
     ensures room { vec_len out.new + keep ≤ vec_capacity out.new }
 {
-    let Ok(name) = name.to_bytes(alloc) else {
-        return Err(MailFault::NoMemory);
-    };
-    match leave_previous(selected, store, keep, out) {
+    match leave_previous(selected, store, out) {
         Err(fault) => return Err(fault),
         Ok(()) => {}
     }
+    let Ok(name) = name.to_bytes(alloc) else {
+        return Err(MailFault::NoMemory);
+    };
     enter_named(
         folders,
         read_only,

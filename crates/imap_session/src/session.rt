@@ -291,7 +291,7 @@ impl Session {
         self.await_literal(alloc, tag, mailbox, append, out)
     }
 
-    // Answers a command other than IDLE and APPEND, in the room that was reserved for its last line and the one before it of CAPABILITY, NAMESPACE and LOGOUT.
+    // Answers a command other than IDLE and APPEND, in the room that was reserved for its last line and for `FIRST`.
     fn answer<S: Store>(
         &mut self,
         alloc: Global,
@@ -341,7 +341,7 @@ impl Session {
         ensures answered { IfOk result (λ after. Answers S.step self.old line.now store.old store.new out.old.items out.new.items after self.new) }
         ensures lasts { result ≢ Err SessionFault.Ended }
         ensures refused { OnErr result ((self.new ≡ self.old) × (store.new ≡ store.old) × (out.new.items ≡ out.old.items)) }
-        ensures memory { OnErr result (vec_capacity out.old < vec_len out.old + (length line.now + 80)) }
+        ensures memory { OnErr result (vec_capacity out.old < vec_len out.old + (length line.now + 90)) }
         ensures folders { self.new.folders ≡ self.old.folders }
         ensures sends { IfOk result (λ after. after ≡ may_send self.new) }
     {
@@ -426,13 +426,14 @@ impl Session {
     /// What the store refuses is told to the client, and so is memory that is refused once the command has begun. The last line of an answer
     /// is always written: room for it is reserved first, so that a client can log out where memory is refused. So is room for all that
     /// CAPABILITY and NAMESPACE say, and to idle, with a tag of at most 32 bytes, or to leave a mailbox the session itself wants no memory.
+    /// SELECT and EXAMINE leave the mailbox that was selected, and tell that, before they want any; once they entered the new one all is told.
     ///
     /// Behind the literal of an APPEND the line is the rest of that command's, which is to be empty: the message is then submitted, or it is said
     /// why not (6.3.12). It has the bytes that were taken till then, so a caller hands over all that are due first. While the verdict on a message
     /// is awaited no line may come.
     ///
     /// Errors, after which the session, the store and `out` are as they were: `Ended` exactly where the session has ended; `NoMemory` where
-    /// memory was refused, and `out` has no room for the line's length and 80 bytes more; where the line ends an IDLE or an APPEND, for the
+    /// memory was refused, and `out` has no room for the line's length and 90 bytes more; where the line ends an IDLE or an APPEND, for the
     /// length of its tag and 48 more.
     pub fn line<S: Store>(
         &mut self,

@@ -25,8 +25,8 @@ pub(crate) const MOST_WORDS: usize = 45;
 /// Room for the last line of any answer beside its tag, a space and CRLF among it; and for a line that says BYE.
 pub(crate) const LAST: usize = 48;
 
-/// Room for the line that CAPABILITY, NAMESPACE or LOGOUT writes before its last one.
-pub(crate) const FIRST: usize = 32;
+/// Room for the line that CAPABILITY, NAMESPACE or LOGOUT writes before its last one, or by which SELECT or EXAMINE tells that a mailbox was left.
+pub(crate) const FIRST: usize = 42;
 
 const CAPABILITY: &[u8] = b"* CAPABILITY IMAP4rev2 IDLE\r\n";
 

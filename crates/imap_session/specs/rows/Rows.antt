@@ -261,6 +261,21 @@ starved_idler = refl
 
 -- ---- where no memory is wanted none is refused
 
+-- the mailbox that was selected is left, and that is told, before memory is wanted for the new one: where it is refused none is selected
+select_without_memory : written in_inbox (Line (codes "a2 SELECT Work") (Left 0 ∷ Starved 0 ∷ []) ∷ Line (codes "a3 NOOP") [] ∷ Line (codes "a4 CLOSE") [] ∷ [])
+    ≡ Some (codes "* OK [CLOSED] Previous mailbox is closed\r\na2 NO Out of memory\r\na3 OK NOOP completed\r\na4 BAD Wrong state\r\n")
+unfolding read digits
+select_without_memory = refl
+
+-- memory isn't wanted for the line that tells so, nor for what is told of the mailbox that was entered
+select_leaves_with_a_word : turn_of in_inbox (codes "a2 SELECT Work") (Starved 0 ∷ []) ≡ None
+unfolding read
+select_leaves_with_a_word = refl
+
+select_enters_with_a_word : turn_of awake (codes "a2 SELECT Work") (Entered (record { count = 0; uidnext = 1; uidvalidity = 7 }) ∷ Starved 0 ∷ []) ≡ None
+unfolding read
+select_enters_with_a_word = refl
+
 logout_without_memory : turn_of in_inbox (codes "a2 LOGOUT") (Starved 0 ∷ []) ≡ None
 unfolding read digits
 logout_without_memory = refl

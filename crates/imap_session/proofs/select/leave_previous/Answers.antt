@@ -18,5 +18,4 @@ returns-in-Err-clause-done g c x tag now was =
 pub returns-in-Ok-clause-done : goal.returns-in-Ok-clause-done
 returns-in-Ok-clause-done g c x =
     let some : is_none c.args.selected.now ≡ false = search rules in
-    moves_closed g.S.Store.step c.args.selected.now x c.in-Ok.field-0 _ _ _ _ c.write_line.result some c.in-Ok.ensures
-    c.write_line.ensures.text c.write_line.ensures.err c.write_line.ensures.fault
+    moves_closed g.S.Store.step c.args.selected.now x c.in-Ok.field-0 _ _ _ _ _ some c.in-Ok.ensures c.put.ensures.text
