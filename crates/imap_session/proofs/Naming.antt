@@ -105,11 +105,7 @@ entering_refused {S} {V} step from to read_only folder number name fault z old n
     rw (← n, ← m, e)
     (moves_wanting {V = V} step from to (ex.Enter (record { mailbox = number; read_only = read_only }) (opened read_only name)) z old new before before (Err fault) p)
 
-pub moves_found : {S V : Type 0} (step : S → Call → Answer → S → Type 0) (from to : Option Selected) (name : List ℕ) (folders : List Folder) (folder : Folder) (next : Folder → Exchange) (z : V → Exchange) (old new : S) (before after : List ℕ) (r : Result V MailFault)
-    → Some folder ≡ folder_of name folders → Moves step from to (wanting (next folder)) z old new before after r → Moves step from to (wanting (on_folder name folders next)) z old new before after r
-moves_found step from to name folders folder next z old new before after r h p = rw (← h) p
-
--- memory was refused, or the store refused to leave; the rest isn't done
+-- memory was refused where it was wanted
 pub starves_wanting : {S V : Type 0} (step : S → Call → Answer → S → Type 0) (sel : Option Selected) (x : Exchange) (z : V → Exchange) (s : S) (text : List ℕ)
     → Moves step sel sel (wanting x) z s s text text (Err NoMemory)
 starves_wanting step sel x z s text = λ tag now was. rw (← was) (stops_write step tag now [] x s text)

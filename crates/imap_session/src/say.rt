@@ -1,10 +1,9 @@
-//! Lines, written: in room that was reserved, or with room left for the last line; and what a session says whatever its line was.
+//! Lines, written in room that was reserved, and room that is held for the last line; and what a session says whatever its line was.
 
-ghost use Rattle.std.specs.Prelude.{◌≡◌, ◌+◌, ◌≤◌, ◌++◌, OnOk, OnErr, IfErr, vec_len, length, flat_map, take};
+ghost use Rattle.std.specs.Prelude.{◌≡◌, ◌+◌, ◌≤◌, ◌++◌, OnOk, OnErr, IfErr, vec_len, length, take};
 ghost use Rattle.std.specs.Vec.{vec_capacity};
 ghost use Rattle.imap_session.specs.Exchange.{tagged};
 
-use line_io::append_parts;
 use mailbox::MailFault;
 
 pub(crate) const GREETING: &[u8] = b"* PREAUTH IMAP4rev2 server ready\r\n";
@@ -38,21 +37,6 @@ pub(crate) fn put_tagged(tag: &[u8], words: &[u8], out: &mut Vec<u8>)
     put(b"\r\n", out);
 }
 
-// Writes a line, with room for `keep` more bytes behind it. Where memory is refused, `out` is as it was.
-pub(crate) fn write_line(line: &[u8], keep: usize, out: &mut Vec<u8>) -> Result<(), MailFault>
-    requires room { vec_len out.old + keep ≤ vec_capacity out.old }
-    ensures text { OnOk result (out.new.items ≡ out.old.items ++ line.now) }
-    ensures err { OnErr result (out.new.items ≡ out.old.items) }
-    ensures fault { IfErr result (λ f. f ≡ MailFault.NoMemory) }
-    ensures room { vec_len out.new + keep ≤ vec_capacity out.new }
-{
-    if out.reserve(line.len() + keep).is_err() {
-        return Err(MailFault::NoMemory);
-    }
-    put(line, out);
-    Ok(())
-}
-
 // Reserves room for `keep` more bytes. Where memory is refused, what was written from `start` on goes again.
 pub(crate) fn hold_room(start: usize, keep: usize, out: &mut Vec<u8>) -> Result<(), MailFault>
     requires within { start ≤ length out.old.items }
@@ -68,19 +52,4 @@ pub(crate) fn hold_room(start: usize, keep: usize, out: &mut Vec<u8>) -> Result<
         return Err(MailFault::NoMemory);
     }
     Ok(())
-}
-
-// Writes the parts in their order, with room for `keep` more bytes behind them. Where memory is refused, `out` is as it was.
-pub(crate) fn write_parts(parts: &[&[u8]], keep: usize, out: &mut Vec<u8>) -> Result<(), MailFault>
-    requires room { vec_len out.old + keep ≤ vec_capacity out.old }
-    ensures text { OnOk result (out.new.items ≡ out.old.items ++ flat_map (λ part. part.now) parts.now) }
-    ensures err { OnErr result (out.new.items ≡ out.old.items) }
-    ensures fault { IfErr result (λ f. f ≡ MailFault.NoMemory) }
-    ensures room { vec_len out.new + keep ≤ vec_capacity out.new }
-{
-    let start = out.len();
-    if append_parts(parts, out).is_err() {
-        return Err(MailFault::NoMemory);
-    }
-    hold_room(start, keep, out)
 }
