@@ -9,8 +9,8 @@ use Rattle.mailbox.specs.declared.clients.Opening.{Opening}
 use Rattle.world.specs.World.{Config, World}
 use Rattle.imap_session.specs.declared.standing.After.TheVariants.{Go}
 use Rattle.imap_session.specs.declared.standing.Selected.{Selected}
-use Rattle.imap_session.specs.Exchange.{Answer, Entered, Looked, Found, Counted, Altered, Expunged, Fed, Left, Refused, Starved, Event, Exchange, Write, Enter, Leave, Folder, Standing, Turn, having, played, refusal_text, refused, tagged}
-use Rattle.imap_session.specs.Commands.{closing, entering, folder_of, on_folder, on_found, opened, says, selecting, wrong_state}
+use Rattle.imap_session.specs.Exchange.{Answer, Entered, Looked, Found, Counted, Altered, Expunged, Fed, Left, Refused, Starved, Event, Exchange, Put, Enter, Leave, Folder, Standing, Turn, having, played, refusal_text, refused, saying, tagged}
+use Rattle.imap_session.specs.Commands.{closing, entering, folder_of, on_folder, on_found, opened, says, selecting, wanting, wrong_state}
 use Rattle.imap_answers.specs.Answers.{opening_text}
 use Rattle.imap_session.specs.Store.{Met}
 use Rattle.client_list.specs.Client.{Client, Known, fresh, more, reads, unknown}
@@ -67,15 +67,12 @@ then_tagged P new text tag words view t plain f = record {
 
 -- what is told of a mailbox that was entered, and the line behind it
 opening_known : (P : ℕ → Known → Type 0) (new : (u : ℕ) → P u unknown) (tag : List ℕ) (now : Standing) (read_only : Bool) (name : List ℕ) (o : Opening) (answers : List Answer) (turn : Turn) (view front : List ℕ) (last : ℕ) → IsTag tag → IsPlain (front ++ last ∷ [])
-    → Follows P [] (opening_text read_only name o) view → played tag now (Write (opening_text read_only name o) (says (front ++ last ∷ []))) answers ≡ Some turn → IfOk P tag turn.bytes view × (turn.events ≡ [])
-opening_known P new tag now read_only name o answers turn view front last t plain f e = by (writes tag now (opening_text read_only name o) (says (front ++ last ∷ [])) answers turn e)
-  where
-    by : Wrote tag now (opening_text read_only name o) (says (front ++ last ∷ [])) turn → IfOk P tag turn.bytes view × (turn.events ≡ [])
-    by (wanted only) = (refused_none P new tag NoMemory turn view t only, only.events)
-    by (wrote others m) =
-        let d = only_done tag (front ++ last ∷ []) Go now others m.more m.is in
-        let bytes : turn.bytes ≡ opening_text read_only name o ++ tagged tag (front ++ last ∷ []) = ap (λ (s : Turn). s.bytes) (sym m.makes) ∙ ap (λ (b : List ℕ). opening_text read_only name o ++ b) d.bytes in
-        ((λ ok. subst (λ (b : List ℕ). Follows P [] b view) (sym bytes) (then_tagged P new (opening_text read_only name o) tag (front ++ last ∷ []) view t plain f)), ap (λ (s : Turn). s.events) (sym m.makes) ∙ d.events)
+    → Follows P [] (opening_text read_only name o) view → played tag now (Put (opening_text read_only name o) (says (front ++ last ∷ []))) answers ≡ Some turn → IfOk P tag turn.bytes view × (turn.events ≡ [])
+opening_known P new tag now read_only name o answers turn view front last t plain f e =
+    let m = mapped (saying (opening_text read_only name o)) (played tag now (says (front ++ last ∷ [])) answers) turn e in
+    let d = only_done tag (front ++ last ∷ []) Go now answers m.more m.is in
+    let bytes : turn.bytes ≡ opening_text read_only name o ++ tagged tag (front ++ last ∷ []) = ap (λ (s : Turn). s.bytes) (sym m.makes) ∙ ap (λ (b : List ℕ). opening_text read_only name o ++ b) d.bytes in
+    ((λ ok. subst (λ (b : List ℕ). Follows P [] b view) (sym bytes) (then_tagged P new (opening_text read_only name o) tag (front ++ last ∷ []) view t plain f)), ap (λ (s : Turn). s.events) (sym m.makes) ∙ d.events)
 
 opened_known : (P : ℕ → Known → Type 0) (new : (u : ℕ) → P u unknown) (tag : List ℕ) (now : Standing) (read_only : Bool) (name : List ℕ) (o : Opening) (answers : List Answer) (turn : Turn) (view : List ℕ) → IsTag tag
     → Follows P [] (opening_text read_only name o) view → played tag now (opened read_only name o) answers ≡ Some turn → IfOk P tag turn.bytes view × (turn.events ≡ [])
@@ -132,25 +129,34 @@ behind_closed P new tag bytes view t known ok =
       each = f.each;
     }
 
+-- memory is wanted, and the mailbox is looked for
+wanted_known : (P : ℕ → Known → Type 0) (new : (u : ℕ) → P u unknown) (k : Config) (n : ℕ) (tag : List ℕ) (now : Standing) (w : World) (read_only : Bool) (name : List ℕ) (folders : List Folder) (answers : List Answer) (turn : Turn) (v : World)
+    → HasSmallNumbers k → Sound k w → IsTag tag → AreNames folders → played tag now (wanting (on_folder name folders (entering read_only))) answers ≡ Some turn → Met (Calls k n) w turn.events v → IfOk P tag turn.bytes (view_of v n)
+wanted_known P new k n tag now w read_only name folders answers turn v h S t names e met = by (writes tag now [] (on_folder name folders (entering read_only)) answers turn e)
+  where
+    by : Wrote tag now [] (on_folder name folders (entering read_only)) turn → IfOk P tag turn.bytes (view_of v n)
+    by (wanted only stays) = refused_none P new tag NoMemory turn (view_of v n) t only
+    by (wrote others p) =
+        subst (λ (s : Turn). IfOk P tag s.bytes (view_of v n)) p.makes
+        (named_known P new k n tag now w read_only name folders others p.more v h S t names p.is (subst (λ (s : Turn). Met (Calls k n) w s.events v) (sym p.makes) met))
+
 -- the mailbox that was selected is left first
 closing_known : (P : ℕ → Known → Type 0) (new : (u : ℕ) → P u unknown) (k : Config) (n : ℕ) (tag : List ℕ) (now : Standing) (w : World) (read_only : Bool) (name : List ℕ) (folders : List Folder) (selected : Option Selected) (answers : List Answer) (turn : Turn) (v : World)
     → HasSmallNumbers k → Sound k w → IsTag tag → AreNames folders
-    → played tag now (closing selected (on_folder name folders (entering read_only))) answers ≡ Some turn → Met (Calls k n) w turn.events v → IfOk P tag turn.bytes (view_of v n)
-closing_known P new k n tag now w read_only name folders None answers turn v h S t names e met = named_known P new k n tag now w read_only name folders answers turn v h S t names e met
+    → played tag now (closing selected (wanting (on_folder name folders (entering read_only)))) answers ≡ Some turn → Met (Calls k n) w turn.events v → IfOk P tag turn.bytes (view_of v n)
+closing_known P new k n tag now w read_only name folders None answers turn v h S t names e met = wanted_known P new k n tag now w read_only name folders answers turn v h S t names e met
 closing_known P new k n tag now w read_only name folders (Some selected) [] turn v h S t names e met = absurd (none-some turn e)
 closing_known P new k n tag now w read_only name folders (Some selected) (Left gone ∷ more) turn v h S t names e met =
     let next : Standing = record now { selected = None } in
-    let tail : Exchange = on_folder name folders (entering read_only) in
-    let m = mapped (having (Leave false) (Left gone)) (played tag next (Write closed_line tail) more) turn e in
+    let tail : Exchange = wanting (on_folder name folders (entering read_only)) in
+    let m = mapped (having (Leave false) (Left gone)) (played tag next (Put closed_line tail) more) turn e in
     let met1 : Met (Calls k n) w (record { call = Leave false; answer = Left gone } ∷ m.more.events) v = subst (λ (s : Turn). Met (Calls k n) w s.events v) (sym m.makes) met in
-    subst (λ (s : Turn). IfOk P tag s.bytes (view_of v n)) m.makes (by met1.0 (sound_moved k n w met1.0 (moved k n w (Leave false) (Left gone) met1.0 met1.1) S) m.more met1.2 (writes tag next closed_line tail more m.more m.is))
-  where
-    by : (u : World) → Sound k u → (one : Turn) → Met (Calls k n) u one.events v → Wrote tag (record now { selected = None }) closed_line (on_folder name folders (entering read_only)) one → IfOk P tag one.bytes (view_of v n)
-    by u U one met2 (wanted only) = refused_none P new tag NoMemory one (view_of v n) t only
-    by u U one met2 (wrote others p) =
-        subst (λ (s : Turn). IfOk P tag s.bytes (view_of v n)) p.makes
-        (behind_closed P new tag p.more.bytes (view_of v n) t
-        (named_known P new k n tag (record now { selected = None }) u read_only name folders others p.more v h U t names p.is (subst (λ (s : Turn). Met (Calls k n) u s.events v) (sym p.makes) met2)))
+    let p = mapped (saying closed_line) (played tag next tail more) m.more m.is in
+    let met2 : Met (Calls k n) met1.0 p.more.events v = subst (λ (s : Turn). Met (Calls k n) met1.0 s.events v) (sym p.makes) met1.2 in
+    let S1 = sound_moved k n w met1.0 (moved k n w (Leave false) (Left gone) met1.0 met1.1) S in
+    subst (λ (s : Turn). IfOk P tag s.bytes (view_of v n)) m.makes
+    (subst (λ (s : Turn). IfOk P tag s.bytes (view_of v n)) p.makes
+    (behind_closed P new tag p.more.bytes (view_of v n) t (wanted_known P new k n tag next met1.0 read_only name folders more p.more v h S1 t names p.is met2)))
 closing_known P new k n tag now w read_only name folders (Some selected) (Refused fault ∷ []) turn v h S t names e met =
     let m = mapped (having (Leave false) (Refused fault)) (Some (refused tag now fault)) turn e in
     subst (λ (s : Turn). IfOk P tag s.bytes (view_of v n)) m.makes (refused_none P new tag fault m.more (view_of v n) t (only_refused tag now fault m.more m.is))
@@ -167,13 +173,7 @@ closing_known P new k n tag now w read_only name folders (Some selected) (Starve
 selecting_known : (P : ℕ → Known → Type 0) (new : (u : ℕ) → P u unknown) (k : Config) (n : ℕ) (tag : List ℕ) (now : Standing) (w : World) (read_only : Bool) (name : List ℕ) (answers : List Answer) (turn : Turn) (v : World)
     → HasSmallNumbers k → Sound k w → IsTag tag → AreNames now.folders
     → played tag now (selecting now read_only name) answers ≡ Some turn → Met (Calls k n) w turn.events v → IfOk P tag turn.bytes (view_of v n)
-selecting_known P new k n tag now w read_only name answers turn v h S t names e met = by (writes tag now [] (closing now.selected (on_folder name now.folders (entering read_only))) answers turn e)
-  where
-    by : Wrote tag now [] (closing now.selected (on_folder name now.folders (entering read_only))) turn → IfOk P tag turn.bytes (view_of v n)
-    by (wanted only) = refused_none P new tag NoMemory turn (view_of v n) t only
-    by (wrote others p) =
-        subst (λ (s : Turn). IfOk P tag s.bytes (view_of v n)) p.makes
-        (closing_known P new k n tag now w read_only name now.folders now.selected others p.more v h S t names p.is (subst (λ (s : Turn). Met (Calls k n) w s.events v) (sym p.makes) met))
+selecting_known P new k n tag now w read_only name answers turn v h S t names e met = closing_known P new k n tag now w read_only name now.folders now.selected answers turn v h S t names e met
 
 -- a client that asked for a mailbox: of no message it knows flags
 entering_right : (tag bytes : List ℕ) (p : Point) → IfOk (Believes p) tag bytes (counted p) → IsRightOnFlags p (if has_ok true tag bytes then Some (reads fresh bytes) else None)

@@ -240,7 +240,7 @@ fit_closing most (Some selected) x h = h
 
 fit_selecting : (most : ℕ) (now : Standing) (read_only : Bool) (name : List ℕ) → TextsFit most (selecting now read_only name)
 fit_selecting most now read_only name =
-    fit_closing most now.selected (on_folder name now.folders (entering read_only)) (fit_found most (entering read_only) (says (codes "NO [NONEXISTENT] No such mailbox")) (folder_of name now.folders) (λ folder o. tt) tt)
+    fit_closing most now.selected (wanting (on_folder name now.folders (entering read_only))) (fit_found most (entering read_only) (says (codes "NO [NONEXISTENT] No such mailbox")) (folder_of name now.folders) (λ folder o. tt) tt)
 
 fit_messages : (most : ℕ) (command : Command) (by_uid gone : Bool) → TextsFit most (messages_done command by_uid gone)
 fit_messages most command true gone = tt

@@ -78,7 +78,7 @@ closed_keeps now afters.Submit = refl
 told : (now : Standing) (f : Turn → Turn) → ((s : Turn) → (f s).standing ≡ s.standing) → (how : After) (turn : Turn) → Some (f (closed now how)) ≡ Some turn → turn.standing.selected ≡ now.selected
 told now f keeps how turn e = maps now f keeps (Some (closed now how)) turn e (λ more d. ap (λ (s : Turn). s.standing.selected) (sym (ap (the_turn more) d)) ∙ closed_keeps now how)
 
-given_up : (tag : List ℕ) (now : Standing) (fault : MailFault) (turn : Turn) → Some (refused tag now fault) ≡ Some turn → turn.standing.selected ≡ now.selected
+pub given_up : (tag : List ℕ) (now : Standing) (fault : MailFault) (turn : Turn) → Some (refused tag now fault) ≡ Some turn → turn.standing.selected ≡ now.selected
 given_up tag now fault turn e = told now (saying (refusal_text tag fault)) (λ s. refl) (refusal_after fault) turn e
 
 given_up_if : (b : Bool) (tag : List ℕ) (now : Standing) (fault : MailFault) (turn : Turn) → (if b then Some (refused tag now fault) else None) ≡ Some turn → turn.standing.selected ≡ now.selected
@@ -91,7 +91,7 @@ waiting_keeps tag now (ForLiteral mailbox flags size) = refl
 waiting_keeps tag now (ForVerdict mailbox flags text) = refl
 waiting_keeps tag now ForNothing = refl
 
-selected_stays : (tag : List ℕ) (now : Standing) (x : Exchange) (answers : List Answer) (turn : Turn) → StaysIn x → played tag now x answers ≡ Some turn → turn.standing.selected ≡ now.selected
+pub selected_stays : (tag : List ℕ) (now : Standing) (x : Exchange) (answers : List Answer) (turn : Turn) → StaysIn x → played tag now x answers ≡ Some turn → turn.standing.selected ≡ now.selected
 selected_stays tag now (Done words how) [] turn p e = told now (saying (tagged tag words)) (λ s. refl) how turn e
 selected_stays tag now (Done words how) (a ∷ more) turn p e = absurd (none-some turn e)
 selected_stays tag now (Wait bytes w) [] turn p e = ap (λ (s : Turn). s.standing.selected) (sym (ap (the_turn turn) e)) ∙ waiting_keeps tag now w
@@ -382,20 +382,25 @@ named_sel tag now read_only name folders answers turn t e = by (folder_of name f
     by None d ok = absurd (false≢true (sym (tagged_has tag (codes "NO [NONEXISTENT] No such mailbox") t) ∙ ap (has_ok true tag) (sym (only_done tag (codes "NO [NONEXISTENT] No such mailbox") Go now answers turn d).bytes) ∙ ok))
     by (Some folder) d ok = enters_sel tag now read_only folder answers turn t d ok
 
+wanted_sel : (tag : List ℕ) (now : Standing) (read_only : Bool) (name : List ℕ) (folders : List Folder) (answers : List Answer) (turn : Turn) → IsTag tag
+    → played tag now (wanting (on_folder name folders (entering read_only))) answers ≡ Some turn → IfSel tag turn.bytes turn.standing
+wanted_sel tag now read_only name folders answers turn t e = by (writes tag now [] (on_folder name folders (entering read_only)) answers turn e)
+  where
+    by : Wrote tag now [] (on_folder name folders (entering read_only)) turn → IfSel tag turn.bytes turn.standing
+    by (wanted only stays) = refused_sel tag NoMemory turn t only
+    by (wrote rest p) = subst (λ (s : Turn). IfSel tag s.bytes s.standing) p.makes (named_sel tag now read_only name folders rest p.more t p.is)
+
 closing_sel : (tag : List ℕ) (now : Standing) (read_only : Bool) (name : List ℕ) (folders : List Folder) (selected : Option Selected) (answers : List Answer) (turn : Turn) → IsTag tag
-    → played tag now (closing selected (on_folder name folders (entering read_only))) answers ≡ Some turn → IfSel tag turn.bytes turn.standing
-closing_sel tag now read_only name folders None answers turn t e = named_sel tag now read_only name folders answers turn t e
+    → played tag now (closing selected (wanting (on_folder name folders (entering read_only)))) answers ≡ Some turn → IfSel tag turn.bytes turn.standing
+closing_sel tag now read_only name folders None answers turn t e = wanted_sel tag now read_only name folders answers turn t e
 closing_sel tag now read_only name folders (Some selected) [] turn t e = absurd (none-some turn e)
 closing_sel tag now read_only name folders (Some selected) (Left gone ∷ more) turn t e =
     let next : Standing = record now { selected = None } in
-    let tail : Exchange = on_folder name folders (entering read_only) in
-    let m = mapped (having (Leave false) (Left gone)) (played tag next (Write closed_line tail) more) turn e in
-    subst (λ (s : Turn). IfSel tag s.bytes s.standing) m.makes (by m.more (writes tag next closed_line tail more m.more m.is))
-  where
-    by : (one : Turn) → Wrote tag (record now { selected = None }) closed_line (on_folder name folders (entering read_only)) one → IfSel tag one.bytes one.standing
-    by one (wanted only) = refused_sel tag NoMemory one t only
-    by one (wrote rest p) = subst (λ (s : Turn). IfSel tag s.bytes s.standing) p.makes
-        (λ ok. named_sel tag (record now { selected = None }) read_only name folders rest p.more t p.is (sym (at_star tag _ t) ∙ ok))
+    let tail : Exchange = wanting (on_folder name folders (entering read_only)) in
+    let m = mapped (having (Leave false) (Left gone)) (played tag next (Put closed_line tail) more) turn e in
+    let p = mapped (saying closed_line) (played tag next tail more) m.more m.is in
+    subst (λ (s : Turn). IfSel tag s.bytes s.standing) m.makes
+    (subst (λ (s : Turn). IfSel tag s.bytes s.standing) p.makes (λ ok. wanted_sel tag next read_only name folders more p.more t p.is (sym (at_star tag _ t) ∙ ok)))
 closing_sel tag now read_only name folders (Some selected) (Refused fault ∷ []) turn t e =
     let m = mapped (having (Leave false) (Refused fault)) (Some (refused tag now fault)) turn e in
     subst (λ (s : Turn). IfSel tag s.bytes s.standing) m.makes (refused_sel tag fault m.more t (only_refused tag now fault m.more m.is))
@@ -411,12 +416,8 @@ closing_sel tag now read_only name folders (Some selected) (Starved a ∷ more) 
 
 selecting_sel : (tag : List ℕ) (now : Standing) (read_only : Bool) (name : List ℕ) (answers : List Answer) (turn : Turn) (client : Option Client) → IsTag tag → played tag now (selecting now read_only name) answers ≡ Some turn
     → Known_selected (if has_ok true tag turn.bytes then Some (reads fresh turn.bytes) else None) turn.standing
-selecting_sel tag now read_only name answers turn client t e = told_ok (has_ok true tag turn.bytes) (by (writes tag now [] (closing now.selected (on_folder name now.folders (entering read_only))) answers turn e))
+selecting_sel tag now read_only name answers turn client t e = told_ok (has_ok true tag turn.bytes) (closing_sel tag now read_only name now.folders now.selected answers turn t e)
   where
-    by : Wrote tag now [] (closing now.selected (on_folder name now.folders (entering read_only))) turn → IfSel tag turn.bytes turn.standing
-    by (wanted only) = refused_sel tag NoMemory turn t only
-    by (wrote rest p) = subst (λ (s : Turn). IfSel tag s.bytes s.standing) p.makes (closing_sel tag now read_only name now.folders now.selected rest p.more t p.is)
-
     told_ok : (b : Bool) → (b ≡ true → (s : Selected) × (turn.standing.selected ≡ Some s)) → Known_selected (if b then Some (reads fresh turn.bytes) else None) turn.standing
     told_ok true h = h refl
     told_ok false h = tt

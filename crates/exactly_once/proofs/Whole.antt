@@ -381,8 +381,8 @@ command_whole now commands.Idle = inr (codes "+ idling", refl)
 command_whole now commands.Login = tt
 command_whole now commands.Authenticate = tt
 command_whole now commands.StartTls = tt
-command_whole now (commands.Select name) = (inl refl, in_closing now.selected _ (in_folder (entering false) (in_entering false) (folder_of name now.folders)))
-command_whole now (commands.Examine name) = (inl refl, in_closing now.selected _ (in_folder (entering true) (in_entering true) (folder_of name now.folders)))
+command_whole now (commands.Select name) = in_closing now.selected _ (inl refl, in_folder (entering false) (in_entering false) (folder_of name now.folders))
+command_whole now (commands.Examine name) = in_closing now.selected _ (inl refl, in_folder (entering true) (in_entering true) (folder_of name now.folders))
 command_whole now (commands.List reference pattern) = (list_whole reference pattern (map (λ (folder : Folder). folder.name) now.folders), in_showing now.selected _ tt)
 command_whole now (commands.Status name items) = (
   inl refl,

@@ -122,7 +122,7 @@ pub data Lives (turns : ℕ) (first : Moment) : List Step → List Carried → M
 -- Memory was refused to a session where it stands: what it writes to has no room for the next line's last words and their like, out of `room` bytes,
 -- or a mailbox refused it a turn.
 abbrev pub IsShort : ℕ → Moment → Type 0
-IsShort room now = (room < length now.text + (8272 + tag_len (kept_tag now.dialogue.standing))) ⊎ Holds now.selection (Feed most_changes) (Refused NoMemory) now.selection
+IsShort room now = (room < length now.text + (8282 + tag_len (kept_tag now.dialogue.standing))) ⊎ Holds now.selection (Feed most_changes) (Refused NoMemory) now.selection
 
 -- Of these bytes some were taken, and then the session stopped: memory was refused, or no verdict came on the message that it had submitted.
 pub data SaysInPart (room : ℕ) (bytes : List ℕ) (why : Lost) (before after : Moment) : Type 0 where
