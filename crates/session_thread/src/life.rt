@@ -85,9 +85,7 @@ fn wait_for<R: Wait, G: Gate>(
         if !connection.is_idling() {
             return Ok(());
         }
-        let Ok(()) = turn(connection, desk, out) else {
-            return Err(AllocError);
-        };
+        turn(connection, desk, out)?;
     }
     Ok(())
 }
@@ -146,9 +144,7 @@ fn make_all<R: Wait, G: Gate, C: Courier>(
         × LivesInPart turns (vec_capacity out.new) (moment d desk.old out.old.items) steps.now why (moment next desk.new out.new.items)) }
 {
     for step in steps {
-        if let Err(why) = make(alloc, connection, desk, courier, step, turns, out) {
-            return Err(why);
-        }
+        make(alloc, connection, desk, courier, step, turns, out)?;
     }
     Ok(())
 }
