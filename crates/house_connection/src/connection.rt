@@ -97,26 +97,15 @@ fn take_all(
             return Progress { used, what: None };
         };
         used += fed.used;
+        let progress = Progress {
+            used,
+            what: Some(fed.what),
+        };
         match fed.what {
             What::More if used < piece.len() => {}
-            What::More => {
-                return Progress {
-                    used,
-                    what: Some(What::More),
-                };
-            }
-            What::Submit => {
-                return Progress {
-                    used,
-                    what: Some(What::Submit),
-                };
-            }
-            What::Quit => {
-                return Progress {
-                    used,
-                    what: Some(What::Quit),
-                };
-            }
+            What::More => return progress,
+            What::Submit => return progress,
+            What::Quit => return progress,
         }
     }
 }
@@ -152,16 +141,10 @@ impl HouseConnection {
             → AtLeast next (record { seat = seat; serial = serial; message = 0; recipient = 0 })
             → StandsForConnection k seat next heard h (greeted k seat serial)) }
     {
-        let Ok(verdicts) = Verdicts::with_room(alloc, MOST_RECIPIENTS) else {
-            return Err(AllocError);
-        };
-        let Ok(mut machine) = LmtpMachine::new(alloc, seat, serial, limits) else {
-            return Err(AllocError);
-        };
+        let verdicts = Verdicts::with_room(alloc, MOST_RECIPIENTS)?;
+        let mut machine = LmtpMachine::new(alloc, seat, serial, limits)?;
         let mut unsaid = Vec::new(alloc);
-        let Ok(()) = machine.greet(&mut unsaid) else {
-            return Err(AllocError);
-        };
+        machine.greet(&mut unsaid)?;
         Ok(HouseConnection {
             serial,
             is_gone: false,
@@ -181,10 +164,7 @@ impl HouseConnection {
         ensures err { OnErr result (self.new ≡ self.old) }
         ensures asks { OnErr result (0 < length piece.now) }
     {
-        let Ok(()) = self.incoming.append(piece) else {
-            return Err(AllocError);
-        };
-        Ok(())
+        self.incoming.append(piece)
     }
 
     // Takes what waits, as far as it goes. Where memory is wanting, what was done stands, and the next call goes on from there.
@@ -212,14 +192,8 @@ impl HouseConnection {
             &mut self.unsaid,
         );
         self.incoming.take(progress.used);
-        self.is_waiting = match progress.what {
-            Some(What::Submit) => true,
-            _ => false,
-        };
-        match progress.what {
-            Some(what) => return Ok(what),
-            None => return Err(AllocError),
-        }
+        self.is_waiting = matches!(progress.what, Some(What::Submit));
+        progress.what.ok_or(AllocError)
     }
 
     // Goes on as far as it can: where every verdict on the message at hand is known they are said, and what waits is taken.
@@ -238,10 +212,7 @@ impl HouseConnection {
         if self.is_waiting {
             return self.answer(directory);
         }
-        let Ok(what) = self.work_off(directory) else {
-            return Err(AllocError);
-        };
-        Ok(what)
+        self.work_off(directory)
     }
 
     // The same, where a message is at hand.
@@ -258,19 +229,11 @@ impl HouseConnection {
             (what : What) × WentOn k false seat next heard b what self.new) }
         ensures asks { OnErr result (IsPatient self.old → ⊥) }
     {
-        let Ok(known) = self.verdicts.known(self.awaited()) else {
-            return Err(AllocError);
-        };
-        let Some(verdicts) = known else {
+        let Some(verdicts) = self.verdicts.known(self.awaited())? else {
             return Ok(What::Submit);
         };
-        let Ok(()) = self.say(&verdicts) else {
-            return Err(AllocError);
-        };
-        let Ok(what) = self.work_off(directory) else {
-            return Err(AllocError);
-        };
-        Ok(what)
+        self.say(&verdicts)?;
+        self.work_off(directory)
     }
 
     // Says the verdicts on the message at hand.
@@ -343,10 +306,7 @@ impl HouseConnection {
                 What::Submit
             });
         }
-        let Ok(what) = self.go_on(directory) else {
-            return Err(AllocError);
-        };
-        Ok(what)
+        self.go_on(directory)
     }
 
     /// What it said and isn't printed yet. Where its peer is gone that is nothing.

@@ -72,12 +72,8 @@ impl SeatedSession {
             AtLeast next (record { seat = seat; serial = serial; message = 0; recipient = 0 }) →
             StandsForSeated seat next heard s (seated_greeted serial max_message folders.items)) }
     {
-        let Ok(verdicts) = Verdicts::with_room(alloc, 1) else {
-            return Err(AllocError);
-        };
-        let Ok(session) = HouseSession::open(alloc, folders, max_message) else {
-            return Err(AllocError);
-        };
+        let verdicts = Verdicts::with_room(alloc, 1)?;
+        let session = HouseSession::open(alloc, folders, max_message)?;
         Ok(SeatedSession {
             session,
             seat,
@@ -177,14 +173,9 @@ impl SeatedSession {
         let Some(verdict) = self.verdicts.only() else {
             return Ok(());
         };
-        let Ok(()) = self.session.answer(verdict, store) else {
-            return Err(AllocError);
-        };
+        self.session.answer(verdict, store)?;
         self.verdicts.clear();
-        let Ok(()) = self.session.go_on(alloc, store) else {
-            return Err(AllocError);
-        };
-        Ok(())
+        self.session.go_on(alloc, store)
     }
 
     /// Its client is gone: what waited, and what was still to be printed, is dropped. It then only waits for the verdict on the message at hand.
@@ -206,10 +197,7 @@ impl SeatedSession {
         if !self.session.awaits_verdict() {
             return false;
         }
-        match self.verdicts.only() {
-            None => return true,
-            Some(_) => return false,
-        }
+        self.verdicts.only().is_none()
     }
 
     /// Does what it can now, over its store: where the verdict on the message at hand is known it answers that, and then what waits; where a
@@ -236,10 +224,7 @@ impl SeatedSession {
         if self.session.awaits_verdict() {
             return self.answer(alloc, store);
         }
-        let Ok(()) = self.session.go_on(alloc, store) else {
-            return Err(AllocError);
-        };
-        Ok(())
+        self.session.go_on(alloc, store)
     }
 
     /// Its session has a turn while it idles, over its store, as in `HouseSession::idle_turn`. Answers how many changes were shown.
@@ -255,10 +240,7 @@ impl SeatedSession {
         ensures quiet { IfOk result (λ count. count ≡ 0 → self.new.place.link.session.ended ≡ false → self.new ≡ self.old) }
         ensures err { OnErr result ((self.new ≡ self.old) × Starves S.step store.old store.new) }
     {
-        let Ok(count) = self.session.idle_turn(store) else {
-            return Err(AllocError);
-        };
-        Ok(count)
+        self.session.idle_turn(store)
     }
 
     /// What it said and isn't printed yet.

@@ -60,10 +60,7 @@ impl HouseSession {
         ensures ok { OnOk result (self.new ≡ with_more piece.now self.old) }
         ensures err { OnErr result (self.new ≡ self.old) }
     {
-        let Ok(()) = self.incoming.append(piece) else {
-            return Err(AllocError);
-        };
-        Ok(())
+        self.incoming.append(piece)
     }
 
     /// Whether its session has ended: then nothing more is answered.

@@ -1,7 +1,8 @@
 -- A session's steps.
 use Rattle.std.proofs.Common.{◌≡◌, ℕ, suc, ◌+◌, ◌<◌, ◌⊎◌, inl, inr, Bool, true, false, List, [], ◌∷◌, ◌++◌, length, take, drop, get_or, arith, refl, sym, ap, ap₂, ◌∙◌, subst, ◌&&◌, not, is_some, Option, None}
 use Rattle.std.specs.Global.{Global}
-use Rattle.std.specs.Prelude.{IfErr, OnOk, Result, Ok, Err, Vec}
+use Rattle.std.specs.Prelude.{IfErr, OnErr, OnOk, Result, Ok, Err, Vec}
+use Rattle.std.specs.Result.{IsErrAnd}
 use Rattle.imap_session.specs.Commands.{greeting, most_changes}
 use Rattle.std.proofs.Math.Seq.{split_at}
 use Rattle.std.proofs.lemmas.List.{take_more}
@@ -18,6 +19,18 @@ use Rattle.session_thread.specs.Life.{Awaits, Departs, Does, HasTurn, IsOver, Is
 use Rattle.courier.specs.Carried.{Carried}
 use Rattle.courier.specs.declared.Lost.{Lost}
 use Rattle.courier.specs.declared.Lost.TheVariants as lost
+
+-- ---- errors that are handed on
+
+-- what holds whatever came holds of an error
+pub on_err : {A E : Type 0} (r : Result A E) (P : Type 0) → P → OnErr r P
+on_err (Ok x) P h = tt
+on_err (Err e) P h = h
+
+-- what holds of an error holds of it where it was handed on
+pub handed_on : {A E : Type 0} (r : Result A E) (e : E) (P : E → Type 0) → IsErrAnd r (λ y. y ≡ e) → P e → IfErr r P
+handed_on (Ok x) e P is h = tt
+handed_on (Err y) e P is h = subst P (sym is) h
 
 -- ---- turns
 

@@ -86,9 +86,7 @@ fn wait_for<R: Wait, G: Gate>(
         if !connection.is_idling() {
             return Ok(());
         }
-        let Ok(()) = turn(connection, store, out) else {
-            return Err(AllocError);
-        };
+        turn(connection, desk, out)?;
     }
     Ok(())
 }
@@ -147,9 +145,7 @@ fn make_all<R: Wait, G: Gate, C: Courier>(
         × LivesInPart turns (vec_capacity out.new) (moment d store.old out.old.items) steps.now why (moment next store.new out.new.items)) }
 {
     for step in steps {
-        if let Err(why) = make(alloc, connection, store, courier, step, turns, out) {
-            return Err(why);
-        }
+        make(alloc, connection, desk, courier, step, turns, out)?;
     }
     Ok(())
 }

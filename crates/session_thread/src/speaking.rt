@@ -50,11 +50,8 @@ fn hear_verdict<R: Wait, G: Gate, C: Courier>(
     let Some(append) = connection.submission() else {
         unreachable!()
     };
-    let verdict = match store.carry(courier, append) {
-        Ok(verdict) => verdict,
-        Err(why) => return Err(why),
-    };
-    let Ok(_) = connection.appended(verdict, store, out) else {
+    let verdict = desk.carry(courier, append)?;
+    let Ok(_) = connection.appended(verdict, desk, out) else {
         unreachable!()
     };
     Ok(())
@@ -97,9 +94,7 @@ pub fn answer<R: Wait, G: Gate, C: Courier>(
         if !awaits_verdict(connection) {
             return Ok(());
         }
-        if let Err(why) = hear_verdict(connection, store, courier, out) {
-            return Err(why);
-        }
+        hear_verdict(connection, desk, courier, out)?;
         if connection.has_ended() {
             return Ok(());
         }

@@ -1,6 +1,5 @@
-use Rattle.std.proofs.Common.{◌≡◌, ◌∙◌, ◌+◌, ap, subst, take, refl, [], ℕ, arith, length, length-drop}
+use Rattle.std.proofs.Common.{◌≡◌, ◌∙◌, ap, subst, refl, [], ℕ, arith, length, length-drop}
 use Rattle.lmtp_machine.specs.Calls.{Awaits, Tells}
-use Rattle.lmtp_machine.specs.inner.Calls.{Taken}
 use Rattle.lmtp_machine.specs.Dialogue.{Phase, Start, Ready, Transaction, Data, Waiting, Ended, turn}
 use Rattle.lmtp_machine.specs.LmtpMachine.{StandsFor}
 use Rattle.lmtp_machine.specs.declared.connection.What.{What}
@@ -48,25 +47,22 @@ pub returns-in-More-2-clause-taken : goal.returns-in-More-2-clause-taken
 returns-in-More-2-clause-taken c d s h =
     let i = c.loop-fed.invariant in
     let t = i.taken d s h in
-    subst (λ (w : What). Taken (StandsFor c.feed.new.self) c.args.machine.now.setting c.args.machine.now.host c.args.directory.now d (take (c.loop-fed.used + c.in-Ok.fed.used) c.args.piece.now) c.args.out.now.items c.feed.new.out.items w c.feed.new.self.pending) c.in-More-2.is
-    (taken_more (StandsFor c.loop-fed.machine) (StandsFor c.feed.new.self) c.args.machine.now.setting c.loop-fed.machine.setting c.args.machine.now.host c.loop-fed.machine.host
+    taken_more (StandsFor c.loop-fed.machine) (StandsFor c.feed.new.self) c.args.machine.now.setting c.loop-fed.machine.setting c.args.machine.now.host c.loop-fed.machine.host
     c.args.directory.now d c.args.piece.now _ c.args.out.now.items c.loop-fed.out.items c.feed.new.out.items c.loop-fed.used t.0 c.in-Ok.fed c.loop-fed.machine.pending c.feed.new.self.pending
-    i.setting i.host i.quiet (the_rest c.loop-fed.used c.args.piece.now) t.1 c.in-Ok.ensures.ok)
+    i.setting i.host i.quiet (the_rest c.loop-fed.used c.args.piece.now) t.1 c.in-Ok.ensures.ok
 
 pub returns-in-Submit-clause-taken : goal.returns-in-Submit-clause-taken
 returns-in-Submit-clause-taken c d s h =
     let i = c.loop-fed.invariant in
     let t = i.taken d s h in
-    subst (λ (w : What). Taken (StandsFor c.feed.new.self) c.args.machine.now.setting c.args.machine.now.host c.args.directory.now d (take (c.loop-fed.used + c.in-Ok.fed.used) c.args.piece.now) c.args.out.now.items c.feed.new.out.items w c.feed.new.self.pending) c.in-Submit.is
-    (taken_more (StandsFor c.loop-fed.machine) (StandsFor c.feed.new.self) c.args.machine.now.setting c.loop-fed.machine.setting c.args.machine.now.host c.loop-fed.machine.host
+    taken_more (StandsFor c.loop-fed.machine) (StandsFor c.feed.new.self) c.args.machine.now.setting c.loop-fed.machine.setting c.args.machine.now.host c.loop-fed.machine.host
     c.args.directory.now d c.args.piece.now _ c.args.out.now.items c.loop-fed.out.items c.feed.new.out.items c.loop-fed.used t.0 c.in-Ok.fed c.loop-fed.machine.pending c.feed.new.self.pending
-    i.setting i.host i.quiet (the_rest c.loop-fed.used c.args.piece.now) t.1 c.in-Ok.ensures.ok)
+    i.setting i.host i.quiet (the_rest c.loop-fed.used c.args.piece.now) t.1 c.in-Ok.ensures.ok
 
 pub returns-in-Quit-clause-taken : goal.returns-in-Quit-clause-taken
 returns-in-Quit-clause-taken c d s h =
     let i = c.loop-fed.invariant in
     let t = i.taken d s h in
-    subst (λ (w : What). Taken (StandsFor c.feed.new.self) c.args.machine.now.setting c.args.machine.now.host c.args.directory.now d (take (c.loop-fed.used + c.in-Ok.fed.used) c.args.piece.now) c.args.out.now.items c.feed.new.out.items w c.feed.new.self.pending) c.in-Quit.is
-    (taken_more (StandsFor c.loop-fed.machine) (StandsFor c.feed.new.self) c.args.machine.now.setting c.loop-fed.machine.setting c.args.machine.now.host c.loop-fed.machine.host
+    taken_more (StandsFor c.loop-fed.machine) (StandsFor c.feed.new.self) c.args.machine.now.setting c.loop-fed.machine.setting c.args.machine.now.host c.loop-fed.machine.host
     c.args.directory.now d c.args.piece.now _ c.args.out.now.items c.loop-fed.out.items c.feed.new.out.items c.loop-fed.used t.0 c.in-Ok.fed c.loop-fed.machine.pending c.feed.new.self.pending
-    i.setting i.host i.quiet (the_rest c.loop-fed.used c.args.piece.now) t.1 c.in-Ok.ensures.ok)
+    i.setting i.host i.quiet (the_rest c.loop-fed.used c.args.piece.now) t.1 c.in-Ok.ensures.ok

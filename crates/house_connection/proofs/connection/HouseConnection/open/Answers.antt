@@ -11,10 +11,10 @@ use Rattle.house_connection.proofs.connection.HouseConnection.open.Goals as goal
 
 pub returns : goal.returns
 returns c k next heard kh kl ahead =
-    let a = c.in-Ok-new.ensures in
-    let g = c.in-Ok-greet.ensures in
-    subst (λ (v : Verdicts). StandsForConnection k c.args.seat next heard (record { serial = c.args.serial; gone = false; machine = c.greet.new.self; waits = c.new-2.result; unsaid = c.greet.new.out.items; verdicts = v.slots }) (greeted k c.args.seat c.args.serial)) (sym c.in-Ok.ensures)
+    let a = c.in_ok-machine.ensures in
+    let g = c.in_ok-greet.ensures in
+    subst (λ (v : Verdicts). StandsForConnection k c.args.seat next heard (record { serial = c.args.serial; gone = false; machine = c.greet.new.self; waits = c.new-2.result; unsaid = c.greet.new.out.items; verdicts = v.slots }) (greeted k c.args.seat c.args.serial)) (sym c.in_ok-verdicts.ensures)
     (subst (λ (ws : List ℕ). StandsForConnection k c.args.seat next heard (record { serial = c.args.serial; gone = false; machine = c.greet.new.self; waits = ws; unsaid = c.greet.new.out.items; verdicts = [] }) (greeted k c.args.seat c.args.serial)) (sym c.new-2.ensures)
-    (opened_stands k c.args.seat next heard c.args.serial c.args.limits.max_message c.args.limits.host.now c.greet.new.out.items c.in-Ok-new.machine c.greet.new.self a.stands a.setting a.host a.quiet
-    (λ d x s. subst (λ (l : List ℕ). Happens (StandsFor c.greet.new.self) c.in-Ok-new.machine.setting c.in-Ok-new.machine.host d x dialogue.Opened l c.greet.new.out.items) c.new-unsaid.ensures.items (g.ok d x s))
+    (opened_stands k c.args.seat next heard c.args.serial c.args.limits.max_message c.args.limits.host.now c.greet.new.out.items c.in_ok-machine.machine c.greet.new.self a.stands a.setting a.host a.quiet
+    (λ d x s. subst (λ (l : List ℕ). Happens (StandsFor c.greet.new.self) c.in_ok-machine.machine.setting c.in_ok-machine.machine.host d x dialogue.Opened l c.greet.new.out.items) c.new-unsaid.ensures.items (g.ok d x s))
     g.same.0 g.same.1 g.same.2 kh kl ahead))

@@ -1,6 +1,7 @@
 use Rattle.std.proofs.Common.{◌≡◌, ◌∙◌, ap, sym, List, ℕ}
 use Rattle.std.proofs.Common.{Bool, Option, [], length, subst}
 use Rattle.std.specs.Prelude.{true, false}
+use Rattle.std.proofs.lemmas.Result.{IfOk-weaker, on_err_weaker}
 use Rattle.delivery_token.specs.declared.Verdict.{Verdict}
 use Rattle.lmtp_machine.specs.declared.connection.What.{What}
 use Rattle.submission.specs.Verdicts.{AreKnown as IsKnown}
@@ -11,15 +12,17 @@ use Rattle.house_connection.proofs.Connections.{faded, lingered, proceeds}
 use Rattle.house_connection.proofs.connection.HouseConnection.proceed.Goals as goal
 use Rattle.house_connection.proofs.connection.HouseConnection.proceed.Goals.{then-are_known, else-are_known}
 
-pub returns-in_default-clause-err : goal.returns-in_default-clause-err
-returns-in_default-clause-err c k seat next heard b of s =
-    let w = c.in_default.ensures.err k seat next heard b of s in
-    (w.0, proceeds k seat next heard false b w.0 c.args.self.now c.go_on.new.self s (ap (λ (x : HouseConnection). x.gone) (sym c.self.view_is) ∙ c.if-self.false) w.1)
+pub returns-clause-err : goal.returns-clause-err
+returns-clause-err c =
+    let there = ap (λ (x : HouseConnection). x.gone) (sym c.self.view_is) ∙ c.if-self.false in
+    on_err_weaker c.go_on.result
+    (λ went k seat next heard b of s. let w = went k seat next heard b of s in (w.0, proceeds k seat next heard false b w.0 c.args.self.now c.go_on.new.self s there w.1)) c.go_on.ensures.err
 
 pub returns-clause-ok : goal.returns-clause-ok
-returns-clause-ok c k seat next heard b of s =
-    proceeds k seat next heard true b c.in-Ok.what c.args.self.now c.go_on.new.self s (ap (λ (x : HouseConnection). x.gone) (sym c.self.view_is) ∙ c.if-self.false)
-    (c.in-Ok.ensures.ok k seat next heard b of s)
+returns-clause-ok c =
+    let there = ap (λ (x : HouseConnection). x.gone) (sym c.self.view_is) ∙ c.if-self.false in
+    IfOk-weaker c.go_on.result _ _
+    (λ what went k seat next heard b of s. proceeds k seat next heard true b what c.args.self.now c.go_on.new.self s there (went k seat next heard b of s)) c.go_on.ensures.ok
 
 -- a peer that is gone is told nothing
 silent : (gone : Bool) (unsaid : List ℕ) → (gone ≡ true → unsaid ≡ []) → gone ≡ true → unsaid ≡ []
