@@ -1,5 +1,5 @@
 -- What a clerk keeps from turn to turn.
-use Rattle.std.proofs.Common.{◌≡◌, ◌<◌, ◌+◌, ◌∙◌, ◌++◌, ◌∷◌, ℕ, suc, zero, Bool, not, ◌||◌, List, [], All, Option, None, Some, length, map, slice_get, slice_index_or, refl, sym, ap, subst, arith}
+use Rattle.std.proofs.Common.{◌≡◌, ◌<◌, ◌∙◌, ◌++◌, ◌∷◌, ℕ, suc, zero, Bool, not, ◌||◌, List, [], All, Option, None, Some, length, map, slice_get, slice_index_or, refl, sym, ap, subst}
 use Rattle.std.specs.List.{list_any}
 use Rattle.std.proofs.lemmas.List.Elements.{All-head, All-tail}
 use Rattle.std.proofs.lemmas.Option.{slice_get-get_or}
@@ -13,15 +13,13 @@ use Rattle.shard_queue.specs.Reply.{said_on, sent_on}
 use Rattle.shard_queue.specs.Permits.{IsConsumer, got}
 use Rattle.lane_work.specs.Answering.{HaveClosed, WereAnswered, is_nobodys, is_ours, none}
 use Rattle.lane_work.specs.inner.Answering.{HaveAnswered}
-use Rattle.lane_work.specs.Ends.{ends_in}
 use Rattle.lane_work.specs.Permits.{AreSenders, AreSendersEnded}
 use Rattle.lane_work.specs.Consuming.{IsConsumed}
 use Rattle.lane_work.specs.declared.consumer.Consumed.{Consumed}
 use Rattle.lane_work.specs.declared.consumer.Depot.{Depot}
 use Rattle.lane_work.specs.declared.consumer.Stall.{Stall}
 use Rattle.lane_work.proofs.AnswerLaws.{answers_close, torn_next}
-use Rattle.lane_work.proofs.PermitLaws.{ends_next}
-use Rattle.clerks.specs.Keeping.{IsOnLane, counted}
+use Rattle.clerks.specs.Keeping.{IsOnLane}
 use Rattle.clerks.specs.inner.Keeping.{IsAnswering, Keeps}
 
 abbrev inside : {A : Type 0} → A → Option A → A
@@ -39,7 +37,7 @@ unsent_at (s ∷ ss) so (suc p) = unsent_at ss (All-tail (λ s. sent_on s ≡ []
 -- before its first turn
 pub keeps_new : (lanes : Option (List (ShardQueue Job))) (depot : Option Depot) (stall : Stall) → ((ls : List (ShardQueue Job)) → lanes ≡ Some ls → IsOnLane ls stall)
     → ((d : Depot) → depot ≡ Some d → AreSenders d.channels.items stall.shard stall.senders.items) → got stall.permit ≡ [] → All (λ s. sent_on s ≡ []) stall.senders.items
-    → Keeps lanes depot stall 0 Bool.false
+    → Keeps lanes depot stall Bool.false
 keeps_new lanes depot stall on senders fresh unsent =
     record {
       on_lane = on;
@@ -48,21 +46,19 @@ keeps_new lanes depot stall on senders fresh unsent =
         answered = λ p under. ([], subst (λ (l : List (Entry Job)). WereAnswered (length d.mailboxes.items) stall.shard p l []) (sym fresh) none, unsent_at stall.senders.items unsent p);
         torn = ap (list_any (is_nobodys (length d.mailboxes.items) (length d.channels.items))) (sym fresh);
       };
-      ends_are = sym (ap (λ l. counted (ends_in l)) fresh);
     }
 
 -- after a turn, however it went
-pub keeps_next : (lanes : Option (List (ShardQueue Job))) (depot : Option Depot) (ls : List (ShardQueue Job)) (d : Depot) (old new : Stall) (lane : ShardQueue Job) (ends count : ℕ) (torn more : Bool)
-    → lanes ≡ Some ls → depot ≡ Some d → slice_get ls old.shard ≡ Some lane → Keeps lanes depot old ends torn
+pub keeps_next : (lanes : Option (List (ShardQueue Job))) (depot : Option Depot) (ls : List (ShardQueue Job)) (d : Depot) (old new : Stall) (lane : ShardQueue Job) (torn more : Bool)
+    → lanes ≡ Some ls → depot ≡ Some d → slice_get ls old.shard ≡ Some lane → Keeps lanes depot old torn
     → new.shard ≡ old.shard → IsConsumer lane new.permit → AreSenders d.channels.items old.shard new.senders.items
     → HaveAnswered (length d.mailboxes.items) (length d.channels.items) old.shard (got new.permit) [] (map sent_on new.senders.items)
-    → more ≡ list_any (is_nobodys (length d.mailboxes.items) (length d.channels.items)) (got new.permit) → count ≡ counted (ends_in (got new.permit))
-    → Keeps lanes depot new count more
-keeps_next lanes depot ls d old new lane ends count torn more ls_is d_is here so shard permit senders answered torn_is ends_is =
+    → more ≡ list_any (is_nobodys (length d.mailboxes.items) (length d.channels.items)) (got new.permit)
+    → Keeps lanes depot new more
+keeps_next lanes depot ls d old new lane torn more ls_is d_is here so shard permit senders answered torn_is =
     record {
       on_lane = λ others is. subst (λ l. IsOnLane l new) (one_inside lanes ls others ls_is is) on;
       answering = λ other is. subst (λ x. IsAnswering x new more) (one_inside depot d other d_is is) answering;
-      ends_are = ends_is;
     } where
       on : IsOnLane ls new
       on = record {
@@ -77,16 +73,10 @@ keeps_next lanes depot ls d old new lane ends count torn more ls_is d_is here so
         torn = torn_is;
       }
 
--- whether one was nobody's, and how many ends there were, after a copy, after an end, and after nothing
+-- whether one was nobody's, after a copy
 pub torn_copy : (m n p : ℕ) (job : Job) (took more : List (Entry Job)) (torn ours : Bool) → more ≡ took ++ Item p job ∷ [] → ours ≡ is_ours m n p job
     → torn ≡ list_any (is_nobodys m n) took → (torn || not ours) ≡ list_any (is_nobodys m n) more
 torn_copy m n p job took more torn ours grew is so = torn_next m n took more (Item p job) torn (not ours) grew (ap not is) so
-
-pub ends_copy : (p : ℕ) (job : Job) (took more : List (Entry Job)) (ends : ℕ) → more ≡ took ++ Item p job ∷ [] → ends ≡ counted (ends_in took) → ends ≡ counted (ends_in more)
-ends_copy p job took more ends grew so = let e = ap ends_in grew ∙ ends_next took (Item p job) in omega (arith, e, so)
-
-pub ends_end : (p : ℕ) (took more : List (Entry Job)) (ends : ℕ) → more ≡ took ++ End p ∷ [] → ends ≡ counted (ends_in took) → counted (ends + 1) ≡ counted (ends_in more)
-ends_end p took more ends grew so = let e = ap ends_in grew ∙ ends_next took (End p) in omega (arith, e, so)
 
 -- the lane that the code reads at its shard
 pub lane_at : (ls : List (ShardQueue Job)) (i n : ℕ) (lane : ShardQueue Job) → i ≡ n → n < length ls → lane ≡ slice_index_or ls i lane → slice_get ls n ≡ Some lane

@@ -1,5 +1,5 @@
 -- What a clerk keeps, whoever had its lock.
-use Rattle.std.specs.Prelude.{◌≡◌, ◌<◌, ◌-◌, ◌^◌, ℕ, min, List, length, slice_get, Some}
+use Rattle.std.specs.Prelude.{◌≡◌, ◌<◌, List, length, slice_get, Some}
 use Rattle.delivery_token.specs.declared.Job.{Job}
 use Rattle.shard_queue.specs.declared.queue.ShardQueue.{ShardQueue}
 use Rattle.shard_queue.specs.Permits.{IsConsumer}
@@ -9,7 +9,3 @@ use Rattle.lane_work.specs.declared.consumer.Stall.{Stall}
 pub record IsOnLane (lanes : List (ShardQueue Job)) (stall : Stall) : Type 0 where
   pub there : stall.shard < length lanes
   pub permit : (lane : ShardQueue Job) → slice_get lanes stall.shard ≡ Some lane → IsConsumer lane stall.permit
-
--- so many ends are counted, as long as they fit
-abbrev pub counted : ℕ → ℕ
-counted ends = min ends (2 ^ 64 - 1)

@@ -9,9 +9,8 @@ ghost use Rattle.shard_queue.specs.Permits.{WasEmpty, capacity_of, got, producer
 ghost use Rattle.shard_queue.specs.Shared.{IsStartOf};
 ghost use Rattle.lane_work.specs.declared.consumer.Depot.{Depot};
 ghost use Rattle.lane_work.specs.Consuming.{IsConsumed};
-ghost use Rattle.lane_work.specs.Ends.{ends_in};
 ghost use Rattle.lane_work.specs.Permits.{AreSenders};
-ghost use Rattle.clerks.specs.Keeping.{IsOnLane, counted};
+ghost use Rattle.clerks.specs.Keeping.{IsOnLane};
 
 use crate::turn::{Turn, take_turn};
 use delivery_token::{Job, Noted};
@@ -40,8 +39,6 @@ impl Hall for Brand {
 pub struct Clerk<H: Hall> {
     // Its bell is never waited on.
     stall: Stall,
-    // So many ends were taken, or the last `usize`.
-    ends: usize,
     // Whether it took a copy that was nobody's.
     torn: bool,
     of: PhantomData<H>,
@@ -55,9 +52,9 @@ impl<H: Hall> Model for Clerk<H> {
     ghost use Rattle.shard_queue.specs.Permits.{got, take_seen};
     ghost use Rattle.clerks.specs.inner.Keeping.{Keeps};
 
-    ghost view = { λ c. record { shard = c.stall.shard; took = got c.stall.permit; seen = take_seen c.stall.permit; ends = c.ends } };
+    ghost view = { λ c. record { shard = c.stall.shard; took = got c.stall.permit; seen = take_seen c.stall.permit } };
 
-    ghost invariant = { λ c. Keeps H.lanes H.depot c.stall c.ends c.torn };
+    ghost invariant = { λ c. Keeps H.lanes H.depot c.stall c.torn };
 }
 
 impl<H: Hall> Clerk<H> {
@@ -66,11 +63,10 @@ impl<H: Hall> Clerk<H> {
         requires lane { (lanes : List (ShardQueue Job)) → H.lanes ≡ Some lanes → IsOnLane lanes stall }
         requires senders { (depot : Depot) → H.depot ≡ Some depot → AreSenders depot.channels.items stall.shard stall.senders.items }
         requires fresh { (got stall.permit ≡ []) × All (λ s. sent_on s ≡ []) stall.senders.items }
-        ensures { result ≡ record { shard = stall.shard; took = []; seen = take_seen stall.permit; ends = 0 } }
+        ensures { result ≡ record { shard = stall.shard; took = []; seen = take_seen stall.permit } }
     {
         Clerk {
             stall,
-            ends: 0,
             torn: false,
             of: PhantomData,
         }
@@ -81,13 +77,6 @@ impl<H: Hall> Clerk<H> {
         ensures { result ≡ self.now.shard }
     {
         self.stall.shard
-    }
-
-    /// How many ends it took; where that doesn't fit, the last `usize`.
-    pub fn ends(&self) -> usize
-        ensures { result ≡ counted (ends_in self.now.took) }
-    {
-        self.ends
     }
 
     // Takes and serves what stands first on its lane. Whether anything did.
@@ -111,10 +100,7 @@ impl<H: Hall> Clerk<H> {
                 self.torn |= !ours;
                 true
             }
-            Turn::End => {
-                self.ends = self.ends.saturating_add(1);
-                true
-            }
+            Turn::End => true,
             Turn::Empty => false,
         }
     }
@@ -163,12 +149,7 @@ impl<H: Hall> Clerk<H> {
         ensures none { (result.copies.items ≡ []) × (result.kept ≡ false) }
         ensures count { vec_len result.senders ≡ length depot.now.channels.items }
     {
-        let Clerk {
-            stall,
-            ends: _,
-            torn,
-            of: _,
-        } = self;
+        let Clerk { stall, torn, of: _ } = self;
         let Stall {
             shard,
             permit,
@@ -194,7 +175,6 @@ impl<H: Hall> Clerk<H> {
     {
         let Clerk {
             stall,
-            ends: _,
             torn: _,
             of: _,
         } = self;

@@ -546,13 +546,13 @@ fn help_each<H: Hall + Send, T: Threads + Wait + Sync>(
     )
 }
 
-// Hires clerks who find nothing to do, and stands them down: the number of the last one's shard, the
-// ends that it took, and how many stands there are again.
+// Hires clerks who find nothing to do, and stands them down: the number of the last one's shard, and
+// how many stands there are again.
 fn idle_in<H: Hall + Send, T: Threads + Wait + Sync + Abort>(
     rt: &T,
     floor: &Floor,
     stands: Vec<Stand>,
-) -> (u8, usize, Vec<Stand>)
+) -> (u8, Vec<Stand>)
     requires lanes { H.lanes ≡ Some floor.now.office.lanes.items }
     requires depot { H.depot ≡ Some floor.now.depot }
     requires some { 0 < length floor.now.office.lanes.items }
@@ -563,13 +563,13 @@ fn idle_in<H: Hall + Send, T: Threads + Wait + Sync + Abort>(
     // The third shard isn't there.
     let threads = help_each(rt, floor, &staff.clerks, 3);
     assert!(rt; threads == 3);
-    let (shard, ends) = seen_behind(rt, &staff.clerks[staff.clerks.len() - 1]);
-    (shard, ends, stand_down(floor, staff))
+    let shard = shard_behind(rt, &staff.clerks[staff.clerks.len() - 1]);
+    (shard, stand_down(floor, staff))
 }
 
-fn seen_behind<H: Hall, T: Wait>(rt: &T, lock: &Mutex<Clerk<H>>) -> (u8, usize) {
+fn shard_behind<H: Hall, T: Wait>(rt: &T, lock: &Mutex<Clerk<H>>) -> u8 {
     let clerk = lock.lock(rt);
-    (clerk.shard(), clerk.ends())
+    clerk.shard()
 }
 
 #[test]
@@ -589,7 +589,7 @@ fn clerks_with_nothing_to_do_are_stood_down(rt: HostRuntime) -> Result<(), Fail>
         worked,
         unmanned,
     } = crew;
-    let (shard, ends, stands) = idle_in::<Brand, HostRuntime>(&rt, &floor, stands);
+    let (shard, stands) = idle_in::<Brand, HostRuntime>(&rt, &floor, stands);
     let count = stands.len();
     // A house whose permits haven't ended can't be closed, and is left where it is.
     let _floor = packed(floor);
@@ -597,6 +597,6 @@ fn clerks_with_nothing_to_do_are_stood_down(rt: HostRuntime) -> Result<(), Fail>
     let _stands = packed(stands);
     let _posts = packed(posts);
     let _lists = packed((consumed, worked, unmanned));
-    assert!(&rt; (shard, ends, count) == (1, 0, 2));
+    assert!(&rt; (shard, count) == (1, 2));
     Ok(())
 }

@@ -299,7 +299,7 @@ counted core n m status l is validity = record {
 pub not_counted : (core : DeliveryCore) (n m : ℕ) → (m < length core.boxes → ⊥) → Serves (serving core n) (Count m) (Refused Stranger) (serving core n)
 not_counted core n m l = record {
   same = refl;
-  meets = λ k w S. (w, (refl, beyond k w S), S);
+  meets = λ k w S. (w, (refl, beyond k w S, refl), S);
   rest = same_delivery core;
   counts = same_counts core;
   view = refl;
