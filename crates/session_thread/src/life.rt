@@ -86,7 +86,7 @@ fn wait_for<R: Wait, G: Gate>(
         if !connection.is_idling() {
             return Ok(());
         }
-        turn(connection, desk, out)?;
+        turn(connection, store, out)?;
     }
     Ok(())
 }
@@ -145,7 +145,7 @@ fn make_all<R: Wait, G: Gate, C: Courier>(
         × LivesInPart turns (vec_capacity out.new) (moment d store.old out.old.items) steps.now why (moment next store.new out.new.items)) }
 {
     for step in steps {
-        make(alloc, connection, desk, courier, step, turns, out)?;
+        make(alloc, connection, store, courier, step, turns, out)?;
     }
     Ok(())
 }

@@ -50,8 +50,8 @@ fn hear_verdict<R: Wait, G: Gate, C: Courier>(
     let Some(append) = connection.submission() else {
         unreachable!()
     };
-    let verdict = desk.carry(courier, append)?;
-    let Ok(_) = connection.appended(verdict, desk, out) else {
+    let verdict = store.carry(courier, append)?;
+    let Ok(_) = connection.appended(verdict, store, out) else {
         unreachable!()
     };
     Ok(())
@@ -94,7 +94,7 @@ pub fn answer<R: Wait, G: Gate, C: Courier>(
         if !awaits_verdict(connection) {
             return Ok(());
         }
-        hear_verdict(connection, desk, courier, out)?;
+        hear_verdict(connection, store, courier, out)?;
         if connection.has_ended() {
             return Ok(());
         }

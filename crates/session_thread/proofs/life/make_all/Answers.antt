@@ -15,8 +15,8 @@ returns-in_err-make-clause-err g c =
     let n = c.in_err-make.ensures.err t.0 t.1 in (
       n.0,
       n.1,
-      lived_in_part c.args.turns _ (moment d c.args.desk.now c.args.out.now.items) c.args.steps.now c.loop-step.step-index c.step-item.result v.2.0 c.in_err-make.field-0.0 (moment t.0 c.loop-step.desk c.loop-step.out.items)
-          (moment n.0 c.make.new.desk c.make.new.out.items) c.loop-step-test.true c.step-item.is t.2 n.2 n.3,
+      lived_in_part c.args.turns _ (moment d c.args.store.now c.args.out.now.items) c.args.steps.now c.loop-step.step-index c.step-item.result v.2.0 c.in_err-make.field-0.0 (moment t.0 c.loop-step.store c.loop-step.out.items)
+          (moment n.0 c.make.new.store c.make.new.out.items) c.loop-step-test.true c.step-item.is t.2 n.2 n.3,
     )
 
 pub loop-step-preserved : goal.loop-step-preserved

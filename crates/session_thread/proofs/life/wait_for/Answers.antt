@@ -11,8 +11,8 @@ returns-in_err-turn-clause-err g c =
     on_err c.from_residual.result _ λ d s.
     let t = c.loop-turn.invariant d s in
     let e = c.in_err-turn.ensures.err t.0 t.1 in
-    let first : Moment = moment d c.args.desk.now c.args.out.now.items in
-    let due = not_over c.args.count t.0 c.loop-turn.desk c.loop-turn.out.items c.loop-turn.connection t.1 (omega (arith, c.shown.ensures, c.if-shown-count.false)) (sym c.is_idling.ensures ∙ c.if-not-is_idling.false) in
+    let first : Moment = moment d c.args.store.now c.args.out.now.items in
+    let due = not_over c.args.count t.0 c.loop-turn.store c.loop-turn.out.items c.loop-turn.connection t.1 (omega (arith, c.shown.ensures, c.if-shown-count.false)) (sym c.is_idling.ensures ∙ c.if-not-is_idling.false) in
     let had = subst (λ (m : Moment). Turns c.args.count first c.loop-turn._turn m × (IsOver c.args.count m → ⊥)) (sym e.1) (t.2, due) in
     (t.0, e.0, (c.loop-turn._turn, c.loop-turn-test.true, had.0, had.1), e.2)
 

@@ -44,9 +44,9 @@ returns-in_err-hear_verdict-clause-err g c =
     let t = c.take-progress in
     let h = c.hear_verdict.new in
     handed_on c.from_residual.result c.in_err-hear_verdict.field-0.0 _ c.from_residual.ensures.1
-    (said_unheard (vec_capacity h.out) c.args.bytes.now (l.used + t.result.used) v.5.0 c.in_err-hear_verdict.field-0.0 c.args.desk.now t.new.store h.desk c.args.out.now.items t.new.out.items h.out.items c.args.connection.now t.new.self h.connection
+    (said_unheard (vec_capacity h.out) c.args.bytes.now (l.used + t.result.used) v.5.0 c.in_err-hear_verdict.field-0.0 c.args.store.now t.new.store h.store c.args.out.now.items t.new.out.items h.out.items c.args.connection.now t.new.self h.connection
     (c.awaits_verdict.ensures.yes c.if-not-awaits_verdict.false) c.in_err-hear_verdict.ensures.same
-    (said_more c.args.bytes.now l.used v.5.0 c.args.desk.now l.desk t.new.store c.args.out.now.items l.out.items t.new.out.items t.result c.args.connection.now l.connection t.new.self v.3 v.4 t.ensures.used t.ensures.took v.5.2))
+    (said_more c.args.bytes.now l.used v.5.0 c.args.store.now l.store t.new.store c.args.out.now.items l.out.items t.new.out.items t.result c.args.connection.now l.connection t.new.self v.3 v.4 t.ensures.used t.ensures.took v.5.2))
 
 pub returns-then-has_ended-clause-ok : goal.returns-then-has_ended-clause-ok
 returns-then-has_ended-clause-ok g c =
@@ -71,10 +71,10 @@ returns-then-used-bytes-clause-ok g c =
     let one = c.in_ok-hear_verdict.ensures.told in (
       v.5.0 ++ one.0 ∷ [],
       more_carried (g.C.Courier.carried c.args.courier.now) (g.C.Courier.carried l.courier) (g.C.Courier.carried h.courier) v.5.0 (one.0 ∷ []) v.5.1 one.1,
-      said_all c.args.bytes.now (l.used + t.result.used) (v.5.0 ++ one.0 ∷ []) c.args.desk.now h.desk c.args.out.now.items h.out.items c.args.connection.now h.connection
+      said_all c.args.bytes.now (l.used + t.result.used) (v.5.0 ++ one.0 ∷ []) c.args.store.now h.store c.args.out.now.items h.out.items c.args.connection.now h.connection
           (inl (c.if-used-bytes.true, takes_more_now h.connection.session (sym c.has_ended.ensures ∙ c.if-has_ended.false) c.in_ok-hear_verdict.ensures.unsent))
-          (heard_more c.args.bytes.now (l.used + t.result.used) v.5.0 one.0 c.args.desk.now t.new.store h.desk c.args.out.now.items t.new.out.items h.out.items c.args.connection.now t.new.self h.connection one.2
-          (said_more c.args.bytes.now l.used v.5.0 c.args.desk.now l.desk t.new.store c.args.out.now.items l.out.items t.new.out.items t.result c.args.connection.now l.connection t.new.self v.3 v.4 t.ensures.used t.ensures.took v.5.2)),
+          (heard_more c.args.bytes.now (l.used + t.result.used) v.5.0 one.0 c.args.store.now t.new.store h.store c.args.out.now.items t.new.out.items h.out.items c.args.connection.now t.new.self h.connection one.2
+          (said_more c.args.bytes.now l.used v.5.0 c.args.store.now l.store t.new.store c.args.out.now.items l.out.items t.new.out.items t.result c.args.connection.now l.connection t.new.self v.3 v.4 t.ensures.used t.ensures.took v.5.2)),
     )
 
 pub loop-alloc-preserved : goal.loop-alloc-preserved
