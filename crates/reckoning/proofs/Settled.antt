@@ -1,6 +1,7 @@
 -- Faults of many that weren't there, and parts that are in order.
 use Rattle.std.proofs.Common.{◌≡◌, ◌∙◌, ℕ, List, [], ◌∷◌, All, Option, None, Some, Vec, length, map, refl, ap, sym, subst}
 use Rattle.std.specs.Global.{Global}
+use Rattle.std.specs.Prelude.{MatchOption}
 use Rattle.std.proofs.lemmas.List.{length-map}
 use Rattle.lane_permits.specs.Rooms.{AreRooms}
 use Rattle.std.proofs.lemmas.List.Elements.{All-cons, All-nil}
@@ -37,3 +38,7 @@ mapped_length f g xs ys same = sym (length-map xs f) ∙ ap length same ∙ leng
 
 pub rooms_for : {T : Type 0} (lists : Vec (Vec T Global) Global) (count count2 each each2 : ℕ) → count ≡ count2 → each ≡ each2 → AreRooms count each lists → AreRooms count2 each2 lists
 rooms_for lists count count2 each each2 a b are = subst (λ n. AreRooms n each2 lists) a (subst (λ n. AreRooms count n lists) b are)
+
+-- what is said by cases of an answer that is known
+pub at_some : {A : Type 0} (o : Option A) (x : A) (P : Type 0) (Q : A → Type 0) → o ≡ Some x → MatchOption o P Q → Q x
+at_some {A} o x P Q is h = subst (λ (p : Option A). MatchOption p P Q) is h

@@ -1,5 +1,5 @@
 -- What is known when all queues were closed with what the threads left.
-use Rattle.std.specs.Prelude.{◌≡◌, ◌≤◌, ◌⊎◌, List, [], All, length, map, Option, Some, None, vec_capacity}
+use Rattle.std.specs.Prelude.{◌≡◌, ◌≤◌, ◌⊎◌, List, [], All, MatchOption, length, map, Option, Some, None, vec_capacity}
 use Rattle.delivery_token.specs.declared.Job.{Job}
 use Rattle.delivery_token.specs.declared.log.Noted.{Noted}
 use Rattle.shard_queue.specs.declared.ends.ReplyChannel.{ReplyChannel}
@@ -12,6 +12,7 @@ use Rattle.reckoning.specs.Gathered.{AreConsumers, AreWorkers, fault_of_consumer
 use Rattle.reckoning.specs.declared.gather.Fault.{Fault}
 use Rattle.reckoning.specs.declared.gather.Fault.TheVariants.{Torn}
 use Rattle.reckoning.specs.declared.settling.Books.{Books}
+use Rattle.reckoning.specs.declared.settling.Closings.{Closings}
 use Rattle.reckoning.specs.declared.settling.Gathered.{Gathered}
 
 -- ---- faults
@@ -29,6 +30,17 @@ pub record IsGathered (producers : List Worked) (consumers : List Consumed) (g :
   pub lanes : (g.closed.lanes.items ≡ []) × (length consumers ≤ vec_capacity g.closed.lanes)
   pub channels : (g.closed.channels.items ≡ []) × (length producers ≤ vec_capacity g.closed.channels)
   pub worst : g.worst ≡ worst_of producers consumers
+
+-- What came of each queue, with what all threads left of their permits; the rest of what they left, in their order; and the gravest fault.
+pub record IsClosing (lanes : List (ShardQueue Job)) (channels : List (ReplyChannel Noted)) (producers : List Worked) (consumers : List Consumed) (c : Closings) : Type 0 where
+  pub of_lanes : MatchOption c.lanes (AreTornWith lanes (map (λ w. w.ended.items) producers) (map (λ d. d.permit) consumers))
+      (λ closed. AreClosedWith lanes (map (λ w. w.ended.items) producers) (map (λ d. d.permit) consumers) closed.items)
+  pub of_channels : MatchOption c.channels (AreChannelsTornWith channels (map (λ d. d.senders.items) consumers) (map (λ w. w.receiver) producers))
+      (λ closed. AreChannelsClosedWith channels (map (λ d. d.senders.items) consumers) (map (λ w. w.receiver) producers) closed.items)
+  pub replies : c.replies.items ≡ map (λ w. w.replies) producers
+  pub logs : c.logs.items ≡ map (λ w. w.log) producers
+  pub copies : c.copies.items ≡ map (λ d. d.copies) consumers
+  pub worst : c.worst ≡ worst_of producers consumers
 
 -- ---- the books
 

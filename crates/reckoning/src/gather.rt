@@ -21,16 +21,23 @@ pub enum Fault {
 
 /// What the producers left, by their numbers.
 pub struct FromWorkers {
+    /// Of each, what is left of its permit on each lane.
     pub hands: Vec<Vec<Ended<Job>>>,
+    /// Of each, its end of its reply channel.
     pub receivers: Vec<ReceiverPermit<Noted>>,
+    /// Of each, what it said: of a worker the replies to each connection, of a session one text.
     pub replies: Vec<Vec<Vec<u8>>>,
+    /// Of each, the verdicts on its copies.
     pub logs: Vec<WorkerLog>,
 }
 
 /// What the consumers left, by their shards.
 pub struct FromConsumers {
+    /// Of each, its end of its lane.
     pub permits: Vec<ConsumerPermit<Job>>,
+    /// Of each, what is left of its permit on each reply channel.
     pub hands: Vec<Vec<SenderEnded<Noted>>>,
+    /// Of each, the copies that it took, in order.
     pub copies: Vec<Vec<Job>>,
 }
 

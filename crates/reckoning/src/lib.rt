@@ -14,5 +14,5 @@ pub use abandoning::abandon;
 pub use close::{close_all_channels, close_all_lanes};
 pub use gather::{Fault, FromConsumers, FromWorkers};
 pub use remains::{Remains, remains_of};
-pub use settling::{Books, Closes, Gathered, gather_all, settle};
+pub use settling::{Books, Closes, Closings, Gathered, close_queues, gather_all, settle};
 pub use shelves::{Shelves, take_out};

@@ -5,7 +5,7 @@ ghost use Rattle.std.specs.Prelude.{◌≡◌, IfErr, IfOk, map, vec_len};
 ghost use Rattle.house_floor.specs.Opening.{AreBaskets};
 ghost use Rattle.lane_permits.specs.rows.Rows.{AreConsumers, AreEndedHands};
 ghost use Rattle.lane_permits.specs.rows.SenderRows.{AreReceivers, AreSenderEndedHands};
-ghost use Rattle.reckoning.specs.Settling.{IsSettled, IsWhyNot, IsGathered};
+ghost use Rattle.reckoning.specs.Settling.{IsClosing, IsGathered, IsSettled, IsWhyNot};
 
 use crate::close::{close_all_channels, close_all_lanes};
 use crate::gather::{Fault, FromConsumers, FromWorkers, gather_consumers, gather_workers, graver};
@@ -96,27 +96,41 @@ pub fn gather_all(worked: Vec<Worked>, consumed: Vec<Consumed>, baskets: Baskets
     }
 }
 
+/// What came of all queues, and the rest of what the threads left, by their numbers.
+#[derive(Drop)]
+pub struct Closings {
+    /// What was taken of each shard's lane; None just where some lane is torn.
+    pub lanes: Option<Vec<Closed<Job>>>,
+    /// What was taken of each producer's reply channel; None just where some channel is torn.
+    pub channels: Option<Vec<ReplyClosed<Noted>>>,
+    /// For each producer, what it said.
+    pub replies: Vec<Vec<Vec<u8>>>,
+    /// For each producer, the verdicts on its copies.
+    pub logs: Vec<WorkerLog>,
+    /// For each consumer, the copies that it took, in order.
+    pub copies: Vec<Vec<Job>>,
+    /// The gravest fault of a producer or a consumer.
+    pub worst: Option<Fault>,
+}
+
 /// Closes each lane and each reply channel with what the producers and consumers left, one of each for
-/// each of their own.
-///
-/// Errors: the gravest of the faults that the threads had, `Spawn` before `NoMemory` before `Torn`;
-/// where there is none, `Torn` if some queue couldn't be closed. All that was given is spent then.
-pub fn settle(
+/// each of their own, and hands over the rest of what they left. All queues are spent, also where some
+/// couldn't be closed.
+pub fn close_queues(
     alloc: Global,
     lanes: Vec<ShardQueue<Job>>,
     channels: Vec<ReplyChannel<Noted>>,
     worked: Vec<Worked>,
     consumed: Vec<Consumed>,
     baskets: Baskets,
-) -> Result<Books, Fault>
+) -> Closings
     requires counts { (vec_len worked ≡ vec_len channels) × (vec_len consumed ≡ vec_len lanes) }
     requires hands { AreEndedHands lanes.items 0 (map (λ w. w.ended.items) worked.items) }
     requires receivers { AreReceivers channels.items (map (λ w. w.receiver) worked.items) }
     requires consumers { AreConsumers lanes.items (map (λ c. c.permit) consumed.items) }
     requires senders { AreSenderEndedHands channels.items 0 (map (λ c. c.senders.items) consumed.items) }
     requires baskets { AreBaskets (vec_len channels) (vec_len lanes) baskets }
-    ensures settled { IfOk result (λ books. IsSettled lanes.items channels.items worked.items consumed.items books) }
-    ensures fault { IfErr result (IsWhyNot lanes.items channels.items worked.items consumed.items) }
+    ensures { IsClosing lanes.items channels.items worked.items consumed.items result }
 {
     let Gathered {
         workers,
@@ -146,6 +160,46 @@ pub fn settle(
         sender_lists,
         closed.channels,
     );
+    Closings {
+        lanes,
+        channels,
+        replies,
+        logs,
+        copies,
+        worst,
+    }
+}
+
+/// Closes each lane and each reply channel with what the producers and consumers left, one of each for
+/// each of their own.
+///
+/// Errors: the gravest of the faults that the threads had, `Spawn` before `NoMemory` before `Torn`;
+/// where there is none, `Torn` if some queue couldn't be closed. All that was given is spent then.
+pub fn settle(
+    alloc: Global,
+    lanes: Vec<ShardQueue<Job>>,
+    channels: Vec<ReplyChannel<Noted>>,
+    worked: Vec<Worked>,
+    consumed: Vec<Consumed>,
+    baskets: Baskets,
+) -> Result<Books, Fault>
+    requires counts { (vec_len worked ≡ vec_len channels) × (vec_len consumed ≡ vec_len lanes) }
+    requires hands { AreEndedHands lanes.items 0 (map (λ w. w.ended.items) worked.items) }
+    requires receivers { AreReceivers channels.items (map (λ w. w.receiver) worked.items) }
+    requires consumers { AreConsumers lanes.items (map (λ c. c.permit) consumed.items) }
+    requires senders { AreSenderEndedHands channels.items 0 (map (λ c. c.senders.items) consumed.items) }
+    requires baskets { AreBaskets (vec_len channels) (vec_len lanes) baskets }
+    ensures settled { IfOk result (λ books. IsSettled lanes.items channels.items worked.items consumed.items books) }
+    ensures fault { IfErr result (IsWhyNot lanes.items channels.items worked.items consumed.items) }
+{
+    let Closings {
+        lanes,
+        channels,
+        replies,
+        logs,
+        copies,
+        worst,
+    } = close_queues(alloc, lanes, channels, worked, consumed, baskets);
     if let Some(fault) = worst {
         return Err(fault);
     }

@@ -1,11 +1,12 @@
 -- What is told of the listeners, by how the sending went.
-use Rattle.std.proofs.Common.{◌≡◌, ◌∙◌, ℕ, Bool, true, false, List, [], ◌∷◌, length, take, ap, sym, refl, subst, Option, Result, Ok, Err}
-use Rattle.std.specs.Prelude.{IfErr, OnOk, is_err}
+use Rattle.std.proofs.Common.{◌≡◌, ◌∙◌, ◌⊎◌, inl, inr, ℕ, Bool, true, false, List, [], ◌∷◌, length, take, ap, sym, refl, subst, Option, Some, Result, Ok, Err}
+use Rattle.std.specs.Prelude.{IfErr, IsErr, OnOk, is_err}
 use Rattle.std.specs.Io.KnownBytes.{Appends}
 use Rattle.line_io.specs.declared.sink.SendFault.{SendFault}
 use Rattle.house.specs.declared.config.ConfigFault.{ConfigFault}
 use Rattle.serving.specs.declared.fault.ServeFault.{ServeFault}
 use Rattle.serving.specs.declared.fault.ServeFault.TheVariants as faults
+use Rattle.serving.specs.inner.Faults.{IsOfSettings}
 
 false_true : (b : Bool) → b ≡ false → b ≡ true → ⊥
 false_true b e f = cc
@@ -50,3 +51,37 @@ told_no_setting true true r spawn torn done x e = done_is_no_setting x (sym (don
 pub where_ok : (r : Result (Unit {0}) ServeFault) (P : Type 0) → P → OnOk r P
 where_ok (Ok done) P p = p
 where_ok (Err f) P p = tt
+
+-- what holds where all went well, by what follows from it
+pub ok_then : (r : Result (Unit {0}) ServeFault) (P Q : Type 0) → (P → Q) → OnOk r P → OnOk r Q
+ok_then (Ok done) P Q f p = f p
+ok_then (Err x) P Q f p = tt
+
+done_of : (all whole : Bool) (r : Result (Unit {0}) ServeFault) → (all ≡ false → r ≡ Err faults.Spawn)
+    → (all ≡ true → whole ≡ false → r ≡ Err faults.Torn) → OnOk r (whole ≡ true)
+done_of false whole r spawn torn = subst (λ (s : Result (Unit {0}) ServeFault). OnOk s (whole ≡ true)) (sym (spawn refl)) tt
+done_of true false r spawn torn = subst (λ (s : Result (Unit {0}) ServeFault). OnOk s (false ≡ true)) (sym (torn refl refl)) tt
+done_of true true r spawn torn = where_ok r (true ≡ true) refl
+
+-- a house that was closed with nothing amiss, where all went well
+pub whole_then : (all whole : Bool) (r : Result (Unit {0}) ServeFault) (P : Type 0) → (all ≡ false → r ≡ Err faults.Spawn)
+    → (all ≡ true → whole ≡ false → r ≡ Err faults.Torn) → (whole ≡ true → P) → OnOk r P
+whole_then all whole r P spawn torn is = ok_then r (whole ≡ true) P is (done_of all whole r spawn torn)
+
+-- what settings may come to where they have this fault
+pub settings_or_memory : {T : Type 0} (r : Result T ServeFault) (told : Result (Unit {0}) ServeFault) (x : ServeFault) (fault : ConfigFault) (o : Option ConfigFault) → r ≡ Err x
+    → IsErr told → ((y : ServeFault) → told ≡ Err y → y ≡ x) → o ≡ Some fault → ((f : ConfigFault) → r ≡ Err (faults.Config f) → o ≡ Some f) → IfErr r IsOfSettings
+    → (told ≡ Err (faults.Config fault)) ⊎ (told ≡ Err faults.NoMemory)
+settings_or_memory {T} r told x fault o at err same is wrong of =
+    by_case x (λ f e. wrong f (at ∙ ap (λ (y : ServeFault). Err y) e)) (subst (λ (s : Result T ServeFault). IfErr s IsOfSettings) at of) (with_err told err same) where
+  with_err : (s : Result (Unit {0}) ServeFault) → IsErr s → ((y : ServeFault) → s ≡ Err y → y ≡ x) → s ≡ Err x
+  with_err (Ok done) none same = absurd (let e : false ≡ true = none in cc)
+  with_err (Err y) some same = ap (λ (z : ServeFault). Err z) (same y refl)
+  both : (f g : ConfigFault) → o ≡ Some f → o ≡ Some g → f ≡ g
+  both f g a b = cc
+  by_case : (x : ServeFault) → ((f : ConfigFault) → x ≡ faults.Config f → o ≡ Some f) → IsOfSettings x → told ≡ Err x → (told ≡ Err (faults.Config fault)) ⊎ (told ≡ Err faults.NoMemory)
+  by_case (faults.Config f) known ok e = inl (e ∙ ap (λ (y : ConfigFault). Err (faults.Config y)) (both f fault (known f refl) is))
+  by_case faults.NoMemory known ok e = inr e
+  by_case faults.Device known ok e = absurd ok
+  by_case faults.Spawn known ok e = absurd ok
+  by_case faults.Torn known ok e = absurd ok

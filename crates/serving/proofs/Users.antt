@@ -1,8 +1,10 @@
 -- The users of a directory, counted by their numbers.
-use Rattle.std.proofs.Common.{◌≡◌, ◌≤◌, ◌<◌, ◌-◌, ◌==◌, ℕ, zero, suc, Bool, true, false, if◌then◌else◌, List, [], ◌∷◌, Option, Some, None, length, refl, sym, subst, ◌∙◌, arith}
+use Rattle.std.proofs.Common.{◌≡◌, ◌≤◌, ◌<◌, ◌-◌, ◌==◌, ℕ, zero, suc, Bool, true, false, if◌then◌else◌, List, [], ◌∷◌, Option, Some, None, All, length, refl, sym, subst, ◌∙◌, arith}
 use Rattle.std.proofs.Math.Dec.{eqb-suc-zero}
 use Rattle.std.specs.Prelude.{is_none}
+use Rattle.std.proofs.lemmas.List.Elements.{All-cons, All-head, All-nil, All-tail}
 use Rattle.envelope.specs.Directory.{Home}
+use Rattle.house_floor.specs.declared.floor.Visit.{Visit}
 use Rattle.house_floor.specs.Users.{is_inbox, user_numbered}
 use Rattle.serving.specs.Announcing.{users_of}
 
@@ -46,3 +48,10 @@ somebody n homes b is so = there n homes (λ none. some_of (user_numbered n home
   some_of : (o : Option (List ℕ)) → is_none o ≡ false → o ≡ None → ⊥
   some_of None h e = (let f : true ≡ false = h in cc)
   some_of (Some x) h e = (let f : Some x ≡ None = e in cc)
+
+-- whoever has a number is among so many users
+pub each_there : (homes : List Home) (n : ℕ) → n ≡ length (users_of homes) → (vs : List Visit) → All (λ v. user_numbered v.user homes ≡ None → ⊥) vs → All (λ v. v.user < n) vs
+each_there homes n is [] all = All-nil (λ (v : Visit). v.user < n)
+each_there homes n is (v ∷ vs) all =
+    let here = there v.user homes (All-head (λ (x : Visit). user_numbered x.user homes ≡ None → ⊥) v vs all) in
+    All-cons (λ (x : Visit). x.user < n) v vs (omega (arith, here, is)) (each_there homes n is vs (All-tail (λ (x : Visit). user_numbered x.user homes ≡ None → ⊥) v vs all))

@@ -9,9 +9,6 @@ use envelope::Directory;
 use house_floor::{Guest, inbox_numbered};
 use std::alloc::{AllocError, Global};
 
-/// The most users of a house, which has 64 mailboxes at most.
-const MOST_USERS: u8 = 64;
-
 // Whether there is no user of this number.
 fn is_nobody(directory: &Directory, user: u8) -> bool
     ensures { result ≡ is_none (user_numbered user directory.now.homes) }
@@ -60,12 +57,14 @@ pub(crate) fn berths_for(
 
 /// How many users there are, 64 at most.
 pub(crate) fn count_users(directory: &Directory) -> u16
-    ensures { result ≤ 64 }
+    ensures few { result ≤ 64 }
+    ensures count { result ≡ length (users_of directory.now.homes) }
 {
-    for user in 0..MOST_USERS {
+    // Each user has an INBOX, so there are no more users than mailboxes.
+    for user in 0..directory.mailboxes() as u8 {
         if is_nobody(directory, user) {
             return u16::from(user);
         }
     }
-    u16::from(MOST_USERS)
+    directory.mailboxes() as u16
 }

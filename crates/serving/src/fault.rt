@@ -9,7 +9,8 @@ use std::alloc::AllocError;
 use std::io;
 use thiserror::Error;
 
-/// Why a house doesn't serve, or didn't to its end. Of several causes the first in this order is told.
+/// Why a house doesn't serve, or didn't to its end. Of several causes the first in this order is told; but memory that is refused ends what
+/// wanted it, so `NoMemory` can come in place of whatever would have been found later.
 #[derive(Clone, Copy, Debug, PartialEq, Eq, Error)]
 pub enum ServeFault {
     /// The settings are wrong.
@@ -18,13 +19,13 @@ pub enum ServeFault {
     /// A listener could not be made, or what is said of it could not be written.
     #[error("Device")]
     Device,
-    /// A thread could not be made.
+    /// A thread could not be made; nobody was served.
     #[error("Spawn")]
     Spawn,
     /// Memory was refused before the first thread ran.
     #[error("NoMemory")]
     NoMemory,
-    /// A worker heard a verdict that it didn't await, or a queue could not be closed.
+    /// A worker or a berth heard a verdict that it didn't await, a clerk met a copy that was nobody's, or a queue could not be closed.
     #[error("Torn")]
     Torn,
 }

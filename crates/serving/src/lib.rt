@@ -7,7 +7,6 @@ mod announcing;
 mod berths;
 mod equipment;
 mod fault;
-mod parcels;
 mod run;
 mod server;
 mod sessions;

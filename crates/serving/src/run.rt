@@ -1,7 +1,8 @@
 //! The threads of a server: workers first, then two for each berth of a session; it is waited for the end, all are stopped and joined, and
 //! the house is closed. What the threads do stands in `serving_workers` and `sessions`.
 
-ghost use Rattle.std.specs.Prelude.{◌≡◌, ◌≢◌, ◌≤◌, ◌<◌, ◌+◌, All, Err, Ok, Some, IfOk, [], false, true, length, vec_len, vec_capacity};
+ghost use Rattle.std.specs.Prelude.{◌≡◌, ◌≢◌, ◌≤◌, ◌<◌, ◌+◌, All, Err, Ok, OnOk, Some, IfOk, [], false, true, length, vec_len, vec_capacity};
+ghost use Rattle.std.specs.List.{list_all};
 ghost use Rattle.house.specs.declared.config.ConfigFault.{ConfigFault};
 ghost use Rattle.house_threads.specs.Crew.{IsPostLeft, IsStandLeft};
 ghost use Rattle.std.specs.Mem.{manually_drop_value};
@@ -9,11 +10,11 @@ ghost use Rattle.std.specs.Thread.{IsSync};
 ghost use Rattle.house_floor.specs.Crew.{AllAt, IsCrew, IsHouse, IsPost};
 ghost use Rattle.house_floor.specs.Opening.{AreBaskets};
 ghost use Rattle.lane_permits.specs.Rooms.{AreRooms};
-ghost use Rattle.serving_workers.specs.Leaving.{IsServed};
+ghost use Rattle.serving_workers.specs.Leaving.{IsHired, IsServed, has_thread};
+ghost use Rattle.serving.specs.inner.Ending.{HasEndedWhole};
 
 use crate::equipment::{Crowd, Equipment, crowd_for, equip};
 use crate::fault::ServeFault;
-use crate::parcels::packed;
 use crate::sessions::{Furnishings, start_berths};
 use crate::sockets::Sockets;
 use crate::stopping::{await_end, stop_all};
@@ -23,12 +24,13 @@ use house_threads::{Ran, Started};
 use lane_work::{Consumed, Worked};
 use loopback::Grip;
 use reckoning::abandon;
-use serving_workers::{Begun, Buffers, Served, close_house, join_producers, start_workers};
+use serving_workers::{
+    Begun, Buffers, Hired, Mark, Served, close_house, join_producers, packed, start_workers,
+};
 use session_bells::Sleeper;
 use std::alloc::{AllocError, Global};
 use std::io::Read;
 use std::mem::ManuallyDrop;
-use std::sync::atomic::AtomicBool;
 use std::sync::{Mutex, Wait};
 use std::thread;
 use std::thread::Threads;
@@ -43,6 +45,69 @@ struct Over {
     short: bool,
 }
 
+// Starts all threads, and says whether each could be made. Nobody is accepted before the last one was: they all wait for the start, which is
+// held here. Where one couldn't be made the mark is set by then, so nobody is served.
+fn start_all<'s, E, H: Hall + Send, R: Threads + Wait + Sync>(
+    scope: &thread::Scope<'s, E>,
+    rt: &'s R,
+    floor: &'s Floor,
+    clerks: &'s [Mutex<Clerk<H>>],
+    gate: &'s Unhindered,
+    visits: &'s [Visit],
+    sockets: &'s Sockets,
+    mark: &'s Mark,
+    mail_slots: &'s [Slot],
+    client_slots: &'s [Slot],
+    posts: Vec<Post>,
+    buffers: Vec<Buffers>,
+    furnishings: Furnishings<'s, R>,
+    hired: Vec<Hired<'s>>,
+) -> (Vec<Hired<'s>>, bool)
+    requires lanes { H.lanes ≡ Some floor.now.office.lanes.items }
+    requires depot { H.depot ≡ Some floor.now.depot }
+    requires house { IsHouse floor.now (length floor.now.depot.channels.items) }
+    requires slots { length mail_slots.now + length visits.now ≡ length floor.now.depot.channels.items }
+    requires posts { AllAt (IsPost floor.now) 0 posts.items × (vec_len posts ≡ length floor.now.depot.channels.items) }
+    requires buffers { All (λ b. 0 < length b.input.items) buffers.items × (vec_len buffers ≡ length mail_slots.now) }
+    requires client_slots { length client_slots.now ≡ length visits.now }
+    requires berths { vec_len furnishings.berths ≡ length visits.now }
+    requires bells { (vec_len furnishings.bells ≡ length visits.now) × (vec_len furnishings.buffers ≡ length visits.now) }
+    requires room { (hired.items ≡ []) × (length floor.now.depot.channels.items ≤ vec_capacity hired) }
+    requires imap { All (λ v. v.user < vec_len sockets.now.imap) visits.now }
+    ensures hired { AllAt (IsHired floor.now) 0 result.0.items }
+    ensures count { vec_len result.0 ≡ length floor.now.depot.channels.items }
+    ensures all { result.1 ≡ true → list_all has_thread result.0.items ≡ true }
+{
+    let _not_yet = mark.start.lock(rt);
+    let Begun { hired, posts } = start_workers::<E, H, R>(
+        scope,
+        rt,
+        floor,
+        clerks,
+        &sockets.lmtp,
+        mark,
+        &sockets.pause,
+        mail_slots,
+        posts,
+        buffers,
+        hired,
+    );
+    start_berths::<E, H, R>(
+        scope,
+        rt,
+        floor,
+        clerks,
+        gate,
+        visits,
+        sockets,
+        mark,
+        client_slots,
+        furnishings,
+        posts,
+        hired,
+    )
+}
+
 // All that is done in the scope: the threads are started, the end is awaited, all are stopped, and the producers are joined.
 fn in_scope<'s, E, H: Hall + Send, R: Threads + Wait + Sync, I: Read + Drop>(
     scope: &thread::Scope<'s, E>,
@@ -52,9 +117,9 @@ fn in_scope<'s, E, H: Hall + Send, R: Threads + Wait + Sync, I: Read + Drop>(
     gate: &'s Unhindered,
     guests: &'s [Guest],
     sockets: &'s Sockets,
-    mark: &'s AtomicBool,
-    mail_grips: &'s [Grip],
-    client_grips: &'s [Grip],
+    mark: &'s Mark,
+    mail_slots: &'s [Slot],
+    client_slots: &'s [Slot],
     posts: ManuallyDrop<Vec<Post>>,
     served: ManuallyDrop<Vec<Served>>,
     buffers: Vec<Buffers>,
@@ -70,9 +135,10 @@ fn in_scope<'s, E, H: Hall + Send, R: Threads + Wait + Sync, I: Read + Drop>(
         (vec_len (manually_drop_value posts) ≡ length floor.now.depot.channels.items) }
     requires served { ((manually_drop_value served).items ≡ []) ×
         (length floor.now.depot.channels.items ≤ vec_capacity (manually_drop_value served)) }
-    requires buffers { All (λ b. 0 < length b.input.items) buffers.items × (vec_len buffers ≡ length mail_grips.now) }
-    requires client_grips { length client_grips.now ≡ length guests.now }
-    requires bells { (vec_len bells ≡ length guests.now) × (vec_len client_buffers ≡ length guests.now) }
+    requires buffers { All (λ b. 0 < length b.input.items) buffers.items × (vec_len buffers ≡ length mail_slots.now) }
+    requires client_slots { length client_slots.now ≡ length visits.now }
+    requires bells { (vec_len bells ≡ length visits.now) × (vec_len client_buffers ≡ length visits.now) }
+    requires imap { All (λ v. v.user < vec_len sockets.now.imap) visits.now }
     ensures served { result.short ≡ false → AllAt (IsServed floor.now) 0 result.served.items ×
         (vec_len result.served ≡ length floor.now.depot.channels.items) × (result.posts.items ≡ []) }
     ensures short { result.short ≡ true → AllAt (IsPost floor.now) 0 result.posts.items ×
@@ -91,29 +157,12 @@ fn in_scope<'s, E, H: Hall + Send, R: Threads + Wait + Sync, I: Read + Drop>(
             short: true,
         };
     };
-    let Begun {
-        hired,
-        posts,
-        all: all_work,
-    } = start_workers::<E, H, R>(
-        scope,
-        rt,
-        floor,
-        clerks,
-        &sockets.lmtp,
-        mark,
-        &sockets.pause,
-        mail_grips,
-        posts,
-        buffers,
-        hired,
-    );
     let furnishings = Furnishings {
         berths,
         bells,
         buffers: client_buffers,
     };
-    let (hired, all_attend) = start_berths::<E, H, R>(
+    let (hired, all) = start_all::<E, H, R>(
         scope,
         rt,
         floor,
@@ -122,12 +171,13 @@ fn in_scope<'s, E, H: Hall + Send, R: Threads + Wait + Sync, I: Read + Drop>(
         guests,
         sockets,
         mark,
-        client_grips,
-        furnishings,
+        mail_slots,
+        client_slots,
         posts,
+        buffers,
+        furnishings,
         hired,
     );
-    let all = all_work && all_attend;
     if all {
         await_end(rt, stop);
     }
@@ -165,10 +215,11 @@ fn serve_in_threads<H: Hall + Send, R: Threads + Wait + Sync, I: Read + Drop>(
     requires house { IsHouse floor.now (length floor.now.depot.channels.items) }
     requires posts { AllAt (IsPost floor.now) 0 posts.items × (vec_len posts ≡ length floor.now.depot.channels.items) }
     requires served { (served.items ≡ []) × (length floor.now.depot.channels.items ≤ vec_capacity served) }
-    requires buffers { All (λ b. 0 < length b.input.items) equipment.buffers.items × (vec_len equipment.buffers ≡ vec_len equipment.mail_grips) }
-    requires grips { (vec_len equipment.mail_grips + length guests.now ≡ length floor.now.depot.channels.items) ×
-        (vec_len equipment.client_grips ≡ length guests.now) }
-    requires bells { (vec_len bells ≡ length guests.now) × (vec_len equipment.client_buffers ≡ length guests.now) }
+    requires buffers { All (λ b. 0 < length b.input.items) equipment.buffers.items × (vec_len equipment.buffers ≡ vec_len equipment.mail_slots) }
+    requires slots { (vec_len equipment.mail_slots + length visits.now ≡ length floor.now.depot.channels.items) ×
+        (vec_len equipment.client_slots ≡ length visits.now) }
+    requires bells { (vec_len bells ≡ length visits.now) × (vec_len equipment.client_buffers ≡ length visits.now) }
+    requires imap { All (λ v. v.user < vec_len sockets.now.imap) visits.now }
     ensures served { result.short ≡ false → AllAt (IsServed floor.now) 0 result.served.items ×
         (vec_len result.served ≡ length floor.now.depot.channels.items) × (result.posts.items ≡ []) }
     ensures short { result.short ≡ true → AllAt (IsPost floor.now) 0 result.posts.items ×
@@ -180,7 +231,7 @@ fn serve_in_threads<H: Hall + Send, R: Threads + Wait + Sync, I: Read + Drop>(
         client_grips,
         client_buffers,
     } = equipment;
-    let (own_gate, own_mark) = (Unhindered, AtomicBool::new(false));
+    let (own_gate, own_mark) = (Unhindered, Mark::new());
     let (gate, mark) = (&own_gate, &own_mark);
     let (mail_grips, client_grips) = (mail_grips.as_slice(), client_grips.as_slice());
     let (posts, served) = (packed(posts), packed(served));
@@ -195,9 +246,10 @@ fn serve_in_threads<H: Hall + Send, R: Threads + Wait + Sync, I: Read + Drop>(
                 (vec_len (manually_drop_value posts) ≡ length floor.now.depot.channels.items) }
             requires served { ((manually_drop_value served).items ≡ []) ×
                 (length floor.now.depot.channels.items ≤ vec_capacity (manually_drop_value served)) }
-            requires buffers { All (λ b. 0 < length b.input.items) buffers.items × (vec_len buffers ≡ length mail_grips.now) }
-            requires client_grips { length client_grips.now ≡ length guests.now }
-            requires bells { (vec_len bells ≡ length guests.now) × (vec_len client_buffers ≡ length guests.now) }
+            requires buffers { All (λ b. 0 < length b.input.items) buffers.items × (vec_len buffers ≡ length mail_slots.now) }
+            requires client_slots { length client_slots.now ≡ length visits.now }
+            requires bells { (vec_len bells ≡ length visits.now) × (vec_len client_buffers ≡ length visits.now) }
+            requires imap { All (λ v. v.user < vec_len sockets.now.imap) visits.now }
             ensures served { result.short ≡ false → AllAt (IsServed floor.entry.now) 0 result.served.items ×
                 (vec_len result.served ≡ length floor.entry.now.depot.channels.items) × (result.posts.items ≡ []) }
             ensures short { result.short ≡ true → AllAt (IsPost floor.entry.now) 0 result.posts.items ×
@@ -303,7 +355,7 @@ fn told(all: bool, whole: bool) -> Result<(), ServeFault>
     Ok(())
 }
 
-// Closes the house that the threads have left, or spends it where none was started.
+// Closes the house that the threads have left, or spends it where none was started. Ok says that nothing was amiss.
 fn close_or_spend<H: Hall, R: Wait>(
     rt: &R,
     floor: Floor,
@@ -327,7 +379,8 @@ fn close_or_spend<H: Hall, R: Wait>(
     requires worked { (worked.items ≡ []) × (length floor.depot.channels.items ≤ vec_capacity worked) }
     requires consumed { (consumed.items ≡ []) × (length floor.office.lanes.items ≤ vec_capacity consumed) }
     requires baskets { AreBaskets (length floor.depot.channels.items) (length floor.office.lanes.items) baskets }
-    ensures { (fault : ConfigFault) → result ≢ Err (ServeFault.Config fault) }
+    ensures setting { (fault : ConfigFault) → result ≢ Err (ServeFault.Config fault) }
+    ensures whole { OnOk result (HasEndedWhole floor) }
 {
     let Over {
         served,
@@ -349,8 +402,8 @@ fn close_or_spend<H: Hall, R: Wait>(
 /// Serves the house until `stop` is at its end, and closes it. The first of its producers are so many workers; the others are the berths
 /// of sessions, those of `guests`, each with its own end of its bell.
 ///
-/// Errors, the first that holds: `NoMemory` where memory is refused before the first thread; `Spawn` where a thread can't be made;
-/// `Torn` where somebody met what he didn't await, or a queue could not be closed.
+/// Errors, the first that holds: `NoMemory` where memory is refused before the first thread; `Spawn` where a thread can't be made, and
+/// nobody was served; `Torn` where somebody met what he didn't await, or a queue could not be closed. All of the house is spent then too.
 pub(crate) fn run_house_in<H: Hall + Send, R: Threads + Wait + Sync, I: Read + Drop>(
     rt: &R,
     floor: Floor,
@@ -366,11 +419,13 @@ pub(crate) fn run_house_in<H: Hall + Send, R: Threads + Wait + Sync, I: Read + D
     requires depot { H.depot ≡ Some floor.depot }
     requires house { IsHouse floor (length floor.depot.channels.items) }
     requires some { (0 < length floor.depot.channels.items) × (0 < length floor.office.lanes.items) }
-    requires producers { workers + length guests.now ≡ length floor.depot.channels.items }
-    requires guests { vec_len bells ≡ length guests.now }
+    requires producers { workers + length visits.now ≡ length floor.depot.channels.items }
+    requires visits { vec_len bells ≡ length visits.now }
+    requires imap { All (λ v. v.user < vec_len sockets.now.imap) visits.now }
     requires crew { IsCrew floor (length floor.depot.channels.items) crew }
     requires baskets { AreBaskets (length floor.depot.channels.items) (length floor.office.lanes.items) baskets }
-    ensures { (fault : ConfigFault) → result ≢ Err (ServeFault.Config fault) }
+    ensures setting { (fault : ConfigFault) → result ≢ Err (ServeFault.Config fault) }
+    ensures whole { OnOk result (HasEndedWhole floor) }
 {
     let Crew {
         stands,

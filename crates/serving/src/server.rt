@@ -1,13 +1,13 @@
 //! The whole of a server: settings, sockets, what is said of them, the house, and the end. What runs in between stands in `run`.
 
-ghost use Rattle.std.specs.Prelude.{ℕ, ◌≡◌, ◌≢◌, ◌≤◌, ◌<◌, ◌+◌, All, Err, IfErr, IfOk, None, OnOk, Some, false, length, take, vec_len};
+ghost use Rattle.std.specs.Prelude.{ℕ, ◌≡◌, ◌≢◌, ◌≤◌, ◌<◌, ◌+◌, ◌⊎◌, All, Err, IfErr, IfOk, None, OnOk, Some, false, length, take, vec_len};
 ghost use Rattle.std.specs.Io.KnownBytes.{Appends};
 ghost use Rattle.house.specs.Settings.{IsInRange, setup_of};
 ghost use Rattle.serving.specs.Producers.{server_fault};
 ghost use Rattle.mailbox.specs.declared.history.History.{History};
 ghost use Rattle.house.specs.declared.config.ConfigFault.{ConfigFault};
-ghost use Rattle.serving.specs.Announcing.{announcement};
-ghost use Rattle.serving.specs.inner.Faults.{IsOfSocket};
+ghost use Rattle.serving.specs.Announcing.{announcement, users_of};
+ghost use Rattle.serving.specs.inner.Faults.{IsOfSettings, IsOfSocket};
 ghost use Rattle.house_floor.specs.Users.{user_numbered};
 
 use crate::announcing::announce;
@@ -30,8 +30,9 @@ use std::thread::Threads;
 /// Whether whoever starts the server said which UIDVALIDITY its mailboxes have.
 #[derive(Clone, Copy, Debug, PartialEq, Eq)]
 pub enum Uidvalidity {
+    /// It was said: nothing is told of it.
     Given,
-    /// It is the one that stands where none is given.
+    /// It is the one that stands where none is given, and a line warns of that.
     Standing,
 }
 
@@ -82,6 +83,7 @@ fn lay_out(alloc: Global, config: &Config) -> Result<Layout, ServeFault>
     ensures few { IfOk result (λ l. config.now.workers + vec_len l.guests ≤ 255) }
     ensures right { IfOk result (λ l. server_fault config.now ≡ None) }
     ensures wrong { (fault : ConfigFault) → result ≡ Err (ServeFault.Config fault) → server_fault config.now ≡ Some fault }
+    ensures fault { IfErr result IsOfSettings }
 {
     let directory = directory_of(alloc, config)?;
     let guests = berths_for(alloc, &directory, config.sessions)?;
@@ -107,6 +109,7 @@ fn listen_and_tell<R: Net<Listener = TcpListener, Stream = TcpStream>, W: Sink>(
     ensures all { OnOk result (Appends (W.taken output.old) (W.taken output.new)
         (announcement config.now.lmtp_port config.now.imap_port directory.now.homes uidvalidity)) }
     ensures fault { IfErr result IsOfSocket }
+    ensures imap { IfOk result (λ s. vec_len s.imap ≡ length (users_of directory.now.homes)) }
 {
     let users = count_users(directory);
     let lines = announce(
@@ -133,8 +136,9 @@ fn listen_and_tell<R: Net<Listener = TcpListener, Stream = TcpStream>, W: Sink>(
 ///
 /// Errors, the first that holds: `Config`, of the first fault of the settings in the order of `House::new`, then `TooMany` where workers
 /// and berths together are more than 255; `Device` where a listener
-/// can't be made or the lines can't be written; `Spawn` where a thread can't be made; `NoMemory` where memory is refused before the first
-/// thread runs; `Torn` where a worker or a berth heard a verdict that it didn't await, or a queue could not be closed.
+/// can't be made or the lines can't be written; `Spawn` where a thread can't be made: then nobody was served; `Torn` where a worker, a berth
+/// or a clerk met what it didn't await, or a queue could not be closed. `NoMemory` where memory is refused before the first thread runs: that
+/// comes in place of whatever would have come later, `Config` too.
 pub fn serve<
     R: Net<Listener = TcpListener, Stream = TcpStream> + Threads + Wait + Sync,
     I: Read,
@@ -152,6 +156,9 @@ pub fn serve<
     ensures wrong { (fault : ConfigFault) → result ≡ Err (ServeFault.Config fault) → server_fault config.now ≡ Some fault }
     ensures not_set { (fault : ConfigFault) → result ≡ Err (ServeFault.Config fault) → output.new ≡ output.old }
     ensures right { OnOk result (server_fault config.now ≡ None) }
+    // Wrong settings are told, or want of memory is, and nothing is written.
+    ensures refused { (fault : ConfigFault) → server_fault config.now ≡ Some fault →
+        ((result ≡ Err (ServeFault.Config fault)) ⊎ (result ≡ Err ServeFault.NoMemory)) × (output.new ≡ output.old) }
     // Nothing but a beginning of the lines was written, and all of them where it served.
     ensures told { (n : ℕ) × Appends (W.taken output.old) (W.taken output.new)
         (take n (announcement config.now.lmtp_port config.now.imap_port (setup_of config.now).directory.homes uidvalidity)) }

@@ -1,14 +1,14 @@
 //! The threads of a berth: one accepts a user's clients, one at a time, and answers them, and what they append goes by way of the lanes;
 //! the other sleeps until a change was logged. What is answered stands in `imap_stream`.
 
-ghost use Rattle.std.specs.Prelude.{◌≡◌, ◌≤◌, ◌<◌, ◌+◌, Some, length, vec_len, vec_capacity};
+ghost use Rattle.std.specs.Prelude.{◌≡◌, ◌≤◌, ◌<◌, ◌+◌, All, Some, length, true, vec_len, vec_capacity};
+ghost use Rattle.std.specs.List.{list_all};
 ghost use Rattle.std.specs.Mem.{manually_drop_value};
 ghost use Rattle.house_floor.specs.Crew.{AllAt, IsHouse, IsPost};
 ghost use Rattle.lane_work.specs.Couriers.{IsReady, IsSameDesk};
-ghost use Rattle.serving_workers.specs.Leaving.{IsHired, IsServed};
+ghost use Rattle.serving_workers.specs.Leaving.{IsHired, IsServed, has_thread};
 
 use crate::equipment::SharedBerth;
-use crate::parcels::packed;
 use crate::sockets::Sockets;
 use clerks::{Clerk, Clerks, Hall, Unhindered};
 use courier::Courier;
@@ -20,12 +20,11 @@ use lane_work::{Desk, LaneCourier, Summons, Unkept, end_all};
 use line_io::Watched;
 use loopback::{Grip, Patience, prepare};
 use pace::{Actor, Pace};
-use serving_workers::{Door, Hired, Served, Serves};
+use serving_workers::{Door, Hired, Mark, Served, Serves, have_threads, packed};
 use session_bells::Sleeper;
 use session_thread::LockedStore;
 use std::mem::ManuallyDrop;
 use std::net::TcpStream;
-use std::sync::atomic::{AtomicBool, Ordering};
 use std::sync::{Arc, Mutex, Wait};
 use std::thread;
 use std::thread::Threads;
@@ -50,8 +49,8 @@ impl Hush for AtHand<'_> {
 #[derive(Clone, Copy)]
 pub(crate) struct Gateway<'s> {
     pub(crate) sockets: &'s Sockets,
-    /// Set once the house stops.
-    pub(crate) stop: &'s AtomicBool,
+    /// The house's mark, which is set once it stops.
+    pub(crate) mark: &'s Mark,
     /// For the connection that the berth's thread has at hand.
     pub(crate) grip: &'s Grip,
     /// The berth's number among all of the house, from 0.
@@ -110,7 +109,7 @@ fn serve_client<'a, R: Wait, C: Courier>(
         courier,
         &mut input,
         buffer,
-        gateway.stop,
+        &gateway.mark.stop,
     );
 }
 
@@ -138,7 +137,8 @@ fn receive<'a, R: Wait, C: Courier>(
     gateway.grip.clear(rt);
 }
 
-// One client after another, until the house stops, or something came that wasn't the verdict on a message: then nobody is served any more.
+// One client after another, the first once all threads stand, until the house stops, or something came that wasn't the verdict on a
+// message: then nobody is served any more.
 fn answer_clients<'a, R: Wait, S: Summons>(
     rt: &'a R,
     floor: &'a Floor,
@@ -149,18 +149,17 @@ fn answer_clients<'a, R: Wait, S: Summons>(
     mut buffer: Vec<u8>,
 )
     requires ready { IsReady courier.old.office.now courier.old.channel.now courier.old.desk }
+    requires imap { gateway.user < vec_len gateway.sockets.now.imap }
     ensures ready { IsReady courier.new.office.now courier.new.channel.now courier.new.desk }
     ensures same { IsSameDesk courier.old.office.now courier.new.office.now courier.old.channel.now courier.new.channel.now
         courier.old.desk courier.new.desk }
 {
-    let Some(listening) = gateway.sockets.imap.get(usize::from(gateway.user)) else {
-        return;
-    };
     let door = Door {
-        listening,
-        stop: gateway.stop,
+        listening: &gateway.sockets.imap[usize::from(gateway.user)],
+        mark: gateway.mark,
         pause: &gateway.sockets.pause,
     };
+    door.mark.await_start(rt);
     for _ in rt.forever() {
         if courier.is_torn {
             return;
@@ -186,8 +185,8 @@ fn attend_there<'a, 'g, H: Hall, R: Wait>(
     berth: Arc<ClientBerth<'a, R>>,
     number: u8,
     sockets: &'g Sockets,
-    stop: &'g AtomicBool,
-    grip: &'g Grip,
+    mark: &'g Mark,
+    slot: &'g Slot,
     session: u8,
     user: u8,
     post: ManuallyDrop<Post>,
@@ -198,12 +197,13 @@ fn attend_there<'a, 'g, H: Hall, R: Wait>(
     requires house { IsHouse floor.now (length floor.now.depot.channels.items) }
     requires number { number < length floor.now.depot.channels.items }
     requires post { IsPost floor.now number (manually_drop_value post) }
+    requires imap { user < vec_len sockets.now.imap }
     ensures { IsServed floor.now number (manually_drop_value result) }
 {
     let gateway = Gateway {
         sockets,
-        stop,
-        grip,
+        mark,
+        slot,
         session,
         user,
     };
@@ -259,10 +259,10 @@ fn watch_clients<'a, R: Wait>(
     rt: &R,
     berth: &ClientBerth<'a, R>,
     bell: &Sleeper,
-    stop: &AtomicBool,
-    grip: &Grip,
+    mark: &Mark,
+    slot: &Slot,
 ) {
-    berth.keep_watch(rt, bell, stop, &AtHand { grip });
+    berth.keep_watch(rt, bell, &mark.stop, &AtHand { slot });
 }
 
 // Starts the thread of a berth that answers. Where none can be made the house's mark has to be set before what came of it can be had: so
@@ -284,32 +284,33 @@ fn start_answering<'s, E, H: Hall + Send, R: Threads + Wait + Sync>(
     requires house { IsHouse floor.now (length floor.now.depot.channels.items) }
     requires number { number < length floor.now.depot.channels.items }
     requires post { IsPost floor.now number post }
+    requires imap { gateway.user < vec_len gateway.sockets.now.imap }
     ensures { IsHired floor.now number result }
 {
     let parcel = packed(post);
     let Gateway {
         sockets,
-        stop,
-        grip,
+        mark,
+        slot,
         session,
         user,
     } = gateway;
     match scope.spawn_with(Serves { floor, number }, move || {
         attend_there::<H, R>(
-            rt, floor, clerks, gate, berth, number, sockets, stop, grip, session, user, parcel,
+            rt, floor, clerks, gate, berth, number, sockets, mark, slot, session, user, parcel,
             buffer,
         )
     }) {
         Ok(child) => Hired::There(child),
         Err(refused) => {
-            stop.store(true, Ordering::SeqCst);
+            mark.set();
             Hired::Here((refused.value)())
         }
     }
 }
 
-// Starts the thread of a berth that watches, and says whether it could be made. Where it can't be, the one that answers ends as the house
-// stops.
+// Starts the thread of a berth that watches, and says whether it could be made. Where it can't be the house's mark is set, and the one that
+// answers serves nobody.
 fn start_watching<'s, E, R: Threads + Wait + Sync>(
     scope: &thread::Scope<'s, E>,
     rt: &'s R,
@@ -317,21 +318,29 @@ fn start_watching<'s, E, R: Threads + Wait + Sync>(
     gateway: Gateway<'s>,
     bell: Sleeper,
 ) -> bool {
-    let (stop, grip) = (gateway.stop, gateway.grip);
-    let watches = scope.spawn(move || watch_clients(rt, &berth, &bell, stop, grip));
-    watches.is_ok()
+    let (mark, slot) = (gateway.mark, gateway.slot);
+    let watches = scope.spawn(move || watch_clients(rt, &berth, &bell, mark, slot));
+    if watches.is_err() {
+        mark.set();
+        return false;
+    }
+    true
 }
 
 /// What the berths' threads are given, for each berth one of each.
 #[derive(Drop)]
 pub(crate) struct Furnishings<'s, R: Wait> {
+    /// The berth itself, for both threads.
     pub(crate) berths: Vec<SharedBerth<'s, R>>,
+    /// The bell on which its watch sleeps.
     pub(crate) bells: Vec<Sleeper>,
+    /// For what comes of its clients.
     pub(crate) buffers: Vec<Vec<u8>>,
 }
 
-/// Starts two threads for each berth, with these posts, which are those behind the workers', and says whether all could be made. The
-/// threads that answer go behind those in `hired`, which has room for them.
+/// Starts two threads for each berth, with these posts, which are those behind the workers'. The threads that answer go behind those in
+/// `hired`, which has room for them. Says whether each of these has a thread, the workers' too, and each berth its watch. Where a thread
+/// can't be made the mark is set; nobody is accepted while its start is held, as the caller does.
 pub(crate) fn start_berths<'s, E, H: Hall + Send, R: Threads + Wait + Sync>(
     scope: &thread::Scope<'s, E>,
     rt: &'s R,
@@ -340,8 +349,8 @@ pub(crate) fn start_berths<'s, E, H: Hall + Send, R: Threads + Wait + Sync>(
     gate: &'s Unhindered,
     guests: &'s [Guest],
     sockets: &'s Sockets,
-    stop: &'s AtomicBool,
-    grips: &'s [Grip],
+    mark: &'s Mark,
+    slots: &'s [Slot],
     mut furnishings: Furnishings<'s, R>,
     mut posts: Vec<Post>,
     mut hired: Vec<Hired<'s>>,
@@ -356,15 +365,17 @@ pub(crate) fn start_berths<'s, E, H: Hall + Send, R: Threads + Wait + Sync>(
     requires posts { AllAt (IsPost floor.now) (vec_len hired) posts.items × (vec_len posts ≡ length guests.now) }
     requires all { vec_len hired + length guests.now ≡ length floor.now.depot.channels.items }
     requires hired { AllAt (IsHired floor.now) 0 hired.items × (length floor.now.depot.channels.items ≤ vec_capacity hired) }
+    requires imap { All (λ v. v.user < vec_len sockets.now.imap) visits.now }
     ensures hired { AllAt (IsHired floor.now) 0 result.0.items }
     ensures count { vec_len result.0 ≡ length floor.now.depot.channels.items }
+    ensures all { result.1 ≡ true → list_all has_thread result.0.items ≡ true }
 {
-    let mut all = true;
-    for berth in 0..guests.len() {
+    let mut are_watched = true;
+    for berth in 0..visits.len() {
         let gateway = Gateway {
             sockets,
-            stop,
-            grip: &grips[berth],
+            mark,
+            slot: &slots[berth],
             session: berth as u8,
             user: guests[berth].user,
         };
@@ -375,11 +386,11 @@ pub(crate) fn start_berths<'s, E, H: Hall + Send, R: Threads + Wait + Sync>(
         let one = start_answering::<E, H, R>(
             scope, rt, floor, clerks, gate, reader, number, gateway, post, buffer,
         );
-        all = all && matches!(one, Hired::There(_));
         hired.push_reserved(one);
         let is_watched = start_watching(scope, rt, watch, gateway, bell);
-        all = all && is_watched;
+        are_watched = are_watched && is_watched;
     }
     posts.destroy_empty();
+    let all = have_threads(&hired) && are_watched;
     (hired, all)
 }

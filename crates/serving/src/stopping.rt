@@ -2,11 +2,11 @@
 //! What a thread does then is its own matter.
 
 use crate::sockets::Sockets;
-use loopback::{Grip, Pause};
+use loopback::{Pause, Slot};
+use serving_workers::Mark;
 use session_bells::SessionBell;
 use std::io::{ErrorKind, Read};
 use std::sync::Wait;
-use std::sync::atomic::{AtomicBool, Ordering};
 
 /// So many pauses, of a tenth of a second each, all connections together have for their last words. What is done before and behind them
 /// is to fit into six seconds with them.
@@ -77,13 +77,13 @@ fn give_grace<R: Wait>(rt: &R, pause: &Pause, workers: &[Grip], berths: &[Grip])
 /// hand some five seconds later is cut.
 pub(crate) fn stop_all<R: Wait>(
     rt: &R,
-    mark: &AtomicBool,
+    mark: &Mark,
     sockets: &Sockets,
     workers: &[Grip],
     berths: &[Grip],
     bells: &[Vec<SessionBell>],
 ) {
-    mark.store(true, Ordering::SeqCst);
+    mark.set();
     shut_listeners(sockets);
     hush_all(rt, workers);
     hush_all(rt, berths);

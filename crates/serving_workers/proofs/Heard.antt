@@ -1,5 +1,6 @@
 -- What the workers leave, said of its parts in lists of their own.
-use Rattle.std.proofs.Common.{◌≡◌, ◌<◌, ◌+◌, ◌∙◌, ℕ, suc, List, [], ◌∷◌, All, length, map, drop, sym, ap, refl, subst, vec_len, arith}
+use Rattle.std.proofs.Common.{◌≡◌, ◌<◌, ◌+◌, ◌++◌, ◌∙◌, ℕ, suc, List, [], ◌∷◌, All, length, map, drop, sym, ap, refl, slice_index_or, subst, Vec, vec_len, arith}
+use Rattle.std.specs.Global.{Global}
 use Rattle.std.proofs.lemmas.List.Elements.{All-cons, All-nil}
 use Rattle.shard_queue.specs.declared.queue.Ended.{Ended}
 use Rattle.shard_queue.specs.declared.queue.ShardQueue.{ShardQueue}
@@ -10,7 +11,9 @@ use Rattle.lane_permits.specs.rows.Rows.{AreEndedHands}
 use Rattle.lane_permits.specs.rows.SenderRows.{AreReceivers}
 use Rattle.house_floor.specs.Crew.{AllAt}
 use Rattle.house_floor.specs.declared.floor.Floor.{Floor}
+use Rattle.reckoning.proofs.Laying.{laid_items}
 use Rattle.reckoning.proofs.Parts.{from_here, past_all, some_at}
+use Rattle.serving_workers.specs.declared.accepting.Served.{Served}
 use Rattle.serving_workers.specs.inner.Leaving.{HasHeard}
 
 ended_length : (qs : List (ShardQueue Job)) (p : ℕ) (es : List (Ended Job)) → AreEnded qs p es → length es ≡ length qs
@@ -18,6 +21,17 @@ ended_length [] p [] h = refl
 ended_length [] p (e ∷ es) h = absurd h
 ended_length (q ∷ qs) p [] h = absurd h
 ended_length (q ∷ qs) p (e ∷ es) h = ap suc (ended_length qs p es h.1)
+
+first_of : {A : Type 0} (xs rest : List A) (x : A) → 0 < length xs → x ≡ slice_index_or xs 0 x → rest ≡ drop 1 xs → xs ≡ x ∷ rest
+first_of [] rest x some is less = absurd (omega (arith, some))
+first_of {A} (y ∷ ys) rest x some is less = ap (λ (v : A). v ∷ ys) (sym is) ∙ ap (λ (v : List A). x ∷ v) (sym less)
+
+-- one producer more was heard out
+pub one_more : (done new : List Worked) (w : Worked) (left rest : List Served) (s : Served) (all : List (List (Ended Job))) → map (λ w. w.ended.items) done ++ map (λ s. s.ended.items) left ≡ all
+    → 0 < length left → s ≡ slice_index_or left 0 s → rest ≡ drop 1 left → new ≡ done ++ w ∷ [] → w.ended ≡ s.ended → map (λ w. w.ended.items) new ++ map (λ s. s.ended.items) rest ≡ all
+one_more done new w left rest s all before some is less more same =
+    laid_items (λ (w : Worked). w.ended.items) (λ (s : Served). s.ended.items) done new all left rest s w before (first_of left rest s some is less) more
+    (ap (λ (v : Vec (Ended Job) Global). v.items) same)
 
 module _ (floor : Floor) where
   pub ended_of : (n : ℕ) (ws : List Worked) → AllAt (HasHeard floor) n ws → AreEndedHands floor.office.lanes.items n (map (λ w. w.ended.items) ws)

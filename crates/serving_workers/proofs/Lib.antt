@@ -1,2 +1,3 @@
 pub mod Lives
 mod Heard
+mod Wholes

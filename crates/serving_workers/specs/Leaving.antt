@@ -1,5 +1,5 @@
 -- What the producers of a server leave.
-use Rattle.std.specs.Prelude.{◌≡◌, ℕ, Some, slice_get}
+use Rattle.std.specs.Prelude.{◌≡◌, ℕ, Bool, true, false, Some, slice_get}
 use Rattle.std.specs.Mem.{manually_drop_value}
 use Rattle.delivery_token.specs.declared.log.Noted.{Noted}
 use Rattle.shard_queue.specs.declared.ends.ReplyChannel.{ReplyChannel}
@@ -19,3 +19,7 @@ pub record IsServed (floor : Floor) (n : ℕ) (s : Served) : Type 0 where
 abbrev pub IsHired : Floor → ℕ → Hired → Type 0
 IsHired floor n (There h) = (h.promise.floor.now ≡ floor) × (h.promise.number ≡ n)
 IsHired floor n (Here s) = IsServed floor n (manually_drop_value s)
+
+abbrev pub has_thread : Hired → Bool
+has_thread (There h) = true
+has_thread (Here s) = false

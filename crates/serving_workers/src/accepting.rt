@@ -82,7 +82,7 @@ fn serve_one<R: Wait, G: Gate, S: Summons>(
         serial,
         &mut input,
         &mut output,
-        door.stop,
+        &door.mark.stop,
         buffers.input.as_mut_slice(),
         &mut buffers.output,
     );
@@ -129,8 +129,8 @@ fn attend<R: Wait, G: Gate, S: Summons>(
     torn
 }
 
-// Serves one connection after another until the house stops, and answers whether a verdict came that it didn't await: then it serves
-// nobody any more.
+// Serves one connection after another until the house stops, the first once all threads stand, and answers whether a verdict came that it
+// didn't await: then it serves nobody any more.
 fn serve_all<R: Wait, G: Gate, S: Summons>(
     rt: &R,
     alloc: Global,
@@ -152,6 +152,7 @@ fn serve_all<R: Wait, G: Gate, S: Summons>(
     ensures receiver { IsReceiver channel.now desk.new.receiver }
     ensures number { desk.new.number ≡ desk.old.number }
 {
+    door.mark.await_start(rt);
     let mut serial = 0u64;
     for _ in rt.forever() {
         let Some(stream) = door.next(rt) else {
@@ -167,9 +168,9 @@ fn serve_all<R: Wait, G: Gate, S: Summons>(
     unreachable!()
 }
 
-/// A worker's whole life in a server: one connection after another until the house stops, each with the worker's number for its seat and
-/// with the next serial from 0 on; then its end on each lane, from shard 0 on. What it leaves has heard no end of its channel: those come
-/// when all workers have ended.
+/// A worker's whole life in a server: once all threads stand, one connection after another until the house stops, each with the worker's
+/// number for its seat and with the next serial from 0 on; then its end on each lane, from shard 0 on. What it leaves has heard no end of
+/// its channel: those come when all workers have ended.
 ///
 /// `room`, which is empty, has room for what is left of each permit.
 pub(crate) fn serve_until_stopped<R: Wait, G: Gate, S: Summons>(

@@ -2,47 +2,43 @@
 //! left. No thread runs any more.
 
 ghost use Rattle.std.specs.Prelude.{◌≡◌, ◌<◌, ◌≤◌, [], All, length, map, true, vec_len, vec_capacity};
-ghost use Rattle.lane_permits.specs.rows.Rows.{AreConsumers, AreEndedHands};
-ghost use Rattle.lane_permits.specs.rows.SenderRows.{AreReceivers, AreSenderEndedHands};
+ghost use Rattle.std.specs.List.{list_any};
+ghost use Rattle.lane_permits.specs.rows.Rows.{AreConsumers};
+ghost use Rattle.lane_permits.specs.rows.SenderRows.{AreSenderEndedHands};
 ghost use Rattle.house_floor.specs.Crew.{AllAt, IsHouse};
 ghost use Rattle.house_floor.specs.Opening.{AreBaskets};
+ghost use Rattle.serving_workers.specs.Closing.{IsWhole};
 ghost use Rattle.serving_workers.specs.Leaving.{IsServed};
 ghost use Rattle.serving_workers.specs.inner.Leaving.{HasHeard};
 
 use crate::accepting::Served;
 use clerks::{Dismissed, Unhindered};
-use delivery_token::{Job, Noted, WorkerLog};
+use delivery_token::WorkerLog;
 use house_floor::{Baskets, Floor};
 use house_threads::{Ran, Started};
 use lane_work::{Consumed, Fate, Worked, hear_ends};
 use pace::{Actor, Pace};
-use reckoning::{
-    FromConsumers, FromWorkers, Gathered, Remains, abandon, close_all_channels, close_all_lanes,
-    gather_all, remains_of,
-};
-use shard_queue::{ReplyChannel, ShardQueue};
-use std::alloc::Global;
+use reckoning::{Closings, Remains, abandon, close_queues, remains_of};
 use std::sync::Wait;
 
-// Whether all went well for a producer.
-fn fate_of(torn: bool, quiet: bool) -> Fate {
-    if torn || !quiet {
-        return Fate::Torn;
-    }
-    Fate::Whole
+// How it went for a producer that heard the shards' ends.
+fn fate_of(quiet: bool) -> Fate {
+    if quiet { Fate::Whole } else { Fate::Torn }
 }
 
-// A producer hears the end of each shard, which each clerk has sent it. Of its replies and verdicts nothing was kept.
+// A producer hears the end of each shard, which each clerk has sent it. Of its replies and verdicts nothing was kept. Its fate says whether
+// it heard these ends alone.
 fn hear_out<R: Wait>(rt: &R, floor: &Floor, number: u8, served: Served) -> Worked
     requires there { number < length floor.now.depot.channels.items }
     requires served { IsServed floor.now number served }
-    ensures { HasHeard floor.now number result }
+    ensures heard { HasHeard floor.now number result }
+    ensures ended { result.ended ≡ served.ended }
 {
     let Served {
         ended,
         mut receiver,
         ends,
-        torn,
+        torn: _,
     } = served;
     let gate = Unhindered;
     let mut pace = Pace::new(&gate, Actor::Worker(number));
@@ -54,7 +50,7 @@ fn hear_out<R: Wait>(rt: &R, floor: &Floor, number: u8, served: Served) -> Worke
         receiver,
         replies: Vec::new(floor.alloc),
         log: WorkerLog::new(floor.alloc, number),
-        fate: fate_of(torn, quiet),
+        fate: fate_of(quiet),
     }
 }
 
@@ -70,6 +66,7 @@ fn hear_all_out<R: Wait>(
     requires room { (worked.items ≡ []) × (vec_len served ≤ vec_capacity worked) }
     ensures worked { AllAt (HasHeard floor.now) 0 result.items }
     ensures count { vec_len result ≡ vec_len served }
+    ensures ended { map (λ w. w.ended.items) result.items ≡ map (λ s. s.ended.items) served.items }
 {
     let mut left = served;
     for number in 0..left.len() {
@@ -80,60 +77,28 @@ fn hear_all_out<R: Wait>(
     worked
 }
 
-// Closes each queue with what all threads left, and answers whether all could be.
-fn close_queues(
-    alloc: Global,
-    lanes: Vec<ShardQueue<Job>>,
-    channels: Vec<ReplyChannel<Noted>>,
-    worked: Vec<Worked>,
-    consumed: Vec<Consumed>,
-    baskets: Baskets,
-) -> bool
-    requires counts { (vec_len worked ≡ vec_len channels) × (vec_len consumed ≡ vec_len lanes) }
-    requires hands { AreEndedHands lanes.items 0 (map (λ w. w.ended.items) worked.items) }
-    requires receivers { AreReceivers channels.items (map (λ w. w.receiver) worked.items) }
-    requires consumers { AreConsumers lanes.items (map (λ c. c.permit) consumed.items) }
-    requires senders { AreSenderEndedHands channels.items 0 (map (λ c. c.senders.items) consumed.items) }
-    requires baskets { AreBaskets (vec_len channels) (vec_len lanes) baskets }
+// Whether a producer heard a verdict that it didn't await.
+fn is_producer_torn(served: &[Served]) -> bool
+    ensures { result ≡ list_any (λ s. s.torn) served.now }
 {
-    let Gathered {
-        workers,
-        consumers,
-        lists,
-        sender_lists,
-        closed,
-        worst: _,
-    } = gather_all(worked, consumed, baskets);
-    let FromWorkers {
-        hands,
-        receivers,
-        replies: _,
-        logs: _,
-    } = workers;
-    let FromConsumers {
-        permits,
-        hands: sender_hands,
-        copies: _,
-    } = consumers;
-    let lanes = close_all_lanes(alloc, lanes, hands, permits, lists, closed.lanes);
-    let channels = close_all_channels(
-        alloc,
-        channels,
-        sender_hands,
-        receivers,
-        sender_lists,
-        closed.channels,
-    );
-    lanes.is_some() && channels.is_some()
+    served.iter().any(|one| one.torn)
 }
 
-// Whether some thread met what it didn't await.
-fn is_torn(worked: &[Worked], consumed: &[Consumed]) -> bool {
-    worked.iter().any(|one| one.fate == Fate::Torn) || consumed.iter().any(|one| one.torn)
+// Whether a clerk met a copy that was nobody's.
+fn is_clerk_torn(consumed: &[Consumed]) -> bool
+    ensures { result ≡ list_any (λ c. c.torn) consumed.now }
+{
+    consumed.iter().any(|one| one.torn)
+}
+
+// Whether nobody heard anything but the shards' ends at last.
+fn are_quiet(worked: &[Worked]) -> bool {
+    worked.iter().all(|one| one.fate == Fate::Whole)
 }
 
 /// Closes the house that the producers and the clerks have left: each producer hears the end of each shard, and each queue is closed with what
-/// is left of all permits. Answers whether all went well: nobody met what he didn't await, and each queue could be closed.
+/// is left of all permits. Answers whether all went well: each clerk stood in its place, nobody met what he didn't await, and each queue
+/// could be closed. Where it didn't, all of the house is spent all the same.
 ///
 /// `worked`, which is empty, has room for all producers.
 pub fn close_house<R: Wait>(
@@ -154,8 +119,10 @@ pub fn close_house<R: Wait>(
         (map (λ c. c.senders.items) dismissed.consumed.items) }
     requires senders { All (λ c. vec_len c.senders ≡ length floor.depot.channels.items) dismissed.consumed.items }
     requires baskets { AreBaskets (vec_len served) (length floor.office.lanes.items) baskets }
+    ensures { result ≡ true → IsWhole floor served.items dismissed }
 {
     let alloc = floor.alloc;
+    let is_producer_torn = is_producer_torn(&served);
     let worked = hear_all_out(rt, &floor, served, worked);
     let Dismissed { consumed, in_order } = dismissed;
     if !in_order {
@@ -169,12 +136,33 @@ pub fn close_house<R: Wait>(
         abandon(alloc, floor, ran, baskets);
         return false;
     }
-    let torn = is_torn(worked.as_slice(), consumed.as_slice());
+    let is_clerk_torn = is_clerk_torn(&consumed);
+    let are_quiet = are_quiet(&worked);
     let Remains {
         directory: _,
         lanes,
         channels,
         mailboxes: _,
     } = remains_of(floor);
-    close_queues(alloc, lanes, channels, worked, consumed, baskets) && !torn
+    let Closings {
+        lanes,
+        channels,
+        replies: _,
+        logs: _,
+        copies: _,
+        worst: _,
+    } = close_queues(alloc, lanes, channels, worked, consumed, baskets);
+    if is_producer_torn {
+        return false;
+    }
+    if is_clerk_torn {
+        return false;
+    }
+    let Some(_lanes) = lanes else {
+        return false;
+    };
+    let Some(_channels) = channels else {
+        return false;
+    };
+    are_quiet
 }

@@ -1,24 +1,26 @@
 //! What a thread that accepts connections needs beside the house: where they come, the mark that the house stops, and a pause. What is
 //! done with a connection stands elsewhere.
 
+use crate::mark::Mark;
 use loopback::{Listening, Pause, farewell};
 use std::net::TcpStream;
 use std::sync::Wait;
-use std::sync::atomic::{AtomicBool, Ordering};
 
 /// Where connections come in.
 #[derive(Clone, Copy)]
 pub struct Door<'a> {
+    /// Where they are accepted.
     pub listening: &'a Listening,
-    /// Set once the house stops: before the listener is shut.
-    pub stop: &'a AtomicBool,
+    /// The house's mark, which is set before the listener is shut.
+    pub mark: &'a Mark,
+    /// Waited for where the system has no room for one more connection, and for the last words of a peer.
     pub pause: &'a Pause,
 }
 
 impl<'a> Door<'a> {
     /// Whether the house stops.
     pub fn is_shut(&self) -> bool {
-        self.stop.load(Ordering::SeqCst)
+        self.mark.is_set()
     }
 
     /// Waits for the next connection; None once the house stops. Where the system has no room for one more it is tried again after a

@@ -5,10 +5,13 @@
 mod accepting;
 mod closing;
 mod door;
+mod mark;
 mod parcels;
 mod threads;
 
 pub use accepting::{Buffers, Served};
 pub use closing::close_house;
 pub use door::Door;
-pub use threads::{Begun, Hired, Serves, join_producers, start_workers};
+pub use mark::Mark;
+pub use parcels::packed;
+pub use threads::{Begun, Hired, Serves, have_threads, join_producers, start_workers};

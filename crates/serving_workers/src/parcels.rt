@@ -7,7 +7,7 @@ use std::mem::ManuallyDrop;
 
 /// A value that isn't to be dropped, for a closure to hold or a thread to return: those may hold only what may be dropped. Whoever gets
 /// it takes the value out.
-pub(crate) fn packed<T>(value: T) -> ManuallyDrop<T>
+pub fn packed<T>(value: T) -> ManuallyDrop<T>
     ensures { manually_drop_value result ≡ value }
 {
     unsafe { ManuallyDrop::new_unchecked(value) }

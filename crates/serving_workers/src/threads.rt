@@ -4,17 +4,18 @@
 ghost use Rattle.std.specs.Prelude.{ℕ, ◌≡◌, ◌≤◌, ◌<◌, ◌+◌, All, Some, [], length, vec_len, vec_capacity};
 ghost use Rattle.std.specs.Mem.{manually_drop_value};
 ghost use Rattle.house_floor.specs.Crew.{AllAt, IsHouse, IsPost};
-ghost use Rattle.serving_workers.specs.Leaving.{IsHired, IsServed};
+ghost use Rattle.std.specs.List.{list_all};
+ghost use Rattle.serving_workers.specs.Leaving.{IsHired, IsServed, has_thread};
 
 use crate::accepting::{Buffers, Served, serve_until_stopped};
 use crate::door::Door;
+use crate::mark::Mark;
 use crate::parcels::packed;
 use clerks::{Clerk, Clerks, Hall, Unhindered};
 use house_floor::{Floor, Post};
 use loopback::{Grip, Listening, Pause};
 use pace::{Actor, Pace};
 use std::mem::ManuallyDrop;
-use std::sync::atomic::{AtomicBool, Ordering};
 use std::sync::{Mutex, Wait};
 use std::thread;
 use std::thread::{Promise, Threads};
@@ -22,7 +23,9 @@ use std::thread::{Promise, Threads};
 /// What the thread of this producer is to return: what is left of its permits.
 #[derive(Clone, Copy)]
 pub struct Serves<'a> {
+    /// The house that it serves in.
     pub floor: &'a Floor,
+    /// Its number among the producers, from 0: the workers', and behind them the others'.
     pub number: u8,
 }
 
@@ -36,8 +39,17 @@ impl<'a> Promise<ManuallyDrop<Served>> for Serves<'a> {
 /// A producer's thread, or what came of it where there is none.
 #[derive(Drop)]
 pub enum Hired<'a> {
+    /// Its thread, which leaves what the producer does.
     There(thread::PromisedHandle<ManuallyDrop<Served>, Serves<'a>>),
+    /// No thread could be made: what it leaves, that served nobody.
     Here(ManuallyDrop<Served>),
+}
+
+/// Whether each of these producers has a thread.
+pub fn have_threads(hired: &[Hired<'_>]) -> bool
+    ensures { result ≡ list_all has_thread hired.now }
+{
+    hired.iter().all(|one| matches!(one, Hired::There(_)))
 }
 
 // A worker's life.
@@ -46,7 +58,7 @@ fn serve_there<H: Hall, R: Wait>(
     floor: &Floor,
     clerks: &[Mutex<Clerk<H>>],
     listening: &Listening,
-    stop: &AtomicBool,
+    mark: &Mark,
     pause: &Pause,
     grip: &Grip,
     number: u8,
@@ -67,7 +79,7 @@ fn serve_there<H: Hall, R: Wait>(
     let summons = Clerks::new(clerks, &floor.office.lanes, &floor.depot, &gate);
     let door = Door {
         listening,
-        stop,
+        mark,
         pause,
     };
     packed(serve_until_stopped(
@@ -93,7 +105,7 @@ fn start_worker<'s, E, H: Hall + Send, R: Threads + Wait + Sync>(
     floor: &'s Floor,
     clerks: &'s [Mutex<Clerk<H>>],
     listening: &'s Listening,
-    stop: &'s AtomicBool,
+    mark: &'s Mark,
     pause: &'s Pause,
     grip: &'s Grip,
     number: u8,
@@ -111,33 +123,33 @@ fn start_worker<'s, E, H: Hall + Send, R: Threads + Wait + Sync>(
     let parcel = packed(post);
     match scope.spawn_with(Serves { floor, number }, move || {
         serve_there::<H, R>(
-            rt, floor, clerks, listening, stop, pause, grip, number, parcel, buffers,
+            rt, floor, clerks, listening, mark, pause, slot, number, parcel, buffers,
         )
     }) {
         Ok(child) => Hired::There(child),
         Err(refused) => {
-            stop.store(true, Ordering::SeqCst);
+            mark.set();
             Hired::Here((refused.value)())
         }
     }
 }
 
 // Starts the thread of the next worker, with the first of these posts and of these buffers, and puts it behind those in `hired`, which has
-// room for it. Answers whether the thread could be made.
+// room for it.
 fn start_next<'s, E, H: Hall + Send, R: Threads + Wait + Sync>(
     scope: &thread::Scope<'s, E>,
     rt: &'s R,
     floor: &'s Floor,
     clerks: &'s [Mutex<Clerk<H>>],
     listening: &'s Listening,
-    stop: &'s AtomicBool,
+    mark: &'s Mark,
     pause: &'s Pause,
     grip: &'s Grip,
     number: u8,
     posts: &mut Vec<Post>,
     buffers: &mut Vec<Buffers>,
     hired: &mut Vec<Hired<'s>>,
-) -> bool
+)
     requires lanes { H.lanes ≡ Some floor.now.office.lanes.items }
     requires depot { H.depot ≡ Some floor.now.depot }
     requires house { IsHouse floor.now (length floor.now.depot.channels.items) }
@@ -153,31 +165,29 @@ fn start_next<'s, E, H: Hall + Send, R: Threads + Wait + Sync>(
 {
     let post = posts.remove(0);
     let own = buffers.remove(0);
-    let one = start_worker(
-        scope, rt, floor, clerks, listening, stop, pause, grip, number, post, own,
-    );
-    let is_there = matches!(one, Hired::There(_));
-    hired.push_reserved(one);
-    is_there
+    hired.push_reserved(start_worker(
+        scope, rt, floor, clerks, listening, mark, pause, slot, number, post, own,
+    ));
 }
 
-/// The workers' threads, what is left of the posts, and whether each thread could be made.
+/// The workers' threads, and what is left of the posts.
 pub struct Begun<'a> {
+    /// For each worker its thread, or what came of it: in their order, with room for all producers.
     pub hired: Vec<Hired<'a>>,
+    /// The posts of the other producers, in their order.
     pub posts: Vec<Post>,
-    pub all: bool,
 }
 
-/// Starts a thread for each worker, a grip for each, in their order, with the first of these posts. The others are given back, and so is
-/// the list of threads, in which there is room for all posts. Where a thread can't be made the house's mark is set, and no worker from
-/// there on serves anybody.
+/// Starts a thread for each worker, a slot for each, in their order, with the first of these posts. The others are given back, and so is
+/// the list of threads, in which there is room for all posts. None of them accepts anybody while the start of `mark` is held, as the caller
+/// does. Where a thread can't be made the mark is set, so no worker serves anybody.
 pub fn start_workers<'s, E, H: Hall + Send, R: Threads + Wait + Sync>(
     scope: &thread::Scope<'s, E>,
     rt: &'s R,
     floor: &'s Floor,
     clerks: &'s [Mutex<Clerk<H>>],
     listening: &'s Listening,
-    stop: &'s AtomicBool,
+    mark: &'s Mark,
     pause: &'s Pause,
     grips: &'s [Grip],
     mut posts: Vec<Post>,
@@ -197,15 +207,14 @@ pub fn start_workers<'s, E, H: Hall + Send, R: Threads + Wait + Sync>(
     ensures posts { AllAt (IsPost floor.now) (length grips.now) result.posts.items }
     ensures others { vec_len result.posts + length grips.now ≡ length floor.now.depot.channels.items }
 {
-    let mut all = true;
-    for position in 0..grips.len() {
-        let is_there = start_next(
+    for position in 0..slots.len() {
+        start_next(
             scope,
             rt,
             floor,
             clerks,
             listening,
-            stop,
+            mark,
             pause,
             &grips[position],
             position as u8,
@@ -213,9 +222,8 @@ pub fn start_workers<'s, E, H: Hall + Send, R: Threads + Wait + Sync>(
             &mut buffers,
             &mut hired,
         );
-        all = all && is_there;
     }
-    Begun { hired, posts, all }
+    Begun { hired, posts }
 }
 
 fn join_producer<R: Threads>(rt: &R, floor: &Floor, hired: Hired<'_>) -> Served

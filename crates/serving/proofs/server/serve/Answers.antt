@@ -1,8 +1,10 @@
-use Rattle.std.proofs.Common.{ℕ, subst, take}
+use Rattle.std.proofs.Common.{rules, ◌<◌, ℕ, All, List, refl, subst, sym, take, vec_len}
+use Rattle.house_floor.specs.declared.floor.Visit.{Visit}
 use Rattle.std.specs.Io.KnownBytes.{Appends}
 use Rattle.house.specs.Settings.{setup_of}
 use Rattle.serving.specs.Announcing.{announcement}
-use Rattle.serving.proofs.Serving.{where_ok}
+use Rattle.serving.proofs.Serving.{settings_or_memory, where_ok}
+use Rattle.serving.proofs.Users.{each_there}
 use Rattle.serving.proofs.server.serve.Goals as goal
 
 pub returns-in_err-floor-clause-told : goal.returns-in_err-floor-clause-told
@@ -16,10 +18,22 @@ returns-clause-told g c =
     (take n (announcement c.args.config.now.lmtp_port c.args.config.now.imap_port d.homes c.args.uidvalidity))) c.in_ok-directory.ensures.directory c.in_ok-sockets.ensures.told
 
 pub returns-clause-wrong : goal.returns-clause-wrong
-returns-clause-wrong g c x e = absurd (c.run_house_in.ensures x e)
+returns-clause-wrong g c x e = absurd (c.run_house_in.ensures.setting x e)
 
 pub returns-clause-not_set : goal.returns-clause-not_set
-returns-clause-not_set g c x e = absurd (c.run_house_in.ensures x e)
+returns-clause-not_set g c x e = absurd (c.run_house_in.ensures.setting x e)
+
+pub returns-in_err-directory-clause-refused : goal.returns-in_err-directory-clause-refused
+returns-in_err-directory-clause-refused g c fault is = (
+    settings_or_memory c.lay_out.result c.from_residual.result c.in_err-directory.field-0.0 fault _ c.in_err-directory.was c.from_residual.ensures.0
+    (λ y e. search (rules, e)) is c.lay_out.ensures.wrong c.lay_out.ensures.fault,
+    refl,
+  )
+
+pub run_house_in-requires-clause-imap : goal.run_house_in-requires-clause-imap
+run_house_in-requires-clause-imap g c κs lives =
+    subst (λ (vs : List Visit). All (λ v. v.user < vec_len c.in_ok-sockets.sockets.imap) vs) (sym c.deref.ensures.value)
+    (each_there c.in_ok-directory.field-0.directory.homes (vec_len c.in_ok-sockets.sockets.imap) c.in_ok-sockets.ensures.imap c.in_ok-directory.field-0.visits.items c.in_ok-directory.ensures.named)
 
 pub returns-clause-all : goal.returns-clause-all
 returns-clause-all g c =

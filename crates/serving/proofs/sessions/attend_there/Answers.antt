@@ -22,6 +22,7 @@ answer_clients-requires g c =
         c.requires.house.shards,
         new_live post.desk.permits.items is.fresh,
       );
+      imap = c.requires.imap;
     }
 
 pub returns : goal.returns

@@ -1,6 +1,10 @@
-use Rattle.std.proofs.Common.{rules, ◌≡◌, ◌<◌, ◌+◌, ◌∙◌, length, arith}
+use Rattle.std.proofs.Common.{rules, ◌≡◌, ◌<◌, ◌+◌, ◌∙◌, length, map, arith}
+use Rattle.lane_work.specs.declared.worker.Worked.{Worked}
 use Rattle.house_floor.proofs.Positions.{first_at, more_at}
+use Rattle.reckoning.proofs.Laying.{all_laid}
 use Rattle.serving_workers.specs.Leaving.{IsServed}
+use Rattle.serving_workers.specs.declared.accepting.Served.{Served}
+use Rattle.serving_workers.proofs.Heard.{one_more}
 use Rattle.serving_workers.specs.inner.Leaving.{HasHeard}
 use Rattle.serving_workers.proofs.closing.hear_all_out.Goals as goal
 
@@ -13,7 +17,15 @@ loop-number-preserved g c =
     let at : c.loop-number.number ≡ 0 + length c.loop-number.worked.items = omega (arith, v.3, c.loop-number.worked.ok.0) in (
       f.1,
       search rules,
-      more_at (HasHeard floor) 0 c.loop-number.worked.items c.push_reserved.new.self.items c.hear_out.result c.loop-number.number c.push_reserved.ensures.items v.2 at c.hear_out.ensures,
+      more_at (HasHeard floor) 0 c.loop-number.worked.items c.push_reserved.new.self.items c.hear_out.result c.loop-number.number c.push_reserved.ensures.items v.2 at c.hear_out.ensures.heard,
       c.push_reserved.ensures.len ∙ search rules,
       search rules,
+      one_more c.loop-number.worked.items c.push_reserved.new.self.items c.hear_out.result c.loop-number.left.items c.remove-one.new.self.items c.remove-one.result _
+          v.5 some c.remove-one.ensures.value c.remove-one.ensures.items c.push_reserved.ensures.items c.hear_out.ensures.ended,
     )
+
+pub returns-clause-ended : goal.returns-clause-ended
+returns-clause-ended g c =
+    let v = c.loop-number.invariant in
+    let none : length c.loop-number.left.items ≡ 0 = omega (arith, v.1, c.loop-number-test.false, c.loop-number.auto.number-end, c.loop-number.left.ok.0) in
+    all_laid (λ (s : Served). s.ended.items) (map (λ (w : Worked). w.ended.items) c.loop-number.worked.items) _ c.loop-number.left.items none v.5

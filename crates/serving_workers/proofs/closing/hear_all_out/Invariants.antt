@@ -1,4 +1,4 @@
-use Rattle.std.proofs.Common.{◌≡◌, ◌≤◌, ◌+◌, vec_len, vec_capacity}
+use Rattle.std.proofs.Common.{◌≡◌, ◌≤◌, ◌+◌, ◌++◌, map, vec_len, vec_capacity}
 use Rattle.house_floor.specs.Crew.{AllAt}
 use Rattle.serving_workers.specs.Leaving.{IsServed}
 use Rattle.serving_workers.specs.inner.Leaving.{HasHeard}
@@ -8,3 +8,4 @@ abbrev pub invariant-loop-number : goal.invariant-loop-number
 invariant-loop-number g l =
     AllAt (IsServed l.floor) l.number l.left.items × (vec_len l.left + l.number ≡ vec_len l.fn.served)
     × AllAt (HasHeard l.floor) 0 l.worked.items × (vec_len l.worked ≡ l.number) × (vec_len l.fn.served ≤ vec_capacity l.worked)
+    × (map (λ w. w.ended.items) l.worked.items ++ map (λ s. s.ended.items) l.left.items ≡ map (λ s. s.ended.items) l.fn.served.items)

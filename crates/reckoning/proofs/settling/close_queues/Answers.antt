@@ -1,0 +1,45 @@
+use Rattle.std.proofs.Common.{◌∙◌, sym, subst, MatchOption, length, map, vec_len}
+use Rattle.lane_work.specs.declared.worker.Worked.{Worked}
+use Rattle.lane_work.specs.declared.consumer.Consumed.{Consumed}
+use Rattle.reckoning.specs.Closing.{AreChannelsClosedWith, AreChannelsTornWith, AreClosedWith, AreTornWith}
+use Rattle.reckoning.proofs.Settled.{mapped_length, rooms_for}
+use Rattle.reckoning.proofs.settling.close_queues.Goals as goal
+
+pub close_all_lanes-lanes-requires-clause-lists : goal.close_all_lanes-lanes-requires-clause-lists
+close_all_lanes-lanes-requires-clause-lists c =
+    let hands = c.gather_all-workers.result.workers.hands in
+    rooms_for c.gather_all-workers.result.lists (length c.args.consumed.items) (vec_len c.args.lanes) (length c.args.worked.items) (vec_len hands)
+    (sym c.args.consumed.ok.0 ∙ c.requires.counts.1)
+    (sym (hands.ok.0 ∙ mapped_length (λ h. h.items) (λ (w : Worked). w.ended.items) hands.items c.args.worked.items c.gather_all-workers.ensures.of_workers.hands))
+    c.gather_all-workers.ensures.lists
+
+pub close_all_channels-channels-requires-clause-lists : goal.close_all_channels-channels-requires-clause-lists
+close_all_channels-channels-requires-clause-lists c =
+    let hands = c.gather_all-workers.result.consumers.hands in
+    rooms_for c.gather_all-workers.result.sender_lists (length c.args.worked.items) (vec_len c.args.channels) (length c.args.consumed.items) (vec_len hands)
+    (sym c.args.worked.ok.0 ∙ c.requires.counts.0)
+    (sym (hands.ok.0 ∙ mapped_length (λ h. h.items) (λ d. d.senders.items) hands.items c.args.consumed.items c.gather_all-workers.ensures.of_consumers.hands))
+    c.gather_all-workers.ensures.sender_lists
+
+pub returns : goal.returns
+returns c =
+    let hands = c.gather_all-workers.ensures.of_workers.hands in
+    let sender_hands = c.gather_all-workers.ensures.of_consumers.hands in
+    let permits = c.gather_all-workers.ensures.of_consumers.permits in
+    let receivers = c.gather_all-workers.ensures.of_workers.receivers in
+    let lanes = c.args.lanes.items in
+    let channels = c.args.channels.items in
+    record {
+      of_lanes = subst (λ hs. MatchOption c.close_all_lanes-lanes.result (AreTornWith lanes hs (map (λ (d : Consumed). d.permit) c.args.consumed.items))
+          (λ cs. AreClosedWith lanes hs (map (λ (d : Consumed). d.permit) c.args.consumed.items) cs.items)) hands
+          (subst (λ ss. MatchOption c.close_all_lanes-lanes.result (AreTornWith lanes (map (λ h. h.items) c.gather_all-workers.result.workers.hands.items) ss)
+          (λ cs. AreClosedWith lanes (map (λ h. h.items) c.gather_all-workers.result.workers.hands.items) ss cs.items)) permits c.close_all_lanes-lanes.ensures);
+      of_channels = subst (λ hs. MatchOption c.close_all_channels-channels.result (AreChannelsTornWith channels hs (map (λ (w : Worked). w.receiver) c.args.worked.items))
+          (λ cs. AreChannelsClosedWith channels hs (map (λ (w : Worked). w.receiver) c.args.worked.items) cs.items)) sender_hands
+          (subst (λ rs. MatchOption c.close_all_channels-channels.result (AreChannelsTornWith channels (map (λ h. h.items) c.gather_all-workers.result.consumers.hands.items) rs)
+          (λ cs. AreChannelsClosedWith channels (map (λ h. h.items) c.gather_all-workers.result.consumers.hands.items) rs cs.items)) receivers c.close_all_channels-channels.ensures);
+      replies = c.gather_all-workers.ensures.of_workers.replies;
+      logs = c.gather_all-workers.ensures.of_workers.logs;
+      copies = c.gather_all-workers.ensures.of_consumers.copies;
+      worst = c.gather_all-workers.ensures.worst;
+    }
