@@ -4,7 +4,7 @@ use Rattle.std.proofs.Math.Dec.{eqb-suc-zero}
 use Rattle.std.specs.Prelude.{is_none}
 use Rattle.std.proofs.lemmas.List.Elements.{All-cons, All-head, All-nil, All-tail}
 use Rattle.envelope.specs.Directory.{Home}
-use Rattle.house_floor.specs.declared.floor.Visit.{Visit}
+use Rattle.house_floor.specs.declared.floor.Guest.{Visit}
 use Rattle.house_floor.specs.Users.{is_inbox, user_numbered}
 use Rattle.serving.specs.Announcing.{users_of}
 
@@ -50,7 +50,7 @@ somebody n homes b is so = there n homes (λ none. some_of (user_numbered n home
   some_of (Some x) h e = (let f : Some x ≡ None = e in cc)
 
 -- whoever has a number is among so many users
-pub each_there : (homes : List Home) (n : ℕ) → n ≡ length (users_of homes) → (vs : List Visit) → All (λ v. user_numbered v.user homes ≡ None → ⊥) vs → All (λ v. v.user < n) vs
+pub each_there : (homes : List Home) (n : ℕ) → n ≡ length (users_of homes) → (vs : List Guest) → All (λ v. user_numbered v.user homes ≡ None → ⊥) vs → All (λ v. v.user < n) vs
 each_there homes n is [] all = All-nil (λ (v : Visit). v.user < n)
 each_there homes n is (v ∷ vs) all =
     let here = there v.user homes (All-head (λ (x : Visit). user_numbered x.user homes ≡ None → ⊥) v vs all) in

@@ -53,11 +53,11 @@ fn start_all<'s, E, H: Hall + Send, R: Threads + Wait + Sync>(
     floor: &'s Floor,
     clerks: &'s [Mutex<Clerk<H>>],
     gate: &'s Unhindered,
-    visits: &'s [Visit],
+    guests: &'s [Guest],
     sockets: &'s Sockets,
     mark: &'s Mark,
-    mail_slots: &'s [Slot],
-    client_slots: &'s [Slot],
+    mail_grips: &'s [Grip],
+    client_grips: &'s [Grip],
     posts: Vec<Post>,
     buffers: Vec<Buffers>,
     furnishings: Furnishings<'s, R>,
@@ -66,14 +66,14 @@ fn start_all<'s, E, H: Hall + Send, R: Threads + Wait + Sync>(
     requires lanes { H.lanes ≡ Some floor.now.office.lanes.items }
     requires depot { H.depot ≡ Some floor.now.depot }
     requires house { IsHouse floor.now (length floor.now.depot.channels.items) }
-    requires slots { length mail_slots.now + length visits.now ≡ length floor.now.depot.channels.items }
+    requires grips { length mail_grips.now + length guests.now ≡ length floor.now.depot.channels.items }
     requires posts { AllAt (IsPost floor.now) 0 posts.items × (vec_len posts ≡ length floor.now.depot.channels.items) }
-    requires buffers { All (λ b. 0 < length b.input.items) buffers.items × (vec_len buffers ≡ length mail_slots.now) }
-    requires client_slots { length client_slots.now ≡ length visits.now }
-    requires berths { vec_len furnishings.berths ≡ length visits.now }
-    requires bells { (vec_len furnishings.bells ≡ length visits.now) × (vec_len furnishings.buffers ≡ length visits.now) }
+    requires buffers { All (λ b. 0 < length b.input.items) buffers.items × (vec_len buffers ≡ length mail_grips.now) }
+    requires client_grips { length client_grips.now ≡ length guests.now }
+    requires berths { vec_len furnishings.berths ≡ length guests.now }
+    requires bells { (vec_len furnishings.bells ≡ length guests.now) × (vec_len furnishings.buffers ≡ length guests.now) }
     requires room { (hired.items ≡ []) × (length floor.now.depot.channels.items ≤ vec_capacity hired) }
-    requires imap { All (λ v. v.user < vec_len sockets.now.imap) visits.now }
+    requires imap { All (λ v. v.user < vec_len sockets.now.imap) guests.now }
     ensures hired { AllAt (IsHired floor.now) 0 result.0.items }
     ensures count { vec_len result.0 ≡ length floor.now.depot.channels.items }
     ensures all { result.1 ≡ true → list_all has_thread result.0.items ≡ true }
@@ -87,7 +87,7 @@ fn start_all<'s, E, H: Hall + Send, R: Threads + Wait + Sync>(
         &sockets.lmtp,
         mark,
         &sockets.pause,
-        mail_slots,
+        mail_grips,
         posts,
         buffers,
         hired,
@@ -98,10 +98,10 @@ fn start_all<'s, E, H: Hall + Send, R: Threads + Wait + Sync>(
         floor,
         clerks,
         gate,
-        visits,
+        guests,
         sockets,
         mark,
-        client_slots,
+        client_grips,
         furnishings,
         posts,
         hired,
@@ -118,8 +118,8 @@ fn in_scope<'s, E, H: Hall + Send, R: Threads + Wait + Sync, I: Read + Drop>(
     guests: &'s [Guest],
     sockets: &'s Sockets,
     mark: &'s Mark,
-    mail_slots: &'s [Slot],
-    client_slots: &'s [Slot],
+    mail_grips: &'s [Grip],
+    client_grips: &'s [Grip],
     posts: ManuallyDrop<Vec<Post>>,
     served: ManuallyDrop<Vec<Served>>,
     buffers: Vec<Buffers>,
@@ -135,10 +135,10 @@ fn in_scope<'s, E, H: Hall + Send, R: Threads + Wait + Sync, I: Read + Drop>(
         (vec_len (manually_drop_value posts) ≡ length floor.now.depot.channels.items) }
     requires served { ((manually_drop_value served).items ≡ []) ×
         (length floor.now.depot.channels.items ≤ vec_capacity (manually_drop_value served)) }
-    requires buffers { All (λ b. 0 < length b.input.items) buffers.items × (vec_len buffers ≡ length mail_slots.now) }
-    requires client_slots { length client_slots.now ≡ length visits.now }
-    requires bells { (vec_len bells ≡ length visits.now) × (vec_len client_buffers ≡ length visits.now) }
-    requires imap { All (λ v. v.user < vec_len sockets.now.imap) visits.now }
+    requires buffers { All (λ b. 0 < length b.input.items) buffers.items × (vec_len buffers ≡ length mail_grips.now) }
+    requires client_grips { length client_grips.now ≡ length guests.now }
+    requires bells { (vec_len bells ≡ length guests.now) × (vec_len client_buffers ≡ length guests.now) }
+    requires imap { All (λ v. v.user < vec_len sockets.now.imap) guests.now }
     ensures served { result.short ≡ false → AllAt (IsServed floor.now) 0 result.served.items ×
         (vec_len result.served ≡ length floor.now.depot.channels.items) × (result.posts.items ≡ []) }
     ensures short { result.short ≡ true → AllAt (IsPost floor.now) 0 result.posts.items ×
@@ -171,8 +171,8 @@ fn in_scope<'s, E, H: Hall + Send, R: Threads + Wait + Sync, I: Read + Drop>(
         guests,
         sockets,
         mark,
-        mail_slots,
-        client_slots,
+        mail_grips,
+        client_grips,
         posts,
         buffers,
         furnishings,
@@ -215,11 +215,11 @@ fn serve_in_threads<H: Hall + Send, R: Threads + Wait + Sync, I: Read + Drop>(
     requires house { IsHouse floor.now (length floor.now.depot.channels.items) }
     requires posts { AllAt (IsPost floor.now) 0 posts.items × (vec_len posts ≡ length floor.now.depot.channels.items) }
     requires served { (served.items ≡ []) × (length floor.now.depot.channels.items ≤ vec_capacity served) }
-    requires buffers { All (λ b. 0 < length b.input.items) equipment.buffers.items × (vec_len equipment.buffers ≡ vec_len equipment.mail_slots) }
-    requires slots { (vec_len equipment.mail_slots + length visits.now ≡ length floor.now.depot.channels.items) ×
-        (vec_len equipment.client_slots ≡ length visits.now) }
-    requires bells { (vec_len bells ≡ length visits.now) × (vec_len equipment.client_buffers ≡ length visits.now) }
-    requires imap { All (λ v. v.user < vec_len sockets.now.imap) visits.now }
+    requires buffers { All (λ b. 0 < length b.input.items) equipment.buffers.items × (vec_len equipment.buffers ≡ vec_len equipment.mail_grips) }
+    requires grips { (vec_len equipment.mail_grips + length guests.now ≡ length floor.now.depot.channels.items) ×
+        (vec_len equipment.client_grips ≡ length guests.now) }
+    requires bells { (vec_len bells ≡ length guests.now) × (vec_len equipment.client_buffers ≡ length guests.now) }
+    requires imap { All (λ v. v.user < vec_len sockets.now.imap) guests.now }
     ensures served { result.short ≡ false → AllAt (IsServed floor.now) 0 result.served.items ×
         (vec_len result.served ≡ length floor.now.depot.channels.items) × (result.posts.items ≡ []) }
     ensures short { result.short ≡ true → AllAt (IsPost floor.now) 0 result.posts.items ×
@@ -246,10 +246,10 @@ fn serve_in_threads<H: Hall + Send, R: Threads + Wait + Sync, I: Read + Drop>(
                 (vec_len (manually_drop_value posts) ≡ length floor.now.depot.channels.items) }
             requires served { ((manually_drop_value served).items ≡ []) ×
                 (length floor.now.depot.channels.items ≤ vec_capacity (manually_drop_value served)) }
-            requires buffers { All (λ b. 0 < length b.input.items) buffers.items × (vec_len buffers ≡ length mail_slots.now) }
-            requires client_slots { length client_slots.now ≡ length visits.now }
-            requires bells { (vec_len bells ≡ length visits.now) × (vec_len client_buffers ≡ length visits.now) }
-            requires imap { All (λ v. v.user < vec_len sockets.now.imap) visits.now }
+            requires buffers { All (λ b. 0 < length b.input.items) buffers.items × (vec_len buffers ≡ length mail_grips.now) }
+            requires client_grips { length client_grips.now ≡ length guests.now }
+            requires bells { (vec_len bells ≡ length guests.now) × (vec_len client_buffers ≡ length guests.now) }
+            requires imap { All (λ v. v.user < vec_len sockets.now.imap) guests.now }
             ensures served { result.short ≡ false → AllAt (IsServed floor.entry.now) 0 result.served.items ×
                 (vec_len result.served ≡ length floor.entry.now.depot.channels.items) × (result.posts.items ≡ []) }
             ensures short { result.short ≡ true → AllAt (IsPost floor.entry.now) 0 result.posts.items ×
@@ -419,9 +419,9 @@ pub(crate) fn run_house_in<H: Hall + Send, R: Threads + Wait + Sync, I: Read + D
     requires depot { H.depot ≡ Some floor.depot }
     requires house { IsHouse floor (length floor.depot.channels.items) }
     requires some { (0 < length floor.depot.channels.items) × (0 < length floor.office.lanes.items) }
-    requires producers { workers + length visits.now ≡ length floor.depot.channels.items }
-    requires visits { vec_len bells ≡ length visits.now }
-    requires imap { All (λ v. v.user < vec_len sockets.now.imap) visits.now }
+    requires producers { workers + length guests.now ≡ length floor.depot.channels.items }
+    requires guests { vec_len bells ≡ length guests.now }
+    requires imap { All (λ v. v.user < vec_len sockets.now.imap) guests.now }
     requires crew { IsCrew floor (length floor.depot.channels.items) crew }
     requires baskets { AreBaskets (length floor.depot.channels.items) (length floor.office.lanes.items) baskets }
     ensures setting { (fault : ConfigFault) → result ≢ Err (ServeFault.Config fault) }

@@ -186,7 +186,7 @@ fn attend_there<'a, 'g, H: Hall, R: Wait>(
     number: u8,
     sockets: &'g Sockets,
     mark: &'g Mark,
-    slot: &'g Slot,
+    grip: &'g Grip,
     session: u8,
     user: u8,
     post: ManuallyDrop<Post>,
@@ -203,7 +203,7 @@ fn attend_there<'a, 'g, H: Hall, R: Wait>(
     let gateway = Gateway {
         sockets,
         mark,
-        slot,
+        grip,
         session,
         user,
     };
@@ -260,9 +260,9 @@ fn watch_clients<'a, R: Wait>(
     berth: &ClientBerth<'a, R>,
     bell: &Sleeper,
     mark: &Mark,
-    slot: &Slot,
+    grip: &Grip,
 ) {
-    berth.keep_watch(rt, bell, &mark.stop, &AtHand { slot });
+    berth.keep_watch(rt, bell, &mark.stop, &AtHand { grip });
 }
 
 // Starts the thread of a berth that answers. Where none can be made the house's mark has to be set before what came of it can be had: so
@@ -291,13 +291,13 @@ fn start_answering<'s, E, H: Hall + Send, R: Threads + Wait + Sync>(
     let Gateway {
         sockets,
         mark,
-        slot,
+        grip,
         session,
         user,
     } = gateway;
     match scope.spawn_with(Serves { floor, number }, move || {
         attend_there::<H, R>(
-            rt, floor, clerks, gate, berth, number, sockets, mark, slot, session, user, parcel,
+            rt, floor, clerks, gate, berth, number, sockets, mark, grip, session, user, parcel,
             buffer,
         )
     }) {
@@ -318,8 +318,8 @@ fn start_watching<'s, E, R: Threads + Wait + Sync>(
     gateway: Gateway<'s>,
     bell: Sleeper,
 ) -> bool {
-    let (mark, slot) = (gateway.mark, gateway.slot);
-    let watches = scope.spawn(move || watch_clients(rt, &berth, &bell, mark, slot));
+    let (mark, grip) = (gateway.mark, gateway.grip);
+    let watches = scope.spawn(move || watch_clients(rt, &berth, &bell, mark, grip));
     if watches.is_err() {
         mark.set();
         return false;
@@ -350,7 +350,7 @@ pub(crate) fn start_berths<'s, E, H: Hall + Send, R: Threads + Wait + Sync>(
     guests: &'s [Guest],
     sockets: &'s Sockets,
     mark: &'s Mark,
-    slots: &'s [Slot],
+    grips: &'s [Grip],
     mut furnishings: Furnishings<'s, R>,
     mut posts: Vec<Post>,
     mut hired: Vec<Hired<'s>>,
@@ -365,17 +365,17 @@ pub(crate) fn start_berths<'s, E, H: Hall + Send, R: Threads + Wait + Sync>(
     requires posts { AllAt (IsPost floor.now) (vec_len hired) posts.items × (vec_len posts ≡ length guests.now) }
     requires all { vec_len hired + length guests.now ≡ length floor.now.depot.channels.items }
     requires hired { AllAt (IsHired floor.now) 0 hired.items × (length floor.now.depot.channels.items ≤ vec_capacity hired) }
-    requires imap { All (λ v. v.user < vec_len sockets.now.imap) visits.now }
+    requires imap { All (λ v. v.user < vec_len sockets.now.imap) guests.now }
     ensures hired { AllAt (IsHired floor.now) 0 result.0.items }
     ensures count { vec_len result.0 ≡ length floor.now.depot.channels.items }
     ensures all { result.1 ≡ true → list_all has_thread result.0.items ≡ true }
 {
     let mut are_watched = true;
-    for berth in 0..visits.len() {
+    for berth in 0..guests.len() {
         let gateway = Gateway {
             sockets,
             mark,
-            slot: &slots[berth],
+            grip: &grips[berth],
             session: berth as u8,
             user: guests[berth].user,
         };

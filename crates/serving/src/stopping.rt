@@ -2,7 +2,7 @@
 //! What a thread does then is its own matter.
 
 use crate::sockets::Sockets;
-use loopback::{Pause, Slot};
+use loopback::{Grip, Pause};
 use serving_workers::Mark;
 use session_bells::SessionBell;
 use std::io::{ErrorKind, Read};

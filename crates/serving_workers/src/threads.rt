@@ -123,7 +123,7 @@ fn start_worker<'s, E, H: Hall + Send, R: Threads + Wait + Sync>(
     let parcel = packed(post);
     match scope.spawn_with(Serves { floor, number }, move || {
         serve_there::<H, R>(
-            rt, floor, clerks, listening, mark, pause, slot, number, parcel, buffers,
+            rt, floor, clerks, listening, mark, pause, grip, number, parcel, buffers,
         )
     }) {
         Ok(child) => Hired::There(child),
@@ -166,7 +166,7 @@ fn start_next<'s, E, H: Hall + Send, R: Threads + Wait + Sync>(
     let post = posts.remove(0);
     let own = buffers.remove(0);
     hired.push_reserved(start_worker(
-        scope, rt, floor, clerks, listening, mark, pause, slot, number, post, own,
+        scope, rt, floor, clerks, listening, mark, pause, grip, number, post, own,
     ));
 }
 
@@ -178,7 +178,7 @@ pub struct Begun<'a> {
     pub posts: Vec<Post>,
 }
 
-/// Starts a thread for each worker, a slot for each, in their order, with the first of these posts. The others are given back, and so is
+/// Starts a thread for each worker, a grip for each, in their order, with the first of these posts. The others are given back, and so is
 /// the list of threads, in which there is room for all posts. None of them accepts anybody while the start of `mark` is held, as the caller
 /// does. Where a thread can't be made the mark is set, so no worker serves anybody.
 pub fn start_workers<'s, E, H: Hall + Send, R: Threads + Wait + Sync>(
@@ -207,7 +207,7 @@ pub fn start_workers<'s, E, H: Hall + Send, R: Threads + Wait + Sync>(
     ensures posts { AllAt (IsPost floor.now) (length grips.now) result.posts.items }
     ensures others { vec_len result.posts + length grips.now ≡ length floor.now.depot.channels.items }
 {
-    for position in 0..slots.len() {
+    for position in 0..grips.len() {
         start_next(
             scope,
             rt,
