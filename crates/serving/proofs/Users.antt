@@ -4,7 +4,7 @@ use Rattle.std.proofs.Math.Dec.{eqb-suc-zero}
 use Rattle.std.specs.Prelude.{is_none}
 use Rattle.std.proofs.lemmas.List.Elements.{All-cons, All-head, All-nil, All-tail}
 use Rattle.envelope.specs.Directory.{Home}
-use Rattle.house_floor.specs.declared.floor.Guest.{Visit}
+use Rattle.house_floor.specs.declared.floor.Guest.{Guest}
 use Rattle.house_floor.specs.Users.{is_inbox, user_numbered}
 use Rattle.serving.specs.Announcing.{users_of}
 

@@ -1,5 +1,5 @@
 use Rattle.std.proofs.Common.{rules, ◌<◌, ℕ, All, List, refl, subst, sym, take, vec_len}
-use Rattle.house_floor.specs.declared.floor.Guest.{Visit}
+use Rattle.house_floor.specs.declared.floor.Guest.{Guest}
 use Rattle.std.specs.Io.KnownBytes.{Appends}
 use Rattle.house.specs.Settings.{setup_of}
 use Rattle.serving.specs.Announcing.{announcement}
