@@ -51,7 +51,7 @@ somebody n homes b is so = there n homes (λ none. some_of (user_numbered n home
 
 -- whoever has a number is among so many users
 pub each_there : (homes : List Home) (n : ℕ) → n ≡ length (users_of homes) → (vs : List Guest) → All (λ v. user_numbered v.user homes ≡ None → ⊥) vs → All (λ v. v.user < n) vs
-each_there homes n is [] all = All-nil (λ (v : Visit). v.user < n)
+each_there homes n is [] all = All-nil (λ (v : Guest). v.user < n)
 each_there homes n is (v ∷ vs) all =
-    let here = there v.user homes (All-head (λ (x : Visit). user_numbered x.user homes ≡ None → ⊥) v vs all) in
-    All-cons (λ (x : Visit). x.user < n) v vs (omega (arith, here, is)) (each_there homes n is vs (All-tail (λ (x : Visit). user_numbered x.user homes ≡ None → ⊥) v vs all))
+    let here = there v.user homes (All-head (λ (x : Guest). user_numbered x.user homes ≡ None → ⊥) v vs all) in
+    All-cons (λ (x : Guest). x.user < n) v vs (omega (arith, here, is)) (each_there homes n is vs (All-tail (λ (x : Guest). user_numbered x.user homes ≡ None → ⊥) v vs all))
