@@ -65,9 +65,7 @@ fn turn_at(
         return Ok(());
     };
     desk.session = number - 1;
-    let Ok(_shown) = take_turn(visitor, number, desk, out) else {
-        return Err(AllocError);
-    };
+    take_turn(visitor, number, desk, out)?;
     if visitor.has_ended() {
         let _ = desk.leave(false);
         *place = None;
@@ -131,9 +129,7 @@ impl House {
     {
         let sessions = self.visitors.len() as u8;
         for place in 0..sessions {
-            let Ok(()) = self.idle_out(place + 1, out) else {
-                return Err(AllocError);
-            };
+            self.idle_out(place + 1, out)?;
         }
         Ok(())
     }
