@@ -1,6 +1,7 @@
 -- How what was tried goes together: in a row, over and over, and with want of memory at the end.
 use Rattle.std.proofs.Common.{◌≡◌, ℕ, zero, suc, ◌+◌, ◌<◌, ◌≤◌, ◌⊎◌, inl, inr, Bool, true, false, List, [], ◌∷◌, ◌++◌, length, map, ◌-◌, take, get_or, add-one, zero-add, refl, ap, sym, ◌∙◌, subst, arith, append_assoc, Option, Some, None, Result, Ok, Err}
 use Rattle.std.specs.Prelude.{All, replicate, ◌||◌, filter, not, cond}
+use Rattle.std.specs.Result.{IsErr, OnErr}
 use Rattle.std.specs.List.{range_with_len}
 use Rattle.std.proofs.lemmas.List.FromFn.{map-range_with_len_more}
 use Rattle.change_ring.proofs.RangeLaws.{range-push}
@@ -34,7 +35,7 @@ use Rattle.std.proofs.lemmas.List.Elements.{All-append, All-cons, All-get_or, Al
 use Rattle.std.proofs.Math.Seq.{take-suc}
 use Rattle.house.specs.House.{House}
 use Rattle.house.specs.Effort.{MakesLess, effort}
-use Rattle.house.specs.inner.Trying.{CameStint, CameStints, Did, DidStints, IsAmong, IsOwn, Moved, Rests, Wants, Went, closes, hears, puts, serve, serves}
+use Rattle.house.specs.inner.Trying.{Came, CameVisit, CameVisits, Did, DidVisits, IsAmong, IsOwn, Moved, Rests, Wants, Went, closes, hears, puts, serve, serves}
 
 -- ---- what a whole event does, one that is cut short may do as well
 
@@ -501,6 +502,23 @@ pub each_wants : (group es : List Event) (e : Event) (h : House) (o : List ℕ) 
 each_wants group es e h o h1 o1 h2 o2 a f c d =
     did_wants (λ k. All (IsAmong k) group) (λ k s t printed. InTurn k es s t printed) (λ k s. All (HasNothing k s) es) h o h1 o1 h2 o2 a (λ k s x. rest_turn k es s x)
     (λ k s t printed x. turn_happened k es s t printed x) c (wants_as (λ k. IsAmong k e) (λ k. All (IsAmong k) group) h1 o1 h2 o2 (λ k s q st. f k q) d)
+
+-- ---- memory was wanting
+
+-- what holds whatever came holds of an error
+pub on_err : {A E : Type 0} (r : Result A E) (P : Type 0) → P → OnErr r P
+on_err (Ok x) P h = tt
+on_err (Err e) P h = h
+
+pub came_wanting : {E : Type 0} {Q : Setup → Type 0} {before h : House} {old new : List ℕ} (P : Setup → Scene → Scene → List ℕ → Type 0) (I : Setup → Scene → Type 0) (r : Result Bool E) → IsErr r
+    → Wants Q before old h new → Came Q P I before old h new r
+came_wanting P I (Ok x) is w = cc
+came_wanting P I (Err e) is w = w
+
+pub visits_wanting : {E : Type 0} {Q : Setup → Type 0} {before h : House} {old new : List ℕ} (groups : Setup → List (List Event)) (r : Result Bool E) → IsErr r
+    → Wants Q before old h new → CameVisits Q groups before old h new r
+visits_wanting groups (Ok x) is w = cc
+visits_wanting groups (Err e) is w = w
 
 -- ---- over and over
 

@@ -97,9 +97,7 @@ fn caller_goes_on(
     let Some(caller) = occupant else {
         return Ok(());
     };
-    let Ok(what) = proceed(caller, number, directory, out) else {
-        return Err(AllocError);
-    };
+    let what = proceed(caller, number, directory, out)?;
     if let What::Quit = what {
         *occupant = None;
     }
@@ -120,12 +118,8 @@ fn opened(
         → AtLeast next (record { seat = seat; serial = serial; message = 0; recipient = 0 })
         → StandsForConnection k seat next heard h (more_waits (greeted k seat serial) piece.now)) }
 {
-    let Ok(mut caller) = HouseConnection::open(alloc, seat, serial, limits) else {
-        return Err(AllocError);
-    };
-    let Ok(()) = caller.append(piece) else {
-        return Err(AllocError);
-    };
+    let mut caller = HouseConnection::open(alloc, seat, serial, limits)?;
+    caller.append(piece)?;
     Ok(caller)
 }
 
@@ -208,10 +202,7 @@ fn caller_notes_put(occupant: &mut Option<HouseConnection>, why: Option<Refusal>
     requires { IfSome occupant.old (λ h. 0 < length (due h)) }
     ensures { occupant.new ≡ option_map (noted_put (heard_verdict why)) occupant.old }
 {
-    let verdict = match why {
-        Some(why) => Some(Verdict::Refused(why)),
-        None => None,
-    };
+    let verdict = why.map(Verdict::Refused);
     if let Some(caller) = occupant {
         caller.note_put(verdict);
     }

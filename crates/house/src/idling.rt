@@ -64,10 +64,8 @@ fn turn_at(
     let Some(visitor) = place else {
         return Ok(());
     };
-    store.session = number - 1;
-    let Ok(_shown) = take_turn(visitor, number, store, out) else {
-        return Err(AllocError);
-    };
+    desk.session = number - 1;
+    take_turn(visitor, number, desk, out)?;
     if visitor.has_ended() {
         let _ = store.leave(false);
         *place = None;
@@ -131,9 +129,7 @@ impl House {
     {
         let sessions = self.visitors.len() as u8;
         for place in 0..sessions {
-            let Ok(()) = self.idle_out(place + 1, out) else {
-                return Err(AllocError);
-            };
+            self.idle_out(place + 1, out)?;
         }
         Ok(())
     }

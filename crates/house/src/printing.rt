@@ -36,10 +36,7 @@ fn print_words(mark: u8, number: u8, words: &[u8], out: &mut Vec<u8>) -> Result<
     if words.is_empty() {
         return Ok(());
     }
-    let Ok(()) = append_marked(mark, number, words, out) else {
-        return Err(AllocError);
-    };
-    Ok(())
+    append_marked(mark, number, words, out)
 }
 
 // Prints what a connection said, and tells it so.
@@ -53,9 +50,7 @@ fn print_connection(
     ensures err { OnErr result ((caller.new ≡ caller.old) × (out.new.items ≡ out.old.items)) }
     ensures asks { OnErr result (caller.old.gone ≡ true → ⊥) }
 {
-    let Ok(()) = print_words(b'L', number, caller.unsaid(), out) else {
-        return Err(AllocError);
-    };
+    print_words(b'L', number, caller.unsaid(), out)?;
     caller.note_printed();
     Ok(())
 }
@@ -70,9 +65,7 @@ fn print_session(
         (out.new.items ≡ out.old.items ++ marked of_session number visitor.old.place.unsaid)) }
     ensures err { OnErr result ((visitor.new ≡ visitor.old) × (out.new.items ≡ out.old.items)) }
 {
-    let Ok(()) = print_words(b'I', number, visitor.unsaid(), out) else {
-        return Err(AllocError);
-    };
+    print_words(b'I', number, visitor.unsaid(), out)?;
     visitor.note_printed();
     Ok(())
 }
@@ -98,9 +91,7 @@ pub(crate) fn proceed(
         let _ = print_connection(caller, number, out);
         return Err(AllocError);
     };
-    let Ok(()) = print_connection(caller, number, out) else {
-        return Err(AllocError);
-    };
+    print_connection(caller, number, out)?;
     Ok(what)
 }
 
@@ -127,10 +118,7 @@ pub(crate) fn go_on(
         let _ = print_session(visitor, number, out);
         return Err(AllocError);
     };
-    let Ok(()) = print_session(visitor, number, out) else {
-        return Err(AllocError);
-    };
-    Ok(())
+    print_session(visitor, number, out)
 }
 
 // A session has a turn while it idles, over its store, and what it says is printed. Answers how many changes were shown.
@@ -150,11 +138,7 @@ pub(crate) fn take_turn(
         StandsForSeated seat next heard visitor.old v
         → IdledInPart Serves seat number next heard v store.old store.new out.old.items out.new.items visitor.new) }
 {
-    let Ok(count) = visitor.idle_turn(store) else {
-        return Err(AllocError);
-    };
-    let Ok(()) = print_session(visitor, number, out) else {
-        return Err(AllocError);
-    };
+    let count = visitor.idle_turn(desk)?;
+    print_session(visitor, number, out)?;
     Ok(count)
 }

@@ -173,10 +173,7 @@ fn visitor_notes_put(place: &mut Option<SeatedSession>, why: Option<Refusal>)
     requires { IfSome place.old (λ p. 0 < length (due p)) }
     ensures { place.new ≡ option_map (noted_put (heard_verdict why)) place.old }
 {
-    let verdict = match why {
-        Some(why) => Some(Verdict::Refused(why)),
-        None => None,
-    };
+    let verdict = why.map(Verdict::Refused);
     if let Some(visitor) = place {
         visitor.note_put(verdict);
     }

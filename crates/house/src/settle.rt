@@ -38,9 +38,7 @@ impl House {
     {
         let mut moved = false;
         for event in group {
-            let Ok(one) = self.try_event(*event, out) else {
-                return Err(AllocError);
-            };
+            let one = self.try_event(*event, out)?;
             moved |= one;
         }
         Ok(moved)
@@ -54,9 +52,7 @@ impl House {
     {
         let mut moved = false;
         loop {
-            let Ok(more) = self.try_each(group, out) else {
-                return Err(AllocError);
-            };
+            let more = self.try_each(group, out)?;
             if !more {
                 return Ok(moved);
             }
@@ -73,15 +69,13 @@ impl House {
         let seats = (self.callers.len() + self.visitors.len()) as u8;
         let mut moved = false;
         for seat in 0..seats {
-            let Ok(one) = self.stint(
+            let one = self.visit(
                 &[Event::End {
                     producer: seat + 1,
                     shard,
                 }],
                 out,
-            ) else {
-                return Err(AllocError);
-            };
+            )?;
             moved |= one;
         }
         Ok(moved)
@@ -109,9 +103,7 @@ impl House {
         let mut moved = false;
         for shard in 0..shards {
             let shut = self.directory.is_shut(usize::from(shard));
-            let Ok(one) = self.end_where(shard, shut, out) else {
-                return Err(AllocError);
-            };
+            let one = self.end_where(shard, shut, out)?;
             moved |= one;
         }
         Ok(moved)
@@ -125,9 +117,7 @@ impl House {
         let seats = (self.callers.len() + self.visitors.len()) as u8;
         let mut moved = false;
         for seat in 0..seats {
-            let Ok(one) = self.stint(&[Event::Put(seat + 1)], out) else {
-                return Err(AllocError);
-            };
+            let one = self.visit(&[Event::Put(seat + 1)], out)?;
             moved |= one;
         }
         Ok(moved)
@@ -142,9 +132,7 @@ impl House {
         let shards = self.directory.shards();
         let mut moved = false;
         for shard in 0..shards {
-            let Ok(one) = self.serve(shard, is_held(held, shard), out) else {
-                return Err(AllocError);
-            };
+            let one = self.serve(shard, is_held(held, shard), out)?;
             moved |= one;
         }
         Ok(moved)
@@ -174,9 +162,7 @@ impl House {
         let seats = (self.callers.len() + self.visitors.len()) as u8;
         let mut moved = false;
         for seat in 0..seats {
-            let Ok(one) = self.stint(&[Event::Hear(seat + 1)], out) else {
-                return Err(AllocError);
-            };
+            let one = self.visit(&[Event::Hear(seat + 1)], out)?;
             moved |= one;
         }
         Ok(moved)
@@ -188,18 +174,10 @@ impl House {
         ensures came { CameStints (λ k. Unit {0}) (λ k. round k (is_held held.now)
             (is_shut self.old.directory)) self.old out.old.items self.new out.new.items result }
     {
-        let Ok(closed) = self.close_all(out) else {
-            return Err(AllocError);
-        };
-        let Ok(put) = self.put_all(out) else {
-            return Err(AllocError);
-        };
-        let Ok(served) = self.serve_all(held, out) else {
-            return Err(AllocError);
-        };
-        let Ok(heard) = self.hear_all(out) else {
-            return Err(AllocError);
-        };
+        let closed = self.close_all(out)?;
+        let put = self.put_all(out)?;
+        let served = self.serve_all(held, out)?;
+        let heard = self.hear_all(out)?;
         Ok(closed | put | served | heard)
     }
 
@@ -210,9 +188,7 @@ impl House {
         ensures err { OnErr result (Wants (λ k. Unit {0}) self.old out.old.items self.new out.new.items) }
     {
         loop {
-            let Ok(moved) = self.go_round(held, out) else {
-                return Err(AllocError);
-            };
+            let moved = self.go_round(held, out)?;
             if !moved {
                 return Ok(());
             }
@@ -229,13 +205,8 @@ impl House {
         ensures no_memory { OnErr result ((k : Setup) (s : scene.Scene) → StandsFor k self.old s →
             HappenedFrom k s self.new out.old.items out.new.items) }
     {
-        let Ok(()) = self.go_rounds(held, out) else {
-            return Err(AllocError);
-        };
-        let Ok(()) = self.idle_all(out) else {
-            return Err(AllocError);
-        };
-        Ok(())
+        self.go_rounds(held, out)?;
+        self.idle_all(out)
     }
 }
 
@@ -243,8 +214,5 @@ impl House {
 fn is_held(held: &[bool], shard: u8) -> bool
     ensures { result ≡ is_held held.now shard }
 {
-    match held.get(usize::from(shard)) {
-        Some(is) => *is,
-        None => false,
-    }
+    held.get(usize::from(shard)).copied().unwrap_or(false)
 }

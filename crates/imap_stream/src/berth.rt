@@ -81,9 +81,7 @@ impl<'a, R: Wait, G: Gate, W: Sink + Drop> Berth<'a, R, G, W> {
         ensures ready { C.ready courier.new }
         ensures kept { (first : C) → C.kept first courier.old → C.kept first courier.new }
     {
-        if let Err(back) = self.admit(rt, visit) {
-            return Err(back);
-        }
+        self.admit(rt, visit)?;
         self.serve(rt, alloc, courier, input, buffer, stop);
         self.vacate(rt);
         Ok(())

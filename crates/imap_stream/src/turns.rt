@@ -58,9 +58,7 @@ pub(crate) fn show_all<R: Wait, G: Gate>(
         if !connection.is_idling() {
             return Ok(());
         }
-        let Ok(shown) = turn(connection, store, out) else {
-            return Err(AllocError);
-        };
+        let shown = turn(connection, desk, out)?;
         if shown == 0 {
             return Ok(());
         }
@@ -98,10 +96,8 @@ pub(crate) fn answer_and_show<R: Wait, G: Gate, C: Courier>(
 {
     let answered = answer(alloc, connection, store, courier, piece, out);
     idles.store(connection.is_idling(), Ordering::SeqCst);
-    if let Err(why) = answered {
-        return Err(why);
-    }
-    match show_all(rt, connection, store, out) {
+    answered?;
+    match show_all(rt, connection, desk, out) {
         Ok(()) => Ok(()),
         Err(_) => Err(Lost::NoMemory),
     }

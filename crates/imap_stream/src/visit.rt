@@ -1,7 +1,7 @@
 //! One client's visit: its session, and where its answers go. Nothing is left unsent between two calls.
 //! Whose threads make the calls stands in `berth`.
 
-ghost use Rattle.std.specs.Prelude.{◌≡◌, ◌≢◌, ◌⊎◌, ℕ, ◌<◌, ◌++◌, [], List, None, Ok, Err, false, true, length, take, IfOk, IfErr, OnErr, OnOk};
+ghost use Rattle.std.specs.Prelude.{◌≡◌, ◌≢◌, ◌⊎◌, ℕ, ◌<◌, ◌≤◌, ◌++◌, [], List, None, Ok, Err, false, true, length, take, IfOk, IfErr, OnErr, OnOk};
 ghost use Rattle.std.specs.Io.KnownBytes.{Appends};
 ghost use Rattle.std.specs.Vec.{vec_capacity};
 ghost use Rattle.courier.specs.Carried.{Carried};
@@ -26,6 +26,11 @@ use std::sync::atomic::AtomicBool;
 
 /// What a client is told that is dismissed.
 const FAREWELL: &[u8] = b"* BYE Shutting down\r\n";
+
+/// The most room, in bytes, that a visit keeps for its answers once they were sent. Most answers fit
+/// there, and are written with no memory asked for. One that fetches a whole mailbox may take as much as
+/// the mailbox, and a client may be silent for weeks behind it: that room is let go.
+const KEPT_ROOM: usize = 64 * 1024;
 
 /// Why a visit came to a stop.
 #[derive(Clone, Copy, Debug, PartialEq, Eq)]
@@ -54,6 +59,17 @@ fn flush<W: Sink>(output: &mut W, written: &mut Vec<u8>) -> Result<(), VisitFaul
     match sent {
         Ok(()) => Ok(()),
         Err(_) => Err(VisitFault::Write),
+    }
+}
+
+// Lets go of the room that a long answer was written in, once that was sent. It takes no memory.
+fn trim(written: &mut Vec<u8>)
+    requires { written.old.items ≡ [] }
+    ensures empty { written.new.items ≡ [] }
+    ensures few { vec_capacity written.new ≤ KEPT_ROOM }
+{
+    if written.capacity() > KEPT_ROOM {
+        *written = Vec::new(*written.allocator());
     }
 }
 
@@ -251,7 +267,10 @@ impl<'a, R: Wait, G: Gate, W: Sink> Visit<'a, R, G, W> {
             return Err(VisitFault::Write);
         };
         match heard {
-            Ok(()) => Ok(self.awaited()),
+            Ok(()) => {
+                trim(&mut self.out);
+                Ok(self.awaited())
+            }
             Err(why) => {
                 // What comes behind the bytes that are lost would be read as something else.
                 self.is_closed = true;
@@ -289,6 +308,7 @@ impl<'a, R: Wait, G: Gate, W: Sink> Visit<'a, R, G, W> {
         let Ok(()) = shown else {
             return Err(VisitFault::NoMemory);
         };
+        trim(&mut self.out);
         Ok(self.awaited())
     }
 

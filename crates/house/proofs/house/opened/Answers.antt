@@ -7,5 +7,5 @@ use Rattle.house.proofs.house.opened.Goals as goal
 
 pub returns : goal.returns
 returns c k next heard host most a =
-    subst (λ (h : HouseConnection). StandsForConnection k c.args.seat next heard h (more_waits (greeted k c.args.seat c.args.serial) c.args.piece.now)) (sym c.in-Ok-append.ensures.ok)
-    (more_stands k c.args.seat next heard c.in-Ok.caller (greeted k c.args.seat c.args.serial) c.args.piece.now (c.in-Ok.ensures k next heard host most a))
+    subst (λ (h : HouseConnection). StandsForConnection k c.args.seat next heard h (more_waits (greeted k c.args.seat c.args.serial) c.args.piece.now)) (sym c.in_ok-append.ensures.ok)
+    (more_stands k c.args.seat next heard c.in_ok-caller.caller (greeted k c.args.seat c.args.serial) c.args.piece.now (c.in_ok-caller.ensures k next heard host most a))

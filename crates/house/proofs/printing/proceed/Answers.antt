@@ -4,6 +4,7 @@ use Rattle.lmtp_machine.specs.declared.connection.What.TheVariants.{More}
 use Rattle.house_connection.specs.HouseConnection.{HouseConnection}
 use Rattle.house.specs.inner.Steps.{ConnectionWent}
 use Rattle.house.proofs.Printed.{in_part, part_printed, went, went_unprinted}
+use Rattle.house.proofs.Settlement.{on_err}
 use Rattle.house.proofs.printing.proceed.Goals as goal
 
 pub returns-in_default-clause-err : goal.returns-in_default-clause-err
@@ -12,16 +13,17 @@ returns-in_default-clause-err c k seat next heard b of s =
     part_printed k seat next heard c.args.number b p.0 c.proceed.new.self c.print_connection.new.caller c.args.out.now.items c.print_connection.new.out.items of.numbered p.1 (c.in_default.ensures.same ∙ c.in_default.ensures.asks.0)
     c.print_connection.result c.print_connection.ensures.ok c.print_connection.ensures.err
 
-pub returns-in_default-print_connection-clause-err : goal.returns-in_default-print_connection-clause-err
-returns-in_default-print_connection-clause-err c k seat next heard b of s =
+pub returns-in_err-print_connection-clause-err : goal.returns-in_err-print_connection-clause-err
+returns-in_err-print_connection-clause-err c =
+    on_err c.from_residual.result _ λ k seat next heard b of s.
     let p = in_part k seat next heard b c.in-Ok.what c.proceed.new.self (c.in-Ok.ensures.ok k seat next heard b of.looks_up s) in
-    let e = c.in_default-print_connection.ensures in
+    let e = c.in_err-print_connection.ensures in
     subst (λ (h : HouseConnection). ConnectionWent k false seat next heard b More h c.args.out.now.items c.print_connection-2.new.out.items) (sym e.err.0)
     (went_unprinted k seat next heard b c.in-Ok.what c.proceed.new.self c.args.out.now.items c.print_connection-2.new.out.items p e.asks e.err.1)
 
 pub returns-clause-ok : goal.returns-clause-ok
 returns-clause-ok c k seat next heard b of s =
     let p = c.in-Ok.ensures.ok k seat next heard b of.looks_up s in
-    let e = c.in-Ok-print_connection.ensures.ok in
+    let e = c.in_ok-print_connection.ensures.ok in
     subst (λ (h : HouseConnection). ConnectionWent k true seat next heard b c.in-Ok.what h c.args.out.now.items c.print_connection-2.new.out.items) (sym e.0)
     (went k seat next heard c.args.number b c.in-Ok.what c.proceed.new.self c.args.out.now.items c.print_connection-2.new.out.items of.numbered p e.1)

@@ -1,16 +1,18 @@
 use Rattle.std.proofs.Common.{arith, sym, ◌∙◌}
 use Rattle.session_thread.specs.Life.{moment}
 use Rattle.imap_stream.specs.Visits.{another, nothing_yet}
+use Rattle.session_thread.proofs.Living.{on_err}
 use Rattle.imap_stream.proofs.Showing.{shows_all, shows_in_part}
 use Rattle.imap_stream.proofs.turns.show_all.Goals as goal
 
 pub loop-turn-init : goal.loop-turn-init
 loop-turn-init g c d s = (d, s, nothing_yet)
 
-pub returns-in_default-clause-err : goal.returns-in_default-clause-err
-returns-in_default-clause-err g c d s =
+pub returns-in_err-shown-clause-err : goal.returns-in_err-shown-clause-err
+returns-in_err-shown-clause-err g c =
+    on_err c.from_residual.result _ λ d s.
     let t = c.loop-turn.invariant d s in
-    let e = c.in_default.ensures.err t.0 t.1 in (
+    let e = c.in_err-shown.ensures.err t.0 t.1 in (
       t.0,
       e.0,
       shows_in_part _ (moment d c.args.store.now c.args.out.now.items) t.0 c.loop-turn.store c.turn.new.store c.loop-turn.out.items c.turn.new.out.items c.loop-turn.connection t.1 (sym c.is_idling.ensures ∙ c.if-not-is_idling.false) t.2 e.1 e.2,
@@ -19,17 +21,17 @@ returns-in_default-clause-err g c d s =
 pub returns-then-shown-eq0-clause-ok : goal.returns-then-shown-eq0-clause-ok
 returns-then-shown-eq0-clause-ok g c d s =
     let t = c.loop-turn.invariant d s in
-    let n = c.in-Ok.ensures.ok t.0 t.1 in (
+    let n = c.in_ok-shown.ensures.ok t.0 t.1 in (
       n.0,
       n.1,
-      shows_all c.in-Ok.shown (moment d c.args.store.now c.args.out.now.items) (moment t.0 c.loop-turn.store c.loop-turn.out.items) (moment n.0 c.turn.new.store c.turn.new.out.items) t.2 n.2 c.if-shown-eq0.true,
+      shows_all c.in_ok-shown.shown (moment d c.args.desk.now c.args.out.now.items) (moment t.0 c.loop-turn.desk c.loop-turn.out.items) (moment n.0 c.turn.new.desk c.turn.new.out.items) t.2 n.2 c.if-shown-eq0.true,
     )
 
 pub loop-turn-preserved : goal.loop-turn-preserved
 loop-turn-preserved g c d s =
     let t = c.loop-turn.invariant d s in
-    let n = c.in-Ok.ensures.ok t.0 t.1 in (
+    let n = c.in_ok-shown.ensures.ok t.0 t.1 in (
       n.0,
       n.1,
-      another c.in-Ok.shown (moment t.0 c.loop-turn.store c.loop-turn.out.items) (moment n.0 c.turn.new.store c.turn.new.out.items) t.2 (omega (arith, c.if-shown-eq0.false)) n.2,
+      another c.in_ok-shown.shown (moment t.0 c.loop-turn.desk c.loop-turn.out.items) (moment n.0 c.turn.new.desk c.turn.new.out.items) t.2 (omega (arith, c.if-shown-eq0.false)) n.2,
     )

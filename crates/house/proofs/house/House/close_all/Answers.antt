@@ -3,17 +3,17 @@ use Rattle.envelope.specs.Directory.{Directory, is_shut}
 use Rattle.house.specs.House.{House}
 use Rattle.house.specs.inner.Trying.{closes}
 use Rattle.house.proofs.Closing.{closes_step, closes_wants}
-use Rattle.house.proofs.Settlement.{shards_of, stints_as}
+use Rattle.house.proofs.Settlement.{shards_of, visits_as, visits_wanting}
 use Rattle.house.proofs.house.House.close_all.Goals as goal
 
-pub returns-in_default-clause-came : goal.returns-in_default-clause-came
-returns-in_default-clause-came c =
+pub returns-in_err-one-clause-came : goal.returns-in_err-one-clause-came
+returns-in_err-one-clause-came c =
     let many = ap (λ (x : House). x.directory.shards) c.self.view_is in
     let e = c.shards-shards.ensures.value in
     let t = c.loop-shard-test.true in
     let l : c.loop-shard.shard < c.args.self.now.directory.shards = omega (arith, t, e, many) in
-    closes_wants (is_shut c.args.self.now.directory) c.loop-shard.shard c.args.self.now c.args.out.now.items c.loop-shard.self c.loop-shard.out.items c.end_where.new.self c.end_where.new.out.items c.loop-shard.moved l
-    c.loop-shard.invariant.1 c.in_default.ensures.came
+    visits_wanting _ c.from_residual.result c.from_residual.ensures.0 (closes_wants (is_shut c.args.self.now.directory) c.loop-shard.shard c.args.self.now c.args.out.now.items c.loop-shard.self c.loop-shard.out.items c.end_where.new.self c.end_where.new.out.items c.loop-shard.moved l
+    c.loop-shard.invariant.1 c.in_err-one.ensures.came)
 
 pub loop-shard-preserved : goal.loop-shard-preserved
 loop-shard-preserved c =
@@ -21,9 +21,9 @@ loop-shard-preserved c =
     let e = c.shards-shards.ensures.value in
     let t = c.loop-shard-test.true in
     let l : c.loop-shard.shard < c.args.self.now.directory.shards = omega (arith, t, e, many) in (
-      c.in-Ok.ensures.marks ∙ c.loop-shard.invariant.0,
+      c.in_ok-one.ensures.marks ∙ c.loop-shard.invariant.0,
       closes_step (is_shut c.args.self.now.directory) c.args.self.now.directory.shards c.loop-shard.shard c.is_shut-shut.result c.args.self.now c.args.out.now.items c.loop-shard.self c.loop-shard.out.items c.end_where.new.self c.end_where.new.out.items
-          c.loop-shard.moved c.in-Ok.one l (c.is_shut-shut.ensures ∙ ap (λ (n : ℕ). is_shut c.self-in-loop-shard.inside.directory n) c.from.ensures ∙ ap (λ (x : House). is_shut x.directory c.loop-shard.shard) c.self-in-loop-shard.view_is ∙ ap (λ (d : Directory). is_shut d c.loop-shard.shard) c.loop-shard.invariant.0) c.loop-shard.invariant.1 c.in-Ok.ensures.came,
+          c.loop-shard.moved c.in_ok-one.one l (c.is_shut-shut.ensures ∙ ap (λ (n : ℕ). is_shut c.self-in-loop-shard.inside.directory n) c.from.ensures ∙ ap (λ (x : House). is_shut x.directory c.loop-shard.shard) c.self-in-loop-shard.view_is ∙ ap (λ (d : Directory). is_shut d c.loop-shard.shard) c.loop-shard.invariant.0) c.loop-shard.invariant.1 c.in_ok-one.ensures.came,
     )
 
 pub returns-clause-came : goal.returns-clause-came

@@ -2,17 +2,17 @@ use Rattle.std.proofs.Common.{◌≡◌, ◌<◌, ℕ, ap, sym, ◌∙◌, arith
 use Rattle.house.specs.Settled.{is_held}
 use Rattle.house.specs.House.{House}
 use Rattle.house.specs.inner.Trying.{serves}
-use Rattle.house.proofs.Settlement.{shards_of, shards_step, shards_wants, stints_as}
+use Rattle.house.proofs.Settlement.{shards_of, shards_step, shards_wants, visits_as, visits_wanting}
 use Rattle.house.proofs.house.House.serve_all.Goals as goal
 
-pub returns-in_default-clause-came : goal.returns-in_default-clause-came
-returns-in_default-clause-came c =
+pub returns-in_err-one-clause-came : goal.returns-in_err-one-clause-came
+returns-in_err-one-clause-came c =
     let many = ap (λ (x : House). x.directory.shards) c.self.view_is in
     let e = c.shards-shards.ensures.value in
     let t = c.loop-shard-test.true in
     let l : c.loop-shard.shard < c.args.self.now.directory.shards = omega (arith, t, e, many) in
-    shards_wants (is_held c.args.held.now) c.loop-shard.shard c.args.self.now c.args.out.now.items c.loop-shard.self c.loop-shard.out.items c.serve.new.self c.serve.new.out.items c.loop-shard.moved l
-    c.loop-shard.invariant.1 c.in_default.ensures.came
+    visits_wanting _ c.from_residual.result c.from_residual.ensures.0 (shards_wants (is_held c.args.held.now) c.loop-shard.shard c.args.self.now c.args.out.now.items c.loop-shard.self c.loop-shard.out.items c.serve.new.self c.serve.new.out.items c.loop-shard.moved l
+    c.loop-shard.invariant.1 c.in_err-one.ensures.came)
 
 pub loop-shard-preserved : goal.loop-shard-preserved
 loop-shard-preserved c =
@@ -20,9 +20,9 @@ loop-shard-preserved c =
     let e = c.shards-shards.ensures.value in
     let t = c.loop-shard-test.true in
     let l : c.loop-shard.shard < c.args.self.now.directory.shards = omega (arith, t, e, many) in (
-      c.in-Ok.ensures.marks ∙ c.loop-shard.invariant.0,
+      c.in_ok-one.ensures.marks ∙ c.loop-shard.invariant.0,
       shards_step (is_held c.args.held.now) c.args.self.now.directory.shards c.loop-shard.shard c.is_held.result c.args.self.now c.args.out.now.items c.loop-shard.self c.loop-shard.out.items c.serve.new.self c.serve.new.out.items
-          c.loop-shard.moved c.in-Ok.one l c.is_held.ensures c.loop-shard.invariant.1 c.in-Ok.ensures.came,
+          c.loop-shard.moved c.in_ok-one.one l c.is_held.ensures c.loop-shard.invariant.1 c.in_ok-one.ensures.came,
     )
 
 pub returns-clause-came : goal.returns-clause-came

@@ -1,15 +1,15 @@
 use Rattle.std.proofs.Common.{◌∙◌}
-use Rattle.house.proofs.Settlement.{often_again, often_wants, stint_done}
-use Rattle.house.proofs.house.House.stint.Goals as goal
+use Rattle.house.proofs.Settlement.{came_wanting, often_again, often_wants, visit_done}
+use Rattle.house.proofs.house.House.visit.Goals as goal
 
-pub returns-in_default-clause-came : goal.returns-in_default-clause-came
-returns-in_default-clause-came c =
-    often_wants c.args.group.now c.args.self.now c.args.out.now.items c.loop-more.self c.loop-more.out.items c.try_each.new.self c.try_each.new.out.items c.loop-more.moved c.loop-more.invariant.1 c.in_default.ensures.came
+pub returns-in_err-more-clause-came : goal.returns-in_err-more-clause-came
+returns-in_err-more-clause-came c =
+    came_wanting _ _ c.from_residual.result c.from_residual.ensures.0 (often_wants c.args.group.now c.args.self.now c.args.out.now.items c.loop-more.self c.loop-more.out.items c.try_each.new.self c.try_each.new.out.items c.loop-more.moved c.loop-more.invariant.1 c.in_err-more.ensures.came)
 
 pub returns-then-not-more-clause-came : goal.returns-then-not-more-clause-came
 returns-then-not-more-clause-came c =
-    stint_done c.args.group.now c.args.self.now c.args.out.now.items c.loop-more.self c.loop-more.out.items c.try_each.new.self c.try_each.new.out.items c.loop-more.moved c.in-Ok.more c.if-not-more.true c.loop-more.invariant.1 c.in-Ok.ensures.came
+    visit_done c.args.group.now c.args.self.now c.args.out.now.items c.loop-more.self c.loop-more.out.items c.try_each.new.self c.try_each.new.out.items c.loop-more.moved c.in_ok-more.more c.if-not-more.true c.loop-more.invariant.1 c.in_ok-more.ensures.came
 
 pub loop-more-preserved : goal.loop-more-preserved
 loop-more-preserved c =
-    (c.in-Ok.ensures.marks ∙ c.loop-more.invariant.0, often_again c.args.group.now c.args.self.now c.args.out.now.items c.loop-more.self c.loop-more.out.items c.try_each.new.self c.try_each.new.out.items c.loop-more.moved c.in-Ok.more c.if-not-more.false c.loop-more.invariant.1 c.in-Ok.ensures.came)
+    (c.in_ok-more.ensures.marks ∙ c.loop-more.invariant.0, often_again c.args.group.now c.args.self.now c.args.out.now.items c.loop-more.self c.loop-more.out.items c.try_each.new.self c.try_each.new.out.items c.loop-more.moved c.in_ok-more.more c.if-not-more.false c.loop-more.invariant.1 c.in_ok-more.ensures.came)

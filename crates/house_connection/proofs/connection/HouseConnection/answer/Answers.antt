@@ -24,14 +24,14 @@ pub returns-clause-err : goal.returns-clause-err
 returns-clause-err c =
     on_err_weaker c.work_off.result
     (λ went k seat next heard b of s.
-        let said = c.in_ok-say.ensures.ok k seat next heard b s (some _ _ s.pending c.requires.one) in
-        let w = went k seat next heard (meets k seat b (Answered c.deref.result.now)) of said.stands in
-        (w.0, went_answers k seat next heard false b c.deref.result.now c.args.self.now c.say.new.self c.work_off.new.self w.0 s c.requires.one said w.1)) c.work_off.ensures.err
+    let said = c.in_ok-say.ensures.ok k seat next heard b s (some _ _ s.pending c.requires.one) in
+    let w = went k seat next heard (meets k seat b (Answered c.deref.result.now)) of said.stands in
+    (w.0, went_answers k seat next heard false b c.deref.result.now c.args.self.now c.say.new.self c.work_off.new.self w.0 s c.requires.one said w.1)) c.work_off.ensures.err
 
 pub returns-clause-ok : goal.returns-clause-ok
 returns-clause-ok c =
     IfOk-weaker c.work_off.result _ _
     (λ what went k seat next heard b of s.
-        let said = c.in_ok-say.ensures.ok k seat next heard b s (some _ _ s.pending c.requires.one) in
-        let w = went k seat next heard (meets k seat b (Answered c.deref.result.now)) of said.stands in
-        went_answers k seat next heard true b c.deref.result.now c.args.self.now c.say.new.self c.work_off.new.self what s c.requires.one said w) c.work_off.ensures.ok
+    let said = c.in_ok-say.ensures.ok k seat next heard b s (some _ _ s.pending c.requires.one) in
+    let w = went k seat next heard (meets k seat b (Answered c.deref.result.now)) of said.stands in
+    went_answers k seat next heard true b c.deref.result.now c.args.self.now c.say.new.self c.work_off.new.self what s c.requires.one said w) c.work_off.ensures.ok

@@ -35,10 +35,10 @@ returns-clause-err g c =
     let here : SeatedSession = record { place = i.session; number = i.seat; serial = i.serial; gone = i.is_gone; slots = i.verdicts.slots } in
     on_err_weaker c.go_on.result
     (λ went seat next heard v s. subst (λ (slots : List (Option Verdict)). Proceeded g.S.Store.step false seat next heard v c.args.store.now c.go_on.new.store (record { place = c.go_on.new.self; number = i.seat; serial = i.serial; gone = i.is_gone; slots = slots }))
-        (sym (ap (λ (x : Verdicts). x.slots) c.clear.ensures))
-        (told_and_worked g.S.Store.step false seat next heard v c.args.store.now c.answer.new.store c.go_on.new.store here c.answer.new.self c.go_on.new.self c.in-Some.verdict
-        (subst (λ (p : SeatedSession). StandsForSeated seat next heard p v) (sym c.self.view_is) s) (ap (λ (p : SeatedSession). p.gone) c.self.view_is ∙ c.requires.there)
-        (ap (λ (p : SeatedSession). is_some p.place.link.session.mailing.sent) c.self.view_is ∙ c.requires.waits) c.in-Some.ensures.known c.in_ok-answer.ensures.ok c.in_ok-answer.ensures.done went)) c.go_on.ensures.err
+    (sym (ap (λ (x : Verdicts). x.slots) c.clear.ensures))
+    (told_and_worked g.S.Store.step false seat next heard v c.args.store.now c.answer.new.store c.go_on.new.store here c.answer.new.self c.go_on.new.self c.in-Some.verdict
+    (subst (λ (p : SeatedSession). StandsForSeated seat next heard p v) (sym c.self.view_is) s) (ap (λ (p : SeatedSession). p.gone) c.self.view_is ∙ c.requires.there)
+    (ap (λ (p : SeatedSession). is_some p.place.link.session.mailing.sent) c.self.view_is ∙ c.requires.waits) c.in-Some.ensures.known c.in_ok-answer.ensures.ok c.in_ok-answer.ensures.done went)) c.go_on.ensures.err
 
 pub returns-clause-ok : goal.returns-clause-ok
 returns-clause-ok g c =
@@ -46,10 +46,10 @@ returns-clause-ok g c =
     let here : SeatedSession = record { place = i.session; number = i.seat; serial = i.serial; gone = i.is_gone; slots = i.verdicts.slots } in
     IfOk-weaker c.go_on.result _ _
     (λ done went seat next heard v s. subst (λ (slots : List (Option Verdict)). Proceeded g.S.Store.step true seat next heard v c.args.store.now c.go_on.new.store (record { place = c.go_on.new.self; number = i.seat; serial = i.serial; gone = i.is_gone; slots = slots }))
-        (sym (ap (λ (x : Verdicts). x.slots) c.clear.ensures))
-        (told_and_worked g.S.Store.step true seat next heard v c.args.store.now c.answer.new.store c.go_on.new.store here c.answer.new.self c.go_on.new.self c.in-Some.verdict
-        (subst (λ (p : SeatedSession). StandsForSeated seat next heard p v) (sym c.self.view_is) s) (ap (λ (p : SeatedSession). p.gone) c.self.view_is ∙ c.requires.there)
-        (ap (λ (p : SeatedSession). is_some p.place.link.session.mailing.sent) c.self.view_is ∙ c.requires.waits) c.in-Some.ensures.known c.in_ok-answer.ensures.ok c.in_ok-answer.ensures.done went)) c.go_on.ensures.ok
+    (sym (ap (λ (x : Verdicts). x.slots) c.clear.ensures))
+    (told_and_worked g.S.Store.step true seat next heard v c.args.store.now c.answer.new.store c.go_on.new.store here c.answer.new.self c.go_on.new.self c.in-Some.verdict
+    (subst (λ (p : SeatedSession). StandsForSeated seat next heard p v) (sym c.self.view_is) s) (ap (λ (p : SeatedSession). p.gone) c.self.view_is ∙ c.requires.there)
+    (ap (λ (p : SeatedSession). is_some p.place.link.session.mailing.sent) c.self.view_is ∙ c.requires.waits) c.in-Some.ensures.known c.in_ok-answer.ensures.ok c.in_ok-answer.ensures.done went)) c.go_on.ensures.ok
 
 pub returns-clause-asked : goal.returns-clause-asked
 returns-clause-asked g c = asks_then g.S.Store.step c.args.store.now c.answer.new.store c.go_on.new.store c.in_ok-answer.ensures.asked c.go_on.ensures.asked

@@ -19,7 +19,7 @@ returns-clause-err g c =
     let here : SeatedSession = record { place = i.session; number = i.seat; serial = i.serial; gone = i.is_gone; slots = i.verdicts.slots } in
     on_err_weaker c.go_on.result
     (λ went seat next heard v s. worked g.S.Store.step false seat next heard v c.args.store.now c.go_on.new.store here c.go_on.new.self (subst (λ (p : SeatedSession). StandsForSeated seat next heard p v) (sym c.self.view_is) s) c.if-self.false
-        (c.awaits_verdict.ensures.none c.if-awaits_verdict.false) went) c.go_on.ensures.err
+    (c.awaits_verdict.ensures.none c.if-awaits_verdict.false) went) c.go_on.ensures.err
 
 pub returns-clause-ok : goal.returns-clause-ok
 returns-clause-ok g c =
@@ -27,4 +27,4 @@ returns-clause-ok g c =
     let here : SeatedSession = record { place = i.session; number = i.seat; serial = i.serial; gone = i.is_gone; slots = i.verdicts.slots } in
     IfOk-weaker c.go_on.result _ _
     (λ done went seat next heard v s. worked g.S.Store.step true seat next heard v c.args.store.now c.go_on.new.store here c.go_on.new.self (subst (λ (p : SeatedSession). StandsForSeated seat next heard p v) (sym c.self.view_is) s) c.if-self.false
-        (c.awaits_verdict.ensures.none c.if-awaits_verdict.false) went) c.go_on.ensures.ok
+    (c.awaits_verdict.ensures.none c.if-awaits_verdict.false) went) c.go_on.ensures.ok
