@@ -35,7 +35,7 @@ use Rattle.std.proofs.lemmas.List.Elements.{All-append, All-cons, All-get_or, Al
 use Rattle.std.proofs.Math.Seq.{take-suc}
 use Rattle.house.specs.House.{House}
 use Rattle.house.specs.Effort.{MakesLess, effort}
-use Rattle.house.specs.inner.Trying.{Came, CameVisit, CameVisits, Did, DidVisits, IsAmong, IsOwn, Moved, Rests, Wants, Went, closes, hears, puts, serve, serves}
+use Rattle.house.specs.inner.Trying.{Came, CameStint, CameStints, Did, DidStints, IsAmong, IsOwn, Moved, Rests, Wants, Went, closes, hears, puts, serve, serves}
 
 -- ---- what a whole event does, one that is cut short may do as well
 
@@ -516,7 +516,7 @@ came_wanting P I (Ok x) is w = cc
 came_wanting P I (Err e) is w = w
 
 pub visits_wanting : {E : Type 0} {Q : Setup → Type 0} {before h : House} {old new : List ℕ} (groups : Setup → List (List Event)) (r : Result Bool E) → IsErr r
-    → Wants Q before old h new → CameVisits Q groups before old h new r
+    → Wants Q before old h new → CameStints Q groups before old h new r
 visits_wanting groups (Ok x) is w = cc
 visits_wanting groups (Err e) is w = w
 

@@ -64,8 +64,8 @@ fn turn_at(
     let Some(visitor) = place else {
         return Ok(());
     };
-    desk.session = number - 1;
-    take_turn(visitor, number, desk, out)?;
+    store.session = number - 1;
+    take_turn(visitor, number, store, out)?;
     if visitor.has_ended() {
         let _ = store.leave(false);
         *place = None;

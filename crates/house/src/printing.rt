@@ -138,7 +138,7 @@ pub(crate) fn take_turn(
         StandsForSeated seat next heard visitor.old v
         → IdledInPart Serves seat number next heard v store.old store.new out.old.items out.new.items visitor.new) }
 {
-    let count = visitor.idle_turn(desk)?;
+    let count = visitor.idle_turn(store)?;
     print_session(visitor, number, out)?;
     Ok(count)
 }

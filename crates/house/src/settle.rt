@@ -69,7 +69,7 @@ impl House {
         let seats = (self.callers.len() + self.visitors.len()) as u8;
         let mut moved = false;
         for seat in 0..seats {
-            let one = self.visit(
+            let one = self.stint(
                 &[Event::End {
                     producer: seat + 1,
                     shard,
@@ -117,7 +117,7 @@ impl House {
         let seats = (self.callers.len() + self.visitors.len()) as u8;
         let mut moved = false;
         for seat in 0..seats {
-            let one = self.visit(&[Event::Put(seat + 1)], out)?;
+            let one = self.stint(&[Event::Put(seat + 1)], out)?;
             moved |= one;
         }
         Ok(moved)
@@ -162,7 +162,7 @@ impl House {
         let seats = (self.callers.len() + self.visitors.len()) as u8;
         let mut moved = false;
         for seat in 0..seats {
-            let one = self.visit(&[Event::Hear(seat + 1)], out)?;
+            let one = self.stint(&[Event::Hear(seat + 1)], out)?;
             moved |= one;
         }
         Ok(moved)

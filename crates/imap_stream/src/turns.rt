@@ -58,7 +58,7 @@ pub(crate) fn show_all<R: Wait, G: Gate>(
         if !connection.is_idling() {
             return Ok(());
         }
-        let shown = turn(connection, desk, out)?;
+        let shown = turn(connection, store, out)?;
         if shown == 0 {
             return Ok(());
         }
@@ -97,7 +97,7 @@ pub(crate) fn answer_and_show<R: Wait, G: Gate, C: Courier>(
     let answered = answer(alloc, connection, store, courier, piece, out);
     idles.store(connection.is_idling(), Ordering::SeqCst);
     answered?;
-    match show_all(rt, connection, desk, out) {
+    match show_all(rt, connection, store, out) {
         Ok(()) => Ok(()),
         Err(_) => Err(Lost::NoMemory),
     }

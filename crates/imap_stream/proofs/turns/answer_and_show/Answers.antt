@@ -23,4 +23,4 @@ returns-in-Err-clause-err g c =
     let a = c.answer-answered.new in
     let t = c.show_all.new in
     let s = c.in_ok-answered.ensures.ok in
-    heard_in_part (vec_capacity t.out) c.args.piece.now s.0 c.args.desk.now a.desk t.desk c.args.out.now.items a.out.items t.out.items c.args.connection.now a.connection t.connection s.2 c.in-Err.ensures.err
+    heard_in_part (vec_capacity t.out) c.args.piece.now s.0 c.args.store.now a.store t.store c.args.out.now.items a.out.items t.out.items c.args.connection.now a.connection t.connection s.2 c.in-Err.ensures.err

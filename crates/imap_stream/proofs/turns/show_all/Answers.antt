@@ -24,7 +24,7 @@ returns-then-shown-eq0-clause-ok g c d s =
     let n = c.in_ok-shown.ensures.ok t.0 t.1 in (
       n.0,
       n.1,
-      shows_all c.in_ok-shown.shown (moment d c.args.desk.now c.args.out.now.items) (moment t.0 c.loop-turn.desk c.loop-turn.out.items) (moment n.0 c.turn.new.desk c.turn.new.out.items) t.2 n.2 c.if-shown-eq0.true,
+      shows_all c.in_ok-shown.shown (moment d c.args.store.now c.args.out.now.items) (moment t.0 c.loop-turn.store c.loop-turn.out.items) (moment n.0 c.turn.new.store c.turn.new.out.items) t.2 n.2 c.if-shown-eq0.true,
     )
 
 pub loop-turn-preserved : goal.loop-turn-preserved
@@ -33,5 +33,5 @@ loop-turn-preserved g c d s =
     let n = c.in_ok-shown.ensures.ok t.0 t.1 in (
       n.0,
       n.1,
-      another c.in_ok-shown.shown (moment t.0 c.loop-turn.desk c.loop-turn.out.items) (moment n.0 c.turn.new.desk c.turn.new.out.items) t.2 (omega (arith, c.if-shown-eq0.false)) n.2,
+      another c.in_ok-shown.shown (moment t.0 c.loop-turn.store c.loop-turn.out.items) (moment n.0 c.turn.new.store c.turn.new.out.items) t.2 (omega (arith, c.if-shown-eq0.false)) n.2,
     )

@@ -3,7 +3,7 @@ use Rattle.envelope.specs.Directory.{Directory, is_shut}
 use Rattle.house.specs.House.{House}
 use Rattle.house.specs.inner.Trying.{closes}
 use Rattle.house.proofs.Closing.{closes_step, closes_wants}
-use Rattle.house.proofs.Settlement.{shards_of, visits_as, visits_wanting}
+use Rattle.house.proofs.Settlement.{shards_of, stints_as, visits_wanting}
 use Rattle.house.proofs.house.House.close_all.Goals as goal
 
 pub returns-in_err-one-clause-came : goal.returns-in_err-one-clause-came

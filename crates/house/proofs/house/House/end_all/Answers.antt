@@ -12,7 +12,7 @@ returns-in_err-one-clause-came c =
     let f = c.len-2.ensures in
     let t = c.loop-seat-test.true in
     let l : c.loop-seat.seat < (length c.args.self.now.callers + length c.args.self.now.visitors) = omega (arith, t, e, f, many, more) in
-    visits_wanting _ c.from_residual.result c.from_residual.ensures.0 (ends_wants ((length c.args.self.now.callers + length c.args.self.now.visitors)) c.loop-seat.seat c.args.shard c.args.self.now c.args.out.now.items c.loop-seat.self c.loop-seat.out.items c.visit.new.self c.visit.new.out.items c.loop-seat.moved
+    visits_wanting _ c.from_residual.result c.from_residual.ensures.0 (ends_wants ((length c.args.self.now.callers + length c.args.self.now.visitors)) c.loop-seat.seat c.args.shard c.args.self.now c.args.out.now.items c.loop-seat.self c.loop-seat.out.items c.stint.new.self c.stint.new.out.items c.loop-seat.moved
     l refl c.loop-seat.invariant.1 c.in_err-one.ensures.came)
 
 pub loop-seat-preserved : goal.loop-seat-preserved
@@ -24,7 +24,7 @@ loop-seat-preserved c =
     let t = c.loop-seat-test.true in
     let l : c.loop-seat.seat < (length c.args.self.now.callers + length c.args.self.now.visitors) = omega (arith, t, e, f, many, more) in (
       c.in_ok-one.ensures.marks ∙ c.loop-seat.invariant.0,
-      ends_step ((length c.args.self.now.callers + length c.args.self.now.visitors)) c.loop-seat.seat c.args.shard c.args.self.now c.args.out.now.items c.loop-seat.self c.loop-seat.out.items c.visit.new.self c.visit.new.out.items c.loop-seat.moved c.in_ok-one.one
+      ends_step ((length c.args.self.now.callers + length c.args.self.now.visitors)) c.loop-seat.seat c.args.shard c.args.self.now c.args.out.now.items c.loop-seat.self c.loop-seat.out.items c.stint.new.self c.stint.new.out.items c.loop-seat.moved c.in_ok-one.one
           l c.loop-seat.invariant.1 c.in_ok-one.ensures.came,
     )
 

@@ -2,7 +2,7 @@ use Rattle.std.proofs.Common.{◌≡◌, ◌+◌, ◌<◌, ℕ, length, ap, sym,
 use Rattle.house.specs.declared.event.Event.TheVariants.{Put}
 use Rattle.house.specs.House.{House}
 use Rattle.house.specs.inner.Trying.{puts}
-use Rattle.house.proofs.Settlement.{put_among, seats_step, seats_wants, visits_as, visits_wanting}
+use Rattle.house.proofs.Settlement.{put_among, seats_step, seats_wants, stints_as, visits_wanting}
 use Rattle.house.proofs.house.House.put_all.Goals as goal
 
 pub returns-in_err-one-clause-came : goal.returns-in_err-one-clause-came
@@ -13,7 +13,7 @@ returns-in_err-one-clause-came c =
     let f = c.len-2.ensures in
     let t = c.loop-seat-test.true in
     let l : c.loop-seat.seat < (length c.args.self.now.callers + length c.args.self.now.visitors) = omega (arith, t, e, f, many, more) in
-    visits_wanting _ c.from_residual.result c.from_residual.ensures.0 (seats_wants (λ n. Put n ∷ []) ((length c.args.self.now.callers + length c.args.self.now.visitors)) c.loop-seat.seat c.args.self.now c.args.out.now.items c.loop-seat.self c.loop-seat.out.items c.visit.new.self c.visit.new.out.items c.loop-seat.moved
+    visits_wanting _ c.from_residual.result c.from_residual.ensures.0 (seats_wants (λ n. Put n ∷ []) ((length c.args.self.now.callers + length c.args.self.now.visitors)) c.loop-seat.seat c.args.self.now c.args.out.now.items c.loop-seat.self c.loop-seat.out.items c.stint.new.self c.stint.new.out.items c.loop-seat.moved
     (λ k q. put_among k ((length c.args.self.now.callers + length c.args.self.now.visitors)) c.loop-seat.seat l q) refl c.loop-seat.invariant.1 c.in_err-one.ensures.came)
 
 pub loop-seat-preserved : goal.loop-seat-preserved
@@ -25,7 +25,7 @@ loop-seat-preserved c =
     let t = c.loop-seat-test.true in
     let l : c.loop-seat.seat < (length c.args.self.now.callers + length c.args.self.now.visitors) = omega (arith, t, e, f, many, more) in (
       c.in_ok-one.ensures.marks ∙ c.loop-seat.invariant.0,
-      seats_step (λ n. Put n ∷ []) ((length c.args.self.now.callers + length c.args.self.now.visitors)) c.loop-seat.seat c.args.self.now c.args.out.now.items c.loop-seat.self c.loop-seat.out.items c.visit.new.self c.visit.new.out.items c.loop-seat.moved c.in_ok-one.one
+      seats_step (λ n. Put n ∷ []) ((length c.args.self.now.callers + length c.args.self.now.visitors)) c.loop-seat.seat c.args.self.now c.args.out.now.items c.loop-seat.self c.loop-seat.out.items c.stint.new.self c.stint.new.out.items c.loop-seat.moved c.in_ok-one.one
           (λ k q. put_among k ((length c.args.self.now.callers + length c.args.self.now.visitors)) c.loop-seat.seat l q) c.loop-seat.invariant.1 c.in_ok-one.ensures.came,
     )
 

@@ -2,7 +2,7 @@ use Rattle.std.proofs.Common.{◌≡◌, ◌<◌, ℕ, ap, sym, ◌∙◌, arith
 use Rattle.house.specs.Settled.{is_held}
 use Rattle.house.specs.House.{House}
 use Rattle.house.specs.inner.Trying.{serves}
-use Rattle.house.proofs.Settlement.{shards_of, shards_step, shards_wants, visits_as, visits_wanting}
+use Rattle.house.proofs.Settlement.{shards_of, shards_step, shards_wants, stints_as, visits_wanting}
 use Rattle.house.proofs.house.House.serve_all.Goals as goal
 
 pub returns-in_err-one-clause-came : goal.returns-in_err-one-clause-came

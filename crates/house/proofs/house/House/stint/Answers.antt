@@ -1,6 +1,6 @@
 use Rattle.std.proofs.Common.{◌∙◌}
-use Rattle.house.proofs.Settlement.{came_wanting, often_again, often_wants, visit_done}
-use Rattle.house.proofs.house.House.visit.Goals as goal
+use Rattle.house.proofs.Settlement.{came_wanting, often_again, often_wants, stint_done}
+use Rattle.house.proofs.house.House.stint.Goals as goal
 
 pub returns-in_err-more-clause-came : goal.returns-in_err-more-clause-came
 returns-in_err-more-clause-came c =
@@ -8,7 +8,7 @@ returns-in_err-more-clause-came c =
 
 pub returns-then-not-more-clause-came : goal.returns-then-not-more-clause-came
 returns-then-not-more-clause-came c =
-    visit_done c.args.group.now c.args.self.now c.args.out.now.items c.loop-more.self c.loop-more.out.items c.try_each.new.self c.try_each.new.out.items c.loop-more.moved c.in_ok-more.more c.if-not-more.true c.loop-more.invariant.1 c.in_ok-more.ensures.came
+    stint_done c.args.group.now c.args.self.now c.args.out.now.items c.loop-more.self c.loop-more.out.items c.try_each.new.self c.try_each.new.out.items c.loop-more.moved c.in_ok-more.more c.if-not-more.true c.loop-more.invariant.1 c.in_ok-more.ensures.came
 
 pub loop-more-preserved : goal.loop-more-preserved
 loop-more-preserved c =
