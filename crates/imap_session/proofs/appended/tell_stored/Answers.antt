@@ -1,6 +1,6 @@
-use Rattle.std.proofs.Common.{ℕ, [], None, false}
+use Rattle.std.proofs.Common.{ℕ}
 use Rattle.delivery_token.specs.declared.Verdict.TheVariants.{Stored}
-use Rattle.imap_session.specs.Exchange.{Exchange, Standing, nothing_sent}
+use Rattle.imap_session.specs.Exchange.{Exchange}
 use Rattle.imap_session.specs.Commands.{appended_words, on_verdict, says}
 use Rattle.imap_session.proofs.Ending.{plays_said, plays_stopped}
 use Rattle.imap_session.proofs.appended.tell_stored.Goals as goal

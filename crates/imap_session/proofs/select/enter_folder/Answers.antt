@@ -1,4 +1,4 @@
-use Rattle.std.proofs.Common.{ℕ, List, [], Ok, Err}
+use Rattle.std.proofs.Common.{ℕ, List, [], Ok}
 use Rattle.std.proofs.lemmas.Result.{err_from_is_err_and}
 use Rattle.imap_session.specs.Commands.{entering, opened}
 use Rattle.imap_session.specs.inner.Store.{last}
