@@ -26,10 +26,15 @@ use std::sync::Wait;
 /// Carries the messages of one seat's sessions: each goes into the lane of its mailbox's shard, for which
 /// is summoned, and the verdict on it is awaited and noted.
 pub struct LaneCourier<'a, R: Wait, S: Summons, N: Notebook> {
+    /// What it waits by, where a lane or a lock is taken.
     pub rt: &'a R,
+    /// What it shares with all who put copies: the lanes, and which shard keeps a mailbox.
     pub office: &'a Office,
+    /// Whom it summons for a copy that it put.
     pub summons: &'a S,
+    /// The seat's reply channel, on which its verdicts come.
     pub channel: &'a ReplyChannel<Noted>,
+    /// What it holds for the seat: its number, its permits and its end of the channel.
     pub desk: Desk,
     /// Which session of its seat it carries for, from 0.
     pub serial: u64,

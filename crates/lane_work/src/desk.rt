@@ -24,7 +24,9 @@ pub struct Office {
 /// never comes, for a shard that it has closed, or for one that isn't there does nothing.
 #[derive(Clone, Copy, Debug, PartialEq, Eq)]
 pub struct Closing {
+    /// Before which of its connections, by that one's number from 0.
     pub connection: usize,
+    /// Which shard, by its number from 0.
     pub shard: u8,
 }
 

@@ -178,7 +178,7 @@ pub fn turn<R: Wait, G: Gate, S: Summons, N: Notebook>(
     let Ok(()) = out.reserve(ANSWER_ROOM) else {
         return Err(Stop::NoMemory);
     };
-    let verdicts = match settle(
+    let verdicts = settle(
         rt,
         alloc,
         pace,
@@ -188,10 +188,7 @@ pub fn turn<R: Wait, G: Gate, S: Summons, N: Notebook>(
         desk,
         book,
         machine.submission(),
-    ) {
-        Ok(verdicts) => verdicts,
-        Err(stop) => return Err(stop),
-    };
+    )?;
     let Ok(()) = machine.answer(verdicts.as_slice(), out) else {
         unreachable!()
     };
@@ -232,7 +229,7 @@ fn speak<R: Wait, G: Gate, S: Summons>(
 {
     let mut used = 0;
     loop {
-        let fed = match turn(
+        let fed = turn(
             rt,
             alloc,
             pace,
@@ -245,10 +242,7 @@ fn speak<R: Wait, G: Gate, S: Summons>(
             machine,
             &bytes[used..],
             out,
-        ) {
-            Ok(fed) => fed,
-            Err(stop) => return Err(stop),
-        };
+        )?;
         used += fed.used;
         match fed.what {
             What::Quit => return Ok(()),

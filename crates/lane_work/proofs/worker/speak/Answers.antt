@@ -14,13 +14,13 @@ returns-in-Quit-clause-spoke g c done begun =
     let bytes = c.args.bytes.now in
     let before = v.9 done begun in
     let at_number = subst (λ n. Stands c.args.directory.now d (rooms_of c.args.office.now.lanes.items) n done (take c.loop-fed.used bytes) false c.loop-fed.machine c.loop-fed.out.items (notes_tell c.loop-fed.log.notes) (received c.loop-fed.desk.receiver) (map put_by c.loop-fed.desk.permits.items)) (sym v.2) before in
-    let after = c.in-Ok.ensures.stands done (take c.loop-fed.used bytes) [] at_number in
-    let here = subst (λ n. Stands c.args.directory.now d (rooms_of c.args.office.now.lanes.items) n done (take c.loop-fed.used bytes ++ take c.in-Ok.fed.used (take (length bytes - c.loop-fed.used) (drop c.loop-fed.used bytes))) (is_quit c.in-Ok.fed.what) c.turn.new.machine c.turn.new.out.items (notes_tell c.turn.new.book.notes) (received c.turn.new.desk.receiver) (map put_by c.turn.new.desk.permits.items)) v.2 after in
-    let whole = subst (λ l. Stands c.args.directory.now d (rooms_of c.args.office.now.lanes.items) c.args.desk.now.number done l (is_quit c.in-Ok.fed.what) c.turn.new.machine c.turn.new.out.items (notes_tell c.turn.new.book.notes) (received c.turn.new.desk.receiver) (map put_by c.turn.new.desk.permits.items))
-    (piece_more bytes c.loop-fed.used c.in-Ok.fed.used) here in
-    spoke c.args.directory.now d (rooms_of c.args.office.now.lanes.items) c.args.desk.now.number done bytes (take (c.loop-fed.used + c.in-Ok.fed.used) bytes) (drop (c.loop-fed.used + c.in-Ok.fed.used) bytes) (is_quit c.in-Ok.fed.what) c.turn.new.machine
-    c.args.machine.now.setting c.args.machine.now.host c.turn.new.out.items (notes_tell c.turn.new.book.notes) (received c.turn.new.desk.receiver) (map put_by c.turn.new.desk.permits.items) (split_there bytes (c.loop-fed.used + c.in-Ok.fed.used))
-    (inr (ap is_quit c.in-Quit.is)) (c.in-Ok.ensures.same.0 ∙ v.6) (c.in-Ok.ensures.same.1 ∙ v.7) whole
+    let after = c.in_ok-fed.ensures.stands done (take c.loop-fed.used bytes) [] at_number in
+    let here = subst (λ n. Stands c.args.directory.now d (rooms_of c.args.office.now.lanes.items) n done (take c.loop-fed.used bytes ++ take c.in_ok-fed.fed.used (take (length bytes - c.loop-fed.used) (drop c.loop-fed.used bytes))) (is_quit c.in_ok-fed.fed.what) c.turn.new.machine c.turn.new.out.items (notes_tell c.turn.new.book.notes) (received c.turn.new.desk.receiver) (map put_by c.turn.new.desk.permits.items)) v.2 after in
+    let whole = subst (λ l. Stands c.args.directory.now d (rooms_of c.args.office.now.lanes.items) c.args.desk.now.number done l (is_quit c.in_ok-fed.fed.what) c.turn.new.machine c.turn.new.out.items (notes_tell c.turn.new.book.notes) (received c.turn.new.desk.receiver) (map put_by c.turn.new.desk.permits.items))
+    (piece_more bytes c.loop-fed.used c.in_ok-fed.fed.used) here in
+    spoke c.args.directory.now d (rooms_of c.args.office.now.lanes.items) c.args.desk.now.number done bytes (take (c.loop-fed.used + c.in_ok-fed.fed.used) bytes) (drop (c.loop-fed.used + c.in_ok-fed.fed.used) bytes) (is_quit c.in_ok-fed.fed.what) c.turn.new.machine
+    c.args.machine.now.setting c.args.machine.now.host c.turn.new.out.items (notes_tell c.turn.new.book.notes) (received c.turn.new.desk.receiver) (map put_by c.turn.new.desk.permits.items) (split_there bytes (c.loop-fed.used + c.in_ok-fed.fed.used))
+    (inr (ap is_quit c.in-Quit.is)) (c.in_ok-fed.ensures.same.0 ∙ v.6) (c.in_ok-fed.ensures.same.1 ∙ v.7) whole
 
 pub returns-then-used-bytes-clause-spoke : goal.returns-then-used-bytes-clause-spoke
 returns-then-used-bytes-clause-spoke g c done begun =
@@ -29,26 +29,26 @@ returns-then-used-bytes-clause-spoke g c done begun =
     let bytes = c.args.bytes.now in
     let before = v.9 done begun in
     let at_number = subst (λ n. Stands c.args.directory.now d (rooms_of c.args.office.now.lanes.items) n done (take c.loop-fed.used bytes) false c.loop-fed.machine c.loop-fed.out.items (notes_tell c.loop-fed.log.notes) (received c.loop-fed.desk.receiver) (map put_by c.loop-fed.desk.permits.items)) (sym v.2) before in
-    let after = c.in-Ok.ensures.stands done (take c.loop-fed.used bytes) [] at_number in
-    let here = subst (λ n. Stands c.args.directory.now d (rooms_of c.args.office.now.lanes.items) n done (take c.loop-fed.used bytes ++ take c.in-Ok.fed.used (take (length bytes - c.loop-fed.used) (drop c.loop-fed.used bytes))) (is_quit c.in-Ok.fed.what) c.turn.new.machine c.turn.new.out.items (notes_tell c.turn.new.book.notes) (received c.turn.new.desk.receiver) (map put_by c.turn.new.desk.permits.items)) v.2 after in
-    let whole = subst (λ l. Stands c.args.directory.now d (rooms_of c.args.office.now.lanes.items) c.args.desk.now.number done l (is_quit c.in-Ok.fed.what) c.turn.new.machine c.turn.new.out.items (notes_tell c.turn.new.book.notes) (received c.turn.new.desk.receiver) (map put_by c.turn.new.desk.permits.items))
-    (piece_more bytes c.loop-fed.used c.in-Ok.fed.used) here in
-    spoke c.args.directory.now d (rooms_of c.args.office.now.lanes.items) c.args.desk.now.number done bytes (take (c.loop-fed.used + c.in-Ok.fed.used) bytes) (drop (c.loop-fed.used + c.in-Ok.fed.used) bytes) (is_quit c.in-Ok.fed.what) c.turn.new.machine
-    c.args.machine.now.setting c.args.machine.now.host c.turn.new.out.items (notes_tell c.turn.new.book.notes) (received c.turn.new.desk.receiver) (map put_by c.turn.new.desk.permits.items) (split_there bytes (c.loop-fed.used + c.in-Ok.fed.used))
-    (inl (none_left bytes (c.loop-fed.used + c.in-Ok.fed.used) (search rules))) (c.in-Ok.ensures.same.0 ∙ v.6) (c.in-Ok.ensures.same.1 ∙ v.7) whole
+    let after = c.in_ok-fed.ensures.stands done (take c.loop-fed.used bytes) [] at_number in
+    let here = subst (λ n. Stands c.args.directory.now d (rooms_of c.args.office.now.lanes.items) n done (take c.loop-fed.used bytes ++ take c.in_ok-fed.fed.used (take (length bytes - c.loop-fed.used) (drop c.loop-fed.used bytes))) (is_quit c.in_ok-fed.fed.what) c.turn.new.machine c.turn.new.out.items (notes_tell c.turn.new.book.notes) (received c.turn.new.desk.receiver) (map put_by c.turn.new.desk.permits.items)) v.2 after in
+    let whole = subst (λ l. Stands c.args.directory.now d (rooms_of c.args.office.now.lanes.items) c.args.desk.now.number done l (is_quit c.in_ok-fed.fed.what) c.turn.new.machine c.turn.new.out.items (notes_tell c.turn.new.book.notes) (received c.turn.new.desk.receiver) (map put_by c.turn.new.desk.permits.items))
+    (piece_more bytes c.loop-fed.used c.in_ok-fed.fed.used) here in
+    spoke c.args.directory.now d (rooms_of c.args.office.now.lanes.items) c.args.desk.now.number done bytes (take (c.loop-fed.used + c.in_ok-fed.fed.used) bytes) (drop (c.loop-fed.used + c.in_ok-fed.fed.used) bytes) (is_quit c.in_ok-fed.fed.what) c.turn.new.machine
+    c.args.machine.now.setting c.args.machine.now.host c.turn.new.out.items (notes_tell c.turn.new.book.notes) (received c.turn.new.desk.receiver) (map put_by c.turn.new.desk.permits.items) (split_there bytes (c.loop-fed.used + c.in_ok-fed.fed.used))
+    (inl (none_left bytes (c.loop-fed.used + c.in_ok-fed.fed.used) (search rules))) (c.in_ok-fed.ensures.same.0 ∙ v.6) (c.in_ok-fed.ensures.same.1 ∙ v.7) whole
 
 pub loop-fed-preserved-in-Submit : goal.loop-fed-preserved-in-Submit
 loop-fed-preserved-in-Submit g c =
     let v = c.loop-fed.invariant in
     let lanes = c.args.office.now.lanes.items in (
-      subst (λ n. AreInForce c.args.directory.now lanes n c.turn.new.desk.permits.items) v.2 c.in-Ok.ensures.permits,
-      c.in-Ok.ensures.receiver,
-      c.in-Ok.ensures.number ∙ v.2,
-      (let e = c.in-Ok.ensures.ends in omega (arith, e, v.3)),
-      c.in-Ok.ensures.owner ∙ v.4,
-      c.in-Ok.ensures.quiet,
-      c.in-Ok.ensures.same.0 ∙ v.6,
-      c.in-Ok.ensures.same.1 ∙ v.7,
+      subst (λ n. AreInForce c.args.directory.now lanes n c.turn.new.desk.permits.items) v.2 c.in_ok-fed.ensures.permits,
+      c.in_ok-fed.ensures.receiver,
+      c.in_ok-fed.ensures.number ∙ v.2,
+      (let e = c.in_ok-fed.ensures.ends in omega (arith, e, v.3)),
+      c.in_ok-fed.ensures.owner ∙ v.4,
+      c.in_ok-fed.ensures.quiet,
+      c.in_ok-fed.ensures.same.0 ∙ v.6,
+      c.in_ok-fed.ensures.same.1 ∙ v.7,
       search rules,
       λ done begun.
           let w = v in
@@ -56,11 +56,11 @@ loop-fed-preserved-in-Submit g c =
           let bytes = c.args.bytes.now in
           let before = v.9 done begun in
           let at_number = subst (λ n. Stands c.args.directory.now d (rooms_of c.args.office.now.lanes.items) n done (take c.loop-fed.used bytes) false c.loop-fed.machine c.loop-fed.out.items (notes_tell c.loop-fed.log.notes) (received c.loop-fed.desk.receiver) (map put_by c.loop-fed.desk.permits.items)) (sym v.2) before in
-          let after = c.in-Ok.ensures.stands done (take c.loop-fed.used bytes) [] at_number in
-          let here = subst (λ n. Stands c.args.directory.now d (rooms_of c.args.office.now.lanes.items) n done (take c.loop-fed.used bytes ++ take c.in-Ok.fed.used (take (length bytes - c.loop-fed.used) (drop c.loop-fed.used bytes))) (is_quit c.in-Ok.fed.what) c.turn.new.machine c.turn.new.out.items (notes_tell c.turn.new.book.notes) (received c.turn.new.desk.receiver) (map put_by c.turn.new.desk.permits.items)) v.2 after in
-          let whole = subst (λ l. Stands c.args.directory.now d (rooms_of c.args.office.now.lanes.items) c.args.desk.now.number done l (is_quit c.in-Ok.fed.what) c.turn.new.machine c.turn.new.out.items (notes_tell c.turn.new.book.notes) (received c.turn.new.desk.receiver) (map put_by c.turn.new.desk.permits.items))
-          (piece_more bytes c.loop-fed.used c.in-Ok.fed.used) here in
-          subst (λ b. Stands c.args.directory.now d (rooms_of c.args.office.now.lanes.items) c.args.desk.now.number done (take (c.loop-fed.used + c.in-Ok.fed.used) bytes) b c.turn.new.machine c.turn.new.out.items (notes_tell c.turn.new.book.notes) (received c.turn.new.desk.receiver) (map put_by c.turn.new.desk.permits.items))
+          let after = c.in_ok-fed.ensures.stands done (take c.loop-fed.used bytes) [] at_number in
+          let here = subst (λ n. Stands c.args.directory.now d (rooms_of c.args.office.now.lanes.items) n done (take c.loop-fed.used bytes ++ take c.in_ok-fed.fed.used (take (length bytes - c.loop-fed.used) (drop c.loop-fed.used bytes))) (is_quit c.in_ok-fed.fed.what) c.turn.new.machine c.turn.new.out.items (notes_tell c.turn.new.book.notes) (received c.turn.new.desk.receiver) (map put_by c.turn.new.desk.permits.items)) v.2 after in
+          let whole = subst (λ l. Stands c.args.directory.now d (rooms_of c.args.office.now.lanes.items) c.args.desk.now.number done l (is_quit c.in_ok-fed.fed.what) c.turn.new.machine c.turn.new.out.items (notes_tell c.turn.new.book.notes) (received c.turn.new.desk.receiver) (map put_by c.turn.new.desk.permits.items))
+          (piece_more bytes c.loop-fed.used c.in_ok-fed.fed.used) here in
+          subst (λ b. Stands c.args.directory.now d (rooms_of c.args.office.now.lanes.items) c.args.desk.now.number done (take (c.loop-fed.used + c.in_ok-fed.fed.used) bytes) b c.turn.new.machine c.turn.new.out.items (notes_tell c.turn.new.book.notes) (received c.turn.new.desk.receiver) (map put_by c.turn.new.desk.permits.items))
           (ap is_quit c.in-Submit.is) whole,
     )
 
@@ -68,14 +68,14 @@ pub loop-fed-preserved : goal.loop-fed-preserved
 loop-fed-preserved g c =
     let v = c.loop-fed.invariant in
     let lanes = c.args.office.now.lanes.items in (
-      subst (λ n. AreInForce c.args.directory.now lanes n c.turn.new.desk.permits.items) v.2 c.in-Ok.ensures.permits,
-      c.in-Ok.ensures.receiver,
-      c.in-Ok.ensures.number ∙ v.2,
-      (let e = c.in-Ok.ensures.ends in omega (arith, e, v.3)),
-      c.in-Ok.ensures.owner ∙ v.4,
-      c.in-Ok.ensures.quiet,
-      c.in-Ok.ensures.same.0 ∙ v.6,
-      c.in-Ok.ensures.same.1 ∙ v.7,
+      subst (λ n. AreInForce c.args.directory.now lanes n c.turn.new.desk.permits.items) v.2 c.in_ok-fed.ensures.permits,
+      c.in_ok-fed.ensures.receiver,
+      c.in_ok-fed.ensures.number ∙ v.2,
+      (let e = c.in_ok-fed.ensures.ends in omega (arith, e, v.3)),
+      c.in_ok-fed.ensures.owner ∙ v.4,
+      c.in_ok-fed.ensures.quiet,
+      c.in_ok-fed.ensures.same.0 ∙ v.6,
+      c.in_ok-fed.ensures.same.1 ∙ v.7,
       search rules,
       λ done begun.
           let w = v in
@@ -83,10 +83,10 @@ loop-fed-preserved g c =
           let bytes = c.args.bytes.now in
           let before = v.9 done begun in
           let at_number = subst (λ n. Stands c.args.directory.now d (rooms_of c.args.office.now.lanes.items) n done (take c.loop-fed.used bytes) false c.loop-fed.machine c.loop-fed.out.items (notes_tell c.loop-fed.log.notes) (received c.loop-fed.desk.receiver) (map put_by c.loop-fed.desk.permits.items)) (sym v.2) before in
-          let after = c.in-Ok.ensures.stands done (take c.loop-fed.used bytes) [] at_number in
-          let here = subst (λ n. Stands c.args.directory.now d (rooms_of c.args.office.now.lanes.items) n done (take c.loop-fed.used bytes ++ take c.in-Ok.fed.used (take (length bytes - c.loop-fed.used) (drop c.loop-fed.used bytes))) (is_quit c.in-Ok.fed.what) c.turn.new.machine c.turn.new.out.items (notes_tell c.turn.new.book.notes) (received c.turn.new.desk.receiver) (map put_by c.turn.new.desk.permits.items)) v.2 after in
-          let whole = subst (λ l. Stands c.args.directory.now d (rooms_of c.args.office.now.lanes.items) c.args.desk.now.number done l (is_quit c.in-Ok.fed.what) c.turn.new.machine c.turn.new.out.items (notes_tell c.turn.new.book.notes) (received c.turn.new.desk.receiver) (map put_by c.turn.new.desk.permits.items))
-          (piece_more bytes c.loop-fed.used c.in-Ok.fed.used) here in
-          subst (λ b. Stands c.args.directory.now d (rooms_of c.args.office.now.lanes.items) c.args.desk.now.number done (take (c.loop-fed.used + c.in-Ok.fed.used) bytes) b c.turn.new.machine c.turn.new.out.items (notes_tell c.turn.new.book.notes) (received c.turn.new.desk.receiver) (map put_by c.turn.new.desk.permits.items))
+          let after = c.in_ok-fed.ensures.stands done (take c.loop-fed.used bytes) [] at_number in
+          let here = subst (λ n. Stands c.args.directory.now d (rooms_of c.args.office.now.lanes.items) n done (take c.loop-fed.used bytes ++ take c.in_ok-fed.fed.used (take (length bytes - c.loop-fed.used) (drop c.loop-fed.used bytes))) (is_quit c.in_ok-fed.fed.what) c.turn.new.machine c.turn.new.out.items (notes_tell c.turn.new.book.notes) (received c.turn.new.desk.receiver) (map put_by c.turn.new.desk.permits.items)) v.2 after in
+          let whole = subst (λ l. Stands c.args.directory.now d (rooms_of c.args.office.now.lanes.items) c.args.desk.now.number done l (is_quit c.in_ok-fed.fed.what) c.turn.new.machine c.turn.new.out.items (notes_tell c.turn.new.book.notes) (received c.turn.new.desk.receiver) (map put_by c.turn.new.desk.permits.items))
+          (piece_more bytes c.loop-fed.used c.in_ok-fed.fed.used) here in
+          subst (λ b. Stands c.args.directory.now d (rooms_of c.args.office.now.lanes.items) c.args.desk.now.number done (take (c.loop-fed.used + c.in_ok-fed.fed.used) bytes) b c.turn.new.machine c.turn.new.out.items (notes_tell c.turn.new.book.notes) (received c.turn.new.desk.receiver) (map put_by c.turn.new.desk.permits.items))
           (ap is_quit c.in-More.is) whole,
     )
