@@ -74,14 +74,16 @@ pub settings_or_memory : {T : Type 0} (r : Result T ServeFault) (told : Result (
     → (told ≡ Err (faults.Config fault)) ⊎ (told ≡ Err faults.NoMemory)
 settings_or_memory {T} r told x fault o at err same is wrong of =
     by_case x (λ f e. wrong f (at ∙ ap (λ (y : ServeFault). Err y) e)) (subst (λ (s : Result T ServeFault). IfErr s IsOfSettings) at of) (with_err told err same) where
-  with_err : (s : Result (Unit {0}) ServeFault) → IsErr s → ((y : ServeFault) → s ≡ Err y → y ≡ x) → s ≡ Err x
-  with_err (Ok done) none same = absurd (let e : false ≡ true = none in cc)
-  with_err (Err y) some same = ap (λ (z : ServeFault). Err z) (same y refl)
-  both : (f g : ConfigFault) → o ≡ Some f → o ≡ Some g → f ≡ g
-  both f g a b = cc
-  by_case : (x : ServeFault) → ((f : ConfigFault) → x ≡ faults.Config f → o ≡ Some f) → IsOfSettings x → told ≡ Err x → (told ≡ Err (faults.Config fault)) ⊎ (told ≡ Err faults.NoMemory)
-  by_case (faults.Config f) known ok e = inl (e ∙ ap (λ (y : ConfigFault). Err (faults.Config y)) (both f fault (known f refl) is))
-  by_case faults.NoMemory known ok e = inr e
-  by_case faults.Device known ok e = absurd ok
-  by_case faults.Spawn known ok e = absurd ok
-  by_case faults.Torn known ok e = absurd ok
+      with_err : (s : Result (Unit {0}) ServeFault) → IsErr s → ((y : ServeFault) → s ≡ Err y → y ≡ x) → s ≡ Err x
+      with_err (Ok done) none same = absurd (let e : false ≡ true = none in cc)
+      with_err (Err y) some same = ap (λ (z : ServeFault). Err z) (same y refl)
+
+      both : (f g : ConfigFault) → o ≡ Some f → o ≡ Some g → f ≡ g
+      both f g a b = cc
+
+      by_case : (x : ServeFault) → ((f : ConfigFault) → x ≡ faults.Config f → o ≡ Some f) → IsOfSettings x → told ≡ Err x → (told ≡ Err (faults.Config fault)) ⊎ (told ≡ Err faults.NoMemory)
+      by_case (faults.Config f) known ok e = inl (e ∙ ap (λ (y : ConfigFault). Err (faults.Config y)) (both f fault (known f refl) is))
+      by_case faults.NoMemory known ok e = inr e
+      by_case faults.Device known ok e = absurd ok
+      by_case faults.Spawn known ok e = absurd ok
+      by_case faults.Torn known ok e = absurd ok

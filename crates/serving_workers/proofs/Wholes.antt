@@ -1,5 +1,5 @@
 -- A house that was closed with nothing amiss.
-use Rattle.std.proofs.Common.{◌≡◌, List, true, false, map, sym, subst, Vec}
+use Rattle.std.proofs.Common.{◌≡◌, List, true, false, map, subst, Vec}
 use Rattle.std.specs.Global.{Global}
 use Rattle.std.specs.List.{list_any}
 use Rattle.delivery_token.specs.declared.Job.{Job}

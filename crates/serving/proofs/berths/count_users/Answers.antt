@@ -1,5 +1,4 @@
-use Rattle.std.proofs.Common.{rules, ◌≡◌, length, arith}
-use Rattle.serving.specs.Announcing.{users_of}
+use Rattle.std.proofs.Common.{arith}
 use Rattle.serving.proofs.Users.{few, nobody, somebody}
 use Rattle.serving.proofs.berths.count_users.Goals as goal
 

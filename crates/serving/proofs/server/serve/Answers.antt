@@ -25,10 +25,10 @@ returns-clause-not_set g c x e = absurd (c.run_house_in.ensures.setting x e)
 
 pub returns-in_err-directory-clause-refused : goal.returns-in_err-directory-clause-refused
 returns-in_err-directory-clause-refused g c fault is = (
-    settings_or_memory c.lay_out.result c.from_residual.result c.in_err-directory.field-0.0 fault _ c.in_err-directory.was c.from_residual.ensures.0
-    (λ y e. search (rules, e)) is c.lay_out.ensures.wrong c.lay_out.ensures.fault,
-    refl,
-  )
+  settings_or_memory c.lay_out.result c.from_residual.result c.in_err-directory.field-0.0 fault _ c.in_err-directory.was c.from_residual.ensures.0
+      (λ y e. search (rules, e)) is c.lay_out.ensures.wrong c.lay_out.ensures.fault,
+  refl,
+)
 
 pub run_house_in-requires-clause-imap : goal.run_house_in-requires-clause-imap
 run_house_in-requires-clause-imap g c κs lives =
