@@ -24,3 +24,4 @@ mod Mailed
 mod Shortness
 mod OkCurrent
 mod Selecting
+mod Unselected

@@ -46,7 +46,7 @@ has_ok at_line tag (b ∷ bytes) = (at_line && begins (tag ++ codes " OK ") (b �
 abbrev pub reads_on : List ℕ → Option Client → Option Client
 reads_on bytes client = option_map (λ (c : Client). reads c bytes) client
 
--- The answer to a line. Where SELECT or EXAMINE is answered OK a list begins with the answer; where it is not, the client doesn't know whether it still is in the mailbox that it was in.
+-- The answer to a line. Where SELECT or EXAMINE is answered OK a list begins with the answer; where it is not, it is in no mailbox (6.3.2).
 -- CLOSE and UNSELECT take the list away where they are answered OK. Whatever else it asked, it reads on.
 abbrev pub answered : Asked → List ℕ → Option Client → Option Client
 answered (Entering tag) bytes client = if has_ok true tag bytes then Some (reads fresh bytes) else None

@@ -7,7 +7,7 @@ ghost use Rattle.client_records.specs.Laws.{CallsAreSeen, CountedAreGiven, Entri
 ghost use Rattle.client_records.specs.Lives.{LivesAreKnown};
 ghost use Rattle.client_records.specs.One.{OneLifeIsLived};
 ghost use Rattle.client_records.specs.Records.{ClientsKeepUp, ClientsOfHousesKeepUp, RecordsMoveOn, SettingsCanBePrinted, TextsStayShort};
-ghost use Rattle.client_records.specs.Selecting.{KnowingIsSelected};
+ghost use Rattle.client_records.specs.Selecting.{KnowingIsSelected, RefusedSelectsNone};
 ghost use Rattle.client_records.specs.Turns.{StandsStill, TurnIsKnown};
 
 /// In every world that came from the empty one: the UIDs and the positions of what a session counts can be printed, and what
@@ -35,10 +35,12 @@ pub fn uids_stay()
 /// A client that knows which of its lines were SELECT, EXAMINE, CLOSE or UNSELECT, and was right about what its session counts
 /// before a turn, hears what is said in it, and is right about what the session counts then; whatever it sent, whatever is
 /// answered, and wherever the store or memory refuses. Of the session it is asked that its mailboxes' names stand in lines,
-/// and that its tags are tags; it stays so.
+/// and that its tags are tags; it stays so. A SELECT or EXAMINE that isn't answered OK leaves no mailbox selected (RFC 9051,
+/// 6.3.2), wherever memory is refused, or the session has ended.
 pub fn turns_are_known()
     ensures turn { TurnIsKnown }
     ensures stands { StandsStill }
+    ensures unselected { RefusedSelectsNone }
 {}
 
 /// So it is at each moment of a session's life, with all that others do between its turns: since a SELECT or EXAMINE was

@@ -22,12 +22,12 @@ selected : hears None (Answer (codes "a SELECT INBOX") (two ++ codes "a OK [READ
 unfolding read
 selected = refl
 
--- a SELECT that is refused: it may still be in the mailbox that it was in, or in none
+-- a SELECT that is refused: it is in no mailbox
 refused : hears (Some (knowing (Some (unknown ∷ [])))) (Answer (codes "a SELECT INBOX") (codes "a NO Out of memory\r\n")) ≡ None
 unfolding read
 refused = refl
 
--- so may it be where it was told that the mailbox is closed
+-- and so where it was told that the mailbox is closed
 closed_first : hears (Some (knowing (Some (unknown ∷ [])))) (Answer (codes "a SELECT x") (codes "* OK [CLOSED] Previous mailbox is closed\r\na NO [NONEXISTENT] No such mailbox\r\n")) ≡ None
 unfolding read
 closed_first = refl
