@@ -1,4 +1,5 @@
--- What the program takes, as clap reads it: two subcommands, with their options and mailboxes, and help and the version besides. The texts of help are no part of it.
+-- What the program takes, as clap reads it: two subcommands, with their options and mailboxes, and help and the version besides.
+-- The texts of help are no part of it.
 use Rattle.std.specs.Prelude.{◌≡◌, ◌⊎◌, ℕ, ◌++◌, List, [], ◌∷◌, Some, codes, true, false}
 use Rattle.clap.specs.Lexer.{usize_max}
 use Rattle.clap.specs.Words.{App, IsAmong, Kinds, Rule, Shape, Text, fault_of, new_app, new_rule}
@@ -61,10 +62,6 @@ program = record {
 -- The kinds of error that clap has for these words, the first of which is the program's name: none where it takes them.
 abbrev pub faults_at : List Text → Kinds
 faults_at words = fault_of program words
-
--- help or the version is asked for
-abbrev pub AsksToBeTold : List Text → Type 0
-AsksToBeTold words = IsAmong kind.DisplayHelp (faults_at words) ⊎ IsAmong kind.DisplayVersion (faults_at words)
 
 -- what clap takes, and the program doesn't: a number that is spelled with other than digits, no mailbox, no subcommand
 abbrev pub own_faults : Kinds
