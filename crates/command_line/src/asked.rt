@@ -1,8 +1,10 @@
 //! What the words of a command line ask for, and the settings that they come to.
 
-ghost use Rattle.std.specs.Prelude.{◌<◌, length, IfOk};
+ghost use Rattle.std.specs.Prelude.{◌≡◌, ◌<◌, [], length, map, IfOk, MatchResult};
+ghost use Rattle.clap.specs.Words.{IsAmong, app_of, kind_of};
 ghost use Rattle.house.specs.Settings.{IsFrom, IsInRange};
 ghost use Rattle.command_line.specs.Asking.{IsAskedInRange};
+ghost use Rattle.command_line.specs.Words as words_taken;
 
 use crate::options::{
     DEPTH, FIRST_UID, HOUSE_OPTIONS, IMAP_PORT, LMTP_PORT, MAX_MESSAGE, MESSAGES, NumberOption,
@@ -22,7 +24,9 @@ pub enum Asked {
     Script(Config),
     /// A server with these settings.
     Serve {
+        /// The settings, its ports and numbers of threads among them.
         config: Config,
+        /// Whether the UIDVALIDITY among them was given, or stands where none is: of that the server warns.
         uidvalidity: Uidvalidity,
     },
 }
@@ -226,7 +230,9 @@ fn misspelled<'a>(
     command: &mut Command<'a>,
     name: &str,
     text: &str,
-) -> Result<Error, AllocError> {
+) -> Result<Error, AllocError>
+    ensures { IfOk result (λ e. kind_of e ≡ ErrorKind.ValueValidation) }
+{
     let text = format!(in alloc; "invalid value '{text}' for '--{name}': only digits are read")?;
     command.error(ErrorKind::ValueValidation, &text)
 }
@@ -236,7 +242,9 @@ fn error_of<'a>(
     alloc: Global,
     command: &mut Command<'a>,
     refused: Refused<'a>,
-) -> Result<Error, AllocError> {
+) -> Result<Error, AllocError>
+    ensures { IfOk result (λ e. IsAmong (kind_of e) words_taken.own_faults) }
+{
     match refused {
         Refused::Spelling(name, text) => misspelled(alloc, command, name, text),
         Refused::NoMailbox => {
@@ -256,7 +264,10 @@ fn asked_by<'a, S: AsStr>(
     mut command: Command<'a>,
     words: &'a [S],
 ) -> Result<Asked, Error>
-    ensures { IfOk result IsAskedInRange }
+    requires { app_of command ≡ words_taken.program }
+    ensures range { IfOk result IsAskedInRange }
+    ensures answered { MatchResult result (λ asked. words_taken.faults_at (map S.text words.entry.now) ≡ [])
+        (λ e. words_taken.FailsWith (words_taken.faults_at (map S.text words.entry.now)) (kind_of e)) }
 {
     let matches = command.try_get_matches_from_mut(words)?;
     match asked_in(alloc, &matches) {
@@ -271,7 +282,9 @@ fn asked_by<'a, S: AsStr>(
 /// The error is clap's: a mistake in the words, a number that is out of its range or has other than digits, or a request for help; of
 /// kind `OutOfMemory` where memory is refused.
 pub fn asked_of<'a, S: AsStr>(alloc: Global, words: &'a [S]) -> Result<Asked, Error>
-    ensures { IfOk result IsAskedInRange }
+    ensures range { IfOk result IsAskedInRange }
+    ensures answered { MatchResult result (λ asked. words_taken.faults_at (map S.text words.entry.now) ≡ [])
+        (λ e. words_taken.FailsWith (words_taken.faults_at (map S.text words.entry.now)) (kind_of e)) }
 {
     let helps = helps_of(alloc, HOUSE_OPTIONS)?;
     let server_helps = helps_of(alloc, SERVER_OPTIONS)?;

@@ -1,5 +1,11 @@
 //! Which options and words the command line has, with the help of each, as clap takes them. What they come to is told in `asked`.
 
+ghost use Rattle.std.specs.Prelude.{◌≡◌, ◌≤◌, ◌∷◌, [], IfOk, codes, false, length, map, true};
+ghost use Rattle.clap.specs.Words.{app_of, rule_of, shape_of};
+ghost use Rattle.clap.specs.declared.builder.command.Command.TheViews.{out-Command as fields_of};
+ghost use Rattle.command_line.specs.Words as words;
+ghost use Rattle.command_line.specs.inner.Words.{HasMore, rule_for};
+
 use clap::builder::ValueParser;
 use clap::{Arg, ArgAction, Command};
 use house::numbers::{self, Number};
@@ -105,7 +111,10 @@ const VERSION: &str = "0.1.0, proved with logic dac8208d650f15bf";
 
 // An option that sets a number. Its help says what it is for, how far it may go, and what stands where it
 // is not given.
-fn option<'a>(alloc: Global, option: NumberOption, help: &'a str) -> Arg<'a> {
+fn option<'a>(alloc: Global, option: NumberOption, help: &'a str) -> Arg<'a>
+    ensures rule { rule_of result ≡ rule_for option }
+    ensures local { result.global ≡ false }
+{
     Arg::new(alloc, option.name)
         .long(option.name)
         .help(help)
@@ -114,7 +123,9 @@ fn option<'a>(alloc: Global, option: NumberOption, help: &'a str) -> Arg<'a> {
 }
 
 // The help of each of these options.
-pub(crate) fn helps_of(alloc: Global, options: &[NumberOption]) -> Result<Vec<String>, AllocError> {
+pub(crate) fn helps_of(alloc: Global, options: &[NumberOption]) -> Result<Vec<String>, AllocError>
+    ensures { IfOk result (λ helps. length helps.items ≡ length options.now) }
+{
     let mut helps = Vec::new(alloc);
     for option in options {
         let number = option.number;
@@ -133,16 +144,22 @@ fn with_options<'a>(
     subcommand: Command<'a>,
     options: &[NumberOption],
     helps: &'a [String],
-) -> Result<Command<'a>, AllocError> {
+) -> Result<Command<'a>, AllocError>
+    requires { length options.now ≤ length helps.now }
+    ensures { IfOk result (HasMore (map rule_for options.now) subcommand.entry) }
+{
     let mut subcommand = subcommand;
-    for (number, help) in options.iter().zip(helps) {
-        subcommand = subcommand.arg(option(alloc, *number, help))?;
+    for index in 0..options.len() {
+        subcommand = subcommand.arg(option(alloc, options[index], &helps[index]))?;
     }
     Ok(subcommand)
 }
 
 // A name that may be set. Which names are right is the settings' to say.
-fn name<'a>(alloc: Global, name: &'static str, help: &'static str) -> Arg<'a> {
+fn name<'a>(alloc: Global, name: &'static str, help: &'static str) -> Arg<'a>
+    ensures rule { rule_of result ≡ words.name_rule name.now }
+    ensures local { result.global ≡ false }
+{
     Arg::new(alloc, name)
         .long(name)
         .help(help)
@@ -150,7 +167,9 @@ fn name<'a>(alloc: Global, name: &'static str, help: &'static str) -> Arg<'a> {
 }
 
 // A subcommand with the names that may be set.
-fn with_names_of<'a>(alloc: Global, subcommand: Command<'a>) -> Result<Command<'a>, AllocError> {
+fn with_names_of<'a>(alloc: Global, subcommand: Command<'a>) -> Result<Command<'a>, AllocError>
+    ensures { IfOk result (HasMore (words.name_rule (codes "host") ∷ words.name_rule (codes "domain") ∷ []) subcommand.entry) }
+{
     subcommand
         .arg(name(
             alloc,
@@ -165,7 +184,10 @@ fn with_names_of<'a>(alloc: Global, subcommand: Command<'a>) -> Result<Command<'
 }
 
 // The mailboxes, of which there is one at least.
-fn mailboxes<'a>(alloc: Global) -> Arg<'a> {
+fn mailboxes<'a>(alloc: Global) -> Arg<'a>
+    ensures rule { rule_of result ≡ words.mailbox_rule }
+    ensures local { result.global ≡ false }
+{
     Arg::new(alloc, "MAILBOX")
         .help("A mailbox, `user` or `user/folder`")
         .action(ArgAction::Append)
@@ -178,13 +200,20 @@ fn with_house<'a>(
     alloc: Global,
     subcommand: Command<'a>,
     helps: &'a [String],
-) -> Result<Command<'a>, AllocError> {
+) -> Result<Command<'a>, AllocError>
+    requires { 8 ≤ length helps.now }
+    ensures { IfOk result (HasMore words.house_rules subcommand.entry) }
+{
     let named = with_names_of(alloc, subcommand)?;
     with_options(alloc, named, HOUSE_OPTIONS, helps)?.arg(mailboxes(alloc))
 }
 
 // `script`, with its options and its mailboxes.
-fn script_line<'a>(alloc: Global, helps: &'a [String]) -> Result<Command<'a>, AllocError> {
+fn script_line<'a>(alloc: Global, helps: &'a [String]) -> Result<Command<'a>, AllocError>
+    requires { 8 ≤ length helps.now }
+    ensures shape { IfOk result (λ c. shape_of c ≡ words.script) }
+    ensures local { IfOk result (λ c. (fields_of c).has_globals ≡ false) }
+{
     let script = Command::new(alloc, "script").about(
         "Runs a script from standard input on a house of its own",
     );
@@ -196,7 +225,11 @@ fn serve_line<'a>(
     alloc: Global,
     helps: &'a [String],
     server_helps: &'a [String],
-) -> Result<Command<'a>, AllocError> {
+) -> Result<Command<'a>, AllocError>
+    requires { (8 ≤ length helps.now) × (4 ≤ length server_helps.now) }
+    ensures shape { IfOk result (λ c. shape_of c ≡ words.serve) }
+    ensures local { IfOk result (λ c. (fields_of c).has_globals ≡ false) }
+{
     let serve = Command::new(alloc, "serve").about(
         "Serves on the loopback address until standard input is at its end",
     );
@@ -205,7 +238,9 @@ fn serve_line<'a>(
 }
 
 // The program, with no subcommand yet.
-fn program<'a>(alloc: Global) -> Command<'a> {
+fn program<'a>(alloc: Global) -> Command<'a>
+    ensures { app_of result ≡ record words.program { top = record (words.program).top { is_leaf = true }; subs = [] } }
+{
     Command::new(alloc, "post_house")
         .about("Takes in mail for a few mailboxes")
         .version(VERSION)
@@ -217,7 +252,10 @@ pub(crate) fn command_line<'a>(
     alloc: Global,
     helps: &'a [String],
     server_helps: &'a [String],
-) -> Result<Command<'a>, AllocError> {
+) -> Result<Command<'a>, AllocError>
+    requires { (8 ≤ length helps.now) × (4 ≤ length server_helps.now) }
+    ensures { IfOk result (λ c. app_of c ≡ words.program) }
+{
     let with_script = program(alloc).subcommand(script_line(alloc, helps)?)?;
     with_script.subcommand(serve_line(alloc, helps, server_helps)?)
 }

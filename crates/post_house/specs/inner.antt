@@ -1,2 +1,3 @@
 pub mod Playing
 pub mod Status
+pub mod Telling

@@ -4,7 +4,8 @@
 
 mod failure;
 
-ghost use Rattle.std.specs.Prelude.{◌≡◌, ◌⊎◌, false, ℕ, List, Some, Err};
+ghost use Rattle.std.specs.Prelude.{◌≡◌, ◌⊎◌, ◌↔◌, false, true, ℕ, List, Some, Err, map};
+ghost use Rattle.clap.specs.Words.{kind_of};
 ghost use Rattle.script.specs.Script.{script_of};
 ghost use Rattle.script.specs.Promise.{WroteOnce};
 ghost use Rattle.house.specs.Settings.{IsInRange, config_fault, setup_of};
@@ -13,6 +14,7 @@ ghost use Rattle.command_line.specs.Asking.{IsAskedInRange};
 ghost use Rattle.post_house.specs.inner.Playing.{HasDone, HasDoneAsked, HasServed, Played, RanScript};
 ghost use Rattle.post_house.specs.Status.{status_of};
 ghost use Rattle.post_house.specs.inner.Status.{IsStatus};
+ghost use Rattle.post_house.specs.inner.Telling.{HasRefused, HasTold, IsRequest, Tells};
 
 use crate::failure::{Failure, device_or_memory};
 use clap::Error;
@@ -45,20 +47,25 @@ fn fail<F: Write>(failure: Failure, faults: &mut F) -> u8
     failure.status()
 }
 
-// Says what is to be said of a command line that gave no settings: the help on the output, a mistake on standard error.
-fn tell<W: Sink, F: Write>(alloc: Global, error: &Error, output: &mut W, faults: &mut F) -> u8
-    requires { W.failed output.old ≡ false }
-    ensures status { IsStatus result }
-    ensures not_asked { result ≡ NOT_ASKED_RIGHT → output.new ≡ output.old }
-    ensures not_set { result ≡ 3 → ⊥ }
+// Whether memory was refused.
+fn is_want(kind: ErrorKind) -> bool
+    ensures { (result ≡ true) ↔ (kind ≡ ErrorKind.OutOfMemory) }
 {
-    if let ErrorKind::OutOfMemory = error.kind() {
-        return fail(Failure::NoMemory, faults);
-    }
-    if error.use_stderr() {
-        let _ = write!(faults, "{error}");
-        return NOT_ASKED_RIGHT;
-    }
+    matches!(kind, ErrorKind::OutOfMemory)
+}
+
+// Whether help or the version was asked for.
+fn is_request(kind: ErrorKind) -> bool
+    ensures { (result ≡ true) ↔ IsRequest kind }
+{
+    matches!(kind, ErrorKind::DisplayHelp | ErrorKind::DisplayVersion)
+}
+
+// Writes help or the version to the output. Where memory is refused nothing is written.
+fn show<W: Sink, F: Write>(alloc: Global, error: &Error, output: &mut W, faults: &mut F) -> u8
+    requires { W.failed output.old ≡ false }
+    ensures { (result ≡ 5) × (output.new ≡ output.old) ⊎ Tells (W.failed output.new) result (W.taken output.old) (W.taken output.new) }
+{
     let mut help = Vec::new(alloc);
     let Ok(()) = write!(help, "{error}") else {
         return fail(Failure::NoMemory, faults);
@@ -67,6 +74,21 @@ fn tell<W: Sink, F: Write>(alloc: Global, error: &Error, output: &mut W, faults:
         Ok(()) => DONE,
         Err(_) => fail(Failure::Device, faults),
     }
+}
+
+// Says what is to be said of a command line that gave no settings: the help on the output, a mistake on standard error.
+fn tell<W: Sink, F: Write>(alloc: Global, error: &Error, output: &mut W, faults: &mut F) -> u8
+    requires { W.failed output.old ≡ false }
+    ensures { HasTold (kind_of error.now) (output.new ≡ output.old) (W.failed output.new) result (W.taken output.old) (W.taken output.new) }
+{
+    if is_want(error.kind()) {
+        return fail(Failure::NoMemory, faults);
+    }
+    if is_request(error.kind()) {
+        return show(alloc, error, output, faults);
+    }
+    let _ = write!(faults, "{error}");
+    NOT_ASKED_RIGHT
 }
 
 // Runs the script from the input on a house of these settings. Where they are wrong, their first fault is told.
@@ -184,9 +206,10 @@ fn command<
     ensures status { IsStatus result }
     ensures not_asked { result ≡ NOT_ASKED_RIGHT → output.new ≡ output.old }
     ensures not_set { result ≡ 3 → output.new ≡ output.old }
-    // Where the input was touched, what the words asked for was done.
-    ensures ran { (input.new ≡ input.old) ⊎ HasDoneAsked (I.remaining input.old) (W.failed output.new) result (W.taken output.old)
-        (W.taken output.new) }
+    // What the words asked for was done; or they ask for nothing that is done, the input wasn't touched, and that was told.
+    ensures ran { HasDoneAsked (map S.text words.now) (I.remaining input.old) (W.failed output.new) result (W.taken output.old) (W.taken output.new)
+        ⊎ (input.new ≡ input.old) × HasRefused (map S.text words.now) (output.new ≡ output.old) (W.failed output.new) result
+        (W.taken output.old) (W.taken output.new) }
 {
     let asked = match asked_of(alloc, words) {
         Ok(asked) => asked,

@@ -1,11 +1,13 @@
 -- What the program does with a script, and as a server, by how it went.
-use Rattle.std.specs.Prelude.{◌≡◌, ℕ, ◌⊎◌, Bool, true, List, Option, Some, None, Result, Ok, Err, OnOk, take}
+use Rattle.std.specs.Prelude.{◌≡◌, ℕ, ◌⊎◌, Bool, true, List, [], Option, Some, None, Result, Ok, Err, OnOk, take}
 use Rattle.std.specs.Io.KnownBytes.{Appends}
 use Rattle.house.specs.Settings.{config_fault, setup_of}
 use Rattle.house.specs.House.{House}
 use Rattle.house.specs.declared.config.Config.{Config}
 use Rattle.house.specs.declared.config.ConfigFault.{ConfigFault}
+use Rattle.clap.specs.Words.{Text}
 use Rattle.command_line.specs.Asking.{IsAskedInRange}
+use Rattle.command_line.specs.Words.{faults_at}
 use Rattle.post_house.specs.inner.Status.{status_for, status_served}
 use Rattle.command_line.specs.declared.asked.Asked.{Asked}
 use Rattle.command_line.specs.declared.asked.Asked.TheVariants.{Script, Serve}
@@ -60,8 +62,9 @@ abbrev pub HasDone : Asked → (remaining : Option (List ℕ)) → (failed : Boo
 HasDone (Script config) remaining failed status old new = (bytes : List ℕ) → remaining ≡ Some bytes → RanScript config bytes failed status old new
 HasDone (Serve config uidvalidity) remaining failed status old new = HasServed config uidvalidity status old new
 
--- Something was asked for, with settings that are in their ranges, and it was done.
-pub record HasDoneAsked (remaining : Option (List ℕ)) (failed : Bool) (status : ℕ) (old new : Option (List ℕ)) : Type 0 where
+-- Words that clap takes asked for something, with settings that are in their ranges, and it was done.
+pub record HasDoneAsked (words : List Text) (remaining : Option (List ℕ)) (failed : Bool) (status : ℕ) (old new : Option (List ℕ)) : Type 0 where
+  pub taken : faults_at words ≡ []
   pub asked : Asked
   pub range : IsAskedInRange asked
   pub done : HasDone asked remaining failed status old new
