@@ -63,13 +63,13 @@ pub(crate) const FIRST_UID: NumberOption = NumberOption {
 
 pub(crate) const UIDVALIDITY: NumberOption = NumberOption {
     name: "uidvalidity",
-    help: "What each mailbox tells as its UIDVALIDITY",
+    help: "What each mailbox tells as its UIDVALIDITY; for a server one that grows from start to start",
     number: numbers::UIDVALIDITY,
 };
 
 pub(crate) const LMTP_PORT: NumberOption = NumberOption {
     name: "lmtp-port",
-    help: "The port that mail comes to",
+    help: "The port that mail comes to, neither 25 nor a user's",
     number: numbers::LMTP_PORT,
 };
 
