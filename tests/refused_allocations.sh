@@ -6,6 +6,7 @@
 #   tag of a session, behind which the script goes on;
 # - with status 0 and the whole output, where the program could do without that memory.
 # And where a copy was answered `Delivered`, or `OK` with APPENDUID, and the script came to its TAIL, the mailbox has it. Each case ends with a TAIL for that.
+# Where a SELECT or EXAMINE isn't answered OK no mailbox is selected, as the next CLOSE tells; and one behind another tells first that the other is closed.
 # With no argument it builds the program; else the argument is the program.
 set -eu
 top=$(CDPATH= cd -- "$(dirname -- "$0")/.." && pwd)
@@ -58,6 +59,20 @@ is_kept() {
     test "$delivered" -le "$added"
 }
 
+# Whether a mailbox is selected just where a SELECT or EXAMINE told so, and each is told to be closed behind which another is asked for. Their tags begin with
+# s, and those of CLOSE with c.
+is_selected_as_told() {
+    awk '
+        $3 == "OK" && $4 == "[CLOSED]" { closed = 1 }
+        $2 ~ /^s/ && selected != closed { wrong = 1 }
+        $2 ~ /^s/ { selected = $3 == "OK"; closed = 0 }
+        $2 ~ /^c/ && $3 == "OK" && !selected { wrong = 1 }
+        $2 ~ /^c/ && $3 == "BAD" && selected { wrong = 1 }
+        $2 ~ /^c/ && $3 == "OK" { selected = 0 }
+        END { exit wrong + 0 }
+    ' "$room/out"
+}
+
 # Runs the case with the allocation of this number refused.
 run_at() {
     rm -f "$room/met"
@@ -82,14 +97,14 @@ count() {
 try_case() {
     at=1
     while run_at "$at" && test -e "$room/met"; do
-        if is_right "$status" && is_kept; then count "$at" right; else count "$at" wrong; fi
+        if is_right "$status" && is_kept && is_selected_as_told; then count "$at" right; else count "$at" wrong; fi
         at=$((at + 1))
     done
     if test "$status" = 0 && cmp -s "$want" "$room/out"; then count none right; else count none wrong; fi
 }
 
 passed=0 failed=0
-for case in first-message two-recipients-one-unknown select-and-list expunge partial-and-seen idle append; do
+for case in first-message two-recipients-one-unknown select-and-list select-behind-another expunge partial-and-seen idle append; do
     input=$top/tests/cases/$case.stdin want=$top/tests/cases/$case.stdout
     # The first message is what the program's stored run reads.
     if test "$case" = first-message; then
