@@ -9,6 +9,7 @@ returns-in-Ok-clause-served g c = record {
   status_is = refl;
   wrong = c.in-Ok.ensures.wrong;
   right = c.in-Ok.ensures.right;
+  refused = λ fault e. let r = c.in-Ok.ensures.refused fault e in (r.0, ap g.W.Sink.taken r.1);
   told = c.in-Ok.ensures.told;
   all = c.in-Ok.ensures.all;
 }
@@ -26,6 +27,7 @@ returns-in-Err-clause-served g c = record {
   status_is = c.fail.ensures ∙ ap status_of c.from.ensures;
   wrong = c.in-Err.ensures.wrong;
   right = c.in-Err.ensures.right;
+  refused = λ fault e. let r = c.in-Err.ensures.refused fault e in (r.0, ap g.W.Sink.taken r.1);
   told = c.in-Err.ensures.told;
   all = c.in-Err.ensures.all;
 }

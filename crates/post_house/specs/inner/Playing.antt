@@ -54,6 +54,8 @@ pub record HasServed (config : Config) (uidvalidity : Uidvalidity) (status : ℕ
   pub status_is : status ≡ status_served result
   pub wrong : (fault : ConfigFault) → result ≡ Err (serve_faults.Config fault) → server_fault config ≡ Some fault
   pub right : OnOk result (server_fault config ≡ None)
+  -- wrong settings are told, or want of memory is, and nothing was written
+  pub refused : (fault : ConfigFault) → server_fault config ≡ Some fault → ((result ≡ Err (serve_faults.Config fault)) ⊎ (result ≡ Err serve_faults.NoMemory)) × (new ≡ old)
   pub told : (n : ℕ) × Appends old new (take n (lines_of config uidvalidity))
   pub all : OnOk result (Appends old new (lines_of config uidvalidity))
 
