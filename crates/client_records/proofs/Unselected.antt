@@ -16,9 +16,9 @@ use Rattle.imap_grammar.specs.declared.command.ImapFault.{ImapFault}
 use Rattle.imap_session.specs.declared.standing.After.TheVariants.{Go}
 use Rattle.imap_session.specs.declared.standing.Selected.{Selected}
 use Rattle.imap_session.specs.Exchange.{Answer, Appending, Entered, Looked, Found, Counted, Altered, Expunged, Fed, Left, Refused, Starved, Event, Exchange, Put, Enter, Leave, Folder, Standing, Turn, closed, having, kept_behind, kept_tag, played, refusal_after, refused, saying, tagged}
-use Rattle.imap_session.specs.Commands.{closing, entering, folder_of, on_command, on_folder, on_found, on_read, opened, says, selecting, turn_behind, turn_of, turn_while, wanting}
+use Rattle.imap_session.specs.Commands.{closing, entering, folder_of, on_command, on_folder, on_found, on_read, opened, says, turn_behind, turn_of, turn_while, wanting}
 use Rattle.imap_session.specs.Store.{Met}
-use Rattle.imap_answers.specs.Answers.{all_flags, crlf, opening_text}
+use Rattle.imap_answers.specs.Answers.{all_flags, opening_text}
 use Rattle.client_list.specs.Turns.{IsTag}
 use Rattle.client_list.proofs.Tags.{Tagged, read_tagged}
 use Rattle.client_list.proofs.Turns.{the_turn}

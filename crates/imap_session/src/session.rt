@@ -518,12 +518,8 @@ impl Session {
         ensures answered { IfOk result (λ after. Leads begun.tag (record self.old { idling = None })
             (on_rest self.old.mailing (appending_of begun) (length line.now == 0)) out.old.items out.new.items after self.new) }
         ensures lasts { result ≢ Err SessionFault.Ended }
-        ensures refused { OnErr result ((self.new ≡ record self.old {
-          mailing = record self.old.mailing {
-            begun = Some
-                (appending_of begun);
-          };
-        }) × (out.new.items ≡ out.old.items)) }
+        ensures refused { OnErr result ((self.new ≡ record self.old { mailing = record self.old.mailing { begun = Some (appending_of begun) } }) ×
+            (out.new.items ≡ out.old.items)) }
         ensures memory { OnErr result (vec_capacity out.old < vec_len out.old + (length begun.tag + 48)) }
         ensures folders { self.new.folders ≡ self.old.folders }
         ensures sends { IfOk result (λ after. after ≡ may_send self.new) }
@@ -624,12 +620,8 @@ impl Session {
         requires going { self.old.ended ≡ false }
         requires unsent { self.old.mailing.sent ≡ None }
         ensures answered { IfOk result (λ after. AnswersVerdict S.step
-            (record self.old {
-              mailing = record self.old.mailing {
-                sent = Some
-                    (sent_of sent);
-              };
-            }) verdict store.old store.new out.old.items out.new.items after self.new) }
+            (record self.old { mailing = record self.old.mailing { sent = Some (sent_of sent) } })
+            verdict store.old store.new out.old.items out.new.items after self.new) }
         ensures lasts { result ≢ Err SessionFault.Ended }
         ensures refused { OnErr result ((self.new ≡ record self.old { mailing = record self.old.mailing { sent = Some (sent_of sent) } }) ×
             (store.new ≡ store.old) × (out.new.items ≡ out.old.items)) }

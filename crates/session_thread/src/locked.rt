@@ -91,7 +91,8 @@ pub(crate) fn expunge<R: Wait>(
     uids: Option<&[u32]>,
     out: &mut Vec<u8>,
 ) -> Result<usize, MailFault>
-    ensures event { UnderLock (λ found left. DoesExpunge found handle.old (option_copied uids.entry) out.old.items out.new.items result left handle.new) }
+    ensures event { UnderLock (λ found left.
+        DoesExpunge found handle.old (option_copied uids.entry) out.old.items out.new.items result left handle.new) }
     ensures room { vec_capacity out.old ≤ vec_capacity out.new }
 {
     let mut held = lock.lock(rt);
