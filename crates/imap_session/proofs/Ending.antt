@@ -9,10 +9,10 @@ use Rattle.imap_session.specs.declared.standing.After.TheVariants.{Go, Bye}
 use Rattle.imap_session.specs.declared.standing.Selected.{Selected}
 use Rattle.imap_session.specs.Exchange as ex
 use Rattle.imap_session.specs.Exchange.{Call, Answer, Exchange, Folder, Mailing, Standing, Event, played, saying, closed, tagged, refusal_text, refusal_after}
-use Rattle.imap_session.specs.Commands.{completed, on_found, wrong_state, on_command}
+use Rattle.imap_session.specs.Commands.{notice, noticing, on_command, on_found, wrong_state}
 use Rattle.imap_session.specs.Store.{Met}
 use Rattle.imap_session.specs.Response.{Response}
-use Rattle.imap_session.specs.inner.Store.{Reaches, Stops, Does, Moves, Plays, after_command, behind_first_line, ending, first_line, last_words, after_result, onward}
+use Rattle.imap_session.specs.inner.Store.{Reaches, Stops, Does, Moves, Plays, after_command, behind_first_line, ending, first_line, notice_line, last_words, after_result, onward}
 use Rattle.imap_session.proofs.Runs.{Met-append, reaches_here}
 
 -- what is done where the selected mailbox stays
@@ -101,17 +101,31 @@ plays_put step tag line now next x old new before mid final how e p = record {
   wrote = p.wrote ∙ (ap (λ t. t ++ p.bytes) e ∙ append_assoc before line p.bytes);
 }
 
+-- a notice, and then what is behind it
+plays_noticed : {S : Type 0} (step : S → Call → Answer → S → Type 0) (tag : List ℕ) (now next : Standing) (words : Option (List ℕ)) (x : Exchange) (old new : S) (before mid final : List ℕ) (how : After)
+    → mid ≡ before ++ notice_line words → Plays step tag now next x old new mid final how → Plays step tag now next (noticing words x) old new before final how
+plays_noticed step tag now next None x old new before mid final how e p =
+    subst (λ (t : List ℕ). Plays step tag now next x old new t final how) (e ∙ append-nil before) p
+plays_noticed step tag now next (Some words) x old new before mid final how e p =
+    plays_put step tag (notice_line (Some words)) now next x old new before mid final how e p
+
+-- each command but LOGOUT is its notice, and then what is behind it
+abbrev SaidFirst : Standing → Command → Type 0
+SaidFirst now commands.Logout = Unit {0}
+SaidFirst now command = on_command now command ≡ noticing (notice command) (behind_first_line now command)
+
+said_first : (now : Standing) (command : Command) → SaidFirst now command
+said_first now commands.Logout = tt
+said_first now _ = refl
+
 pub plays_first_line : {S : Type 0} (step : S → Call → Answer → S → Type 0) (tag : List ℕ) (now next : Standing) (command : Command) (old new : S) (before mid final : List ℕ) (how : After)
     → mid ≡ before ++ first_line command → Plays step tag now next (behind_first_line now command) old new mid final how
     → Plays step tag now next (on_command now command) old new before final how
-plays_first_line step tag now next commands.Capability old new before mid final how e p =
-    plays_put step tag (first_line commands.Capability) now next (completed commands.Capability) old new before mid final how e p
-plays_first_line step tag now next commands.Namespace old new before mid final how e p =
-    plays_put step tag (first_line commands.Namespace) now next (completed commands.Namespace) old new before mid final how e p
 plays_first_line step tag now next commands.Logout old new before mid final how e p =
     plays_put step tag (first_line commands.Logout) now next (ex.Done (codes "OK LOGOUT completed") Bye) old new before mid final how e p
 plays_first_line step tag now next command old new before mid final how e p =
-    subst (λ (t : List ℕ). Plays step tag now next (on_command now command) old new t final how) (e ∙ append-nil before) p
+    subst (λ (x : Exchange). Plays step tag now next x old new before final how) (sym (said_first now command))
+    (plays_noticed step tag now next (notice command) (behind_first_line now command) old new before mid final how e p)
 
 -- ---- last words that stand nowhere before
 

@@ -2,12 +2,13 @@
 use Rattle.imap_session.specs.declared.standing.After.TheVariants.{Go, Bye}
 use Rattle.imap_grammar.specs.declared.command.Command.{Command}
 use Rattle.imap_grammar.specs.declared.command.Command.TheVariants as commands
-use Rattle.std.specs.Prelude.{◌≡◌, ℕ, Bool, true, false, codes, List, [], ◌++◌, Option, Some, Result, Ok, Err}
+use Rattle.std.specs.Prelude.{◌≡◌, ℕ, Bool, true, false, codes, List, [], ◌++◌, Option, Some, Result, Ok, Err, None}
 use Rattle.mailbox.specs.declared.clients.MailFault.{MailFault}
 use Rattle.imap_session.specs.declared.standing.After.{After}
 use Rattle.imap_session.specs.declared.standing.Selected.{Selected}
 use Rattle.imap_session.specs.Exchange.{Call, Answer, Event, Exchange, Done, Standing, Turn, played, refused, refusal_text, refusal_after, bye, closed, tagged}
-use Rattle.imap_session.specs.Commands.{completed, on_command}
+use Rattle.imap_answers.specs.Answers.{crlf}
+use Rattle.imap_session.specs.Commands.{completed, notice, on_command}
 use Rattle.imap_session.specs.Store.{Met}
 use Rattle.imap_session.specs.Response.{Response}
 use Rattle.imap_session.specs.inner.Response.{Adds}
@@ -74,18 +75,24 @@ pub record Plays {S : Type 0} (step : S → Call → Answer → S → Type 0) (t
   pub met : Met step old events new
   pub wrote : after ≡ before ++ bytes
 
--- what a command says of the server before all else, in room that was reserved, and what is done then
+-- a notice as a line; nothing where there is none
+abbrev pub notice_line : Option (List ℕ) → List ℕ
+notice_line None = []
+notice_line (Some words) = codes "* " ++ words ++ crlf
+
+-- what a command says of the server before all else, in room that was reserved
 abbrev pub first_line : Command → List ℕ
-first_line commands.Capability = codes "* CAPABILITY IMAP4rev2 IDLE\r\n"
-first_line commands.Namespace = codes "* NAMESPACE ((\"\" \"/\")) NIL NIL\r\n"
 first_line commands.Logout = bye (codes "Logging out")
-first_line _ = []
+first_line command = notice_line (notice command)
+
+-- what is done then: behind a notice nothing more
+abbrev pub behind_notice : Option (List ℕ) → Command → Exchange → Exchange
+behind_notice None command x = x
+behind_notice (Some words) command x = completed command
 
 abbrev pub behind_first_line : Standing → Command → Exchange
-behind_first_line now commands.Capability = completed commands.Capability
-behind_first_line now commands.Namespace = completed commands.Namespace
 behind_first_line now commands.Logout = Done (codes "OK LOGOUT completed") Bye
-behind_first_line now command = on_command now command
+behind_first_line now command = behind_notice (notice command) command (on_command now command)
 
 -- what a client may send after a command that was done
 abbrev pub after_command : Command → After
