@@ -300,7 +300,12 @@ impl<'a, R: Wait, G: Gate, W: Sink> Visit<'a, R, G, W> {
         if self.is_over() {
             return Ok(After::Bye);
         }
-        let shown = show_all(self.rt, &mut self.connection, &mut self.store, &mut self.out);
+        let shown = show_all(
+            self.rt,
+            &mut self.connection,
+            &mut self.store,
+            &mut self.out,
+        );
         let Ok(()) = flush(&mut self.output, &mut self.out) else {
             self.is_closed = true;
             return Err(VisitFault::Write);

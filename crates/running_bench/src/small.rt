@@ -11,7 +11,7 @@ use house_floor::Guest;
 use running_house::{Plan, Report, run_house};
 use session_thread::Step;
 use std::alloc::{AllocError, Global};
-use std::io::{Error, ErrorKind, self};
+use std::io::{self, Error, ErrorKind};
 use std::sync::Wait;
 use std::thread::Threads;
 

@@ -1,7 +1,7 @@
 //! What a connection answers to whoever brings its bytes: how many it took, and what its client may send next. What it says is shown by scripts.
 
-use crate::stores::store;
 use crate::sessions::folders;
+use crate::stores::store;
 use delivery_token::{Refusal, Verdict};
 use imap_connection::{ImapConnection, Progress};
 use imap_session::After;

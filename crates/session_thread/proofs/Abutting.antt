@@ -6,7 +6,7 @@ use Rattle.cursor_set.specs.Cursors.{CursorHandle}
 use Rattle.mailbox.specs.Mailbox.{Mailbox}
 use Rattle.mailbox_holds.specs.Holds.{Expunges}
 use Rattle.imap_session.specs.Exchange.{Call, Answer, Enter, Look, Read, Count, Alter, Expunge, Feed, Leave, Entered, Looked, Found, Counted, Altered, Expunged, Fed, Left, Refused, Starved, Event}
-use Rattle.session_thread.specs.declared.store.Entry.{Entry}
+use Rattle.session_thread.specs.declared.locked_store.Entry.{Entry}
 use Rattle.session_thread.specs.Locks.{Holds, In, LockedStore}
 use Rattle.session_thread.specs.Locks.{entered_at}
 use Rattle.session_thread.specs.Abut.{Abut, BeginsAt, Joins, shown_by, shown_by_all, stays}

@@ -15,7 +15,7 @@ use Rattle.mailbox.specs.Stands.{Stands, next_of}
 use Rattle.mailbox_holds.specs.Holds.{DoesAlter, DoesExpunge, DoesFeed, DoesRead, Expunges as DidExpunge, Feeds as DidFeed, HasCursor}
 use Rattle.imap_session.specs.Exchange.{Alter, Altered, Answer, Feed, Expunge, Found, Read}
 use Rattle.imap_session.specs.Store.{Feeds, Expunges, answer}
-use Rattle.session_thread.specs.declared.store.Entry.{Entry}
+use Rattle.session_thread.specs.declared.locked_store.Entry.{Entry}
 use Rattle.session_thread.specs.Locks.{Holds, LockedStore, UnderLock}
 use Rattle.session_thread.specs.Locks.{ShowsOf, refused_here, entered_at}
 

@@ -6,7 +6,7 @@ use Rattle.cursor_set.specs.Cursors.{next_changes}
 use Rattle.mailbox.specs.Mailbox.{Mailbox}
 use Rattle.imap_session.specs.Exchange.{Answer, Entered, Expunged, Fed, Left, Event}
 use Rattle.imap_session.specs.Store.{Met}
-use Rattle.session_thread.specs.declared.store.Entry.{Entry}
+use Rattle.session_thread.specs.declared.locked_store.Entry.{Entry}
 use Rattle.session_thread.specs.Locks.{Holds, In, LockedStore}
 
 -- how many changes an answer showed

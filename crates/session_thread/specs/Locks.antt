@@ -12,7 +12,7 @@ use Rattle.mailbox.specs.declared.clients.MailFault.{MailFault}
 use Rattle.mailbox.specs.declared.clients.MailFault.TheVariants.{Stranger}
 use Rattle.mailbox_holds.specs.Holds.{Alters, Counts, DoesLook, Enters, EntersNot, Expunges, Feeds, IsRefused, HasCursor, Leaves, LeavesNot, Reads}
 use Rattle.imap_session.specs.Exchange.{Call, Answer, Enter, Look, Read, Count, Alter, Expunge, Feed, Leave, Entered, Looked, Found, Counted, Altered, Expunged, Fed, Left, Refused}
-use Rattle.session_thread.specs.declared.store.Entry.{Entry}
+use Rattle.session_thread.specs.declared.locked_store.Entry.{Entry}
 
 -- What a session knows between two calls: how many mailboxes there are, and the handle that it has in one of them.
 pub record LockedStore : Type 0 where

@@ -15,10 +15,10 @@ use pace::{Actor, Gate};
 use session_bells::{SessionBell, Sleeper};
 use session_thread::LockedStore;
 use std::alloc::{AllocError, Global};
-use std::io::{Error, ErrorKind, Read, self};
+use std::io::{self, Error, ErrorKind, Read};
 use std::sync::atomic::{AtomicBool, AtomicU64, Ordering};
 use std::sync::{Arc, Mutex, Wait};
-use std::thread::{Threads, join, self};
+use std::thread::{self, Threads, join};
 
 // Two changes are kept: a client that misses three has fallen behind.
 const SMALL: Limits = Limits {

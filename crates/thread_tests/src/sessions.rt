@@ -16,7 +16,7 @@ use std::alloc::{AllocError, Global};
 use std::mem;
 use std::sync::atomic::{AtomicBool, AtomicU64, Ordering};
 use std::sync::{Mutex, Wait};
-use std::thread::{Threads, join, self};
+use std::thread::{self, Threads, join};
 
 const SMALL: Limits = Limits {
     messages: 8,
