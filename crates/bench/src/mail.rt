@@ -42,10 +42,8 @@ pub fn message(alloc: Global, users: &[&[u8]], mail: Mail) -> Result<Vec<u8>, Al
 // Bytes come for the house's connection, and the house settles.
 fn come(house: &mut House, bytes: &[u8], output: &mut Vec<u8>) -> Result<(), HouseFault> {
     house.step(Event::Bytes(CONNECTION, bytes), output)?;
-    match house.settle(&[], output) {
-        Ok(()) => Ok(()),
-        Err(_) => Err(HouseFault::NoMemory),
-    }
+    house.settle(&[], output)?;
+    Ok(())
 }
 
 // The same message comes so many times.

@@ -9,6 +9,7 @@ ghost use Rattle.courier.specs.Carried.{Carried};
 use change_ring::Flags;
 use delivery_token::{Text, Verdict};
 use pace::{Gate, Pace};
+use std::alloc::AllocError;
 
 /// Why a courier brings no verdict. It carries nothing more then.
 #[derive(Clone, Copy, Debug, PartialEq, Eq)]
@@ -17,6 +18,16 @@ pub enum Lost {
     NoMemory,
     /// Something came that was no verdict on the message. What became of it isn't known.
     Torn,
+}
+
+impl From<AllocError> for Lost {
+    ghost use Rattle.courier.specs.declared.Lost.{Lost};
+
+    ghost from_gives = { λ _ lost. lost ≡ Lost.NoMemory };
+
+    fn from(_error: AllocError) -> Lost {
+        Lost::NoMemory
+    }
 }
 
 /// Who takes messages to their mailboxes, one at a time, and brings back the verdict on each: stored

@@ -3,7 +3,7 @@
 #![tactic(auto)]
 
 pub use lines::{FLAGS_ROOM, put_flags};
-pub use set::{CursorHandle, CursorSet, FeedFault, NoMemory, Stranger};
+pub use set::{CursorHandle, CursorSet, FeedFault, Stranger};
 
 mod gap;
 mod leaving;

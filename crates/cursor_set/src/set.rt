@@ -20,10 +20,6 @@ use std::marker::Model;
 #[derive(Clone, Copy, Debug, PartialEq, Eq)]
 pub struct Stranger;
 
-/// Memory was refused.
-#[derive(Clone, Copy, Debug, PartialEq, Eq)]
-pub struct NoMemory;
-
 /// Why a client was shown nothing.
 #[derive(Clone, Copy, Debug, PartialEq, Eq)]
 pub enum FeedFault {
@@ -211,8 +207,8 @@ impl CursorSet {
     }
 
     /// Opens a cursor for a client that counts these UIDs, and is to be shown the change of number
-    /// `at` next. NoMemory where memory is refused; the set is then unchanged.
-    pub fn enter(&mut self, uids: &[u32], at: u64) -> Result<CursorHandle, NoMemory>
+    /// `at` next. An error where memory is refused; the set is then unchanged.
+    pub fn enter(&mut self, uids: &[u32], at: u64) -> Result<CursorHandle, AllocError>
         requires { self.old.next < 2 ^ 64 - 1 }
         ensures handle { IfOk result (λ handle. (handle.number ≡ self.old.number) × (handle.serial ≡ self.old.next) × (handle.at ≡ at)) }
         ensures vacant { IfOk result (λ handle. in_slot self.old handle.slot ≡ None) }
@@ -221,13 +217,9 @@ impl CursorSet {
         ensures next { OnOk result (self.new.next ≡ self.old.next + 1) }
         ensures err { OnErr result (self.new ≡ self.old) }
     {
-        let Ok(view) = Vec::from_slice(self.alloc, uids) else {
-            return Err(NoMemory);
-        };
+        let view = Vec::from_slice(self.alloc, uids)?;
         let serial = self.next;
-        let Ok(slot) = self.slots.insert(Cursor { serial, at, view }) else {
-            return Err(NoMemory);
-        };
+        let slot = self.slots.insert(Cursor { serial, at, view })?;
         self.next += 1;
         Ok(CursorHandle {
             number: self.number,

@@ -196,9 +196,7 @@ impl DeliveryCore {
         if !self.boxes[number].can_open() {
             return Err(MailFault::Spent);
         }
-        let Ok((handle, opening)) = self.boxes[number].open_cursor() else {
-            return Err(MailFault::NoMemory);
-        };
+        let (handle, opening) = self.boxes[number].open_cursor()?;
         self.clients[place] = Some(Client { mailbox, handle });
         Ok(opening)
     }
@@ -255,10 +253,7 @@ impl DeliveryCore {
         let Some(client) = &self.clients[place] else {
             return Err(MailFault::Stranger);
         };
-        let Ok(view) = self.boxes[usize::from(client.mailbox)].view(&client.handle) else {
-            return Err(MailFault::Stranger);
-        };
-        Ok(view)
+        Ok(self.boxes[usize::from(client.mailbox)].view(&client.handle)?)
     }
 
     /// Whether a session entered a mailbox and was shown all that is in its log: then a feed has nothing

@@ -100,6 +100,16 @@ pub enum Refusal {
     Shut,
 }
 
+impl From<AllocError> for Refusal {
+    ghost use Rattle.delivery_token.specs.declared.Refusal.{Refusal};
+
+    ghost from_gives = { λ _ why. why ≡ Refusal.NoMemory };
+
+    fn from(_error: AllocError) -> Refusal {
+        Refusal::NoMemory
+    }
+}
+
 /// What became of a copy.
 #[derive(Clone, Copy, Debug, PartialEq, Eq)]
 pub enum Verdict {

@@ -1,10 +1,10 @@
 //! A small house: two shards, two producers, alice with a folder, and bob.
 
-ghost use Rattle.std.specs.Prelude.{◌≡◌, ◌≢◌, ◌<◌, All, IfOk, None, is_none, length, vec_len};
+ghost use Rattle.std.specs.Prelude.{◌≡◌, ◌≢◌, ◌<◌, All, IfOk, None, length, vec_len};
 ghost use Rattle.house_floor.specs.Users.{user_numbered};
 
 use envelope::Directory;
-use house_floor::{Guest, Opened, Sizes, inbox_numbered, open};
+use house_floor::{Guest, Opened, Sizes, inbox_numbered, is_nobody, open};
 use mailbox::{History, Limits};
 use std::alloc::Global;
 use std::mem::ManuallyDrop;
@@ -64,13 +64,6 @@ fn users_are_numbered_by_their_inboxes(rt: HostRuntime) -> Result<(), Fail> {
     assert!(&rt; inbox_numbered(&directory, 1) == Some(2));
     assert!(&rt; inbox_numbered(&directory, 2) == None);
     Ok(())
-}
-
-// Whether there is no user of this number.
-fn is_nobody(directory: &Directory, user: u8) -> bool
-    ensures { result ≡ is_none (user_numbered user directory.now.homes) }
-{
-    inbox_numbered(directory, user).is_none()
 }
 
 // A session of this user alone, where there is such a user.

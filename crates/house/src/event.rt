@@ -1,5 +1,8 @@
-//! What may happen to a house, and why it didn't. No code.
+//! What may happen to a house, and why it didn't.
 
+ghost use Rattle.std.specs.Prelude.{◌≡◌};
+
+use std::alloc::AllocError;
 use thiserror::Error;
 
 /// One event. Connections and sessions are numbered from 1, shards from 0. Where an event is of both, the numbers of sessions are behind those of
@@ -53,4 +56,14 @@ pub enum HouseFault {
     /// Memory was wanting. What was done by then stands, and the next event of the connection or session goes on from there.
     #[error("out of memory")]
     NoMemory,
+}
+
+impl From<AllocError> for HouseFault {
+    ghost use Rattle.house.specs.declared.event.HouseFault.{HouseFault};
+
+    ghost from_gives = { λ _ fault. fault ≡ HouseFault.NoMemory };
+
+    fn from(_error: AllocError) -> HouseFault {
+        HouseFault::NoMemory
+    }
 }

@@ -169,10 +169,7 @@ pub(crate) fn put_copy(
     if !core.may_put(copy.key, copy.mailbox) {
         return Err(HouseFault::Nothing);
     }
-    match core.put(copy.key, copy.mailbox, copy.text, copy.flags) {
-        Ok(why) => Ok(why),
-        Err(AllocError) => Err(HouseFault::NoMemory),
-    }
+    Ok(core.put(copy.key, copy.mailbox, copy.text, copy.flags)?)
 }
 
 // Puts the next copy of the caller at a seat.
@@ -226,12 +223,8 @@ impl House {
         ensures no_memory { OnErr result (FollowsInPart self.old (events.Bytes connection piece.entry) self.new out.old.items out.new.items) }
     {
         let occupant = &mut self.callers[index_of(connection)];
-        let Ok(()) = append_to_caller(occupant, piece) else {
-            return Err(HouseFault::NoMemory);
-        };
-        let Ok(()) = caller_goes_on(occupant, connection, &self.directory, out) else {
-            return Err(HouseFault::NoMemory);
-        };
+        append_to_caller(occupant, piece)?;
+        caller_goes_on(occupant, connection, &self.directory, out)?;
         Ok(())
     }
     // The peer of a connection that stands at its seat is gone.
@@ -258,21 +251,17 @@ impl House {
             host: &self.host,
             max_message: self.max_message,
         };
-        let Ok(caller) = opened(
+        let caller = opened(
             *self.host.allocator(),
             connection - 1,
             serial,
             limits,
             piece,
-        ) else {
-            return Err(HouseFault::NoMemory);
-        };
+        )?;
         self.serials[seat] = serial + 1;
         let occupant = &mut self.callers[seat];
         *occupant = Some(caller);
-        let Ok(()) = caller_goes_on(occupant, connection, &self.directory, out) else {
-            return Err(HouseFault::NoMemory);
-        };
+        caller_goes_on(occupant, connection, &self.directory, out)?;
         Ok(())
     }
 
@@ -290,15 +279,10 @@ impl House {
         ensures refused { result ≢ Err HouseFault.NoMemory → OnErr result ((self.new ≡ self.old) × (out.new.items ≡ out.old.items)) }
     {
         let seat = index_of(connection);
-        let why = match put_next(&mut self.store.core, &self.callers[seat]) {
-            Ok(why) => why,
-            Err(fault) => return Err(fault),
-        };
+        let why = put_next(&mut self.store.core, &self.callers[seat])?;
         let occupant = &mut self.callers[seat];
         caller_notes_put(occupant, why);
-        let Ok(()) = caller_goes_on(occupant, connection, &self.directory, out) else {
-            return Err(HouseFault::NoMemory);
-        };
+        caller_goes_on(occupant, connection, &self.directory, out)?;
         Ok(())
     }
 
@@ -328,9 +312,7 @@ impl House {
         };
         let occupant = &mut self.callers[seat];
         caller_hears(occupant, &noted);
-        let Ok(()) = caller_goes_on(occupant, connection, &self.directory, out) else {
-            return Err(HouseFault::NoMemory);
-        };
+        caller_goes_on(occupant, connection, &self.directory, out)?;
         Ok(())
     }
 

@@ -98,9 +98,7 @@ impl House {
         if !has_turn(visitor, session - 1, &self.store.core) {
             return Err(HouseFault::Nothing);
         }
-        let Ok(()) = turn_at(place, session, &mut self.store, out) else {
-            return Err(HouseFault::NoMemory);
-        };
+        turn_at(place, session, &mut self.store, out)?;
         Ok(())
     }
 

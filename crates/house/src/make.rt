@@ -62,9 +62,7 @@ fn named_directory(alloc: Global, config: &Config) -> Result<Directory, ConfigFa
     if !is_name(&config.host) {
         return Err(ConfigFault::BadName);
     }
-    let Ok(words) = borrowed_words(alloc, &config.mailboxes) else {
-        return Err(ConfigFault::NoMemory);
-    };
+    let words = borrowed_words(alloc, &config.mailboxes)?;
     match Directory::new(alloc, &[config.domain.as_slice()], &words, config.shards) {
         Ok(directory) => Ok(directory),
         Err(fault) => Err(ConfigFault::from(fault)),

@@ -63,9 +63,7 @@ fn visitor_talks(
         return Ok(());
     };
     store.session = number - 1;
-    let Ok(()) = go_on(visitor, alloc, number, store, out) else {
-        return Err(AllocError);
-    };
+    go_on(visitor, alloc, number, store, out)?;
     if visitor.has_ended() {
         let _ = store.leave(false);
         *place = None;
@@ -215,18 +213,12 @@ impl House {
         let seat = self.session_seat(session);
         let serial = self.entered[place];
         let alloc = *self.host.allocator();
-        let Ok(folders) = folders_of(alloc, &self.directory, user) else {
-            return Err(HouseFault::NoMemory);
-        };
-        let Ok(visitor) = admitted(alloc, seat, serial, folders, self.max_message as u32) else {
-            return Err(HouseFault::NoMemory);
-        };
+        let folders = folders_of(alloc, &self.directory, user)?;
+        let visitor = admitted(alloc, seat, serial, folders, self.max_message as u32)?;
         self.entered[place] = serial + 1;
         let here = &mut self.visitors[place];
         *here = Some(visitor);
-        let Ok(()) = visitor_talks(here, alloc, session, &mut self.store, out) else {
-            return Err(HouseFault::NoMemory);
-        };
+        visitor_talks(here, alloc, session, &mut self.store, out)?;
         Ok(())
     }
 
@@ -266,13 +258,9 @@ impl House {
         ensures no_memory { OnErr result (FollowsInPart self.old (events.Say session piece.entry) self.new out.old.items out.new.items) }
     {
         let place = &mut self.visitors[index_of(session)];
-        let Ok(()) = append_to_visitor(place, piece) else {
-            return Err(HouseFault::NoMemory);
-        };
+        append_to_visitor(place, piece)?;
         let alloc = *self.host.allocator();
-        let Ok(()) = visitor_talks(place, alloc, session, &mut self.store, out) else {
-            return Err(HouseFault::NoMemory);
-        };
+        visitor_talks(place, alloc, session, &mut self.store, out)?;
         Ok(())
     }
 
@@ -354,16 +342,11 @@ impl House {
     {
         let session = number - self.callers.len() as u8;
         let place = index_of(session);
-        let why = match put_next(&mut self.store.core, &self.visitors[place]) {
-            Ok(why) => why,
-            Err(fault) => return Err(fault),
-        };
+        let why = put_next(&mut self.store.core, &self.visitors[place])?;
         let here = &mut self.visitors[place];
         visitor_notes_put(here, why);
         let alloc = *self.host.allocator();
-        let Ok(()) = visitor_goes_on(here, alloc, session, &mut self.store, out) else {
-            return Err(HouseFault::NoMemory);
-        };
+        visitor_goes_on(here, alloc, session, &mut self.store, out)?;
         Ok(())
     }
 
@@ -399,9 +382,7 @@ impl House {
         let here = &mut self.visitors[place];
         visitor_hears(here, &noted);
         let alloc = *self.host.allocator();
-        let Ok(()) = visitor_goes_on(here, alloc, session, &mut self.store, out) else {
-            return Err(HouseFault::NoMemory);
-        };
+        visitor_goes_on(here, alloc, session, &mut self.store, out)?;
         Ok(())
     }
 }

@@ -151,9 +151,7 @@ impl House {
         let Some((base, first, second)) = self.store.core.tail(mailbox) else {
             return Err(HouseFault::Nothing);
         };
-        let Ok(()) = print_tail(word, base, first, second, out) else {
-            return Err(HouseFault::NoMemory);
-        };
+        print_tail(word, base, first, second, out)?;
         Ok(())
     }
 }

@@ -15,4 +15,4 @@ mod users;
 pub use floor::{Crew, Floor, Guest, Post, Stand};
 pub use opening::{Baskets, Opened, Sizes, open};
 pub use stock::{REPLY_ROOM, Spares};
-pub use users::inbox_numbered;
+pub use users::{inbox_numbered, is_nobody};

@@ -1,6 +1,6 @@
 //! The users of a directory, by their numbers. Names are compared and words are read elsewhere.
 
-ghost use Rattle.std.specs.Prelude.{◌≡◌, ◌<◌, None, Some, IfSome, length, slice_get};
+ghost use Rattle.std.specs.Prelude.{◌≡◌, ◌<◌, None, Some, IfSome, is_none, length, slice_get};
 ghost use Rattle.house_floor.specs.Users.{is_inbox, user_numbered};
 
 use envelope::Directory;
@@ -30,4 +30,11 @@ pub fn inbox_numbered(directory: &Directory, user: u8) -> Option<u8>
         }
     }
     None
+}
+
+/// Whether there is no user of this number, counted as `inbox_numbered` does.
+pub fn is_nobody(directory: &Directory, user: u8) -> bool
+    ensures { result ≡ is_none (user_numbered user directory.now.homes) }
+{
+    inbox_numbered(directory, user).is_none()
 }

@@ -30,9 +30,7 @@ fn write_counted(
     ensures fault { IfErr result (λ f. f ≡ MailFault.NoMemory) }
 {
     let start = response.out.len();
-    if write_status(name, items, status, &mut response.out).is_err() {
-        return Err(MailFault::NoMemory);
-    }
+    write_status(name, items, status, &mut response.out)?;
     hold_room(start, response.held, &mut response.out)
 }
 
@@ -91,9 +89,7 @@ pub(crate) fn count_mailbox<S: Store>(
         name.now items.now)))
         last store.old store.new response.old response.new result }
 {
-    let Ok(name) = name.to_bytes(alloc) else {
-        return Err(MailFault::NoMemory);
-    };
+    let name = name.to_bytes(alloc)?;
     count_named(folders, name.as_slice(), items, selected, store, response)
 }
 
@@ -124,13 +120,9 @@ fn write_names(
     ensures fault { IfErr result (λ f. f ≡ MailFault.NoMemory) }
 {
     let start = response.out.len();
-    let Ok(names) = names_of(alloc, folders) else {
-        return Err(MailFault::NoMemory);
-    };
+    let names = names_of(alloc, folders)?;
     let names = names.as_slice();
-    if write_list(alloc, reference, pattern, names, &mut response.out).is_err() {
-        return Err(MailFault::NoMemory);
-    }
+    write_list(alloc, reference, pattern, names, &mut response.out)?;
     hold_room(start, response.held, &mut response.out)
 }
 

@@ -75,9 +75,7 @@ pub(crate) fn expunge_set<S: Store>(
     let Some(messages) = store.choose(alloc, set, true)? else {
         return Ok(LastWords(b"BAD Sequence number too high"));
     };
-    let Ok(uids) = uids_of(alloc, messages.as_slice()) else {
-        return Err(MailFault::NoMemory);
-    };
+    let uids = uids_of(alloc, messages.as_slice())?;
     remove_and_show(Some(uids.as_slice()), store, response)?;
     Ok(LastWords(b"OK UID EXPUNGE completed"))
 }

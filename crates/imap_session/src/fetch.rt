@@ -29,9 +29,7 @@ fn write_fetched(
     ensures fault { IfErr result (λ f. f ≡ MailFault.NoMemory) }
 {
     let start = response.out.len();
-    if write_row(position, by_uid, items, row, &mut response.out).is_err() {
-        return Err(MailFault::NoMemory);
-    }
+    write_row(position, by_uid, items, row, &mut response.out)?;
     hold_room(start, response.held, &mut response.out)
 }
 
@@ -112,9 +110,7 @@ pub(crate) fn fetch_messages<S: Store>(
         (messages_done (commands.Fetch fetch.now) fetch.now.by_uid) uids false))
         last store.old store.new response.old response.new result }
 {
-    let Ok(items) = fetch.items.list(alloc) else {
-        return Err(MailFault::NoMemory);
-    };
+    let items = fetch.items.list(alloc)?;
     let items = items.as_slice();
     let Some(messages) = store.choose(alloc, &fetch.set, fetch.by_uid)? else {
         return Ok(LastWords(b"BAD Sequence number too high"));

@@ -135,9 +135,7 @@ impl<'a> Response<'a> {
     {
         let more = name.len().saturating_add(OPENING_ROOM);
         let held = self.held.saturating_add(more);
-        if self.out.reserve(held).is_err() {
-            return Err(MailFault::NoMemory);
-        }
+        self.out.reserve(held)?;
         self.held = held;
         Ok(())
     }
@@ -157,9 +155,7 @@ impl<'a> Response<'a> {
         ensures err { OnErr result (self.new ≡ self.old) }
         ensures fault { IfErr result (λ f. f ≡ MailFault.NoMemory) }
     {
-        if self.out.reserve(line.len() + self.held).is_err() {
-            return Err(MailFault::NoMemory);
-        }
+        self.out.reserve(line.len() + self.held)?;
         put(line, &mut self.out);
         Ok(())
     }
@@ -175,9 +171,7 @@ impl<'a> Response<'a> {
     {
         let start = self.out.len();
         let held = self.held;
-        if self.out.resize(start + held, 0).is_err() {
-            return Err(MailFault::NoMemory);
-        }
+        self.out.resize(start + held, 0)?;
         match store.feed(limit, &mut self.out) {
             Err(fault) => {
                 self.out.truncate(start);
@@ -200,9 +194,7 @@ impl<'a> Response<'a> {
     {
         let start = self.out.len();
         let held = self.held;
-        if self.out.resize(start + held, 0).is_err() {
-            return Err(MailFault::NoMemory);
-        }
+        self.out.resize(start + held, 0)?;
         match store.expunge(uids, &mut self.out) {
             Err(fault) => {
                 self.out.truncate(start);

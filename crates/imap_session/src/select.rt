@@ -140,9 +140,7 @@ pub(crate) fn select_mailbox<S: Store>(
         }) read_only name.now) last store.old store.new response.old response.new result }
 {
     leave_previous(selected, store, response)?;
-    let Ok(name) = name.to_bytes(alloc) else {
-        return Err(MailFault::NoMemory);
-    };
+    let name = name.to_bytes(alloc)?;
     let name = name.as_slice();
     enter_named(folders, read_only, name, selected, store, response)
 }

@@ -341,9 +341,7 @@ impl Session {
         ensures folders { self.new.folders ≡ self.old.folders }
         ensures sends { IfOk result (λ after. after ≡ may_send self.new) }
     {
-        if out.reserve(line.len() + LAST + FIRST).is_err() {
-            return Err(SessionFault::NoMemory);
-        }
+        out.reserve(line.len() + LAST + FIRST)?;
         match read_line(line) {
             Err(fault) => {
                 put_fault(&fault, out);
@@ -702,9 +700,7 @@ impl Session {
                 Some(_) => b"BAD Invalid arguments",
             };
             let tag = begun.tag.as_slice();
-            if out.reserve(tag.len() + words.len() + 3).is_err() {
-                return Err(SessionFault::NoMemory);
-            }
+            out.reserve(tag.len() + words.len() + 3)?;
             put_tagged(tag, words, out);
             self.mailing.begun = None;
             self.idling = None;
@@ -712,16 +708,12 @@ impl Session {
         }
         match &self.idling {
             None => {
-                if out.reserve(LONG_LINE.len()).is_err() {
-                    return Err(SessionFault::NoMemory);
-                }
+                out.reserve(LONG_LINE.len())?;
                 put(LONG_LINE, out);
             }
             Some(tag) => {
                 let tag = tag.as_slice();
-                if out.reserve(tag.len() + NOT_DONE.len() + 3).is_err() {
-                    return Err(SessionFault::NoMemory);
-                }
+                out.reserve(tag.len() + NOT_DONE.len() + 3)?;
                 put_tagged(tag, NOT_DONE, out);
                 self.idling = None;
             }
@@ -770,9 +762,7 @@ impl Session {
         let Some(_) = self.selected else {
             return Ok(0);
         };
-        if out.reserve(LAST).is_err() {
-            return Err(SessionFault::NoMemory);
-        }
+        out.reserve(LAST)?;
         let mut response = Response::new(b"", LAST, out);
         match response.show(MOST_CHANGES, store) {
             Ok(count) => {

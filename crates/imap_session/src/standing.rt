@@ -3,6 +3,7 @@
 
 use change_ring::Flags;
 use delivery_token::Text;
+use std::alloc::AllocError;
 use std::marker::Model;
 
 /// What a client may send next.
@@ -38,6 +39,17 @@ pub enum SessionFault {
     Ended,
     /// Memory was refused before anything was done.
     NoMemory,
+}
+
+impl From<AllocError> for SessionFault {
+    ghost use Rattle.std.specs.Prelude.{◌≡◌};
+    ghost use Rattle.imap_session.specs.declared.standing.SessionFault.{SessionFault};
+
+    ghost from_gives = { λ _ fault. fault ≡ SessionFault.NoMemory };
+
+    fn from(_error: AllocError) -> SessionFault {
+        SessionFault::NoMemory
+    }
 }
 
 /// The selected mailbox.

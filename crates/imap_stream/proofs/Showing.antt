@@ -5,36 +5,15 @@ use Rattle.imap_session.specs.Store.{IdleTurns}
 use Rattle.imap_connection.specs.Dialogue as dialogue
 use Rattle.imap_connection.specs.Dialogue.{Dialogue, ImapConnection, StandsFor}
 use Rattle.session_thread.specs.Locks.{Holds, LockedStore}
-use Rattle.session_thread.specs.Life.{IsShort, Moment, moment}
+use Rattle.session_thread.specs.Life.{HasShown, IsShort, Moment, moment}
+use Rattle.session_thread.proofs.Living.{idle_of}
 use Rattle.courier.specs.Carried.{Carried}
 use Rattle.courier.specs.declared.Lost.TheVariants as lost
 use Rattle.session_thread.specs.Life.{Says}
-use Rattle.imap_stream.specs.Visits.{GoesOnShowing, HasShown, Hears, HearsInPart, ShowsAll, ShowsInPart, nothing_left, within_turns}
-
--- what the connection idles, its dialogue does
-pub idle_of : (d : Dialogue) (was : ImapConnection) → StandsFor was d → is_idling was.session ≡ true → is_idling d.standing ≡ true
-idle_of d was s idles = subst (λ (x : Standing). is_idling x ≡ true) s.session idles
+use Rattle.imap_stream.specs.Visits.{GoesOnShowing, Hears, HearsInPart, ShowsAll, ShowsInPart, nothing_left, within_turns}
 
 pub awake_of : (d : Dialogue) (was : ImapConnection) → StandsFor was d → is_idling was.session ≡ false → is_idling d.standing ≡ false
 awake_of d was s idles = subst (λ (x : Standing). is_idling x ≡ false) s.session idles
-
-pub has_shown : (count : ℕ) (d : Dialogue) (old new : LockedStore) (before middle after : List ℕ) (was link : ImapConnection) → StandsFor was d → is_idling was.session ≡ true → middle ≡ before → dialogue.Turns Holds d old new middle after count link
-    → (next : Dialogue) × StandsFor link next × HasShown count (moment d old before) (moment next new after)
-has_shown count d old new before middle after was link s idles kept t = (
-  record { standing = t.next; begun = d.begun },
-  t.stands,
-  (
-    idle_of d was s idles,
-    (
-      record {
-        count = count;
-        turned = subst (λ (b : List ℕ). IdleTurns Holds d.standing old new b after count t.next) kept t.turned;
-        begun = refl;
-      },
-      refl,
-    ),
-  ),
-)
 
 pub shows_in_part : (room : ℕ) (first : Moment) (d : Dialogue) (old new : LockedStore) (before after : List ℕ) (was : ImapConnection) → StandsFor was d → is_idling was.session ≡ true → GoesOnShowing first (moment d old before)
     → moment d new after ≡ moment d old before → IsShort room (moment d new after) → ShowsInPart room first (moment d new after)

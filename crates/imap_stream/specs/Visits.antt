@@ -7,7 +7,7 @@ use Rattle.imap_session.specs.Exchange.{Folder, bye, is_idling, may_send, nothin
 use Rattle.imap_session.specs.Commands.{greeting}
 use Rattle.imap_connection.specs.Dialogue.{Dialogue, ImapConnection, StandsFor, may_follow}
 use Rattle.session_thread.specs.Locks.{LockedStore}
-use Rattle.session_thread.specs.Life.{HasTurn, IsShort, Moment, Says, SaysInPart, moment}
+use Rattle.session_thread.specs.Life.{HasShown, IsShort, Moment, Says, SaysInPart, moment}
 use Rattle.courier.specs.Carried.{Carried}
 use Rattle.courier.specs.declared.Lost.{Lost}
 use Rattle.courier.specs.declared.Lost.TheVariants as lost
@@ -38,10 +38,6 @@ abbrev pub takes_bytes : Visit → Bool
 takes_bytes visit = may_follow (awaited visit)
 
 -- ---- turns
-
--- The session idled, and had one turn, which showed so many changes.
-abbrev pub HasShown : ℕ → Moment → Moment → Type 0
-HasShown count before after = (is_idling before.dialogue.standing ≡ true) × ((turn : HasTurn before after) × (turn.count ≡ count))
 
 -- The session had turns, one after another, and each of them showed something.
 pub data GoesOnShowing (first : Moment) : Moment → Type 0 where

@@ -3,42 +3,18 @@
 
 ghost use Rattle.std.specs.Prelude.{◌≡◌, ◌++◌, List, None, false, true, OnErr, OnOk, IfErr, IfOk};
 ghost use Rattle.std.specs.Vec.{vec_capacity};
-ghost use Rattle.imap_session.specs.Exchange.{is_idling};
 ghost use Rattle.imap_connection.specs.Dialogue.{Dialogue, StandsFor};
 ghost use Rattle.courier.specs.Carried.{Carried};
-ghost use Rattle.session_thread.specs.Life.{IsShort, moment};
-ghost use Rattle.imap_stream.specs.Visits.{HasShown, Hears, HearsInPart, ShowsAll, ShowsInPart};
+ghost use Rattle.session_thread.specs.Life.{moment};
+ghost use Rattle.imap_stream.specs.Visits.{Hears, HearsInPart, ShowsAll, ShowsInPart};
 
 use courier::{Courier, Lost};
 use imap_connection::ImapConnection;
 use pace::Gate;
-use session_thread::{LockedStore, answer};
+use session_thread::{LockedStore, answer, idle_turn};
 use std::alloc::{AllocError, Global};
 use std::sync::Wait;
 use std::sync::atomic::{AtomicBool, Ordering};
-
-/// Room for the line that a turn may end a session with.
-const TURN_ROOM: usize = 48;
-
-// The session has a turn while it idles: how many changes were shown.
-fn turn<R: Wait, G: Gate>(
-    connection: &mut ImapConnection,
-    store: &mut LockedStore<'_, R, G>,
-    out: &mut Vec<u8>,
-) -> Result<usize, AllocError>
-    requires { is_idling connection.old.session ≡ true }
-    ensures ok { IfOk result (λ count. (d : Dialogue) → StandsFor connection.old d → (next : Dialogue) × StandsFor connection.new next
-        × HasShown count (moment d store.old out.old.items) (moment next store.new out.new.items)) }
-    ensures err { OnErr result ((d : Dialogue) → StandsFor connection.old d → StandsFor connection.new d
-        × (moment d store.new out.new.items ≡ moment d store.old out.old.items)
-        × IsShort (vec_capacity out.new) (moment d store.new out.new.items)) }
-{
-    out.reserve(TURN_ROOM)?;
-    let Ok(shown) = connection.idle_turn(store, out) else {
-        return Err(AllocError);
-    };
-    Ok(shown)
-}
 
 /// The session has turns while it idles, until one shows nothing.
 ///
@@ -58,7 +34,7 @@ pub(crate) fn show_all<R: Wait, G: Gate>(
         if !connection.is_idling() {
             return Ok(());
         }
-        let shown = turn(connection, store, out)?;
+        let shown = idle_turn(connection, store, out)?;
         if shown == 0 {
             return Ok(());
         }
@@ -97,8 +73,6 @@ pub(crate) fn answer_and_show<R: Wait, G: Gate, C: Courier>(
     let answered = answer(alloc, connection, store, courier, piece, out);
     idles.store(connection.is_idling(), Ordering::SeqCst);
     answered?;
-    match show_all(rt, connection, store, out) {
-        Ok(()) => Ok(()),
-        Err(_) => Err(Lost::NoMemory),
-    }
+    show_all(rt, connection, store, out)?;
+    Ok(())
 }

@@ -19,7 +19,7 @@ use imap_session::{After, Folder, Store};
 use line_io::{Sink, send};
 use pace::Gate;
 use session_thread::{LockedStore, takes_more};
-use std::alloc::Global;
+use std::alloc::{AllocError, Global};
 use std::marker::Model;
 use std::sync::Wait;
 use std::sync::atomic::AtomicBool;
@@ -41,6 +41,16 @@ pub enum VisitFault {
     Write,
     /// Something came that was no verdict on a message that was submitted.
     Torn,
+}
+
+impl From<AllocError> for VisitFault {
+    ghost use Rattle.imap_stream.specs.declared.visit.VisitFault.{VisitFault};
+
+    ghost from_gives = { λ _ fault. fault ≡ VisitFault.NoMemory };
+
+    fn from(_error: AllocError) -> VisitFault {
+        VisitFault::NoMemory
+    }
 }
 
 // Sends what was written, and lets go of it.
@@ -94,13 +104,9 @@ fn greeted<W: Sink>(
         (sent : ℕ) × (sent < length greeting) × Appends (W.taken output.old) (W.taken output.new) (take sent greeting) }
     ensures failed { result ≡ Err VisitFault.Write → W.failed output.new ≡ true }
 {
-    let Ok(connection) = ImapConnection::new(alloc, folders, most) else {
-        return Err(VisitFault::NoMemory);
-    };
+    let connection = ImapConnection::new(alloc, folders, most)?;
     let mut out = Vec::new(alloc);
-    let Ok(()) = connection.greet(&mut out) else {
-        return Err(VisitFault::NoMemory);
-    };
+    connection.greet(&mut out)?;
     flush(output, &mut out)?;
     Ok((connection, out))
 }
@@ -310,9 +316,7 @@ impl<'a, R: Wait, G: Gate, W: Sink> Visit<'a, R, G, W> {
             self.is_closed = true;
             return Err(VisitFault::Write);
         };
-        let Ok(()) = shown else {
-            return Err(VisitFault::NoMemory);
-        };
+        shown?;
         trim(&mut self.out);
         Ok(self.awaited())
     }

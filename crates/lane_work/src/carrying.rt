@@ -96,9 +96,7 @@ impl<'a, R: Wait, S: Summons, N: Notebook> Courier for LaneCourier<'a, R, S, N> 
         if self.is_torn {
             return Err(Lost::Torn);
         }
-        let Ok(()) = self.book.reserve(1) else {
-            return Err(Lost::NoMemory);
-        };
+        self.book.reserve(1)?;
         let key = CopyKey {
             seat: self.desk.number,
             serial: self.serial,

@@ -31,7 +31,8 @@ pub fn end_one<R: Wait, G: Gate>(
     mut permit: ProducerPermit<Job>,
 ) -> Ended<Job>
     requires { IsProducer lane.now permit }
-    ensures { IsEnded lane.now result × (ended_number result ≡ number_of permit) × (said result ≡ sent permit ++ entries.End (number_of permit) ∷ []) }
+    ensures { IsEnded lane.now result × (ended_number result ≡ number_of permit)
+        × (said result ≡ sent permit ++ entries.End (number_of permit) ∷ []) }
 {
     for _ in rt.forever() {
         pace.pass();

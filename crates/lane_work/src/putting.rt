@@ -67,7 +67,8 @@ fn put_at<R: Wait>(
     flags: Flags,
 ) -> Option<Verdict>
     requires { IsPermit lane.now permit.old }
-    ensures permit { IsPermit lane.now permit.new × (permit_number permit.new ≡ permit_number permit.old) × (is_over permit.new ≡ is_over permit.old) }
+    ensures permit { IsPermit lane.now permit.new × (permit_number permit.new ≡ permit_number permit.old)
+        × (is_over permit.new ≡ is_over permit.old) }
     ensures put { is_over permit.old ≡ false → MatchOption result
         (put_by permit.new ≡ put_by permit.old ++ entries.Item (permit_number permit.old)
         (record { key = key; mailbox = mailbox; text = text.now; flags = flags }) ∷ [])

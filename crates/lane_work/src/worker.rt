@@ -33,7 +33,7 @@ use envelope::Directory;
 use lmtp_machine::{ANSWER_ROOM, Fed, Limits, LmtpMachine, Submission, What};
 use pace::{Gate, Pace};
 use shard_queue::{Ended, ReceiverPermit, ReplyChannel};
-use std::alloc::Global;
+use std::alloc::{AllocError, Global};
 use std::sync::Wait;
 use submission::Verdicts;
 
@@ -44,6 +44,16 @@ pub enum Stop {
     NoMemory,
     /// A verdict came that wasn't awaited, or the end of a shard that isn't closed.
     Torn,
+}
+
+impl From<AllocError> for Stop {
+    ghost use Rattle.lane_work.specs.declared.worker.Stop.{Stop};
+
+    ghost from_gives = { λ _ stop. stop ≡ Stop.NoMemory };
+
+    fn from(_error: AllocError) -> Stop {
+        Stop::NoMemory
+    }
 }
 
 /// How a worker came to its end.
@@ -97,15 +107,9 @@ fn settle<R: Wait, G: Gate, S: Summons, N: Notebook>(
     ensures grew { IsStartOf (received desk.old.receiver) (received desk.new.receiver) }
 {
     let count = message.keys.len();
-    let Ok(()) = book.reserve(count) else {
-        return Err(Stop::NoMemory);
-    };
-    let Ok(mut heard) = Verdicts::with_room(alloc, count) else {
-        return Err(Stop::NoMemory);
-    };
-    let Ok(room) = Vec::with_capacity(alloc, count) else {
-        return Err(Stop::NoMemory);
-    };
+    book.reserve(count)?;
+    let mut heard = Verdicts::with_room(alloc, count)?;
+    let room = Vec::with_capacity(alloc, count)?;
     put_all(rt, pace, office, summons, desk, message, &mut heard);
     let Ok(()) = hear_all(rt, pace, channel, desk, message, &mut heard) else {
         return Err(Stop::Torn);
@@ -167,17 +171,13 @@ pub fn turn<R: Wait, G: Gate, S: Summons, N: Notebook>(
     ensures torn { result ≡ Err Stop.Torn → length (received desk.old.receiver) < length (received desk.new.receiver) }
     ensures grew { IsStartOf (received desk.old.receiver) (received desk.new.receiver) }
 {
-    let Ok(fed) = machine.feed(piece, directory, out) else {
-        return Err(Stop::NoMemory);
-    };
+    let fed = machine.feed(piece, directory, out)?;
     match fed.what {
         What::More => return Ok(fed),
         What::Quit => return Ok(fed),
         What::Submit => {}
     }
-    let Ok(()) = out.reserve(ANSWER_ROOM) else {
-        return Err(Stop::NoMemory);
-    };
+    out.reserve(ANSWER_ROOM)?;
     let verdicts = settle(
         rt,
         alloc,
@@ -291,14 +291,10 @@ fn converse<R: Wait, G: Gate, S: Summons>(
         host: office.host.as_slice(),
         max_message: office.max_message,
     };
-    let Ok(mut machine) = LmtpMachine::new(alloc, desk.number, serial, limits) else {
-        return Err(Stop::NoMemory);
-    };
+    let mut machine = LmtpMachine::new(alloc, desk.number, serial, limits)?;
     let mut out = Vec::new(alloc);
-    let Ok(()) = machine.greet(&mut out) else {
-        return Err(Stop::NoMemory);
-    };
-    match speak(
+    machine.greet(&mut out)?;
+    speak(
         rt,
         alloc,
         pace,
@@ -311,10 +307,8 @@ fn converse<R: Wait, G: Gate, S: Summons>(
         &mut machine,
         bytes,
         &mut out,
-    ) {
-        Ok(()) => Ok(out),
-        Err(stop) => Err(stop),
-    }
+    )?;
+    Ok(out)
 }
 
 /// What a producer leaves: a worker, or a session.

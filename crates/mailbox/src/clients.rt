@@ -17,8 +17,9 @@ use crate::logging::log_change;
 use crate::mailbox::Mailbox;
 use crate::shown::View;
 use change_ring::{Change, FlagOp, Flags, MOST_CHANGES, Spent};
-use cursor_set::{CursorHandle, FeedFault, NoMemory, Stranger};
+use cursor_set::{CursorHandle, FeedFault, Stranger};
 use delivery_token::Text;
+use std::alloc::AllocError;
 
 /// Why a client's call did nothing.
 #[derive(Clone, Copy, Debug, PartialEq, Eq)]
@@ -31,6 +32,36 @@ pub enum MailFault {
     Spent,
     /// Memory was refused.
     NoMemory,
+}
+
+impl From<Stranger> for MailFault {
+    ghost use Rattle.mailbox.specs.declared.clients.MailFault.{MailFault};
+
+    ghost from_gives = { λ _ fault. fault ≡ MailFault.Stranger };
+
+    fn from(_stranger: Stranger) -> MailFault {
+        MailFault::Stranger
+    }
+}
+
+impl From<Spent> for MailFault {
+    ghost use Rattle.mailbox.specs.declared.clients.MailFault.{MailFault};
+
+    ghost from_gives = { λ _ fault. fault ≡ MailFault.Spent };
+
+    fn from(_spent: Spent) -> MailFault {
+        MailFault::Spent
+    }
+}
+
+impl From<AllocError> for MailFault {
+    ghost use Rattle.mailbox.specs.declared.clients.MailFault.{MailFault};
+
+    ghost from_gives = { λ _ fault. fault ≡ MailFault.NoMemory };
+
+    fn from(_error: AllocError) -> MailFault {
+        MailFault::NoMemory
+    }
 }
 
 /// A message as it was read.
@@ -73,9 +104,9 @@ impl Mailbox {
     }
 
     /// Opens a cursor for a client at the end of the log: the client counts the messages that are
-    /// there, and is to be shown what happens from now on (RFC 9051, 6.3.2). NoMemory where memory is
+    /// there, and is to be shown what happens from now on (RFC 9051, 6.3.2). An error where memory is
     /// refused; nothing is then changed.
-    pub fn open_cursor(&mut self) -> Result<(CursorHandle, Opening), NoMemory>
+    pub fn open_cursor(&mut self) -> Result<(CursorHandle, Opening), AllocError>
         requires { self.old.cursors.next < 2 ^ 64 - 1 }
         ensures err { OnErr result (self.new ≡ self.old) }
         ensures logged { KeepsLog self.old self.new }
@@ -99,13 +130,9 @@ impl Mailbox {
           uidvalidity = self.old.uidvalidity;
         }) }
     {
-        let Ok(uids) = self.messages.uids() else {
-            return Err(NoMemory);
-        };
+        let uids = self.messages.uids()?;
         let at = self.ring.total();
-        let Ok(handle) = self.cursors.enter(&uids, at) else {
-            return Err(NoMemory);
-        };
+        let handle = self.cursors.enter(&uids, at)?;
         let opening = Opening {
             count: self.messages.len(),
             uidnext: self.next,
@@ -121,9 +148,7 @@ impl Mailbox {
         ensures shown { IfOk result (λ view. option_map (λ o. o.view) (held self.now.cursors handle.now) ≡ Some view) }
         ensures rising { IfOk result (λ view. IsStrictlyIncreasing view) }
     {
-        let Ok(uids) = self.cursors.view(handle) else {
-            return Err(Stranger);
-        };
+        let uids = self.cursors.view(handle)?;
         Ok(View::rising(uids))
     }
 
@@ -173,9 +198,7 @@ impl Mailbox {
     {
         // Read for its bound: no log has more than 2^62 changes.
         let _total = self.ring.total();
-        let Ok(_view) = self.cursors.view(handle) else {
-            return Err(MailFault::Stranger);
-        };
+        let _view = self.cursors.view(handle)?;
         if handle.at() < self.ring.base() {
             return Err(MailFault::Lapped);
         }
@@ -215,9 +238,7 @@ impl Mailbox {
         if !old.differ_from(flags) {
             return Ok(false);
         }
-        let Ok(()) = log_change(&mut self.ring, &self.cursors, Change::Flags(uid, flags)) else {
-            return Err(Spent);
-        };
+        log_change(&mut self.ring, &self.cursors, Change::Flags(uid, flags))?;
         self.messages.set_flags(uid, flags);
         Ok(true)
     }
@@ -247,9 +268,7 @@ impl Mailbox {
         let Some(old) = self.flags_of(uid) else {
             return Ok(None);
         };
-        let Ok(_changed) = self.set_flags(uid, old, op) else {
-            return Err(MailFault::Spent);
-        };
+        let _changed = self.set_flags(uid, old, op)?;
         Ok(Some(op.after(old)))
     }
 
@@ -320,9 +339,7 @@ impl Mailbox {
         let Ok(text) = shared.copy() else {
             return Err(self.refuse_copy(uid, old, mark_seen));
         };
-        let Ok(newly_seen) = self.mark(uid, old, mark_seen) else {
-            return Err(MailFault::Spent);
-        };
+        let newly_seen = self.mark(uid, old, mark_seen)?;
         let flags = if mark_seen { MARK.after(old) } else { old };
         Ok(Some(Row {
             uid,

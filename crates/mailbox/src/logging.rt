@@ -35,8 +35,6 @@ pub(crate) fn log_change(
     // Read for its bounds: a ring has room for some change, and no more changes than fit.
     let _room = ring.capacity();
     let keep_from = wanted_from(ring, cursors);
-    let Ok(_lost) = ring.push(change, keep_from) else {
-        return Err(Spent);
-    };
+    let _lost = ring.push(change, keep_from)?;
     Ok(())
 }

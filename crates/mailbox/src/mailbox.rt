@@ -201,15 +201,9 @@ impl Mailbox {
         }
         let uid = self.next;
         let position = (uid - self.first_uid) as usize;
-        let Ok(text) = job.text.copy() else {
-            return Err(Refusal::NoMemory);
-        };
-        let Ok(()) = self.accepted.reserve() else {
-            return Err(Refusal::NoMemory);
-        };
-        let Ok(()) = self.messages.add(uid, text) else {
-            return Err(Refusal::NoMemory);
-        };
+        let text = job.text.copy()?;
+        self.accepted.reserve()?;
+        self.messages.add(uid, text)?;
         let Ok(()) = log_change(&mut self.ring, &self.cursors, Change::Add(uid)) else {
             return Err(Refusal::UidSpent);
         };

@@ -9,7 +9,7 @@ ghost use Rattle.mailbox_holds.specs.Holds.{Counts, DoesAlter, DoesDeliver, Does
 ghost use Rattle.mailbox_holds.specs.inner.Holds.{answer_of};
 
 use change_ring::{FlagOp, Flags};
-use cursor_set::{CursorHandle, FeedFault, NoMemory, Stranger};
+use cursor_set::{CursorHandle, FeedFault, Stranger};
 use delivery_token::{Job, Refusal};
 use mailbox::{MailFault, Mailbox, Opening, Receipt, Row, Status, View, every_mailbox_keeps};
 
@@ -43,13 +43,9 @@ pub fn enter(mailbox: &mut Mailbox) -> Result<(CursorHandle, Opening), MailFault
     if !mailbox.can_open() {
         return Err(MailFault::Spent);
     }
-    match mailbox.open_cursor() {
-        Ok(entered) => {
-            every_mailbox_keeps(mailbox);
-            Ok(entered)
-        }
-        Err(NoMemory) => Err(MailFault::NoMemory),
-    }
+    let entered = mailbox.open_cursor()?;
+    every_mailbox_keeps(mailbox);
+    Ok(entered)
 }
 
 /// The UIDs that a client counts, in their order, which rise; it is no event, and takes no memory.

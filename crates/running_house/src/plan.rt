@@ -1,6 +1,6 @@
 //! What a run is told and what it reports, and what may be wrong with a plan. Nothing is run here.
 
-ghost use Rattle.std.specs.Prelude.{◌≡◌, ◌≢◌, ◌<◌, ◌≤◌, All, None, is_none, IfErr, IfOk, length, nat_le};
+ghost use Rattle.std.specs.Prelude.{◌≡◌, ◌≢◌, ◌<◌, ◌≤◌, All, None, IfErr, IfOk, length, nat_le};
 ghost use Rattle.std.specs.List.{list_any};
 ghost use Rattle.house.specs.Settings.{IsInRange, setup_of};
 ghost use Rattle.house_floor.specs.Users.{user_numbered};
@@ -9,7 +9,7 @@ ghost use Rattle.running_house.specs.Plan.{IsFaultOf, after_settings, are_too_ma
 use delivery_token::{CopyKey, Text, WorkerLog};
 use envelope::Directory;
 use house::{Config, ConfigFault, directory_of};
-use house_floor::{Guest, inbox_numbered};
+use house_floor::{Guest, is_nobody};
 use lane_work::Closing;
 use reckoning::{Closes, Fault};
 use std::alloc::{AllocError, Global};
@@ -122,13 +122,6 @@ fn are_too_many(guests: &[Guest], most: u8) -> bool
     guests
         .iter()
         .any(|guest| usize::from(most) < count_of(guests, guest.user))
-}
-
-// Whether there is no user of this number.
-fn is_nobody(directory: &Directory, user: u8) -> bool
-    ensures { result ≡ is_none (user_numbered user directory.now.homes) }
-{
-    inbox_numbered(directory, user).is_none()
 }
 
 // Whether some session's user isn't there.

@@ -1,20 +1,13 @@
 //! The berths of a server: for each user so many sessions at a time. Who serves them stands in `sessions`.
 
-ghost use Rattle.std.specs.Prelude.{ℕ, ◌≡◌, ◌≢◌, ◌≤◌, ◌+◌, ◌*◌, All, IfOk, List, None, OnOk, is_none, length, vec_len};
+ghost use Rattle.std.specs.Prelude.{ℕ, ◌≡◌, ◌≢◌, ◌≤◌, ◌+◌, ◌*◌, All, IfOk, List, None, OnOk, length, vec_len};
 ghost use Rattle.envelope.specs.Directory.{Home};
 ghost use Rattle.house_floor.specs.Users.{user_numbered};
 ghost use Rattle.serving.specs.Announcing.{users_of};
 
 use envelope::Directory;
-use house_floor::{Guest, inbox_numbered};
+use house_floor::{Guest, is_nobody};
 use std::alloc::{AllocError, Global};
-
-// Whether there is no user of this number.
-fn is_nobody(directory: &Directory, user: u8) -> bool
-    ensures { result ≡ is_none (user_numbered user directory.now.homes) }
-{
-    inbox_numbered(directory, user).is_none()
-}
 
 // So many berths more, of this user.
 fn add_berths(alloc: Global, user: u8, count: u8, guests: &mut Vec<Guest>) -> Result<(), AllocError>

@@ -33,10 +33,7 @@ impl Store for CoreStore {
         set: &SeqSet<'_>,
         by_uid: bool,
     ) -> Result<Option<Vec<Named>>, MailFault> {
-        let view = match self.core.view(self.session) {
-            Err(fault) => return Err(fault),
-            Ok(view) => view,
-        };
+        let view = self.core.view(self.session)?;
         match set.resolve(alloc, &view, by_uid) {
             Err(SetFault::TooHigh) => Ok(None),
             Err(SetFault::NoMemory) => Err(MailFault::NoMemory),

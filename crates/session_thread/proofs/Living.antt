@@ -11,11 +11,13 @@ use Rattle.imap_session.specs.declared.standing.SessionFault.TheVariants as faul
 use Rattle.imap_session.specs.declared.standing.SessionFault.TheVariants.{Ended}
 use Rattle.imap_session.specs.Exchange.{Feed, Folder, Refused, Standing, is_idling, nothing_sent}
 use Rattle.mailbox.specs.declared.clients.MailFault.TheVariants.{NoMemory}
+use Rattle.imap_connection.specs.Dialogue as dialogue
+use Rattle.imap_session.specs.Store.{IdleTurns}
 use Rattle.imap_connection.specs.Dialogue.{Dialogue, ImapConnection, StandsFor}
 use Rattle.session_thread.specs.declared.life.Step.{Step}
 use Rattle.session_thread.specs.declared.life.Step.TheVariants.{Say, Await}
 use Rattle.session_thread.specs.Locks.{Holds, LockedStore, shown_in}
-use Rattle.session_thread.specs.Life.{Awaits, Departs, Does, HasTurn, IsOver, IsShort, Lives, LivesInPart, Moment, Says, SaysInPart, Steps, StopsIn, Turns, another, goes_on, greeted_at, moment, takes_more}
+use Rattle.session_thread.specs.Life.{Awaits, Departs, Does, HasShown, HasTurn, IsOver, IsShort, Lives, LivesInPart, Moment, Says, SaysInPart, Steps, StopsIn, Turns, another, goes_on, greeted_at, moment, takes_more}
 use Rattle.courier.specs.Carried.{Carried}
 use Rattle.courier.specs.declared.Lost.{Lost}
 use Rattle.courier.specs.declared.Lost.TheVariants as lost
@@ -59,6 +61,28 @@ awake tag false e f = cc
 
 abbrev failed : SessionFault → Result ℕ SessionFault
 failed fault = Err fault
+
+-- what the connection idles, its dialogue does
+pub idle_of : (d : Dialogue) (was : ImapConnection) → StandsFor was d → is_idling was.session ≡ true → is_idling d.standing ≡ true
+idle_of d was s idles = subst (λ (x : Standing). is_idling x ≡ true) s.session idles
+
+pub has_shown : (count : ℕ) (d : Dialogue) (old new : LockedStore) (before middle after : List ℕ) (was link : ImapConnection) → StandsFor was d → is_idling was.session ≡ true → middle ≡ before → dialogue.Turns Holds d old new middle after count link
+    → (next : Dialogue) × StandsFor link next × HasShown count (moment d old before) (moment next new after)
+has_shown count d old new before middle after was link s idles kept t = (
+  record { standing = t.next; begun = d.begun },
+  t.stands,
+  (
+    idle_of d was s idles,
+    (
+      record {
+        count = count;
+        turned = subst (λ (b : List ℕ). IdleTurns Holds d.standing old new b after count t.next) kept t.turned;
+        begun = refl;
+      },
+      refl,
+    ),
+  ),
+)
 
 -- no turn: the session stands where it stood, and its mailbox refused it memory
 pub no_turn : (d : Dialogue) (old new : LockedStore) (before middle after : List ℕ) (room : ℕ) (was link : ImapConnection) (fault : SessionFault) → StandsFor was d → is_idling was.session ≡ true → middle ≡ before

@@ -45,6 +45,10 @@ pub record HasTurn (before after : Moment) : Type 0 where
   pub turned : IdleTurns Holds before.dialogue.standing before.selection after.selection before.text after.text count after.dialogue.standing
   pub begun : after.dialogue.begun ≡ before.dialogue.begun
 
+-- The session idled, and had one turn, which showed so many changes.
+abbrev pub HasShown : ℕ → Moment → Moment → Type 0
+HasShown count before after = (is_idling before.dialogue.standing ≡ true) × ((turn : HasTurn before after) × (turn.count ≡ count))
+
 -- Nothing is left to wait for: so many changes were shown since the mailbox was selected, or the session doesn't idle, or has ended.
 abbrev pub IsOver : ℕ → Moment → Type 0
 IsOver count now = (count ≤ shown_in now.selection.entered) ⊎ (is_idling now.dialogue.standing ≡ false)

@@ -8,8 +8,10 @@ mod life;
 mod locked;
 mod locked_store;
 mod speaking;
+mod turns;
 
 pub use laws::pieces_abut;
 pub use life::{Step, live, takes_more};
 pub use locked_store::LockedStore;
 pub use speaking::answer;
+pub use turns::idle_turn;

@@ -4,13 +4,13 @@
 ghost use Rattle.std.specs.Prelude.{◌≡◌, ◌++◌, ◌<◌, ◌⊎◌, ℕ, List, None, false, true, IfErr, OnErr, OnOk};
 ghost use Rattle.std.specs.Vec.{vec_capacity};
 ghost use Rattle.imap_session.specs.Commands.{greeting};
-ghost use Rattle.imap_session.specs.Exchange.{is_idling};
 ghost use Rattle.imap_connection.specs.Dialogue.{Dialogue, StandsFor};
 ghost use Rattle.courier.specs.Carried.{Carried};
-ghost use Rattle.session_thread.specs.Life.{Awaits, Departs, HasTurn, IsOver, IsShort, Lives, LivesInPart, Moment, Steps, StopsIn, Turns, greeted_at, moment, takes_more};
+ghost use Rattle.session_thread.specs.Life.{Awaits, Departs, IsOver, IsShort, Lives, LivesInPart, Moment, Steps, StopsIn, Turns, greeted_at, moment, takes_more};
 
 use crate::locked_store::LockedStore;
 use crate::speaking::answer;
+use crate::turns::idle_turn;
 use courier::{Courier, Lost};
 use imap_connection::ImapConnection;
 use imap_session::{After, Folder, Store};
@@ -18,9 +18,6 @@ use pace::Gate;
 use std::alloc::{AllocError, Global};
 use std::sync::Wait;
 use std::thread;
-
-/// Room for the line that a turn may end a session with.
-const TURN_ROOM: usize = 48;
 
 /// What a session's thread does next.
 #[derive(Drop)]
@@ -41,30 +38,7 @@ pub fn takes_more(connection: &ImapConnection) -> bool
     !matches!(connection.may_send(), After::Bye | After::Submit)
 }
 
-// The session has a turn while it idles, and lets others go on where it showed nothing.
-fn turn<R: Wait, G: Gate>(
-    connection: &mut ImapConnection,
-    store: &mut LockedStore<'_, R, G>,
-    out: &mut Vec<u8>,
-) -> Result<(), AllocError>
-    requires { is_idling connection.old.session ≡ true }
-    ensures ok { OnOk result ((d : Dialogue) → StandsFor connection.old d → (next : Dialogue) × StandsFor connection.new next
-        × HasTurn (moment d store.old out.old.items) (moment next store.new out.new.items)) }
-    ensures err { OnErr result ((d : Dialogue) → StandsFor connection.old d → StandsFor connection.new d
-        × (moment d store.new out.new.items ≡ moment d store.old out.old.items)
-        × IsShort (vec_capacity out.new) (moment d store.new out.new.items)) }
-{
-    out.reserve(TURN_ROOM)?;
-    let Ok(shown) = connection.idle_turn(store, out) else {
-        return Err(AllocError);
-    };
-    if shown == 0 {
-        thread::yield_now();
-    }
-    Ok(())
-}
-
-// The session has turns while it idles, until so many changes were shown or so many turns are spent.
+// The session has turns while it idles, until so many changes were shown or so many turns are spent. Others go on where one showed nothing.
 fn wait_for<R: Wait, G: Gate>(
     connection: &mut ImapConnection,
     store: &mut LockedStore<'_, R, G>,
@@ -86,7 +60,10 @@ fn wait_for<R: Wait, G: Gate>(
         if !connection.is_idling() {
             return Ok(());
         }
-        turn(connection, store, out)?;
+        let shown = idle_turn(connection, store, out)?;
+        if shown == 0 {
+            thread::yield_now();
+        }
     }
     Ok(())
 }
@@ -117,10 +94,7 @@ fn make<R: Wait, G: Gate, C: Courier>(
     }
     match step {
         Step::Say(bytes) => answer(alloc, connection, store, courier, bytes, out),
-        Step::Await(count) => match wait_for(connection, store, *count, turns, out) {
-            Ok(()) => Ok(()),
-            Err(_) => Err(Lost::NoMemory),
-        },
+        Step::Await(count) => Ok(wait_for(connection, store, *count, turns, out)?),
     }
 }
 
@@ -185,12 +159,8 @@ pub fn live<R: Wait, G: Gate, C: Courier>(
         steps.now why last
         × (out.new.items ≡ last.text) × Departs last.selection store.new) }
 {
-    let Ok(mut connection) = ImapConnection::new(alloc, folders, most) else {
-        return Err(Lost::NoMemory);
-    };
-    let Ok(()) = connection.greet(out) else {
-        return Err(Lost::NoMemory);
-    };
+    let mut connection = ImapConnection::new(alloc, folders, most)?;
+    connection.greet(out)?;
     let lived = make_all(alloc, &mut connection, store, courier, steps, turns, out);
     let _ = store.leave(false);
     lived

@@ -41,9 +41,7 @@ pub(crate) fn choose<R: Wait>(
     ensures faults { IfErr result (λ f. (f ≡ MailFault.Stranger) ⊎ (f ≡ MailFault.NoMemory)) }
 {
     let held = lock.lock(rt);
-    let Ok(view) = holds::view(&held, handle) else {
-        return Err(MailFault::Stranger);
-    };
+    let view = holds::view(&held, handle)?;
     match set.resolve(alloc, &view, by_uid) {
         Err(SetFault::TooHigh) => Ok(None),
         Err(SetFault::NoMemory) => Err(MailFault::NoMemory),

@@ -161,10 +161,7 @@ impl<'a, R: Wait, G: Gate> Store for LockedStore<'a, R, G> {
         }
         self.pace.pass();
         let lock = &self.mailboxes[usize::from(mailbox)];
-        let (handle, opening) = match locked::enter(self.rt, lock) {
-            Ok(entered) => entered,
-            Err(fault) => return Err(fault),
-        };
+        let (handle, opening) = locked::enter(self.rt, lock)?;
         self.entered = Some(Entry {
             mailbox,
             start: handle.at(),

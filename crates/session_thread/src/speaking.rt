@@ -44,9 +44,7 @@ fn hear_verdict<R: Wait, G: Gate, C: Courier>(
         × TellsVerdict one (moment d store.old out.old.items) (moment next store.new out.new.items))) }
     ensures same { OnErr result ((connection.new ≡ connection.old) × (store.new ≡ store.old) × (out.new.items ≡ out.old.items)) }
 {
-    let Ok(()) = out.reserve(connection.verdict_room()) else {
-        return Err(Lost::NoMemory);
-    };
+    out.reserve(connection.verdict_room())?;
     let Some(append) = connection.submission() else {
         unreachable!()
     };

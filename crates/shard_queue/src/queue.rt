@@ -144,7 +144,8 @@ impl<T: Drop> ShardQueue<T> {
         ensures ended { IfOk result (λ e. IsEnded self.now e × (ended_number e ≡ number_of permit)
             × (said e ≡ sent permit ++ entries.End (number_of permit) ∷ [])
             × IsPutBehind (put_seen permit) (entries.End (number_of permit)) (end_seen e)) }
-        ensures full { IfErr result (λ s. IsProducer self.now s × (number_of s ≡ number_of permit) × (sent s ≡ sent permit) × (put_seen s ≡ put_seen permit)
+        ensures full { IfErr result (λ s. IsProducer self.now s × (number_of s ≡ number_of permit)
+            × (sent s ≡ sent permit) × (put_seen s ≡ put_seen permit)
             × WasFull (producers_of self.now) (capacity_of self.now) (number_of permit) (sent permit) (put_seen permit)) }
     {
         let ProducerPermit { mut pass, number } = permit;

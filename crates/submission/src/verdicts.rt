@@ -65,9 +65,7 @@ impl Verdicts {
     pub fn with_room(alloc: Global, most: usize) -> Result<Verdicts, AllocError>
         ensures { IfOk result (λ v. v ≡ no_verdicts most) }
     {
-        let Ok(slots) = Vec::with_capacity(alloc, most) else {
-            return Err(AllocError);
-        };
+        let slots = Vec::with_capacity(alloc, most)?;
         Ok(Verdicts { slots, most })
     }
 

@@ -16,8 +16,10 @@ returns-in_err-messages g c =
     let p = err_from_is_err_and c.from_residual.result c.from_residual.ensures.1 in
     rw (p.1, p.2) (λ tag now. stops_look g.S.Store.step tag now _ _ _ _ c.in_err-messages.ensures.event)
 
-pub returns-in_default-uids_of : goal.returns-in_default-uids_of
-returns-in_default-uids_of g c tag now = starves_look g.S.Store.step tag now _ _ _
+pub returns-in_err-uids : goal.returns-in_err-uids
+returns-in_err-uids g c =
+    let p = err_from_is_err_and c.from_residual-in_err-uids.result c.from_residual-in_err-uids.ensures.1 in
+    rw (p.1, p.2) (λ tag now. starves_look g.S.Store.step tag now _ _ _)
 
 removing : List SeqRange → List ℕ → List ℕ → Exchange
 removing set view uids = Expunge (Some uids) (Feed unlimited (completed (commands.UidExpunge set)))

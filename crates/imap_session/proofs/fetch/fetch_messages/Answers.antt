@@ -9,18 +9,20 @@ use Rattle.imap_session.proofs.Saying.{does_then}
 use Rattle.imap_session.proofs.Choosing.{does_chosen, reaches_too_high}
 use Rattle.imap_session.proofs.fetch.fetch_messages.Goals as goal
 
-pub returns-in_default : goal.returns-in_default
-returns-in_default g c tag now = starves_look g.S.Store.step tag now _ _ _
+pub returns-in_err-items : goal.returns-in_err-items
+returns-in_err-items g c =
+    let p = err_from_is_err_and c.from_residual.result c.from_residual.ensures.1 in
+    rw (p.1, p.2) (λ tag now. starves_look g.S.Store.step tag now _ _ _)
 
 pub returns-in_err-messages : goal.returns-in_err-messages
 returns-in_err-messages g c =
-    let p = err_from_is_err_and c.from_residual.result c.from_residual.ensures.1 in
+    let p = err_from_is_err_and c.from_residual-in_err-messages.result c.from_residual-in_err-messages.ensures.1 in
     rw (p.1, p.2) (λ tag now. stops_look g.S.Store.step tag now _ _ _ _ c.in_err-messages.ensures.event)
 
-pub returns-in_default-2 : goal.returns-in_default-2
-returns-in_default-2 g c tag now =
+pub returns-in_default : goal.returns-in_default
+returns-in_default g c tag now =
     let command = c.args.fetch.now in
-    let looks = rw c.in_default-2.is at c.in_ok-messages.ensures.event in
+    let looks = rw c.in_default.is at c.in_ok-messages.ensures.event in
     reaches_too_high g.S.Store.step command.by_uid command.set (λ view uids. fetching command c.args.mark view (messages_done (commands.Fetch command) command.by_uid) uids false) looks.0 _ _ looks.1 looks.2 tag now
 
 pub returns-in_err-gone : goal.returns-in_err-gone

@@ -30,15 +30,15 @@ note_all-requires-clause-room g c =
     let l = known_length (length c.hear_all.new.verdicts.slots) c.hear_all.new.verdicts.slots c.known_in-verdicts.result.items c.known_in-verdicts.ensures in
     let b = c.as_slice.ensures.len in
     let k = c.len-count.ensures in
-    subst (g.N.Notebook.has_room c.reserve.new.self) (omega (arith, n, f, l, b, k, c.known_in-verdicts.result.ok.0)) c.in-Ok.ensures.ok
+    subst (g.N.Notebook.has_room c.reserve.new.self) (omega (arith, n, f, l, b, k, c.known_in-verdicts.result.ok.0)) c.in_ok-reserve.ensures.ok
 
 pub known_in-verdicts-requires-clause-room : goal.known_in-verdicts-requires-clause-room
 known_in-verdicts-requires-clause-room g c =
     let n = c.put_all.ensures.slots in
     let f = fills_length c.put_all.new.verdicts.slots c.hear_all.new.verdicts.slots c.hear_all.ensures.fills in
     let k = c.len-count.ensures in
-    let r = c.in-Ok-with_capacity.ensures.capacity in
-    (c.in-Ok-with_capacity.ensures.items, omega (arith, n, f, k, r))
+    let r = c.in_ok-room.ensures.capacity in
+    (c.in_ok-room.ensures.items, omega (arith, n, f, k, r))
 
 pub returns-clause-verdicts : goal.returns-clause-verdicts
 returns-clause-verdicts g c =

@@ -19,31 +19,31 @@ use Rattle.lane_work.proofs.worker.turn.Goals as goal
 pub settle-requires-clause-mailboxes : goal.settle-requires-clause-mailboxes
 settle-requires-clause-mailboxes g c =
     let pair : Submission → Type 0 = λ s. length s.mailboxes ≡ length s.keys in
-    let h = All-head pair (submission_of c.submission.result.now) [] (subst (All pair) c.submission.ensures c.in-Ok.ensures.paired) in
+    let h = All-head pair (submission_of c.submission.result.now) [] (subst (All pair) c.submission.ensures c.in_ok-fed.ensures.paired) in
     omega (arith, h, c.submission.result.now.mailboxes.ok.0, c.submission.result.now.keys.ok.0)
 
 pub returns-clause-stands : goal.returns-clause-stands
 returns-clause-stands g c done bytes told stands =
     stands_judged c.args.directory.now c.args.office.now.directory (rooms_of c.args.office.now.lanes.items) c.args.desk.now.number done bytes c.args.machine.now c.feed.new.self c.answer.new.self (told ++ c.args.out.now.items) (told ++ c.feed.new.out.items) (told ++ c.answer.new.out.items)
-    (g.N.Notebook.tells c.args.book.now) (g.N.Notebook.tells c.settle.new.book) (received c.args.desk.now.receiver) (received c.settle.new.desk.receiver) (map put_by c.args.desk.now.permits.items) (map put_by c.settle.new.desk.permits.items) c.args.piece.now c.in-Ok.fed (submission_of c.submission.result.now)
+    (g.N.Notebook.tells c.args.book.now) (g.N.Notebook.tells c.settle.new.book) (received c.args.desk.now.receiver) (received c.settle.new.desk.receiver) (map put_by c.args.desk.now.permits.items) (map put_by c.settle.new.desk.permits.items) c.args.piece.now c.in_ok-fed.fed (submission_of c.submission.result.now)
     c.in_ok-verdicts.verdicts.items (search rules) (search rules) (search rules) (search rules) c.in-Submit.is c.submission.ensures (search rules)
-    (λ k h. follows_behind told c.args.machine.now.setting c.args.machine.now.host c.args.directory.now k c.args.piece.now c.in-Ok.fed c.args.out.now.items c.feed.new.out.items c.feed.new.self.pending (c.in-Ok.ensures.ok k h))
+    (λ k h. follows_behind told c.args.machine.now.setting c.args.machine.now.host c.args.directory.now k c.args.piece.now c.in_ok-fed.fed c.args.out.now.items c.feed.new.out.items c.feed.new.self.pending (c.in_ok-fed.ensures.ok k h))
     (subst (λ (old : List ℕ). (x : Directory) (k : Conversation) → StandsFor c.feed.new.self k
     → Happens (StandsFor c.answer.new.self) c.feed.new.self.setting c.feed.new.self.host x k (on.Answered c.in_ok-verdicts.verdicts.items) (told ++ old) (told ++ c.answer.new.out.items)) c.reserve.ensures.items
     (subst (λ (vs : List Verdict). (x : Directory) (k : Conversation) → StandsFor c.feed.new.self k
     → Happens (StandsFor c.answer.new.self) c.feed.new.self.setting c.feed.new.self.host x k (on.Answered vs) (told ++ c.reserve.new.self.items) (told ++ c.answer.new.out.items))
     c.as_slice.ensures.value
-    (λ x k h. happens_behind told c.feed.new.self.setting c.feed.new.self.host x k (on.Answered c.as_slice.result.now) c.reserve.new.self.items c.answer.new.out.items (c.in-Ok-answer.ensures.ok x k h))))
+    (λ x k h. happens_behind told c.feed.new.self.setting c.feed.new.self.host x k (on.Answered c.as_slice.result.now) c.reserve.new.self.items c.answer.new.out.items (c.in-Ok.ensures.ok x k h))))
     (λ fits. c.in_ok-verdicts.ensures.books (open_to c.args.office.now.directory c.args.directory.now c.args.desk.now.permits.items (submission_of c.submission.result.now).mailboxes c.requires.marks c.requires.permits.1 fits)) stands
 
 pub returns-in-More-clause-stands : goal.returns-in-More-clause-stands
 returns-in-More-clause-stands g c done bytes told stands =
     stands_on c.args.directory.now c.args.office.now.directory (rooms_of c.args.office.now.lanes.items) c.args.desk.now.number done bytes c.args.machine.now c.feed.new.self (told ++ c.args.out.now.items) (told ++ c.feed.new.out.items) (g.N.Notebook.tells c.args.book.now)
-    (received c.args.desk.now.receiver) (map put_by c.args.desk.now.permits.items) c.args.piece.now c.in-Ok.fed c.in-Ok.ensures.same.0 c.in-Ok.ensures.same.1 (λ e. let x : More ≡ Submit = sym c.in-More.is ∙ e in cc)
-    (λ k h. follows_behind told c.args.machine.now.setting c.args.machine.now.host c.args.directory.now k c.args.piece.now c.in-Ok.fed c.args.out.now.items c.feed.new.out.items c.feed.new.self.pending (c.in-Ok.ensures.ok k h)) stands
+    (received c.args.desk.now.receiver) (map put_by c.args.desk.now.permits.items) c.args.piece.now c.in_ok-fed.fed c.in_ok-fed.ensures.same.0 c.in_ok-fed.ensures.same.1 (λ e. let x : More ≡ Submit = sym c.in-More.is ∙ e in cc)
+    (λ k h. follows_behind told c.args.machine.now.setting c.args.machine.now.host c.args.directory.now k c.args.piece.now c.in_ok-fed.fed c.args.out.now.items c.feed.new.out.items c.feed.new.self.pending (c.in_ok-fed.ensures.ok k h)) stands
 
 pub returns-in-Quit-clause-stands : goal.returns-in-Quit-clause-stands
 returns-in-Quit-clause-stands g c done bytes told stands =
     stands_on c.args.directory.now c.args.office.now.directory (rooms_of c.args.office.now.lanes.items) c.args.desk.now.number done bytes c.args.machine.now c.feed.new.self (told ++ c.args.out.now.items) (told ++ c.feed.new.out.items) (g.N.Notebook.tells c.args.book.now)
-    (received c.args.desk.now.receiver) (map put_by c.args.desk.now.permits.items) c.args.piece.now c.in-Ok.fed c.in-Ok.ensures.same.0 c.in-Ok.ensures.same.1 (λ e. let x : Quit ≡ Submit = sym c.in-Quit.is ∙ e in cc)
-    (λ k h. follows_behind told c.args.machine.now.setting c.args.machine.now.host c.args.directory.now k c.args.piece.now c.in-Ok.fed c.args.out.now.items c.feed.new.out.items c.feed.new.self.pending (c.in-Ok.ensures.ok k h)) stands
+    (received c.args.desk.now.receiver) (map put_by c.args.desk.now.permits.items) c.args.piece.now c.in_ok-fed.fed c.in_ok-fed.ensures.same.0 c.in_ok-fed.ensures.same.1 (λ e. let x : Quit ≡ Submit = sym c.in-Quit.is ∙ e in cc)
+    (λ k h. follows_behind told c.args.machine.now.setting c.args.machine.now.host c.args.directory.now k c.args.piece.now c.in_ok-fed.fed c.args.out.now.items c.feed.new.out.items c.feed.new.self.pending (c.in_ok-fed.ensures.ok k h)) stands

@@ -1,6 +1,7 @@
 use Rattle.std.proofs.Common.{[], ◌∙◌, sym}
 use Rattle.std.specs.Vec.{vec_capacity}
-use Rattle.session_thread.proofs.Living.{awaited_in_part, awaited_step, rested, said_in_part, said_step}
+use Rattle.courier.specs.declared.Lost.TheVariants as lost
+use Rattle.session_thread.proofs.Living.{awaited_in_part, awaited_step, handed_on, rested, said_in_part, said_step}
 use Rattle.session_thread.proofs.Spoken.{none_more}
 use Rattle.session_thread.proofs.life.make.Goals as goal
 
@@ -23,16 +24,17 @@ returns-in-Say-clause-err g c =
     said_in_part a.result c.args.turns (vec_capacity a.new.out) c.args.step.now c.in-Say.bytes c.deref.result.now c.args.store.now a.new.store c.args.out.now.items a.new.out.items c.args.connection.now a.new.connection
     (sym c.takes_more.ensures.is ∙ c.if-not-takes_more.false) c.in-Say.is c.deref.ensures.value a.ensures.err
 
-pub returns-in-Ok-clause-ok : goal.returns-in-Ok-clause-ok
-returns-in-Ok-clause-ok g c =
+pub returns-in-Await-clause-ok : goal.returns-in-Await-clause-ok
+returns-in-Await-clause-ok g c =
     let w = c.wait_for.new in (
       [],
       none_more (g.C.Courier.carried c.args.courier.now),
-      awaited_step c.args.turns c.args.step.now c.in-Await.count c.args.store.now w.store c.args.out.now.items w.out.items c.args.connection.now w.connection (sym c.takes_more.ensures.is ∙ c.if-not-takes_more.false) c.in-Await.is c.in-Ok.ensures.ok,
+      awaited_step c.args.turns c.args.step.now c.in-Await.count c.args.store.now w.store c.args.out.now.items w.out.items c.args.connection.now w.connection (sym c.takes_more.ensures.is ∙ c.if-not-takes_more.false) c.in-Await.is c.in_ok-wait_for.ensures.ok,
     )
 
-pub returns-in-Err-clause-err : goal.returns-in-Err-clause-err
-returns-in-Err-clause-err g c =
+pub returns-in_err-wait_for-clause-err : goal.returns-in_err-wait_for-clause-err
+returns-in_err-wait_for-clause-err g c =
     let w = c.wait_for.new in
-    awaited_in_part c.args.turns (vec_capacity w.out) c.args.step.now c.in-Await.count c.args.store.now w.store c.args.out.now.items w.out.items c.args.connection.now w.connection (sym c.takes_more.ensures.is ∙ c.if-not-takes_more.false) c.in-Await.is
-    c.in-Err.ensures.err
+    handed_on c.from_residual.result lost.NoMemory _ c.from_residual.ensures.1
+    (awaited_in_part c.args.turns (vec_capacity w.out) c.args.step.now c.in-Await.count c.args.store.now w.store c.args.out.now.items w.out.items c.args.connection.now w.connection (sym c.takes_more.ensures.is ∙ c.if-not-takes_more.false) c.in-Await.is
+    c.in_err-wait_for.ensures.err)

@@ -6,11 +6,11 @@ use Rattle.session_thread.proofs.life.wait_for.Goals as goal
 pub loop-turn-init : goal.loop-turn-init
 loop-turn-init g c d s = (d, s, none)
 
-pub returns-in_err-turn-clause-err : goal.returns-in_err-turn-clause-err
-returns-in_err-turn-clause-err g c =
+pub returns-in_err-shown-clause-err : goal.returns-in_err-shown-clause-err
+returns-in_err-shown-clause-err g c =
     on_err c.from_residual.result _ λ d s.
     let t = c.loop-turn.invariant d s in
-    let e = c.in_err-turn.ensures.err t.0 t.1 in
+    let e = c.in_err-shown.ensures.err t.0 t.1 in
     let first : Moment = moment d c.args.store.now c.args.out.now.items in
     let due = not_over c.args.count t.0 c.loop-turn.store c.loop-turn.out.items c.loop-turn.connection t.1 (omega (arith, c.shown.ensures, c.if-shown-count.false)) (sym c.is_idling.ensures ∙ c.if-not-is_idling.false) in
     let had = subst (λ (m : Moment). Turns c.args.count first c.loop-turn._turn m × (IsOver c.args.count m → ⊥)) (sym e.1) (t.2, due) in
@@ -19,9 +19,9 @@ returns-in_err-turn-clause-err g c =
 pub loop-turn-preserved : goal.loop-turn-preserved
 loop-turn-preserved g c d s =
     let t = c.loop-turn.invariant d s in
-    let n = c.in_ok-turn.ensures.ok t.0 t.1 in (
+    let n = c.in_ok-shown.ensures.ok t.0 t.1 in (
       n.0,
       n.1,
-      turned_on c.args.count c.loop-turn._turn (moment d c.args.store.now c.args.out.now.items) t.0 n.0 c.loop-turn.store c.turn.new.store c.loop-turn.out.items c.turn.new.out.items c.loop-turn.connection t.1
-          (omega (arith, c.shown.ensures, c.if-shown-count.false)) (sym c.is_idling.ensures ∙ c.if-not-is_idling.false) t.2 n.2,
+      turned_on c.args.count c.loop-turn._turn (moment d c.args.store.now c.args.out.now.items) t.0 n.0 c.loop-turn.store c.idle_turn.new.store c.loop-turn.out.items c.idle_turn.new.out.items c.loop-turn.connection t.1
+          (omega (arith, c.shown.ensures, c.if-shown-count.false)) (sym c.is_idling.ensures ∙ c.if-not-is_idling.false) t.2 n.2.1.0,
     )

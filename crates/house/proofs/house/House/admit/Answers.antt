@@ -10,10 +10,12 @@ use Rattle.house.specs.Scene.{EnterPlay, most_serials}
 use Rattle.house.specs.Stands.{StandsFor}
 use Rattle.house.specs.inner.Steps.{PlaceTalked, StandsForSomebody}
 use Rattle.house.proofs.SessionEvents.{entered}
+use Rattle.house.proofs.Settlement.{on_err}
 use Rattle.house.proofs.house.House.admit.Goals as goal
 
-pub returns-in_default-visitor_talks-clause-no_memory : goal.returns-in_default-visitor_talks-clause-no_memory
-returns-in_default-visitor_talks-clause-no_memory c k s st =
+pub returns-in_err-visitor_talks-clause-no_memory : goal.returns-in_err-visitor_talks-clause-no_memory
+returns-in_err-visitor_talks-clause-no_memory c =
+    on_err c.from_residual-in_err-visitor_talks.result _ λ k s st.
     let i = c.self.inside in
     let h : House = record { core = i.store.core; callers = i.callers.items; serials = i.serials.items; visitors = i.visitors.items; entered = i.entered.items; directory = i.directory; host = i.host.items; max_message = i.max_message } in
     let st1 = subst (λ (x : House). StandsFor k x s) (sym c.self.view_is) st in
@@ -28,11 +30,11 @@ returns-in_default-visitor_talks-clause-no_memory c k s st =
     let more = subst (λ (n : ℕ). get_or i.entered.items n 0 < most_serials) (sym e1) (subst (λ (x : House). get_or x.entered (c.args.session - 1) 0 < most_serials) (sym c.self.view_is) c.requires.free.more) in
     let seat : c.session_seat-seat.result ≡ length i.callers.items + place = c.session_seat-seat.ensures ∙ ap (λ (n : ℕ). n + (c.args.session - 1)) (sym first) ∙ ap (λ (n : ℕ). length i.callers.items + n) (sym e1) in
     let serial : c.index-serial.result.now ≡ get_or i.entered.items place 0 = c.index-serial.ensures ∙ get_or-any i.entered.items place c.index-serial.result.now 0 ls in
-    let r = entered k false h s place c.session_seat-seat.result c.index-serial.result.now i.max_message c.args.user.now c.in-Ok-admitted.visitor c.visitor_talks.new.place c.visitor_talks.new.store.core c.args.out.now.items c.visitor_talks.new.out.items
+    let r = entered k false h s place c.session_seat-seat.result c.index-serial.result.now i.max_message c.args.user.now c.in_ok-visitor.visitor c.visitor_talks.new.place c.visitor_talks.new.store.core c.args.out.now.items c.visitor_talks.new.out.items
     st1 lt seat free known serial (subst (λ (n : ℕ). n < most_serials) (sym serial) more) refl c.visitor_talks.ensures.delivery
-    (λ next heard l. subst (λ (f : List Folder). StandsForSeated c.session_seat-seat.result next heard c.in-Ok-admitted.visitor (seated_greeted c.index-serial.result.now (Some i.max_message) f)) c.in-Ok.ensures (c.in-Ok-admitted.ensures.1 next heard l))
+    (λ next heard l. subst (λ (f : List Folder). StandsForSeated c.session_seat-seat.result next heard c.in_ok-visitor.visitor (seated_greeted c.index-serial.result.now (Some i.max_message) f)) c.in_ok-folders.ensures (c.in_ok-visitor.ensures.1 next heard l))
     (λ next heard w b stands is. subst (λ (n : ℕ). PlaceTalked k false n next heard w b c.visitor_talks.new.place c.visitor_talks.new.store.core c.args.out.now.items c.visitor_talks.new.out.items) (sym e1)
-    (c.in_default-visitor_talks.ensures.err k next heard w b stands (subst (λ (n : ℕ). StandsForSomebody (session_seat k n) next heard (Some c.in-Ok-admitted.visitor) (Some b)) e1 is))) in
+    (c.in_err-visitor_talks.ensures.err k next heard w b stands (subst (λ (n : ℕ). StandsForSomebody (session_seat k n) next heard (Some c.in_ok-visitor.visitor) (Some b)) e1 is))) in
     inl (record {
       after = r.0;
       printed = r.1;
@@ -57,11 +59,11 @@ returns-clause-follows c k s st =
     let more = subst (λ (n : ℕ). get_or i.entered.items n 0 < most_serials) (sym e1) (subst (λ (x : House). get_or x.entered (c.args.session - 1) 0 < most_serials) (sym c.self.view_is) c.requires.free.more) in
     let seat : c.session_seat-seat.result ≡ length i.callers.items + place = c.session_seat-seat.ensures ∙ ap (λ (n : ℕ). n + (c.args.session - 1)) (sym first) ∙ ap (λ (n : ℕ). length i.callers.items + n) (sym e1) in
     let serial : c.index-serial.result.now ≡ get_or i.entered.items place 0 = c.index-serial.ensures ∙ get_or-any i.entered.items place c.index-serial.result.now 0 ls in
-    let r = entered k true h s place c.session_seat-seat.result c.index-serial.result.now i.max_message c.args.user.now c.in-Ok-admitted.visitor c.visitor_talks.new.place c.visitor_talks.new.store.core c.args.out.now.items c.visitor_talks.new.out.items
+    let r = entered k true h s place c.session_seat-seat.result c.index-serial.result.now i.max_message c.args.user.now c.in_ok-visitor.visitor c.visitor_talks.new.place c.visitor_talks.new.store.core c.args.out.now.items c.visitor_talks.new.out.items
     st1 lt seat free known serial (subst (λ (n : ℕ). n < most_serials) (sym serial) more) refl c.visitor_talks.ensures.delivery
-    (λ next heard l. subst (λ (f : List Folder). StandsForSeated c.session_seat-seat.result next heard c.in-Ok-admitted.visitor (seated_greeted c.index-serial.result.now (Some i.max_message) f)) c.in-Ok.ensures (c.in-Ok-admitted.ensures.1 next heard l))
+    (λ next heard l. subst (λ (f : List Folder). StandsForSeated c.session_seat-seat.result next heard c.in_ok-visitor.visitor (seated_greeted c.index-serial.result.now (Some i.max_message) f)) c.in_ok-folders.ensures (c.in_ok-visitor.ensures.1 next heard l))
     (λ next heard w b stands is. subst (λ (n : ℕ). PlaceTalked k true n next heard w b c.visitor_talks.new.place c.visitor_talks.new.store.core c.args.out.now.items c.visitor_talks.new.out.items) (sym e1)
-    (c.in-Ok-visitor_talks.ensures.ok k next heard w b stands (subst (λ (n : ℕ). StandsForSomebody (session_seat k n) next heard (Some c.in-Ok-admitted.visitor) (Some b)) e1 is))) in
+    (c.in_ok-visitor_talks.ensures.ok k next heard w b stands (subst (λ (n : ℕ). StandsForSomebody (session_seat k n) next heard (Some c.in_ok-visitor.visitor) (Some b)) e1 is))) in
     record {
       after = r.0;
       printed = r.1;

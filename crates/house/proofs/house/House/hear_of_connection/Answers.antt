@@ -16,8 +16,8 @@ there : (o : Option HouseConnection) → is_some o ≡ true → (g : HouseConnec
 there None e = absurd (let x : false ≡ true = e in cc)
 there (Some g) e = (g, refl)
 
-pub returns-in_default-clause-no_memory : goal.returns-in_default-clause-no_memory
-returns-in_default-clause-no_memory c e k s st =
+pub returns-in_err-caller_goes_on-clause-no_memory : goal.returns-in_err-caller_goes_on-clause-no_memory
+returns-in_err-caller_goes_on-clause-no_memory c e k s st =
     let i = c.self.inside in
     let h : House = record { core = i.store.core; callers = i.callers.items; serials = i.serials.items; visitors = i.visitors.items; entered = i.entered.items; directory = i.directory; host = i.host.items; max_message = i.max_message } in
     let st1 = subst (λ (x : House). StandsFor k x s) (sym c.self.view_is) st in
@@ -31,7 +31,7 @@ returns-in_default-clause-no_memory c e k s st =
     let f = c.in-Ok.ensures in
     let r = heard_led k h s c.args.connection c.index_of-seat.result i.directory g.0 c.hear.new.self c.in-Ok.noted q.0 c.caller_goes_on.new.occupant false c.args.out.now.items c.caller_goes_on.new.out.items
     st1 number refl lt some (subst (λ (n : ℕ). (x : world.Config) → core.Follows x i.store.core (world.Hear n ∷ []) c.hear.new.self) (sym e1) f.follows) (subst (λ (n : ℕ). Hears i.store.core c.hear.new.self n (c.in-Ok.noted ∷ [])) (sym e1) f.heard) f.next q.2
-    (λ x p next heard b of m. c.in_default.ensures.err x p next heard b of (subst (λ (o : Option HouseConnection). StandsForMaybe x p next heard o (Some b)) (sym q.1) m)) in
+    (λ x p next heard b of m. c.in_err-caller_goes_on.ensures.err x p next heard b of (subst (λ (o : Option HouseConnection). StandsForMaybe x p next heard o (Some b)) (sym q.1) m)) in
     inl (record { after = r.0; printed = r.1; plays = subst (λ (n : ℕ). HearPlay k false s n r.0 r.1) e1 (connection_hears (let b = st1.connections in omega (arith, lt, b)) r.2); stands = r.3; out = r.4 })
 
 pub returns-clause-follows : goal.returns-clause-follows
@@ -49,7 +49,7 @@ returns-clause-follows c k s st =
     let f = c.in-Ok.ensures in
     let r = heard_led k h s c.args.connection c.index_of-seat.result i.directory g.0 c.hear.new.self c.in-Ok.noted q.0 c.caller_goes_on.new.occupant true c.args.out.now.items c.caller_goes_on.new.out.items
     st1 number refl lt some (subst (λ (n : ℕ). (x : world.Config) → core.Follows x i.store.core (world.Hear n ∷ []) c.hear.new.self) (sym e1) f.follows) (subst (λ (n : ℕ). Hears i.store.core c.hear.new.self n (c.in-Ok.noted ∷ [])) (sym e1) f.heard) f.next q.2
-    (λ x p next heard b of m. c.in-Ok-caller_goes_on.ensures.ok x p next heard b of (subst (λ (o : Option HouseConnection). StandsForMaybe x p next heard o (Some b)) (sym q.1) m)) in
+    (λ x p next heard b of m. c.in_ok-caller_goes_on.ensures.ok x p next heard b of (subst (λ (o : Option HouseConnection). StandsForMaybe x p next heard o (Some b)) (sym q.1) m)) in
     record { after = r.0; printed = r.1; plays = subst (λ (n : ℕ). HearPlay k true s n r.0 r.1) e1 (connection_hears (let b = st1.connections in omega (arith, lt, b)) r.2); stands = r.3; out = r.4 }
 
 pub returns-in-Err-Nothing-clause-changes_nothing : goal.returns-in-Err-Nothing-clause-changes_nothing
@@ -61,8 +61,8 @@ returns-in-Err-Nothing-clause-changes_nothing c e k s st t printed p =
     let lt : seat_of c.args.connection < length i.callers.items = let n = c.requires.seat.number in let m = c.requires.seat.seat in omega (arith, n, m, many) in
     absurd (hears_none k h s (seat_of c.args.connection) t printed st1 lt (c.in-Err-Nothing.ensures.changes_nothing (ap (λ x. Err x) c.in-Err-Nothing.field-0-is)) p)
 
-pub returns-in_default-clause-asks : goal.returns-in_default-clause-asks
-returns-in_default-clause-asks c e = rw (← c.self.view_is) (inr (c.in-Ok.noted, c.in-Ok.ensures.heard))
+pub returns-in_err-caller_goes_on-clause-asks : goal.returns-in_err-caller_goes_on-clause-asks
+returns-in_err-caller_goes_on-clause-asks c e = rw (← c.self.view_is) (inr (c.in-Ok.noted, c.in-Ok.ensures.heard))
 
 pub returns-in-Err-NoMemory-clause-asks : goal.returns-in-Err-NoMemory-clause-asks
 returns-in-Err-NoMemory-clause-asks c e = rw (← c.self.view_is) (inl (c.in-Err-NoMemory.ensures.memory (ap (λ x. Err x) c.in-Err-NoMemory.field-0-is)))

@@ -13,8 +13,8 @@ use Rattle.house.proofs.SessionEvents.{heard_at, heard_led, hears_none}
 use Rattle.house.proofs.Visiting.{some_seat}
 use Rattle.house.proofs.house.House.hear_of_session.Goals as goal
 
-pub returns-in_default-clause-no_memory : goal.returns-in_default-clause-no_memory
-returns-in_default-clause-no_memory c e k s st =
+pub returns-in_err-visitor_goes_on-clause-no_memory : goal.returns-in_err-visitor_goes_on-clause-no_memory
+returns-in_err-visitor_goes_on-clause-no_memory c e k s st =
     let i = c.self.inside in
     let h : House = record { core = i.store.core; callers = i.callers.items; serials = i.serials.items; visitors = i.visitors.items; entered = i.entered.items; directory = i.directory; host = i.host.items; max_message = i.max_message } in
     let st1 = subst (λ (x : House). StandsFor k x s) (sym c.self.view_is) st in
@@ -33,7 +33,7 @@ returns-in_default-clause-no_memory c e k s st =
     let r = heard_led k false h s place g.0 c.hear.new.self c.visitor_goes_on.new.store.core c.in-Ok.noted q.0 c.visitor_goes_on.new.place c.args.out.now.items c.visitor_goes_on.new.out.items st1 lt some
     (subst (λ (n : ℕ). (x : world.Config) → core.Follows x i.store.core (world.Hear n ∷ []) c.hear.new.self) mine f.follows) (subst (λ (n : ℕ). Hears i.store.core c.hear.new.self n (c.in-Ok.noted ∷ [])) mine f.heard) f.next q.2 c.visitor_goes_on.ensures.delivery
     (λ next heard w b stands is. subst (λ (n : ℕ). PlaceVisited k false n next heard w b c.visitor_goes_on.new.place c.visitor_goes_on.new.store.core c.args.out.now.items c.visitor_goes_on.new.out.items) (sym number)
-    (c.in_default.ensures.err k next heard w b stands (subst (λ (n : ℕ). StandsForSomebody (session_seat k n) next heard c.visitor_hears.new.place (Some b)) number (subst (λ (o : Option SeatedSession). StandsForSomebody (session_seat k place) next heard o (Some b)) (sym q.1) is)))) in
+    (c.in_err-visitor_goes_on.ensures.err k next heard w b stands (subst (λ (n : ℕ). StandsForSomebody (session_seat k n) next heard c.visitor_hears.new.place (Some b)) number (subst (λ (o : Option SeatedSession). StandsForSomebody (session_seat k place) next heard o (Some b)) (sym q.1) is)))) in
     inl (record { after = r.0; printed = r.1; plays = session_hears place mine r.2; stands = r.3; out = r.4 })
 
 pub returns-clause-follows : goal.returns-clause-follows
@@ -56,7 +56,7 @@ returns-clause-follows c k s st =
     let r = heard_led k true h s place g.0 c.hear.new.self c.visitor_goes_on.new.store.core c.in-Ok.noted q.0 c.visitor_goes_on.new.place c.args.out.now.items c.visitor_goes_on.new.out.items st1 lt some
     (subst (λ (n : ℕ). (x : world.Config) → core.Follows x i.store.core (world.Hear n ∷ []) c.hear.new.self) mine f.follows) (subst (λ (n : ℕ). Hears i.store.core c.hear.new.self n (c.in-Ok.noted ∷ [])) mine f.heard) f.next q.2 c.visitor_goes_on.ensures.delivery
     (λ next heard w b stands is. subst (λ (n : ℕ). PlaceVisited k true n next heard w b c.visitor_goes_on.new.place c.visitor_goes_on.new.store.core c.args.out.now.items c.visitor_goes_on.new.out.items) (sym number)
-    (c.in-Ok-visitor_goes_on.ensures.ok k next heard w b stands (subst (λ (n : ℕ). StandsForSomebody (session_seat k n) next heard c.visitor_hears.new.place (Some b)) number (subst (λ (o : Option SeatedSession). StandsForSomebody (session_seat k place) next heard o (Some b)) (sym q.1) is)))) in
+    (c.in_ok-visitor_goes_on.ensures.ok k next heard w b stands (subst (λ (n : ℕ). StandsForSomebody (session_seat k n) next heard c.visitor_hears.new.place (Some b)) number (subst (λ (o : Option SeatedSession). StandsForSomebody (session_seat k place) next heard o (Some b)) (sym q.1) is)))) in
     record { after = r.0; printed = r.1; plays = session_hears place mine r.2; stands = r.3; out = r.4 }
 
 pub returns-in-Err-Nothing-clause-changes_nothing : goal.returns-in-Err-Nothing-clause-changes_nothing

@@ -26,8 +26,8 @@ returns-then-not-has_turn-clause-changes_nothing c e k s st t printed play =
     let none = subst (λ (n : ℕ). HasNoTurn n (Some c.in-Some.visitor) i.store.core) (sym e1) (c.has_turn.ensures.none c.if-not-has_turn.true) in
     absurd (idle_none k h s c.index_of.result c.in-Some.visitor t printed st1 lt some none (subst (λ (n : ℕ). IdlePlay k true s n t printed) (sym e1) play))
 
-pub returns-in_default-turn_at-clause-no_memory : goal.returns-in_default-turn_at-clause-no_memory
-returns-in_default-turn_at-clause-no_memory c e k s st =
+pub returns-in_err-turn_at-clause-no_memory : goal.returns-in_err-turn_at-clause-no_memory
+returns-in_err-turn_at-clause-no_memory c e k s st =
     let i = c.self.inside in
     let h : House = record { core = i.store.core; callers = i.callers.items; serials = i.serials.items; visitors = i.visitors.items; entered = i.entered.items; directory = i.directory; host = i.host.items; max_message = i.max_message } in
     let st1 = subst (λ (x : House). StandsFor k x s) (sym c.self.view_is) st in
@@ -38,7 +38,7 @@ returns-in_default-turn_at-clause-no_memory c e k s st =
     let some : ◌≡◌ {A = Option SeatedSession} (slice_index_or i.visitors.items c.index_of.result None) (Some c.in-Some.visitor) = get_or-any i.visitors.items c.index_of.result None _ lt ∙ sym c.index_mut-place.ensures.value ∙ c.in-Some.is in
     let r = idle_led_in_part k h s c.index_of.result c.in-Some.visitor c.turn_at.new.place c.turn_at.new.store.core c.args.out.now.items c.turn_at.new.out.items st1 lt some
     (λ next heard w b stands is. subst (λ (n : ℕ). PlaceIdledInPart k n next heard w b i.store.core c.turn_at.new.place c.turn_at.new.store.core c.args.out.now.items c.turn_at.new.out.items) (sym e1)
-    (c.in_default-turn_at.ensures.err k next heard w b stands (subst (λ (n : ℕ). StandsForSomebody (session_seat k n) next heard (Some c.in-Some.visitor) (Some b)) e1 is))) in
+    (c.in_err-turn_at.ensures.err k next heard w b stands (subst (λ (n : ℕ). StandsForSomebody (session_seat k n) next heard (Some c.in-Some.visitor) (Some b)) e1 is))) in
     elim r [
       | inl m ↦ inl (record { after = m.0; printed = m.1; plays = subst (λ (n : ℕ). IdlePlay k false s n m.0 m.1) e1 m.2; stands = m.3; out = m.4 })
       | inr m ↦ inr m
@@ -56,11 +56,11 @@ returns-clause-follows c k s st =
     let some : ◌≡◌ {A = Option SeatedSession} (slice_index_or i.visitors.items c.index_of.result None) (Some c.in-Some.visitor) = get_or-any i.visitors.items c.index_of.result None _ lt ∙ sym c.index_mut-place.ensures.value ∙ c.in-Some.is in
     let r = idle_led k true h s c.index_of.result c.in-Some.visitor c.turn_at.new.place c.turn_at.new.store.core c.args.out.now.items c.turn_at.new.out.items st1 lt some
     (λ next heard w b stands is. subst (λ (n : ℕ). PlaceIdled k true n next heard w b i.store.core c.turn_at.new.place c.turn_at.new.store.core c.args.out.now.items c.turn_at.new.out.items) (sym e1)
-    (c.in-Ok.ensures.ok k next heard w b stands (subst (λ (n : ℕ). StandsForSomebody (session_seat k n) next heard (Some c.in-Some.visitor) (Some b)) e1 is))) in
+    (c.in_ok-turn_at.ensures.ok k next heard w b stands (subst (λ (n : ℕ). StandsForSomebody (session_seat k n) next heard (Some c.in-Some.visitor) (Some b)) e1 is))) in
     record { after = r.0; printed = r.1; plays = subst (λ (n : ℕ). IdlePlay k true s n r.0 r.1) e1 r.2; stands = r.3; out = r.4 }
 
-pub returns-in_default-turn_at-clause-asks : goal.returns-in_default-turn_at-clause-asks
-returns-in_default-turn_at-clause-asks c e =
+pub returns-in_err-turn_at-clause-asks : goal.returns-in_err-turn_at-clause-asks
+returns-in_err-turn_at-clause-asks c e =
     let i = c.self.inside in
     let many = ap (λ (x : House). length x.visitors) c.self.view_is in
     let e1 = c.index_of.ensures in

@@ -7,10 +7,12 @@ use Rattle.house.specs.Scene.{BytesPlay}
 use Rattle.house.specs.Stands.{StandsFor}
 use Rattle.house.specs.Steps.{is_unread}
 use Rattle.house.proofs.Events.{received}
+use Rattle.house.proofs.Settlement.{on_err}
 use Rattle.house.proofs.house.House.receive.Goals as goal
 
-pub returns-in_default-caller_goes_on-clause-no_memory : goal.returns-in_default-caller_goes_on-clause-no_memory
-returns-in_default-caller_goes_on-clause-no_memory c k s st =
+pub returns-in_err-caller_goes_on-clause-no_memory : goal.returns-in_err-caller_goes_on-clause-no_memory
+returns-in_err-caller_goes_on-clause-no_memory c =
+    on_err c.from_residual-in_err-caller_goes_on.result _ λ k s st.
     let i = c.self.inside in
     let h : House = record { core = i.store.core; callers = i.callers.items; serials = i.serials.items; visitors = i.visitors.items; entered = i.entered.items; directory = i.directory; host = i.host.items; max_message = i.max_message } in
     let st1 = subst (λ (x : House). StandsFor k x s) (sym c.self.view_is) st in
@@ -20,9 +22,9 @@ returns-in_default-caller_goes_on-clause-no_memory c k s st =
     let read = subst (λ (n : ℕ). is_unread (get_or i.callers.items n None) ≡ false) (sym e) (subst (λ (x : House). is_unread (get_or x.callers (c.args.connection - 1) None) ≡ false) (sym c.self.view_is) c.requires.there.read) in
     let number : c.args.connection ≡ c.index_of.result + 1 = let n = c.requires.there.number in omega (arith, n, e) in
     let lt : c.index_of.result < length i.callers.items = let m = c.requires.there.seat in omega (arith, number, m, many) in
-    let at = c.in-Ok.ensures.ok ∙ ap (option_map (with_more c.args.piece.now)) (c.index_mut-occupant.ensures.value ∙ get_or-any i.callers.items c.index_of.result _ None lt) in
+    let at = c.in_ok-append_to_caller.ensures.ok ∙ ap (option_map (with_more c.args.piece.now)) (c.index_mut-occupant.ensures.value ∙ get_or-any i.callers.items c.index_of.result _ None lt) in
     let r = received k h s c.args.connection c.index_of.result c.args.piece.now i.directory c.caller_goes_on.new.occupant c.append_to_caller.new.occupant false c.args.out.now.items c.caller_goes_on.new.out.items st1
-    number refl lt who read at c.in_default-caller_goes_on.ensures.err in
+    number refl lt who read at c.in_err-caller_goes_on.ensures.err in
     inl (record { after = r.0; printed = r.1; plays = subst (λ (n : ℕ). BytesPlay k false s n c.args.piece.now r.0 r.1) e r.2; stands = r.3; out = r.4 })
 
 pub returns-clause-follows : goal.returns-clause-follows
@@ -36,7 +38,7 @@ returns-clause-follows c k s st =
     let read = subst (λ (n : ℕ). is_unread (get_or i.callers.items n None) ≡ false) (sym e) (subst (λ (x : House). is_unread (get_or x.callers (c.args.connection - 1) None) ≡ false) (sym c.self.view_is) c.requires.there.read) in
     let number : c.args.connection ≡ c.index_of.result + 1 = let n = c.requires.there.number in omega (arith, n, e) in
     let lt : c.index_of.result < length i.callers.items = let m = c.requires.there.seat in omega (arith, number, m, many) in
-    let at = c.in-Ok.ensures.ok ∙ ap (option_map (with_more c.args.piece.now)) (c.index_mut-occupant.ensures.value ∙ get_or-any i.callers.items c.index_of.result _ None lt) in
+    let at = c.in_ok-append_to_caller.ensures.ok ∙ ap (option_map (with_more c.args.piece.now)) (c.index_mut-occupant.ensures.value ∙ get_or-any i.callers.items c.index_of.result _ None lt) in
     let r = received k h s c.args.connection c.index_of.result c.args.piece.now i.directory c.caller_goes_on.new.occupant c.append_to_caller.new.occupant true c.args.out.now.items c.caller_goes_on.new.out.items st1
-    number refl lt who read at c.in-Ok-caller_goes_on.ensures.ok in
+    number refl lt who read at c.in_ok-caller_goes_on.ensures.ok in
     record { after = r.0; printed = r.1; plays = subst (λ (n : ℕ). BytesPlay k true s n c.args.piece.now r.0 r.1) e r.2; stands = r.3; out = r.4 }

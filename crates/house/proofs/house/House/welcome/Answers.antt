@@ -9,10 +9,12 @@ use Rattle.house_connection.specs.ConnectionStands.{StandsForConnection}
 use Rattle.delivery_token.specs.Keys.{AtLeast}
 use Rattle.delivery_token.specs.declared.CopyKey.{CopyKey}
 use Rattle.delivery_token.specs.declared.log.Noted.{Noted}
+use Rattle.house.proofs.Settlement.{on_err}
 use Rattle.house.proofs.house.House.welcome.Goals as goal
 
-pub returns-in_default-caller_goes_on-clause-no_memory : goal.returns-in_default-caller_goes_on-clause-no_memory
-returns-in_default-caller_goes_on-clause-no_memory c k s st =
+pub returns-in_err-caller_goes_on-clause-no_memory : goal.returns-in_err-caller_goes_on-clause-no_memory
+returns-in_err-caller_goes_on-clause-no_memory c =
+    on_err c.from_residual-in_err-caller_goes_on.result _ λ k s st.
     let i = c.self.inside in
     let h : House = record { core = i.store.core; callers = i.callers.items; serials = i.serials.items; visitors = i.visitors.items; entered = i.entered.items; directory = i.directory; host = i.host.items; max_message = i.max_message } in
     let st1 = subst (λ (x : House). StandsFor k x s) (sym c.self.view_is) st in
@@ -26,12 +28,12 @@ returns-in_default-caller_goes_on-clause-no_memory c k s st =
     let ls : seat < length i.serials.items = let z = c.self.invariant.0 in omega (arith, lt, z) in
     let serial : c.index-serial.result.now ≡ get_or i.serials.items seat 0 = c.index-serial.ensures ∙ get_or-any i.serials.items seat c.index-serial.result.now 0 ls in
     let opened = λ (x : Terms) (next : CopyKey) (heard : List Noted) (a : x.host ≡ i.host.items) (b : x.max_message ≡ i.max_message) (l : AtLeast next (record { seat = seat; serial = get_or i.serials.items seat 0; message = 0; recipient = 0 })).
-    subst (λ (n : ℕ). StandsForConnection x seat next heard c.in-Ok.caller (more_waits (greeted x seat n) c.args.piece.now)) serial
-    (subst (λ (n : ℕ). StandsForConnection x n next heard c.in-Ok.caller (more_waits (greeted x n c.index-serial.result.now) c.args.piece.now)) (sym e1)
-    (c.in-Ok.ensures x next heard (a ∙ sym c.deref.ensures.value) b
+    subst (λ (n : ℕ). StandsForConnection x seat next heard c.in_ok-caller.caller (more_waits (greeted x seat n) c.args.piece.now)) serial
+    (subst (λ (n : ℕ). StandsForConnection x n next heard c.in_ok-caller.caller (more_waits (greeted x n c.index-serial.result.now) c.args.piece.now)) (sym e1)
+    (c.in_ok-caller.ensures x next heard (a ∙ sym c.deref.ensures.value) b
     (subst (λ (n : ℕ). AtLeast next (record { seat = n; serial = c.index-serial.result.now; message = 0; recipient = 0 })) e1 (subst (λ (n : ℕ). AtLeast next (record { seat = seat; serial = n; message = 0; recipient = 0 })) (sym serial) l)))) in
-    let r = welcomed k h s c.args.connection seat c.args.piece.now i.directory c.caller_goes_on.new.occupant c.in-Ok.caller false c.args.out.now.items c.caller_goes_on.new.out.items
-    st1 number refl lt none more opened c.in_default-caller_goes_on.ensures.err in
+    let r = welcomed k h s c.args.connection seat c.args.piece.now i.directory c.caller_goes_on.new.occupant c.in_ok-caller.caller false c.args.out.now.items c.caller_goes_on.new.out.items
+    st1 number refl lt none more opened c.in_err-caller_goes_on.ensures.err in
     inl (record {
       after = r.0;
       printed = r.1;
@@ -55,12 +57,12 @@ returns-clause-follows c k s st =
     let ls : seat < length i.serials.items = let z = c.self.invariant.0 in omega (arith, lt, z) in
     let serial : c.index-serial.result.now ≡ get_or i.serials.items seat 0 = c.index-serial.ensures ∙ get_or-any i.serials.items seat c.index-serial.result.now 0 ls in
     let opened = λ (x : Terms) (next : CopyKey) (heard : List Noted) (a : x.host ≡ i.host.items) (b : x.max_message ≡ i.max_message) (l : AtLeast next (record { seat = seat; serial = get_or i.serials.items seat 0; message = 0; recipient = 0 })).
-    subst (λ (n : ℕ). StandsForConnection x seat next heard c.in-Ok.caller (more_waits (greeted x seat n) c.args.piece.now)) serial
-    (subst (λ (n : ℕ). StandsForConnection x n next heard c.in-Ok.caller (more_waits (greeted x n c.index-serial.result.now) c.args.piece.now)) (sym e1)
-    (c.in-Ok.ensures x next heard (a ∙ sym c.deref.ensures.value) b
+    subst (λ (n : ℕ). StandsForConnection x seat next heard c.in_ok-caller.caller (more_waits (greeted x seat n) c.args.piece.now)) serial
+    (subst (λ (n : ℕ). StandsForConnection x n next heard c.in_ok-caller.caller (more_waits (greeted x n c.index-serial.result.now) c.args.piece.now)) (sym e1)
+    (c.in_ok-caller.ensures x next heard (a ∙ sym c.deref.ensures.value) b
     (subst (λ (n : ℕ). AtLeast next (record { seat = n; serial = c.index-serial.result.now; message = 0; recipient = 0 })) e1 (subst (λ (n : ℕ). AtLeast next (record { seat = seat; serial = n; message = 0; recipient = 0 })) (sym serial) l)))) in
-    let r = welcomed k h s c.args.connection seat c.args.piece.now i.directory c.caller_goes_on.new.occupant c.in-Ok.caller true c.args.out.now.items c.caller_goes_on.new.out.items
-    st1 number refl lt none more opened c.in-Ok-caller_goes_on.ensures.ok in
+    let r = welcomed k h s c.args.connection seat c.args.piece.now i.directory c.caller_goes_on.new.occupant c.in_ok-caller.caller true c.args.out.now.items c.caller_goes_on.new.out.items
+    st1 number refl lt none more opened c.in_ok-caller_goes_on.ensures.ok in
     record {
       after = r.0;
       printed = r.1;

@@ -9,12 +9,12 @@ returns-in_default-clause-cut g c is =
     tells_what_went h.result ShowsAll ShowsInPart _ _ c.args.self.now _ _ c.self.inside.out.items h.new.out.items c.in_default.ensures.cleared.1 c.self.view_is c.self.invariant.0 h.ensures.ok h.ensures.err c.in_default.ensures.err
     c.in_default.ensures.failed refl
 
-pub returns-in_default-shown-clause-short : goal.returns-in_default-shown-clause-short
-returns-in_default-shown-clause-short g c is =
+pub returns-in_err-shown-clause-short : goal.returns-in_err-shown-clause-short
+returns-in_err-shown-clause-short g c is =
     let h = c.show_all-shown in
-    tells_all_in_part ShowsInPart _ _ c.args.self.now _ _ c.self.inside.out.items h.new.out.items c.in-Ok.ensures.cleared.1 c.self.view_is c.self.invariant.0 c.in_default-shown.ensures.err c.in-Ok.ensures.ok c.in-Ok.ensures.live
+    tells_all_in_part ShowsInPart _ _ c.args.self.now _ _ c.self.inside.out.items h.new.out.items c.in-Ok.ensures.cleared.1 c.self.view_is c.self.invariant.0 c.in_err-shown.ensures.err c.in-Ok.ensures.ok c.in-Ok.ensures.live
 
 pub returns-clause-ok : goal.returns-clause-ok
 returns-clause-ok g c goes =
     let h = c.show_all-shown in
-    tells_all ShowsAll c.args.self.now _ _ c.self.inside.out.items h.new.out.items c.self.view_is c.self.invariant.0 c.in-Ok-shown.ensures.ok c.in-Ok.ensures.ok c.in-Ok.ensures.live
+    tells_all ShowsAll c.args.self.now _ _ c.self.inside.out.items h.new.out.items c.self.view_is c.self.invariant.0 c.in_ok-shown.ensures.ok c.in-Ok.ensures.ok c.in-Ok.ensures.live

@@ -25,14 +25,14 @@ took c = c.accept.ensures.items ∙ ap (λ (xs : List (CopyKey × ℕ)). xs ++ (
 delivered : (c : goal.After-result-1) (log : List Change) → Stands (mail_of c.self.inside) log → Stands (after c) (log ++ Add c.self.inside.next ∷ [])
 delivered c log s =
     let b = c.self.inside in
-    Stands-deliver (mail_of b) (after c) log c.args.job.now.key b.next c.in-Ok.text c.self.invariant.0
-    c.in-Ok-add.ensures.ok c.in-Ok-log_change.ensures.goes_on (took c) refl refl s
+    Stands-deliver (mail_of b) (after c) log c.args.job.now.key b.next c.in_ok-text.text c.self.invariant.0
+    c.in_ok-add.ensures.ok c.in-Ok.ensures.goes_on (took c) refl refl s
 
 pub invariant_of-self-2 : goal.invariant_of-self-2
 invariant_of-self-2 c =
     let b = c.self.inside in
     let longer = ap length (took c) ∙ length-append b.accepted.items ((c.args.job.now.key, b.next) ∷ []) in
-    let more = ap length c.in-Ok-add.ensures.ok ∙ length-append b.messages (_ ∷ []) in (
+    let more = ap length c.in_ok-add.ensures.ok ∙ length-append b.messages (_ ∷ []) in (
       omega (arith, c.self.invariant.0, longer),
       omega (arith, more, c.len.ensures, c.if-len-self.false),
       (c.self.invariant.2.0 ++ Add b.next ∷ [], delivered c c.self.invariant.2.0 c.self.invariant.2.1),

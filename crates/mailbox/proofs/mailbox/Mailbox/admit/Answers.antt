@@ -15,7 +15,7 @@ pub returns-clause-within : goal.returns-clause-within
 returns-clause-within c =
     let b = c.self.inside in
     let handle = c.args.handle.now in
-    let h = held_some (held b.cursors handle) (no_view (held b.cursors handle) c.in-Ok.ensures.ok) in
+    let h = held_some (held b.cursors handle) (no_view (held b.cursors handle) c.in_ok-_view.ensures.ok) in
     let shown = c.self.invariant.2.1.cursors handle.slot h.0 (held_in_slot b.cursors handle h.0 h.1) in
     let same = ap (λ (m : Mailbox). total m.window) c.self.view_is in
     omega (arith, shown.within, c.self.invariant.2.1.window.long, held_at b.cursors handle h.0 h.1, same)

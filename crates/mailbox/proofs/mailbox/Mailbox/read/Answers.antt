@@ -46,13 +46,13 @@ returns-clause-row c =
     let seen = was_logged (seen_logged c.args.mark_seen (rows c.args.self.now) c.args.uid) in
     let shown : Message → Row = λ (m : Message). record { uid = m.uid; flags = m.flags; newly_seen = seen; text = m.text } in
     let after : message_with c.args.uid c.mark.new.self.messages ≡ Some (record x { flags = if c.args.mark_seen then flags_after mark x.flags else x.flags }) =
-    ap (message_with c.args.uid) c.in-Ok-mark.ensures.messages ∙ with_seen c.args.mark_seen c.args.uid ms x (sym c.in-Some.ensures) in
+    ap (message_with c.args.uid) c.in_ok-newly_seen.ensures.messages ∙ with_seen c.args.mark_seen c.args.uid ms x (sym c.in-Some.ensures) in
     let flags : c.if-mark_seen.flags ≡ (if c.args.mark_seen then flags_after mark x.flags else x.flags) =
     elim c.if-mark_seen.branch [
       | then-mark_seen w ↦ w.flags-is ∙ w.after-flags.ensures ∙ sym (ap (λ (b : Bool). if b then flags_after mark x.flags else x.flags) w.if-mark_seen.true)
       | else-mark_seen w ↦ w.flags-is ∙ sym (ap (λ (b : Bool). if b then flags_after mark x.flags else x.flags) w.if-mark_seen.false)
     ] in
-    ap (λ (g : Flags). Some (told c.args.uid g c.in-Ok-mark.newly_seen c.in-Ok.text)) flags
-    ∙ ap (λ (b : Bool). Some (told c.args.uid (if c.args.mark_seen then flags_after mark x.flags else x.flags) b c.in-Ok.text)) (sym c.in-Ok-mark.ensures.changed)
+    ap (λ (g : Flags). Some (told c.args.uid g c.in_ok-newly_seen.newly_seen c.in-Ok.text)) flags
+    ∙ ap (λ (b : Bool). Some (told c.args.uid (if c.args.mark_seen then flags_after mark x.flags else x.flags) b c.in-Ok.text)) (sym c.in_ok-newly_seen.ensures.changed)
     ∙ ap (λ (t : List ℕ). Some (told c.args.uid (if c.args.mark_seen then flags_after mark x.flags else x.flags) seen t)) c.in-Ok.ensures
     ∙ sym (ap (option_map shown) after)

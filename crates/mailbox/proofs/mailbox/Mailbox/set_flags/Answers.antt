@@ -82,7 +82,7 @@ changed c log s =
     let f = subst (λ (m : Mailbox). IsFound c.args.uid c.args.op m.messages c.args.old) (sym c.self.view_is) (known c) in
     Stands-changed (mail_of b) (after c) log (SetFlags c.args.uid new ∷ []) s (change_fits c.args.uid c.args.op b.messages c.args.old new f)
     (ap (map row_of) c.set_flags.ensures ∙ change_rows c.args.uid b.messages new)
-    c.in-Ok.ensures.goes_on refl refl refl refl
+    c.in_ok-log_change.ensures.goes_on refl refl refl refl
 
 logged : (c : goal.After-set_flags) → flags_logged (rows c.args.self.now) c.args.uid c.args.op ≡ SetFlags c.args.uid c.after-flags.result ∷ []
 logged c = one_change c.args.uid c.args.op c.args.self.now c.args.old c.after-flags.result c.differ_from.result (known c) c.after-flags.ensures c.differ_from.ensures c.if-not-differ_from.false
@@ -101,7 +101,7 @@ pub returns-clause-spent : goal.returns-clause-spent
 returns-clause-spent c =
     let one = ap length (logged c) in
     let same : total c.self.inside.ring ≡ total c.args.self.now.window = ap (λ (m : Mailbox). total m.window) c.self.view_is in
-    let room : total c.self.inside.ring ≢ 2 ^ 62 = λ full. search (rules, c.in-Ok.ensures.spent.1 full) in
+    let room : total c.self.inside.ring ≢ 2 ^ 62 = λ full. search (rules, c.in_ok-log_change.ensures.spent.1 full) in
     (λ e. cc, λ many. absurd (room (omega (arith, many, one, same, c.requires.small))))
 
 pub returns-clause-logged : goal.returns-clause-logged
@@ -112,7 +112,7 @@ returns-clause-logged c =
 pub returns-clause-window : goal.returns-clause-window
 returns-clause-window c =
     subst (Moves c.args.self.now.cursors c.args.self.now.window c.log_change.new.ring) (sym (logged c))
-    (subst (λ (m : Mailbox). Moves m.cursors m.window c.log_change.new.ring (SetFlags c.args.uid c.after-flags.result ∷ [])) c.self.view_is c.in-Ok.ensures.moves)
+    (subst (λ (m : Mailbox). Moves m.cursors m.window c.log_change.new.ring (SetFlags c.args.uid c.after-flags.result ∷ [])) c.self.view_is c.in_ok-log_change.ensures.moves)
 
 pub returns-clause-messages : goal.returns-clause-messages
 returns-clause-messages c =

@@ -34,4 +34,4 @@ returns-in_default-clause-flags c = sym (ap (option_map (λ (m : Message). m.fla
 pub returns-clause-flags : goal.returns-clause-flags
 returns-clause-flags c =
     let old = flags_stored c.args.uid c.args.op c.args.self.now.messages c.in-Some.old (sym c.in-Some.ensures) in
-    ap Some c.after.ensures ∙ sym (ap (λ (ms : List Message). option_map (λ (m : Message). m.flags) (message_with c.args.uid ms)) c.in-Ok.ensures.messages ∙ old)
+    ap Some c.after.ensures ∙ sym (ap (λ (ms : List Message). option_map (λ (m : Message). m.flags) (message_with c.args.uid ms)) c.in_ok-_changed.ensures.messages ∙ old)

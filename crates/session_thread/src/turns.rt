@@ -1,0 +1,39 @@
+//! One turn of a session that idles, over its mailbox. Until when it has turns is said by whoever gives them.
+
+ghost use Rattle.std.specs.Prelude.{◌≡◌, true, IfOk, OnErr};
+ghost use Rattle.std.specs.Vec.{vec_capacity};
+ghost use Rattle.imap_session.specs.Exchange.{is_idling};
+ghost use Rattle.imap_connection.specs.Dialogue.{Dialogue, StandsFor};
+ghost use Rattle.session_thread.specs.Life.{HasShown, IsShort, moment};
+
+use crate::locked_store::LockedStore;
+use imap_connection::ImapConnection;
+use pace::Gate;
+use std::alloc::AllocError;
+use std::sync::Wait;
+
+/// Room, in bytes, for the line that a turn may end a session with.
+const TURN_ROOM: usize = 48;
+
+/// A session that idles has a turn (RFC 2177, 3): what is pending in its mailbox is shown behind `out`, 64 changes at most. Answers how
+/// many were shown; where the client missed changes it was told BYE, and its session has ended.
+///
+/// Errors: `AllocError` where memory was refused, by the mailbox or for that BYE. Nothing happened then.
+pub fn idle_turn<R: Wait, G: Gate>(
+    connection: &mut ImapConnection,
+    store: &mut LockedStore<'_, R, G>,
+    out: &mut Vec<u8>,
+) -> Result<usize, AllocError>
+    requires { is_idling connection.old.session ≡ true }
+    ensures ok { IfOk result (λ count. (d : Dialogue) → StandsFor connection.old d → (next : Dialogue) × StandsFor connection.new next
+        × HasShown count (moment d store.old out.old.items) (moment next store.new out.new.items)) }
+    ensures err { OnErr result ((d : Dialogue) → StandsFor connection.old d → StandsFor connection.new d
+        × (moment d store.new out.new.items ≡ moment d store.old out.old.items)
+        × IsShort (vec_capacity out.new) (moment d store.new out.new.items)) }
+{
+    out.reserve(TURN_ROOM)?;
+    match connection.idle_turn(store, out) {
+        Ok(shown) => Ok(shown),
+        Err(_) => Err(AllocError),
+    }
+}
