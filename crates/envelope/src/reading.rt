@@ -33,8 +33,8 @@ pub fn is_of(class: Class, b: u8) -> bool
         Class::Space => b == b' ',
         Class::NotSpace => b != b' ',
         Class::NotSlash => b != b'/',
-        Class::Text => 32 <= b && b <= 126,
-        Class::Graphic => 33 <= b && b <= 126,
+        Class::Text => matches!(b, b' '..=b'~'),
+        Class::Graphic => matches!(b, b'!'..=b'~'),
         Class::Atom => {
             33 <= b
                 && b <= 126
@@ -54,7 +54,7 @@ pub fn is_of(class: Class, b: u8) -> bool
                 )
         }
         Class::Name => { matches!(b, b'0'..=b'9' | b'A'..=b'Z' | b'a'..=b'z' | b'-' | b'_' | b'.') }
-        Class::Literal => 33 <= b && b <= 126 && !matches!(b, b'[' | b']' | b'\\'),
+        Class::Literal => matches!(b, b'!'..=b'~') && !matches!(b, b'[' | b']' | b'\\'),
     }
 }
 

@@ -22,7 +22,7 @@ pub enum Class {
 pub fn is_of(class: Class, b: u8) -> bool
     ensures { result ≡ is_of class b }
 {
-    let graphic = 33 <= b && b <= 126;
+    let graphic = matches!(b, b'!'..=b'~');
     match class {
         Class::Space => b == b' ',
         Class::NotSpace => b != b' ',
@@ -31,7 +31,7 @@ pub fn is_of(class: Class, b: u8) -> bool
         }
         Class::Atom => graphic && !matches!(b, b'(' | b')' | b'{' | b'%' | b'*' | b'"' | b'\\'),
         Class::Pattern => graphic && !matches!(b, b'(' | b')' | b'{' | b'"' | b'\\'),
-        Class::Digit => 48 <= b && b <= 57,
+        Class::Digit => matches!(b, b'0'..=b'9'),
     }
 }
 
