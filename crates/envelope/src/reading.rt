@@ -36,8 +36,7 @@ pub fn is_of(class: Class, b: u8) -> bool
         Class::Text => matches!(b, b' '..=b'~'),
         Class::Graphic => matches!(b, b'!'..=b'~'),
         Class::Atom => {
-            33 <= b
-                && b <= 126
+            matches!(b, b'!'..=b'~')
                 && !matches!(
                     b,
                     b'<' | b'>'
