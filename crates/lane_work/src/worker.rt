@@ -71,7 +71,7 @@ pub enum Fate {
 }
 
 // Puts the copies of a message, hears the verdict on each, and notes them. All memory that this takes is asked for before the first copy is put.
-fn settle<R: Wait, G: Gate, S: Summons, N: Notebook>(
+fn put_and_hear<R: Wait, G: Gate, S: Summons, N: Notebook>(
     rt: &R,
     alloc: Global,
     pace: &mut Pace<'_, G>,
@@ -178,7 +178,7 @@ pub fn turn<R: Wait, G: Gate, S: Summons, N: Notebook>(
         What::Submit => {}
     }
     out.reserve(ANSWER_ROOM)?;
-    let verdicts = settle(
+    let verdicts = put_and_hear(
         rt,
         alloc,
         pace,

@@ -2,6 +2,6 @@ pub mod Laying
 pub mod Parts
 pub mod Hands
 pub mod Accounts
-pub mod Settled
+pub mod Balanced
 pub mod Spent
 pub mod Abandoned

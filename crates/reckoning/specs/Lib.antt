@@ -1,4 +1,4 @@
 pub mod Gathered
 pub mod Closing
-pub mod Settling
+pub mod Balancing
 pub mod inner

@@ -7,12 +7,12 @@ mod abandoning;
 mod close;
 mod gather;
 mod remains;
-mod settling;
+mod balancing;
 mod shelves;
 
 pub use abandoning::abandon;
 pub use close::{close_all_channels, close_all_lanes};
 pub use gather::{Fault, FromConsumers, FromWorkers};
 pub use remains::{Remains, remains_of};
-pub use settling::{Books, Closes, Closings, Gathered, close_queues, gather_all, settle};
+pub use balancing::{Books, Closes, Closings, Gathered, close_queues, gather_all, balance};
 pub use shelves::{Shelves, take_out};

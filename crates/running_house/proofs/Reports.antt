@@ -19,8 +19,8 @@ use Rattle.house_floor.specs.Opening.{reply_room}
 use Rattle.house_floor.specs.declared.floor.Floor.{Floor}
 use Rattle.house_floor.specs.declared.floor.Guest.{Guest}
 use Rattle.house_threads.specs.Crew.{IsProduceOf, IsServiceOf, SessionAccount}
-use Rattle.reckoning.specs.Settling.{IsSettled}
-use Rattle.reckoning.specs.declared.settling.Books.{Books}
+use Rattle.reckoning.specs.Balancing.{IsBalanced}
+use Rattle.reckoning.specs.declared.balancing.Books.{Books}
 use Rattle.reckoning.proofs.Accounts.{account_of, copies_taken, mapped_at, session_account_of}
 use Rattle.reckoning.proofs.Parts.{seats_of, some_at}
 use Rattle.running_house.specs.Agree as report
@@ -34,7 +34,7 @@ use Rattle.running_house.proofs.Moves.{behind, below, first_at, get_mapped, map_
 module _ (plan : Plan) (floor : Floor) (is : IsFloorFor plan floor) (ws : List Worked) (cs : List Consumed)
     (worked : AllAt (IsProduceOf floor plan.workers.items plan.sessions.items) 0 ws) (services : AllAt (IsServiceOf floor) 0 cs)
     (producers : length ws ≡ producers_in plan) (shards : length cs ≡ length floor.office.lanes.items)
-    (books : Books) (settled : IsSettled floor.office.lanes.items floor.depot.channels.items ws cs books)
+    (books : Books) (balanced : IsBalanced floor.office.lanes.items floor.depot.channels.items ws cs books)
     (r : Report) (replies_are : r.replies.items ≡ take (length plan.workers.items) books.replies.items) (logs_are : r.logs ≡ books.logs) (closed_is : r.closed ≡ books.closed)
     (texts : AreTexts (drop (length plan.workers.items) books.replies.items) r.sessions.items) (count : length r.sessions.items ≡ length plan.sessions.items) where
   pub connections_count : length (connections_of plan) ≡ length plan.workers.items
@@ -44,7 +44,7 @@ module _ (plan : Plan) (floor : Floor) (is : IsFloorFor plan floor) (ws : List W
   all_replies = map (λ (w : Worked). map (λ b. b.items) w.replies.items) ws
 
   replies_laid : map (λ (w : Vec (Vec ℕ Global) Global). map (λ b. b.items) w.items) books.replies.items ≡ all_replies
-  replies_laid = ap (λ vs. map (λ (w : Vec (Vec ℕ Global) Global). map (λ b. b.items) w.items) vs) settled.replies
+  replies_laid = ap (λ vs. map (λ (w : Vec (Vec ℕ Global) Global). map (λ b. b.items) w.items) vs) balanced.replies
       ∙ map_twice (λ (w : Vec (Vec ℕ Global) Global). map (λ b. b.items) w.items) (λ (w : Worked). w.replies) ws
 
   pub replies_same : report.replies_of r ≡ take (length plan.workers.items) all_replies
@@ -53,7 +53,7 @@ module _ (plan : Plan) (floor : Floor) (is : IsFloorFor plan floor) (ws : List W
       ∙ ap (λ vs. take (length plan.workers.items) vs) replies_laid
 
   pub notes_same : map (λ (w : Worked). w.log.notes) ws ≡ report.notes_of r
-  notes_same = sym (ap (λ v. map (λ l. l.notes) v.items) logs_are ∙ ap (λ ls. map (λ l. l.notes) ls) settled.logs ∙ map_twice (λ l. l.notes) (λ (w : Worked). w.log) ws)
+  notes_same = sym (ap (λ v. map (λ l. l.notes) v.items) logs_are ∙ ap (λ ls. map (λ l. l.notes) ls) balanced.logs ∙ map_twice (λ l. l.notes) (λ (w : Worked). w.log) ws)
 
   pub answers_same : map reply_history books.closed.channels.items ≡ report.answers r
   answers_same = sym (ap (λ c. map reply_history c.channels.items) closed_is)
@@ -71,7 +71,7 @@ module _ (plan : Plan) (floor : Floor) (is : IsFloorFor plan floor) (ws : List W
       moved (λ house replies notes answers histories. Account house p (slice_index_or (connections_of plan) p []) replies notes answers histories) p
       (premises_of floor.office) (premises_for plan) _ (slice_index_or (report.replies_of r) p []) _ (report.notes_of r) _ (report.answers r) _ (report.histories r)
       is.premises here notes_same answers_same histories_same
-      (account_of floor plan.workers.items plan.sessions.items ws worked producers settled.fates _ books.closed.lanes.items settled.lanes_closed _ books.closed.channels.items settled.channels_closed p within)
+      (account_of floor plan.workers.items plan.sessions.items ws worked producers balanced.fates _ books.closed.lanes.items balanced.lanes_closed _ books.closed.channels.items balanced.channels_closed p within)
 
   pub sessions : (n : ℕ) (guest : Guest) → slice_get plan.sessions.items n ≡ Some guest
       → SessionAccount (premises_for plan) (length (premises_for plan).directory.homes) plan.turns (length plan.workers.items + n) guest (slice_index_or (report.said_of r) n [] ∷ [])
@@ -82,9 +82,9 @@ module _ (plan : Plan) (floor : Floor) (is : IsFloorFor plan floor) (ws : List W
       let heard = slice_index_or (map reply_history books.closed.channels.items) p [] in
       let taken = map (of p) (map history books.closed.lanes.items) in
       let under = below plan.sessions.items n guest at in
-      let account = session_account_of floor plan.workers.items plan.sessions.items ws worked producers settled.fates _ books.closed.lanes.items settled.lanes_closed _ books.closed.channels.items settled.channels_closed n guest at under in
+      let account = session_account_of floor plan.workers.items plan.sessions.items ws worked producers balanced.fates _ books.closed.lanes.items balanced.lanes_closed _ books.closed.channels.items balanced.channels_closed n guest at under in
       let w = some_at ws p (omega (arith, under, producers)) in
-      let laid = ap (λ vs. slice_get vs p) settled.replies ∙ get_mapped (λ (v : Worked). v.replies) ws p w.0 w.1 in
+      let laid = ap (λ vs. slice_get vs p) balanced.replies ∙ get_mapped (λ (v : Worked). v.replies) ws p w.0 w.1 in
       let one = sym (mapped_at (λ (v : Worked). map (λ b. b.items) v.replies.items) ws p w.0 [] w.1) ∙ account.alone in
       let text = text_at (drop (length plan.workers.items) books.replies.items) r.sessions.items n w.0.replies account.text texts (behind books.replies.items (length plan.workers.items) n w.0.replies laid) one in
       let said : slice_index_or all_replies p [] ≡ slice_index_or (report.said_of r) n [] ∷ [] = account.alone ∙ ap (λ (t : List ℕ). t ∷ []) (sym text) in
@@ -95,11 +95,11 @@ module _ (plan : Plan) (floor : Floor) (is : IsFloorFor plan floor) (ws : List W
       (subst (λ x. SessionAccount (premises_of floor.office) x floor.turns p guest (slice_index_or all_replies p []) notes heard taken) is.mailboxes account))
 
   pub copies_same : map (λ c. c.items) books.copies.items ≡ report.copies_taken r
-  copies_same = ap (λ vs. map (λ v. v.items) vs) settled.copies ∙ map_twice (λ v. v.items) (λ (c : Consumed). c.copies) cs
-      ∙ copies_taken floor cs books.closed.lanes.items _ services shards settled.services settled.lanes_closed ∙ ap (λ hs. map items_of hs) histories_same
+  copies_same = ap (λ vs. map (λ v. v.items) vs) balanced.copies ∙ map_twice (λ v. v.items) (λ (c : Consumed). c.copies) cs
+      ∙ copies_taken floor cs books.closed.lanes.items _ services shards balanced.services balanced.lanes_closed ∙ ap (λ hs. map items_of hs) histories_same
 
   pub seats_are : map (λ l. l.seat) r.logs.items ≡ numbers 0 (producers_in plan)
-  seats_are = ap (λ v. map (λ l. l.seat) v.items) logs_are ∙ ap (λ ls. map (λ l. l.seat) ls) settled.logs ∙ map_twice (λ l. l.seat) (λ (w : Worked). w.log) ws
+  seats_are = ap (λ v. map (λ l. l.seat) v.items) logs_are ∙ ap (λ ls. map (λ l. l.seat) ls) balanced.logs ∙ map_twice (λ l. l.seat) (λ (w : Worked). w.log) ws
       ∙ seats_of floor plan.workers.items plan.sessions.items 0 ws worked ∙ ap (λ n. numbers 0 n) producers
 
   replies_count : length (report.replies_of r) ≡ length (connections_of plan)
@@ -118,10 +118,10 @@ module _ (plan : Plan) (floor : Floor) (is : IsFloorFor plan floor) (ws : List W
     seats = seats_are;
     replies = replies_count;
     said = count;
-    shards = sym (ap length histories_same) ∙ length-map books.closed.lanes.items history ∙ lanes.closed_length settled.lanes_closed.2 ∙ sym is.house.shards ∙ ap (λ h. h.directory.shards) is.premises;
+    shards = sym (ap length histories_same) ∙ length-map books.closed.lanes.items history ∙ lanes.closed_length balanced.lanes_closed.2 ∙ sym is.house.shards ∙ ap (λ h. h.directory.shards) is.premises;
     lanes = subst (λ c. All (λ d. IsWhole (producers_in plan) plan.config.depth (history d)) c.lanes.items) (sym closed_is)
-        (lanes.all_whole settled.lanes_closed.2 (producers_in plan) plan.config.depth is.lanes);
-    producers = ap (λ c. length c.channels.items) closed_is ∙ channels.closed_length settled.channels_closed.2 ∙ is.house.channels;
+        (lanes.all_whole balanced.lanes_closed.2 (producers_in plan) plan.config.depth is.lanes);
+    producers = ap (λ c. length c.channels.items) closed_is ∙ channels.closed_length balanced.channels_closed.2 ∙ is.house.channels;
     channels = subst (λ c. All (λ d. IsWhole plan.config.shards reply_room (reply_history d)) c.channels.items) (sym closed_is)
-        (channels.all_whole settled.channels_closed.2 plan.config.shards reply_room is.channels);
+        (channels.all_whole balanced.channels_closed.2 plan.config.shards reply_room is.channels);
   }

@@ -16,7 +16,7 @@ use envelope::Directory;
 use house_floor::{Baskets, Floor};
 use house_threads::Ran;
 use mailbox::Mailbox;
-use reckoning::{Books, Fault, Remains, Shelves, remains_of, settle, take_out};
+use reckoning::{Books, Fault, Remains, Shelves, remains_of, balance, take_out};
 use std::alloc::{AllocError, Global};
 use std::sync::Mutex;
 
@@ -157,6 +157,6 @@ pub(crate) fn report_of(
     } = ran;
     stands.destroy_empty();
     posts.destroy_empty();
-    let books = settle(alloc, lanes, channels, worked, consumed, baskets)?;
+    let books = balance(alloc, lanes, channels, worked, consumed, baskets)?;
     report_on(alloc, plan, &directory, mailboxes, books)
 }

@@ -16,8 +16,8 @@ use Rattle.lane_work.proofs.ClosedLaws.{open_to}
 use Rattle.lane_work.proofs.TalkLaws.{stands_on, stands_judged, follows_behind, happens_behind}
 use Rattle.lane_work.proofs.worker.turn.Goals as goal
 
-pub settle-requires-clause-mailboxes : goal.settle-requires-clause-mailboxes
-settle-requires-clause-mailboxes g c =
+pub put_and_hear-requires-clause-mailboxes : goal.put_and_hear-requires-clause-mailboxes
+put_and_hear-requires-clause-mailboxes g c =
     let pair : Submission → Type 0 = λ s. length s.mailboxes ≡ length s.keys in
     let h = All-head pair (submission_of c.submission.result.now) [] (subst (All pair) c.submission.ensures c.in_ok-fed.ensures.paired) in
     omega (arith, h, c.submission.result.now.mailboxes.ok.0, c.submission.result.now.keys.ok.0)
@@ -25,7 +25,7 @@ settle-requires-clause-mailboxes g c =
 pub returns-clause-stands : goal.returns-clause-stands
 returns-clause-stands g c done bytes told stands =
     stands_judged c.args.directory.now c.args.office.now.directory (rooms_of c.args.office.now.lanes.items) c.args.desk.now.number done bytes c.args.machine.now c.feed.new.self c.answer.new.self (told ++ c.args.out.now.items) (told ++ c.feed.new.out.items) (told ++ c.answer.new.out.items)
-    (g.N.Notebook.tells c.args.book.now) (g.N.Notebook.tells c.settle.new.book) (received c.args.desk.now.receiver) (received c.settle.new.desk.receiver) (map put_by c.args.desk.now.permits.items) (map put_by c.settle.new.desk.permits.items) c.args.piece.now c.in_ok-fed.fed (submission_of c.submission.result.now)
+    (g.N.Notebook.tells c.args.book.now) (g.N.Notebook.tells c.put_and_hear.new.book) (received c.args.desk.now.receiver) (received c.put_and_hear.new.desk.receiver) (map put_by c.args.desk.now.permits.items) (map put_by c.put_and_hear.new.desk.permits.items) c.args.piece.now c.in_ok-fed.fed (submission_of c.submission.result.now)
     c.in_ok-verdicts.verdicts.items (search rules) (search rules) (search rules) (search rules) c.in-Submit.is c.submission.ensures (search rules)
     (λ k h. follows_behind told c.args.machine.now.setting c.args.machine.now.host c.args.directory.now k c.args.piece.now c.in_ok-fed.fed c.args.out.now.items c.feed.new.out.items c.feed.new.self.pending (c.in_ok-fed.ensures.ok k h))
     (subst (λ (old : List ℕ). (x : Directory) (k : Conversation) → StandsFor c.feed.new.self k

@@ -6,22 +6,22 @@ use Rattle.lane_permits.specs.rows.Rows as rows
 use Rattle.lane_permits.specs.rows.SenderRows.{AreReceivers, AreSenderEndedHands}
 use Rattle.reckoning.proofs.Parts.{consumers_of, ended_of, receivers_of, sender_hands_of}
 use Rattle.agreement.specs.Lists.{ListsAgree}
-use Rattle.reckoning.specs.Settling.{IsSettled}
+use Rattle.reckoning.specs.Balancing.{IsBalanced}
 use Rattle.running_house.specs.Agree.{accepted_of, notes_of, texts_of}
 use Rattle.running_house.proofs.Moves.{if_ok}
 use Rattle.running_house.proofs.Reports.{agrees}
 use Rattle.running_house.proofs.report.report_of.Goals as goal
 
-pub settle-requires-clause-hands : goal.settle-requires-clause-hands
-settle-requires-clause-hands c =
+pub balance-requires-clause-hands : goal.balance-requires-clause-hands
+balance-requires-clause-hands c =
     let ws = c.args.ran.worked in
     let count = c.requires.all.worked in
     let ok = ws.ok.0 in
     subst (λ v. rows.AreEndedHands v.items 0 (map (λ (w : Worked). w.ended.items) ws.items)) (sym c.remains_of-directory.ensures.lanes)
     (ended_of c.args.floor c.args.plan.now.workers.items c.args.plan.now.sessions.items 0 ws.items c.requires.worked)
 
-pub settle-requires-clause-receivers : goal.settle-requires-clause-receivers
-settle-requires-clause-receivers c =
+pub balance-requires-clause-receivers : goal.balance-requires-clause-receivers
+balance-requires-clause-receivers c =
     let ws = c.args.ran.worked in
     let channels = c.requires.floor.house.channels in
     let count = c.requires.all.worked in
@@ -29,16 +29,16 @@ settle-requires-clause-receivers c =
     subst (λ v. AreReceivers v.items (map (λ (w : Worked). w.receiver) ws.items)) (sym c.remains_of-directory.ensures.channels)
     (receivers_of c.args.floor c.args.plan.now.workers.items c.args.plan.now.sessions.items 0 ws.items c.requires.worked (omega (arith, count, ok, channels)))
 
-pub settle-requires-clause-consumers : goal.settle-requires-clause-consumers
-settle-requires-clause-consumers c =
+pub balance-requires-clause-consumers : goal.balance-requires-clause-consumers
+balance-requires-clause-consumers c =
     let cs = c.args.ran.consumed in
     let count = c.requires.all.consumed in
     let ok = cs.ok.0 in
     subst (λ v. rows.AreConsumers v.items (map (λ (d : Consumed). d.permit) cs.items)) (sym c.remains_of-directory.ensures.lanes)
     (consumers_of c.args.floor 0 cs.items c.requires.consumed (omega (arith, count, ok)))
 
-pub settle-requires-clause-senders : goal.settle-requires-clause-senders
-settle-requires-clause-senders c =
+pub balance-requires-clause-senders : goal.balance-requires-clause-senders
+balance-requires-clause-senders c =
     let cs = c.args.ran.consumed in
     let count = c.requires.all.consumed in
     let ok = cs.ok.0 in
@@ -51,13 +51,13 @@ returns-clause-agrees c =
     let cs = c.args.ran.consumed in
     let books = c.in_ok-books.books in
     let whole = length c.args.plan.now.sessions.items == 0 in
-    let settled = subst (λ v. IsSettled v.items c.args.floor.depot.channels.items ws.items cs.items books) c.remains_of-directory.ensures.lanes
-    (subst (λ v. IsSettled c.remains_of-directory.result.lanes.items v.items ws.items cs.items books) c.remains_of-directory.ensures.channels c.in_ok-books.ensures.settled) in
+    let balanced = subst (λ v. IsBalanced v.items c.args.floor.depot.channels.items ws.items cs.items books) c.remains_of-directory.ensures.lanes
+    (subst (λ v. IsBalanced c.remains_of-directory.result.lanes.items v.items ws.items cs.items books) c.remains_of-directory.ensures.channels c.in_ok-books.ensures.balanced) in
     let producers = sym ws.ok.0 ∙ c.requires.all.worked in
-    let laid = ap length settled.replies ∙ length-map ws.items (λ (w : Worked). w.replies) in
+    let laid = ap length balanced.replies ∙ length-map ws.items (λ (w : Worked). w.replies) in
     if_ok c.report_on.result c.report_on.ensures.lists c.report_on.ensures.parts
     (λ r lists parts. agrees c.args.plan.now c.args.floor c.requires.floor ws.items cs.items c.requires.worked c.requires.consumed
-    producers (sym cs.ok.0 ∙ c.requires.all.consumed) books settled
+    producers (sym cs.ok.0 ∙ c.requires.all.consumed) books balanced
     r parts.0 parts.1 parts.2 parts.3
     (let counted = parts.4 in omega (arith, counted, laid, producers, r.sessions.ok.0, books.replies.ok.0))
     whole refl

@@ -1,11 +1,11 @@
 use Rattle.std.proofs.Common.{◌∙◌, sym, None}
 use Rattle.lane_work.specs.declared.worker.Worked.{Worked}
 use Rattle.reckoning.specs.Gathered.{fault_of_consumer, fault_of_fate}
-use Rattle.reckoning.proofs.Settled.{at_some, graver_none, gravest_none}
-use Rattle.reckoning.proofs.settling.settle.Goals as goal
+use Rattle.reckoning.proofs.Balanced.{at_some, graver_none, gravest_none}
+use Rattle.reckoning.proofs.balancing.balance.Goals as goal
 
-pub returns-clause-settled : goal.returns-clause-settled
-returns-clause-settled c =
+pub returns-clause-balanced : goal.returns-clause-balanced
+returns-clause-balanced c =
     let is = c.close_queues-lanes.ensures in
     let each = graver_none _ _ (sym is.worst ∙ c.in_default.is) in
     record {

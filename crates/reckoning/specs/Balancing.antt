@@ -11,9 +11,9 @@ use Rattle.reckoning.specs.Closing.{AreChannelsClosedWith, AreChannelsTornWith, 
 use Rattle.reckoning.specs.Gathered.{AreConsumers, AreWorkers, fault_of_consumer, fault_of_fate, graver, gravest}
 use Rattle.reckoning.specs.declared.gather.Fault.{Fault}
 use Rattle.reckoning.specs.declared.gather.Fault.TheVariants.{Torn}
-use Rattle.reckoning.specs.declared.settling.Books.{Books}
-use Rattle.reckoning.specs.declared.settling.Closings.{Closings}
-use Rattle.reckoning.specs.declared.settling.Gathered.{Gathered}
+use Rattle.reckoning.specs.declared.balancing.Books.{Books}
+use Rattle.reckoning.specs.declared.balancing.Closings.{Closings}
+use Rattle.reckoning.specs.declared.balancing.Gathered.{Gathered}
 
 -- ---- faults
 
@@ -45,7 +45,7 @@ pub record IsClosing (lanes : List (ShardQueue Job)) (channels : List (ReplyChan
 -- ---- the books
 
 -- No thread had a fault. Each queue was closed, with what all threads left of their permits; the rest of what they left is in the books, in their order.
-pub record IsSettled (lanes : List (ShardQueue Job)) (channels : List (ReplyChannel Noted)) (producers : List Worked) (consumers : List Consumed) (books : Books) : Type 0 where
+pub record IsBalanced (lanes : List (ShardQueue Job)) (channels : List (ReplyChannel Noted)) (producers : List Worked) (consumers : List Consumed) (books : Books) : Type 0 where
   pub fates : All (λ w. fault_of_fate w.fate ≡ None) producers
   pub services : All (λ c. fault_of_consumer c ≡ None) consumers
   pub replies : books.replies.items ≡ map (λ w. w.replies) producers

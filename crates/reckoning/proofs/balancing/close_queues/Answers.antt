@@ -2,8 +2,8 @@ use Rattle.std.proofs.Common.{◌∙◌, sym, subst, MatchOption, length, map, v
 use Rattle.lane_work.specs.declared.worker.Worked.{Worked}
 use Rattle.lane_work.specs.declared.consumer.Consumed.{Consumed}
 use Rattle.reckoning.specs.Closing.{AreChannelsClosedWith, AreChannelsTornWith, AreClosedWith, AreTornWith}
-use Rattle.reckoning.proofs.Settled.{mapped_length, rooms_for}
-use Rattle.reckoning.proofs.settling.close_queues.Goals as goal
+use Rattle.reckoning.proofs.Balanced.{mapped_length, rooms_for}
+use Rattle.reckoning.proofs.balancing.close_queues.Goals as goal
 
 pub close_all_lanes-lanes-requires-clause-lists : goal.close_all_lanes-lanes-requires-clause-lists
 close_all_lanes-lanes-requires-clause-lists c =

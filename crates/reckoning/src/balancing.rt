@@ -5,7 +5,7 @@ ghost use Rattle.std.specs.Prelude.{◌≡◌, IfErr, IfOk, map, vec_len};
 ghost use Rattle.house_floor.specs.Opening.{AreBaskets};
 ghost use Rattle.lane_permits.specs.rows.Rows.{AreConsumers, AreEndedHands};
 ghost use Rattle.lane_permits.specs.rows.SenderRows.{AreReceivers, AreSenderEndedHands};
-ghost use Rattle.reckoning.specs.Settling.{IsClosing, IsGathered, IsSettled, IsWhyNot};
+ghost use Rattle.reckoning.specs.Balancing.{IsClosing, IsGathered, IsBalanced, IsWhyNot};
 
 use crate::close::{close_all_channels, close_all_lanes};
 use crate::gather::{Fault, FromConsumers, FromWorkers, gather_consumers, gather_workers, graver};
@@ -175,7 +175,7 @@ pub fn close_queues(
 ///
 /// Errors: the gravest of the faults that the threads had, `Spawn` before `NoMemory` before `Torn`;
 /// where there is none, `Torn` if some queue couldn't be closed. All that was given is spent then.
-pub fn settle(
+pub fn balance(
     alloc: Global,
     lanes: Vec<ShardQueue<Job>>,
     channels: Vec<ReplyChannel<Noted>>,
@@ -189,7 +189,7 @@ pub fn settle(
     requires consumers { AreConsumers lanes.items (map (λ c. c.permit) consumed.items) }
     requires senders { AreSenderEndedHands channels.items 0 (map (λ c. c.senders.items) consumed.items) }
     requires baskets { AreBaskets (vec_len channels) (vec_len lanes) baskets }
-    ensures settled { IfOk result (λ books. IsSettled lanes.items channels.items worked.items consumed.items books) }
+    ensures balanced { IfOk result (λ books. IsBalanced lanes.items channels.items worked.items consumed.items books) }
     ensures fault { IfErr result (IsWhyNot lanes.items channels.items worked.items consumed.items) }
 {
     let Closings {

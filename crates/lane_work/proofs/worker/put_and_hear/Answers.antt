@@ -13,7 +13,7 @@ use Rattle.lane_work.specs.inner.Copies.{HavePut}
 use Rattle.submission.proofs.Fills.{fills_length, known_length}
 use Rattle.lane_work.proofs.CopyLaws.{books_more}
 use Rattle.lane_work.proofs.PermitLaws.{overs_length}
-use Rattle.lane_work.proofs.worker.settle.Goals as goal
+use Rattle.lane_work.proofs.worker.put_and_hear.Goals as goal
 
 pub note_all-requires-clause-verdicts : goal.note_all-requires-clause-verdicts
 note_all-requires-clause-verdicts g c =
