@@ -14,6 +14,9 @@ use std::alloc::AllocError;
 use std::marker::Model;
 use std::sync::Arc;
 
+/// So many verdicts have room on a producer's way back: more than a message has copies.
+pub const REPLY_ROOM: usize = 128;
+
 /// Which copy it is: the connection's seat and serial, its message, and the position of the recipient
 /// among those accepted. Keys of one seat stand in the order of the fields.
 #[derive(Clone, Copy, Debug, PartialEq, Eq, PartialOrd, Ord)]

@@ -52,7 +52,7 @@ impl From<AllocError> for DirectoryFault {
 }
 
 /// The most mailboxes that a directory may have.
-const MOST: usize = 64;
+pub const MOST_MAILBOXES: usize = 64;
 
 /// Bytes that the directory keeps.
 #[derive(Drop)]
@@ -172,7 +172,7 @@ fn are_names(names: &[&[u8]]) -> bool
 fn fault_of(domains: &[&[u8]], words: &[&[u8]]) -> Option<DirectoryFault>
     ensures { result ≡ result_err (words_read (texts domains.now) (texts words.now)) }
 {
-    if words.len() > MOST {
+    if words.len() > MOST_MAILBOXES {
         Some(DirectoryFault::TooMany)
     } else if !are_names(domains) {
         Some(DirectoryFault::BadName)

@@ -18,7 +18,7 @@ pub struct Recipients {
 }
 
 /// The most recipients that a transaction may have.
-const MOST: usize = 100;
+pub const MOST_RECIPIENTS: usize = 100;
 
 impl Model for Recipients {
     ghost use Rattle.std.specs.Prelude.{List, ℕ, ◌≤◌, vec_len, vec_capacity};
@@ -38,7 +38,7 @@ impl Recipients {
         ensures { IfOk result (λ r. r ≡ []) }
     {
         Ok(Recipients {
-            mailboxes: Vec::with_capacity(alloc, MOST)?,
+            mailboxes: Vec::with_capacity(alloc, MOST_RECIPIENTS)?,
         })
     }
 
@@ -51,7 +51,7 @@ impl Recipients {
         ensures cases { IsOk result ↔ (length self.old < 100) }
         ensures most { length self.old ≤ 100 }
     {
-        if self.mailboxes.len() == MOST {
+        if self.mailboxes.len() == MOST_RECIPIENTS {
             return Err(TooMany);
         }
         self.mailboxes.push_reserved(mailbox);

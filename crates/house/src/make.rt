@@ -7,13 +7,13 @@ ghost use Rattle.delivery_core.specs.Stands.{EachAt};
 ghost use Rattle.envelope.specs.Directory.{none_shut};
 ghost use Rattle.envelope.specs.Names.{texts, words_read};
 ghost use Rattle.house.specs.Scene.{empty_scene};
-ghost use Rattle.house.specs.Settings.{IsInRange, are_ports_wrong, config_fault, connections, fault_named, fault_of_numbers, has_slash, is_ring_wrong, setup_of, users_in, words_of};
+ghost use Rattle.house.specs.Settings.{IsInRange, are_ports_wrong, config_fault, connection_seats, fault_named, fault_of_numbers, has_slash, is_ring_wrong, setup_of, users_in, words_of};
 ghost use Rattle.house.specs.Stands.{StandsFor};
 
 use crate::config::{Config, ConfigFault};
 use crate::house::House;
 use delivery_core::{DeliveryCore, Settings};
-use envelope::{Directory, is_name};
+use envelope::{Directory, MOST_MAILBOXES, is_name};
 use house_connection::HouseConnection;
 use house_session::SeatedSession;
 use mailbox::Limits;
@@ -21,13 +21,10 @@ use session_store::CoreStore;
 use std::alloc::{AllocError, Global};
 
 /// So many connections may stand at a time. Their seats come first.
-const CONNECTIONS: u8 = 8;
+const CONNECTION_SEATS: u8 = 8;
 
 /// So many sessions may be there at a time. Their seats are behind those of connections.
-const SESSIONS: u8 = 8;
-
-/// The most mailboxes of a house.
-const MOST_MAILBOXES: usize = 64;
+const PLACES: u8 = 8;
 
 /// Where mail comes by SMTP, which an LMTP server must keep away from (RFC 2033, 5).
 const SMTP_PORT: u16 = 25;
@@ -139,10 +136,10 @@ pub fn directory_of(alloc: Global, config: &Config) -> Result<Directory, ConfigF
 
 // At each seat nobody.
 fn empty_seats(alloc: Global) -> Result<Vec<Option<HouseConnection>>, AllocError>
-    ensures { IfOk result (λ v. v.items ≡ replicate CONNECTIONS None) }
+    ensures { IfOk result (λ v. v.items ≡ replicate CONNECTION_SEATS None) }
 {
     let mut seats = Vec::new(alloc);
-    for _seat in 0..CONNECTIONS {
+    for _seat in 0..CONNECTION_SEATS {
         seats.push(None)?;
     }
     Ok(seats)
@@ -150,10 +147,10 @@ fn empty_seats(alloc: Global) -> Result<Vec<Option<HouseConnection>>, AllocError
 
 // At each place nobody.
 fn free_places(alloc: Global) -> Result<Vec<Option<SeatedSession>>, AllocError>
-    ensures { IfOk result (λ v. v.items ≡ replicate SESSIONS None) }
+    ensures { IfOk result (λ v. v.items ≡ replicate PLACES None) }
 {
     let mut places = Vec::new(alloc);
-    for _place in 0..SESSIONS {
+    for _place in 0..PLACES {
         places.push(None)?;
     }
     Ok(places)
@@ -179,10 +176,10 @@ impl House {
     {
         let directory = directory_of(alloc, config)?;
         let settings = Settings {
-            seats: CONNECTIONS + SESSIONS,
+            seats: CONNECTION_SEATS + PLACES,
             shards: config.shards,
             mailboxes: directory.mailboxes() as u8,
-            sessions: usize::from(SESSIONS),
+            sessions: usize::from(PLACES),
             depth: config.depth,
             uidvalidity: config.uidvalidity,
             first_uid: config.first_uid,
@@ -198,9 +195,9 @@ impl House {
                 session: 0,
             },
             callers: empty_seats(alloc)?,
-            serials: vec![in alloc; 0; usize::from(CONNECTIONS)]?,
+            serials: vec![in alloc; 0; usize::from(CONNECTION_SEATS)]?,
             visitors: free_places(alloc)?,
-            entered: vec![in alloc; 0; usize::from(SESSIONS)]?,
+            entered: vec![in alloc; 0; usize::from(PLACES)]?,
             directory,
             host: Vec::from_slice(alloc, &config.host)?,
             max_message: config.max_message,

@@ -103,14 +103,15 @@ fn section_of(text: &[u8]) -> Option<Section>
     }
 }
 
-const GREATEST: u64 = 9_223_372_036_854_775_807;
+/// The greatest number that a span may have (RFC 9051, 9: number64).
+const GREATEST_NUMBER64: u64 = 9_223_372_036_854_775_807;
 
 /// A span of these two numbers.
 fn span_between(origin: &[u8], count: &[u8]) -> Option<Span>
     ensures { result ≡ span_between (origin.now, count.now) }
 {
-    let origin = number_up_to(GREATEST, origin)?;
-    let count = number_up_to(GREATEST, count)?;
+    let origin = number_up_to(GREATEST_NUMBER64, origin)?;
+    let count = number_up_to(GREATEST_NUMBER64, count)?;
     if count == 0 {
         None
     } else {

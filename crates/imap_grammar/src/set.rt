@@ -65,7 +65,8 @@ impl<'a> Model for SeqSet<'a> {
     ghost view = { λ s. ranges_of s.spelled.now };
 }
 
-const GREATEST: u64 = 4_294_967_295;
+/// The greatest number that a set may name (RFC 9051, 9: nz-number).
+const GREATEST_NUMBER: u64 = 4_294_967_295;
 
 /// A number in a set, or `*`.
 fn seq_number(text: &[u8]) -> Option<SeqNumber>
@@ -74,7 +75,7 @@ fn seq_number(text: &[u8]) -> Option<SeqNumber>
     match text {
         [b'*'] => Some(SeqNumber::Star),
         [b'0', ..] => None,
-        _ => match number_up_to(GREATEST, text) {
+        _ => match number_up_to(GREATEST_NUMBER, text) {
             None => None,
             Some(n) => Some(SeqNumber::Number(n as u32)),
         },

@@ -22,7 +22,7 @@ use std::marker::Model;
 const MOST_UNASKED: u64 = 4_096;
 
 /// At most so many changes are shown in a turn of a session that idles.
-const MOST_CHANGES: usize = 64;
+const MOST_SHOWN_A_TURN: usize = 64;
 
 /// One client's session: its mailboxes by their names, the one that it selected, whether it idles, the message that its client appends, and
 /// whether it has ended.
@@ -764,7 +764,7 @@ impl Session {
         };
         out.reserve(LAST)?;
         let mut response = Response::new(b"", LAST, out);
-        match response.show(MOST_CHANGES, store) {
+        match response.show(MOST_SHOWN_A_TURN, store) {
             Ok(count) => {
                 response.release(out);
                 Ok(count)

@@ -120,7 +120,7 @@ fn put_and_hear<R: Wait, G: Gate, S: Summons, N: Notebook>(
 }
 
 /// Takes bytes from the front of a piece: one line, or one end of data. A message that is submitted by
-/// it is settled before anything more is taken: its copies are put, each into the lane of its mailbox's
+/// it is put and heard of before anything more is taken: its copies are put, each into the lane of its mailbox's
 /// shard, for which `summons` is asked; the verdict on each is awaited, and noted in `book`; and then
 /// they are said. Replies go to `out`, behind what stands there; what was said before may have been
 /// sent. `directory` is the producer's own, which may have more marks than the office's.

@@ -39,9 +39,6 @@ const SENDER_ROOM: usize = 320;
 // The most bytes that a command line has before its CRLF (RFC 5321, 4.5.3.1.4).
 const MOST_TEXT: usize = 510;
 
-/// A transaction has at most so many recipients (RFC 5321, section 4.5.3.1.8).
-pub const MOST_RECIPIENTS: usize = 100;
-
 /// A connection between commands.
 #[derive(Drop)]
 pub struct Commands {

@@ -15,13 +15,13 @@ ghost use Rattle.lmtp_machine.specs.Replies.{wire, IsBrief};
 ghost use Rattle.lmtp_machine.specs.inner.Ending.{Becomes, Does, what_of};
 ghost use Rattle.lmtp_machine.specs.Calls.{Awaits, Follows, Happens, Moves, submission_of};
 
-use crate::commands::{Commands, MOST_RECIPIENTS, Stage};
+use crate::commands::{Commands, Stage};
 use crate::connection::{Fed, Limits, Submission, What};
 use crate::message::{begin_data, keys_of, say_to_each, say_verdicts};
 use crate::reply::{ANSWER_ROOM, BRIEF_ROOM, NAMED_ROOM, Reply, say, say_any};
 use delivery_token::{Text, Verdict};
 use dot_stuffing::{Outcome, Progress, Unstuffer};
-use envelope::Directory;
+use envelope::{Directory, MOST_RECIPIENTS};
 use line_io::{LineCutter, What as Found};
 use std::alloc::{AllocError, Global};
 use std::marker::Model;
