@@ -40,9 +40,7 @@ pub fn play(house: &mut House, events: &[Event<'_>], out: &mut Vec<u8>) -> Resul
     ensures once { (k : Setup) → StandsFor k house.old (empty_scene k) → CameOnce k house.new out.old.items out.new.items }
 {
     for event in events {
-        let Ok(()) = try_event(house, *event, out) else {
-            return Err(AllocError);
-        };
+        try_event(house, *event, out)?;
     }
     Ok(())
 }

@@ -141,8 +141,8 @@ impl HouseSession {
         let progress = self.connection.take(alloc, waits, store, &mut self.unsaid);
         self.incoming.take(progress.used);
         match progress.after {
-            Some(_) => return Ok(()),
-            None => return Err(AllocError),
+            Some(_) => Ok(()),
+            None => Err(AllocError),
         }
     }
 
