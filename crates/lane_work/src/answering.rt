@@ -5,7 +5,8 @@ ghost use Rattle.std.specs.Prelude.{◌≡◌, ◌++◌, ◌∷◌, [], length, 
 ghost use Rattle.shard_queue.specs.declared.lane.Entry.TheVariants as entries;
 ghost use Rattle.shard_queue.specs.Reply.{IsSender, sender_number, sent_on};
 ghost use Rattle.lane_work.specs.Permits.{AreSenders};
-ghost use Rattle.lane_work.specs.Answering.{IsDelivered, IsVerdict, Serves, UnderLock, is_ours, verdict_of};
+ghost use Rattle.lane_work.specs.Answering.{IsDelivered, IsVerdict, Serves, is_ours, verdict_of};
+ghost use Rattle.mailbox_holds.specs.Holds.{UnderLock};
 
 use crate::bells::ring_sessions;
 use crate::consumer::Depot;
