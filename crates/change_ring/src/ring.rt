@@ -50,6 +50,7 @@ impl ChangeRing {
     /// An empty ring at the start of a log: it has room for `capacity` changes, and may grow to
     /// `max`. An error where memory is refused.
     pub fn new(alloc: Global, capacity: usize, max: usize) -> Result<Self, AllocError>
+        // There is room for one change at least, and no more than it may grow to.
         requires nonempty { 0 < capacity }
         requires within { capacity ≤ max }
         ensures { IfOk result (λ r. r ≡ record { base = 0; changes = []; capacity = capacity; max = max }) }
@@ -65,6 +66,7 @@ impl ChangeRing {
         capacity: usize,
         max: usize,
     ) -> Result<Self, AllocError>
+        // There is room for one change at least, and no more than it may grow to.
         requires nonempty { 0 < capacity }
         requires within { capacity ≤ max }
         // No log numbers more than 2^62 changes.
