@@ -245,7 +245,7 @@ impl DeliveryCore {
         text: &Text,
         flags: Flags,
     ) -> Result<Option<Refusal>, AllocError>
-        // The seat is there, and the key is its next one or a later one, which has one behind it.
+        // The seat is there, and the key is its next one or a later one, and there is one behind it.
         requires seat { key.seat < length self.old.replies }
         requires next { AtLeast (slice_index_or self.old.next key.seat key) key }
         requires last { key.recipient < 255 }

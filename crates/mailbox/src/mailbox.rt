@@ -245,7 +245,7 @@ impl Mailbox {
             record { uid = next_uid self.old; flags = job.now.flags; text = job.now.text } ∷ []) }
         // What is logged goes into the window; a full one drops its oldest change, or grows where a client is still to be shown it.
         ensures window { OnOk result (Moves self.old.cursors self.old.window self.new.window (arrival (next_uid self.old) job.now.flags)) }
-        // No cursor changes, nor what no call changes: number, UIDVALIDITY, first UID, limit, and whether copies are kept.
+        // Cursors stay, and so does what no call changes: number, UIDVALIDITY, first UID, limit, and whether copies are kept.
         ensures cursors { OnOk result (self.new.cursors ≡ self.old.cursors) }
         ensures same { OnOk result (SameMailbox self.old self.new) }
         // The receipt tells the mailbox, the key, the UID, and the position among the copies that were accepted.

@@ -134,7 +134,7 @@ pub fn feed(
     limit: usize,
     out: &mut Vec<u8>,
 ) -> Result<usize, MailFault>
-    // It is one event of the mailbox: what is written are the lines of the next changes, by which the handle goes on.
+    // After Ok it is one event: the lines of the next changes are written, and the handle goes on by as many. Else nothing has changed.
     ensures event { DoesFeed mailbox.old handle.old limit out.old.items out.new.items result mailbox.new handle.new }
     // It shows no more than were asked for, and is never refused as Spent, since it logs nothing.
     ensures few { IfOk result (λ n. n ≤ limit) }

@@ -62,7 +62,7 @@ impl<T: Drop> PlainLane<T> {
             (λ _. (length self.old.waiting < self.old.capacity)
             × (self.new ≡ record self.old { waiting = self.old.waiting ++ entries.Item p item ∷ [] }))
             (λ back. (back.0 ≡ item) × (length self.old.waiting ≡ self.old.capacity) × (self.new ≡ self.old)) }
-        // From each lane for which it stood, a legal move leads to one for which it stands.
+        // After Ok: from each lane for which it stood, a legal move leads to one for which it stands.
         ensures moves { OnOk result (Makes self.old (Puts (entries.Item p item)) self.new) }
     {
         if self.entries.len() == self.capacity {
@@ -82,7 +82,7 @@ impl<T: Drop> PlainLane<T> {
             (λ _. (length self.old.waiting < self.old.capacity)
             × (self.new ≡ record self.old { waiting = self.old.waiting ++ entries.End p ∷ []; live = slice_set self.old.live p false }))
             (λ _. (length self.old.waiting ≡ self.old.capacity) × (self.new ≡ self.old)) }
-        // From each lane for which it stood, a legal move leads to one for which it stands.
+        // After Ok: from each lane for which it stood, a legal move leads to one for which it stands.
         ensures moves { OnOk result (Makes self.old (Puts (entries.End p)) self.new) }
     {
         if self.entries.len() == self.capacity {

@@ -210,7 +210,7 @@ impl<T: Drop> ShardQueue<T> {
         // Ok: what is left tells all that was taken, and that is, of each producer, all that it sent.
         ensures history { IfOk result (λ c. history c ≡ got permit) }
         ensures each { IfOk result (λ _. All (λ e. said e ≡ of (ended_number e) (got permit)) ended.items) }
-        // Each producer has ended, its end was taken, and nobody else has sent anything.
+        // Ok: each producer has ended, its end was taken, and nobody else has sent anything.
         ensures all { IfOk result (λ _. IsAll ended_number (producers_of self) ended.items (got permit)) }
         ensures whole { IfOk result (λ _. IsWhole (producers_of self) (capacity_of self) (got permit)) }
         // NotAll: all comes back as it was given; an Ended is missing, or an end was not taken.

@@ -219,7 +219,7 @@ impl<T: Drop> ReplyChannel<T> {
         // Ok: what is left tells all that was received, and that is, of each sender, all that it sent.
         ensures history { IfOk result (λ c. reply_history c ≡ received permit) }
         ensures each { IfOk result (λ _. All (λ e. said_on e ≡ of (sender_ended_number e) (received permit)) ended.items) }
-        // Each sender has ended, its end was received, and nobody else has sent anything.
+        // Ok: each sender has ended, its end was received, and nobody else has sent anything.
         ensures all { IfOk result (λ _. IsAll sender_ended_number (senders_of self) ended.items (received permit)) }
         ensures whole { IfOk result (λ _. IsWhole (senders_of self) (room_of self) (received permit)) }
         // NotAll: all comes back as it was given; an Ended is missing, or an end was not received.
