@@ -26,6 +26,7 @@ pub enum Class {
     Literal,
 }
 
+/// Whether a byte is of this class.
 pub fn is_of(class: Class, b: u8) -> bool
     ensures { result ≡ is_of class b }
 {

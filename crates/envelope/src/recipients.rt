@@ -46,8 +46,10 @@ impl Recipients {
     ///
     /// Errors: `TooMany` where there are 100 already; then nothing changes.
     pub fn add(&mut self, mailbox: u8) -> Result<(), TooMany>
+        // After Ok the mailbox is the last; after an error nothing has changed.
         ensures ok { OnOk result (self.new ≡ self.old ++ mailbox ∷ []) }
         ensures full { OnErr result (self.new ≡ self.old) }
+        // Ok exactly where there were fewer than 100; there were never more.
         ensures cases { IsOk result ↔ (length self.old < 100) }
         ensures most { length self.old ≤ 100 }
     {

@@ -15,7 +15,9 @@ use crate::reading::{Class, run_len};
 /// A word, cut at its first slash.
 #[derive(Clone, Copy)]
 pub struct Word<'a> {
+    /// What stands before the first slash, or all where there is none.
     pub user: &'a [u8],
+    /// What stands past the first slash, where there is one.
     pub folder: Option<&'a [u8]>,
 }
 

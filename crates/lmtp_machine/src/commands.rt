@@ -252,8 +252,11 @@ impl Commands {
 
     /// Answers a command line, without its CRLF, in room that was reserved.
     pub fn line(&mut self, line: &[u8], directory: &Directory, host: &[u8], out: &mut Vec<u8>)
+        // There is room for the longest reply to one line, with the server's name.
         requires room { vec_len out.old + length host.now + NAMED_ROOM ≤ vec_capacity out.old }
+        // It is between commands: within no data, awaiting no verdicts, and not ended.
         requires stage { IsOpen self.old.stage }
+        // It stands where the dialogue does after this line, and what the dialogue replies stands behind what was written.
         ensures { Takes host.now (on_command_line directory.now (standing_of self.old) line.now) self.new out.old.items out.new.items }
     {
         if line.len() > MOST_TEXT {
