@@ -38,6 +38,7 @@ pub fn play(house: &mut House, events: &[Event<'_>], out: &mut Vec<u8>) -> Resul
     // Each event happened, or was refused and changed nothing, from each scene for which the house stood.
     ensures tried { OnOk result ((k : Setup) (s : Scene) → StandsFor k house.old s →
         TriedFrom k events.now house.old s house.new out.old.items out.new.items) }
+
     // In a house that was new, also after an error: what happened and was printed is exactly-once delivery.
     ensures once { (k : Setup) → StandsFor k house.old (empty_scene k) → CameOnce k house.new out.old.items out.new.items }
 {

@@ -124,6 +124,7 @@ fn fault_of_numbers(config: &Config) -> Option<ConfigFault>
 pub fn directory_of(alloc: Global, config: &Config) -> Result<Directory, ConfigFault>
     // Each number is in its range, and there is a mailbox: `Config::is_in_range`.
     requires { IsInRange config.now }
+
     // The directory that the settings settle: their domain, a mailbox for each word, and no shard shut.
     ensures directory { IfOk result (λ d. d ≡ (setup_of config.now).directory) }
 
@@ -177,6 +178,7 @@ impl House {
     pub fn new(alloc: Global, config: &Config) -> Result<House, ConfigFault>
         // Each number is in its range, and there is a mailbox: `Config::is_in_range`.
         requires { IsInRange config.now }
+
         // It stands for the empty scene of these settings: nobody is there, nothing has happened, no shard is shut.
         ensures stands { IfOk result (λ h. StandsFor (setup_of config.now) h (empty_scene (setup_of config.now))) }
 

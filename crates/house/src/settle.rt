@@ -203,6 +203,7 @@ impl House {
         // From each scene for which it stood: rounds without held shards till nothing moves, then idle turns; it stands for where they lead.
         ensures settles { OnOk result ((k : Setup) (s : scene.Scene) → StandsFor k self.old s →
             SettledFrom k held.now s self.new out.old.items out.new.items) }
+
         // From each such scene some events happened, each perhaps cut short, and the house stands for where they led.
         ensures no_memory { OnErr result ((k : Setup) (s : scene.Scene) → StandsFor k self.old s →
             HappenedFrom k s self.new out.old.items out.new.items) }

@@ -516,6 +516,7 @@ pub fn drive<R: BufRead, W: Sink>(
 ) -> Result<(), RunFault>
     // The writer hasn't failed.
     requires { W.failed writer.old ≡ false }
+
     // In a house that was new, all that the script prints was written, and the house stands for the scene to which its lines lead.
     ensures ok { OnOk result ((k : Setup) (input : List ℕ) → StandsFor k house.old (empty_scene k) → R.remaining reader.old ≡ Some input →
         Writes k (script_of input) house.new (W.taken writer.old) (W.taken writer.new)) }
