@@ -44,7 +44,7 @@ pub enum Event<'a> {
 /// Why an event wasn't made. The first that holds is the fault. After Nobody, Busy and Nothing nothing changed.
 #[derive(Clone, Copy, Debug, PartialEq, Eq, Error)]
 pub enum HouseFault {
-    /// The connection, the session, the user or the shard isn't there, or the seat takes no new connection.
+    /// The connection, the session, the user or the shard isn't there, or the seat takes no new connection or session.
     #[error("nobody is there")]
     Nobody,
     /// The place is taken, the shard is shut already, or the seat still waits for the verdicts of a connection or a session whose peer is gone.

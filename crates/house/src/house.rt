@@ -370,11 +370,11 @@ impl House {
     /// One event. What it appends to `out` is what it prints.
     ///
     /// Nobody, Busy and Nothing come in this order, and after them nothing changed: Nobody where the connection, the shard, the session or
-    /// the user isn't there, and where a seat that is free takes nobody any more; Busy where bytes, a vanishing, an idle turn or a leave are for a
-    /// seat that still waits for the verdicts of a peer that is gone, where a shard is shut that is shut already, and where a user enters at a place
-    /// that is taken; Nothing where the event would change nothing. After NoMemory, which no take, delivery, answer, end, close, leave or vanishing
-    /// answers, what was done by then stands, and the next event of the connection or session goes on from there; bytes that came with it were taken
-    /// up or weren't there at all.
+    /// the user isn't there (an end asks for its seat alone), and where a seat that is free takes nobody any more; Busy where bytes, a vanishing, an
+    /// idle turn or a leave are for a seat that still waits for the verdicts of a peer that is gone, where a shard is shut that is shut already, and
+    /// where a user enters at a place that is taken; Nothing where the event would change nothing. After NoMemory, which no take, delivery, answer,
+    /// end, close, leave or vanishing answers, what was done by then stands, and the next event of the connection or session goes on from there;
+    /// bytes that came with it were taken up or weren't there at all.
     pub fn step(&mut self, event: Event<'_>, out: &mut Vec<u8>) -> Result<(), HouseFault>
         // From each scene for which the house stood, an event that happened leads to one for which it stands; `out` gets what it prints.
         ensures follows { OnOk result (Follows self.old event.entry self.new out.old.items out.new.items) }

@@ -233,7 +233,7 @@ impl SeatedSession {
 
     /// Its session has a turn while it idles, over its store, as in `HouseSession::idle_turn`. Answers how many changes were shown.
     ///
-    /// Errors: `AllocError` where memory was refused. Nothing happened then.
+    /// Errors: `AllocError` where memory was refused. The session is then as it was; so is the store, or it refused the call that shows.
     pub fn idle_turn<S: Store>(&mut self, store: &mut S) -> Result<usize, AllocError>
         // Its client is there.
         requires there { self.old.gone ≡ false }

@@ -162,7 +162,7 @@ impl HouseSession {
     /// how many were shown; what it says is still to be printed. Where the session doesn't idle, has selected no mailbox or has ended, none are;
     /// a client that missed changes is told BYE, and its session has then ended.
     ///
-    /// Errors: `AllocError` where memory was refused. Nothing happened then.
+    /// Errors: `AllocError` where memory was refused. The session is then as it was; so is the store, or it refused the call that shows.
     pub fn idle_turn<S: Store>(&mut self, store: &mut S) -> Result<usize, AllocError>
         // From each visitor for which it stood, and whatever it stands for: its session had a turn and showed so many changes, 64 at most.
         ensures ok { IfOk result (λ count. (v : spec.Visitor) → StandsFor self.old v → Turned S.step count v store.old store.new self.new) }

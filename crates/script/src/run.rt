@@ -505,7 +505,7 @@ fn take_turn<R: BufRead, W: Sink>(
 ///
 /// The house that is left is what the lines made of it that were played: nothing else was done.
 ///
-/// `Read`: the reader failed, or 2^32 lines were read; `NoMemory`: memory was wanting, and the line at hand was done in part or not at all. What
+/// `Read`: the reader failed, or 2^32 lines were read; `NoMemory`: memory was wanting, and the line at hand was played in part or not at all. What
 /// the lines before printed was then written, and nothing of the line at hand. `Write`: the writer failed; the first `sent` bytes of what the
 /// script prints were written, and not all that its last line printed.
 pub fn drive<R: BufRead, W: Sink>(
