@@ -26,7 +26,8 @@ use imap_session::Store;
 use session_store::CoreStore;
 use std::alloc::AllocError;
 
-// Whether the session at a place, counted from 0, has something to do in a turn: its client is there, it idles in a mailbox and wasn't shown all of its log.
+// Whether the session at a place, counted from 0, has something to do in a turn: its client is there, it idles in a mailbox and wasn't shown all of
+// its log.
 fn has_turn(visitor: &SeatedSession, place: u8, core: &DeliveryCore) -> bool
     ensures some { result ≡ true → MayIdle visitor.now place core.now }
     ensures none { result ≡ false → HasNoTurn place (Some visitor.now) core.now }

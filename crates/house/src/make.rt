@@ -119,12 +119,20 @@ fn fault_of_numbers(config: &Config) -> Option<ConfigFault>
 ///
 /// Errors: those of `House::new`, in the same order.
 pub fn directory_of(alloc: Global, config: &Config) -> Result<Directory, ConfigFault>
+    // Each number is in its range, and there is a mailbox: `Config::is_in_range`.
     requires { IsInRange config.now }
+
+    // The directory that the settings settle: their domain, a mailbox for each word, and no shard shut.
     ensures directory { IfOk result (λ d. d ≡ (setup_of config.now).directory) }
+
+    // An answer means that nothing is wrong, and that the host's name has fewer than 256 bytes.
     ensures right { IfOk result (λ d. config_fault config.now ≡ None) }
     ensures host { IfOk result (λ d. length config.now.host.items < 256) }
+
+    // Where something is wrong, the first fault that holds is the error, or NoMemory.
     ensures fault { IfSome (config_fault config.now) (λ fault. (result ≡ Err fault) ⊎ (result ≡ Err ConfigFault.NoMemory)) }
-    // Where nothing is wrong.
+
+    // Where nothing is wrong, there is one, unless memory is refused.
     ensures made { config_fault config.now ≡ None → IsOkUnless result ConfigFault.NoMemory }
 {
     let directory = named_directory(alloc, config)?;
@@ -162,16 +170,24 @@ impl House {
     /// Errors, the first that holds: `TooMany` for more than 64 mailboxes; `BadName` for the host, then for the domain; then the fault
     /// of the first word that has one, `BadName` if it is spelled wrong or its user has no word before it, `Twice` if it names an
     /// earlier one's mailbox in upper or lower case; `Ring` where the ring keeps fewer than two changes for each message, or its most
-    /// is not 0 and is less than it; `Ports` where mail is to come to port 25 or to a user's port. In place of any of them, and where nothing else is wrong, `NoMemory` if memory is refused.
+    /// is not 0 and is less than it; `Ports` where mail is to come to port 25 or to a user's port. In place of any of them, and where nothing else is
+    /// wrong, `NoMemory` if memory is refused.
     pub fn new(alloc: Global, config: &Config) -> Result<House, ConfigFault>
+        // Each number is in its range, and there is a mailbox: `Config::is_in_range`.
         requires { IsInRange config.now }
+
+        // It stands for the empty scene of these settings: nobody is there, nothing has happened, no shard is shut.
         ensures stands { IfOk result (λ h. StandsFor (setup_of config.now) h (empty_scene (setup_of config.now))) }
+
+        // Where something is wrong, the first fault that holds is the error, or NoMemory.
         ensures fault { IfSome (config_fault config.now) (λ fault. (result ≡ Err fault) ⊎ (result ≡ Err ConfigFault.NoMemory)) }
+
         // Each mailbox is empty, with the settings' UIDs, room and window.
         ensures mailboxes { IfOk result (λ h. EachAt (λ m b.
             IsNewBox m config.now.uidvalidity config.now.first_uid config.now.messages config.now.ring
             (max config.now.ring config.now.ring_max) b) h.core.boxes) }
-        // Where nothing is wrong.
+
+        // Where nothing is wrong, there is one, unless memory is refused.
         ensures made { config_fault config.now ≡ None → IsOkUnless result ConfigFault.NoMemory }
     {
         let directory = directory_of(alloc, config)?;

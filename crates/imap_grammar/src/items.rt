@@ -27,7 +27,9 @@ pub enum Section {
 /// So many bytes from this one on: `origin` counts from 0, `count` is 1 at least, and both are below 2^63.
 #[derive(Clone, Copy, Debug, PartialEq, Eq)]
 pub struct Span {
+    /// So many bytes of the part stand before it: from 0 to 2^63 - 1.
     pub origin: u64,
+    /// So many bytes at most, since the part may end before them: from 1 to 2^63 - 1.
     pub count: u64,
 }
 
@@ -40,7 +42,9 @@ pub enum FetchItem {
     Body {
         /// \Seen isn't set.
         peek: bool,
+        /// Which part of the text.
         section: Section,
+        /// Which bytes of that, or None for all of them.
         partial: Option<Span>,
     },
 }

@@ -38,14 +38,18 @@ impl From<AllocError> for SetFault {
 /// A number of a message or a UID, or `*`, the greatest there is.
 #[derive(Clone, Copy, Debug, PartialEq, Eq)]
 pub enum SeqNumber {
+    /// From 1 on.
     Number(u32),
+    /// `*`: the last position in a view, or its last UID.
     Star,
 }
 
 /// All numbers between two, in either order.
 #[derive(Clone, Copy, Debug, PartialEq, Eq)]
 pub struct SeqRange {
+    /// The number that stands first, from 1, or `*`.
     pub from: SeqNumber,
+    /// The number behind the colon, or `*`: it may be the lesser one. Where one number stands alone, that.
     pub to: SeqNumber,
 }
 
@@ -157,8 +161,13 @@ impl<'a> SeqSet<'a> {
         view: &View<'_>,
         by_uid: bool,
     ) -> Result<Vec<Named>, SetFault>
+        // The messages that the set names in the view, in the view's order, each with its position there.
         ensures found { IfOk result (λ named. messages_in by_uid self.now view.now ≡ Some named.items) }
+
+        // TooHigh exactly where it says a position that isn't there, as `*` is in an empty view; by UID never.
         ensures too_high { (result ≡ Err SetFault.TooHigh) ↔ (named_in by_uid self.now view.now ≡ None) }
+
+        // Their UIDs rise.
         ensures rising { IfOk result (λ named. IsStrictlyIncreasing (map (λ m. m.uid) named.items)) }
     {
         let shown = view.uids();
