@@ -95,9 +95,14 @@ pub fn serve_copy<R: Wait, G: Gate>(
     producer: u8,
     job: &Job,
 ) -> bool
+    // There is a sender's permit on each channel, of this shard's number.
     requires senders { AreSenders depot.now.channels.items shard senders.old.items }
     ensures senders { AreSenders depot.now.channels.items shard senders.new.items }
+
+    // `true` is said of just the copies whose producer has a channel and whose mailbox is there.
     ensures known { result ≡ is_ours (length depot.now.mailboxes.items) (length depot.now.channels.items) producer job.now }
+
+    // The copy's producer was told its one verdict, and nobody else anything; where that has no channel, nobody was.
     ensures served { Serves (length depot.now.mailboxes.items) (length depot.now.channels.items) shard producer job.now
         (map sent_on senders.old.items) (map sent_on senders.new.items) }
 {

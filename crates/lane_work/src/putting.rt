@@ -98,6 +98,8 @@ pub(crate) fn put_copy<R: Wait, G: Gate, S: Summons>(
     ensures permits { ArePermits office.now.lanes.items desk.old.number desk.new.permits.items }
     ensures same { SameButPermits desk.old desk.new }
     ensures within { shard_of office.now.directory mailbox < length office.now.lanes.items }
+
+    // Where the mailbox's permit isn't over: just the copy was put, on its lane; or it is refused, for want of room or memory, and nothing put.
     ensures put { slice_index_or (overs desk.old.permits.items) (shard_of office.now.directory mailbox) false ≡ false → MatchOption result
         (map put_by desk.new.permits.items ≡ slice_set (map put_by desk.old.permits.items) (shard_of office.now.directory mailbox)
         (slice_index_or (map put_by desk.old.permits.items) (shard_of office.now.directory mailbox) []
@@ -105,6 +107,8 @@ pub(crate) fn put_copy<R: Wait, G: Gate, S: Summons>(
         (λ v. (map put_by desk.new.permits.items ≡ map put_by desk.old.permits.items)
         × IsAtOnce (FoundFull (room_at (rooms_of office.now.lanes.items) (shard_of office.now.directory mailbox)) desk.old.number
         (slice_index_or (map put_by desk.old.permits.items) (shard_of office.now.directory mailbox) [])) v) }
+
+    // Where it is over, the copy is refused as `Shut`, and nothing is put.
     ensures over { slice_index_or (overs desk.old.permits.items) (shard_of office.now.directory mailbox) false ≡ true
         → (result ≡ Some (verdicts.Refused refusals.Shut)) × (map put_by desk.new.permits.items ≡ map put_by desk.old.permits.items) }
 {
