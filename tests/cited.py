@@ -1,6 +1,6 @@
 #!/usr/bin/env python3
 """What the pages cite is there: each path of the repository in backquotes, each name that a table of docs/STANDARDS.md gives behind a path, and each
-promise that a page gives as a function with its clause.
+promise that a page gives as a function with its clause. And what a crate stands on, as its README.md says it, is what crates.txt says.
 
     tests/cited.py          the pages below, and each crate's README.md
     tests/cited.py PAGE ..  other pages; names are looked up on each of them
@@ -14,6 +14,9 @@ On a crate's own page a file may be called by its name alone: it stands in a fol
 A promise is cited as `drive` (crate `script`, clause `once`), with "clauses" before several, as `Visit::hear` (crate `imap_stream`, clause `ok`) where it
 is a type's, or with no clause. There has to be such a public function in that crate's src/, which ensures each of these clauses; where none is named it
 has to ensure anything at all. A program has no public functions: those of its main.rt count.
+
+A crate's README.md has a sentence "It stands on ..": it names each crate of the line in crates.txt, or one that stands on it where the sentence goes on
+with "and what those stand on"; and no crate that isn't there. Crates of tests alone, and those that measure, say instead what they try.
 """
 
 import glob
@@ -43,6 +46,8 @@ CLAIM = re.compile(r"`([\w:]+)`\s+\(crate\s+`(\w+)`(?:,\s+clauses?\s+([^()]*))?\
 OWNER = re.compile(r"impl(?:<.*?>)? (?:.* for )?(?:\w+::)*(\w+)")
 FUNCTION = re.compile(r" *(pub )?(?:const )?fn (\w+)")
 ENSURES = re.compile(r" *ensures (?:(\w+) )?\{")
+STANDS_ON = re.compile(r"\bstands\s+on\s+(no other crate\b|`[^.]*)\.")
+AND_THEIRS = re.compile(r"\bwhat\s+(?:it|they|these|those)\s+stands?\s+on\b")
 OF_CODE = re.compile(r"^\s*(?:pub(?:\(crate\))? )?(?:fn|struct|enum|trait|type|const|static) (\w+)|^    ([A-Z]\w*)(?:\(.*\),|,| \{)$", re.M)
 
 
@@ -129,6 +134,41 @@ class Functions:
         return f"{name} of crate {crate} ensures no {', no '.join(missing)}" if missing else None
 
 
+class Crates:
+    """What each crate stands on: of crates.txt its own line, and all that is below it."""
+
+    def __init__(self):
+        lines = [line.partition(":") for line in read("crates.txt").split("\n") if line and not line.startswith("#")]
+        self.own = {crate: set(below.split()) for crate, _, below in lines}
+
+    def below(self, crates):
+        """These crates and all on which they stand."""
+        found = set()
+        waiting = list(crates)
+        while waiting:
+            crate = waiting.pop()
+            if crate not in found:
+                found.add(crate)
+                waiting.extend(self.own.get(crate, ()))
+        return found
+
+    def lacks(self, crate, text):
+        """Why this crate's README.md says something else than crates.txt, or None."""
+        if crate.endswith(("_tests", "bench")):
+            return None
+        sentence = STANDS_ON.search(text)
+        if not sentence:
+            return "doesn't say on which crates it stands"
+        named = set(QUOTED.findall(sentence.group(1)))
+        wanted = self.own.get(crate, set())
+        told = self.below(named) if AND_THEIRS.search(sentence.group(1)) else named
+        if wanted - told:
+            return f"stands on {', '.join(sorted(wanted - told))} too, by crates.txt"
+        if more := (named & set(self.own)) - wanted:
+            return f"doesn't stand on {', '.join(sorted(more))}, by crates.txt"
+        return None
+
+
 def is_there(path):
     if "*" in path:
         return bool(glob.glob(os.path.join(TOP, path)))
@@ -158,7 +198,7 @@ def last_cell(line):
 
 class Check:
     def __init__(self):
-        self.names, self.functions = Names(), Functions()
+        self.names, self.functions, self.crates = Names(), Functions(), Crates()
         self.paths = self.named = self.claims = 0
         self.missing = 0
 
@@ -204,11 +244,16 @@ class Check:
             if lack := self.functions.lacks(crate, name, QUOTED.findall(clauses or "")):
                 self.miss(page, lines[text.count("\n", 0, claim.start())][0], lack)
 
+    def look_at_standing(self, page):
+        if lack := self.crates.lacks(page.split("/")[1], read(page)):
+            self.miss(page, 1, lack)
+
     def look_at(self, page, with_names):
         lines = list(lines_of(page))
         self.look_at_claims(page, lines)
         if page.startswith("crates/"):
             self.look_at_files(page, lines)
+            self.look_at_standing(page)
         for number, line in lines:
             self.look_at_paths(page, number, line)
             if with_names:
