@@ -4,7 +4,7 @@ use Rattle.std.specs.Prelude.{◌↔◌, IsTrue, nat_lt}
 use Rattle.std.specs.Option.{is_some}
 use Rattle.std.proofs.lemmas.Bool.{cases_lt}
 use Rattle.std.proofs.lemmas.Bool.Decides.{nat_tests}
-use Rattle.world.specs.World.{Config, World}
+use Rattle.world.specs.World.{Config}
 use Rattle.delivery_core.specs.DeliveryCore.{DeliveryCore}
 use Rattle.delivery_core.specs.Stands as core
 use Rattle.std.proofs.lemmas.List.{append-nil}

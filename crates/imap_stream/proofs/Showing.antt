@@ -1,10 +1,8 @@
 -- Turns of a session that idles, and what stands behind them.
 use Rattle.std.proofs.Common.{◌≡◌, ℕ, true, false, List, refl, sym, subst}
 use Rattle.imap_session.specs.Exchange.{Standing, is_idling}
-use Rattle.imap_session.specs.Store.{IdleTurns}
-use Rattle.imap_connection.specs.Dialogue as dialogue
 use Rattle.imap_connection.specs.Dialogue.{Dialogue, ImapConnection, StandsFor}
-use Rattle.session_thread.specs.Locks.{Holds, LockedStore}
+use Rattle.session_thread.specs.Locks.{LockedStore}
 use Rattle.session_thread.specs.Life.{HasShown, IsShort, Moment, moment}
 use Rattle.session_thread.proofs.Living.{idle_of}
 use Rattle.courier.specs.Carried.{Carried}
