@@ -1,7 +1,7 @@
 //! A gap that moves up a view: it takes in one UID after another and is closed at the end. So each
 //! UID behind the first of them is moved once. Which UIDs are taken in is told in `leaving`.
 
-ghost use Rattle.std.specs.Prelude.{◌≡◌, ◌+◌, ◌<◌, ◌≤◌, ◌++◌, length, remove, vec_len, vec_capacity};
+ghost use Rattle.std.specs.Prelude.{◌≡◌, ◌+◌, ◌<◌, ◌≤◌, length, remove, vec_len, vec_capacity};
 ghost use Rattle.cursor_set.specs.Gap.{around, IsGapOf};
 
 /// The part of a view that was taken in, from the index `start` up to `end`.

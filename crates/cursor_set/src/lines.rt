@@ -1,7 +1,7 @@
 //! The lines that show changes to a client, written in room that was reserved, and what the client
 //! counts after them. Which changes are shown, and to whom, is told in `set`.
 
-ghost use Rattle.std.specs.Prelude.{◌≡◌, ◌+◌, ◌*◌, ◌<◌, ◌≤◌, [], ◌++◌, List, length, ◌∷◌, not, ◌&&◌, if◌then◌else◌, codes, decimal, vec_len, vec_capacity};
+ghost use Rattle.std.specs.Prelude.{◌≡◌, ◌+◌, ◌*◌, ◌≤◌, [], ◌++◌, List, length, ◌∷◌, not, ◌&&◌, if◌then◌else◌, codes, decimal, vec_len, vec_capacity};
 ghost use Rattle.std.specs.List.Sorted.{IsStrictlyIncreasing};
 ghost use Rattle.change_ring.specs.declared.change.Change.{Change};
 ghost use Rattle.change_ring.specs.Log.{Names, added, shown, replay};

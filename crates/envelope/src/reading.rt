@@ -1,7 +1,7 @@
 //! Reading a line from left to right: each function takes its part from the front of the bytes.
 //! What each answers is its namesake in specs/Reading.antt; that file is tied to the grammar by `read_command`.
 
-ghost use Rattle.std.specs.Prelude.{◌≡◌, ◌+◌, ◌≤◌, ◌<◌, length, false, Option, Some, None, ℕ, ◌↔◌, IfSome, ◌||◌, not, nat_lt, Result};
+ghost use Rattle.std.specs.Prelude.{◌≡◌, ◌≤◌, ◌<◌, length, false, IfSome, ◌||◌, not, nat_lt, Result};
 ghost use Rattle.std.specs.List.{prefix_len, list_all};
 ghost use Rattle.std.specs.Option.{option_copied, option_map};
 ghost use Rattle.envelope.specs.Bytes.{is_text};

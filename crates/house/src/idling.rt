@@ -1,7 +1,7 @@
 //! Sessions that idle (RFC 2177): the event by which one is shown what is new, and the turns that all of them have when the house settles. What
 //! a turn shows is the session's matter, over the mailboxes of the delivery core.
 
-ghost use Rattle.std.specs.Prelude.{◌≡◌, ◌≢◌, ◌↔◌, ◌<◌, ◌≤◌, ◌-◌, ℕ, List, [], ◌∷◌, true, false, Some, Err, IfSome, OnErr, OnOk};
+ghost use Rattle.std.specs.Prelude.{◌≡◌, ◌≢◌, ◌↔◌, ◌<◌, ◌-◌, List, [], ◌∷◌, true, false, Some, Err, IfSome, OnErr, OnOk};
 ghost use Rattle.house.specs.Setup.{Setup, session_seat};
 ghost use Rattle.delivery_core.specs.DeliveryCore.{behind};
 ghost use Rattle.delivery_core.specs.Stands as core;

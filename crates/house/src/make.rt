@@ -1,13 +1,13 @@
 //! The making of a house from its settings: its directory, and its parts, each as large as the settings say. What it does then is
 //! told in `house`.
 
-ghost use Rattle.std.specs.Prelude.{◌≡◌, ◌≢◌, ◌<◌, ◌≤◌, ◌⊎◌, ℕ, [], ◌∷◌, length, map, max, IfOk, IfErr, IfSome, IsOk, IsOkUnless, Ok, Err, None, replicate};
+ghost use Rattle.std.specs.Prelude.{◌≡◌, ◌<◌, ◌⊎◌, [], ◌∷◌, length, map, max, IfOk, IfErr, IfSome, IsOk, IsOkUnless, Ok, Err, None, replicate};
 ghost use Rattle.delivery_core.specs.New.{IsNewBox};
 ghost use Rattle.delivery_core.specs.Stands.{EachAt};
 ghost use Rattle.envelope.specs.Directory.{none_shut};
 ghost use Rattle.envelope.specs.Names.{texts, words_read};
 ghost use Rattle.house.specs.Scene.{empty_scene};
-ghost use Rattle.house.specs.Settings.{IsInRange, are_ports_wrong, config_fault, connection_seats, fault_named, fault_of_numbers, has_slash, is_ring_wrong, setup_of, users_in, words_of};
+ghost use Rattle.house.specs.Settings.{IsInRange, are_ports_wrong, config_fault, fault_named, fault_of_numbers, has_slash, is_ring_wrong, setup_of, users_in, words_of};
 ghost use Rattle.house.specs.Stands.{StandsFor};
 
 use crate::config::{Config, ConfigFault};

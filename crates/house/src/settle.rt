@@ -1,7 +1,7 @@
 //! How the house settles: each in turn does what it has to do, over and over until nobody has anything to do. What an event does is
 //! the house's own; nothing here looks into it.
 
-ghost use Rattle.std.specs.Prelude.{◌≡◌, ◌<◌, ℕ, All, OnOk, OnErr};
+ghost use Rattle.std.specs.Prelude.{◌≡◌, ◌<◌, All, OnOk, OnErr};
 ghost use Rattle.house.specs.Scene as scene;
 ghost use Rattle.house.specs.Setup.{Setup};
 ghost use Rattle.house.specs.Settled.{HappenedFrom, SettledFrom, is_held};

@@ -1,6 +1,6 @@
 //! What is printed of a mailbox's last changes, a line for each and one for their number. No connection and no event is known here.
 
-ghost use Rattle.std.specs.Prelude.{◌≡◌, ◌≢◌, ◌↔◌, None, Err, ◌++◌, ◌+◌, [], length, if◌then◌else◌, OnOk, OnErr, decimal, flat_map};
+ghost use Rattle.std.specs.Prelude.{◌≡◌, ◌≢◌, ◌↔◌, None, Err, ◌++◌, ◌+◌, length, OnOk, OnErr, decimal, flat_map};
 ghost use Rattle.std.specs.Io.{StartsWith};
 ghost use Rattle.envelope.specs.Names.{number_of};
 ghost use Rattle.house.specs.Setup.{Setup};

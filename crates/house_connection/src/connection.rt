@@ -2,12 +2,11 @@
 //! awaits. It knows neither the lanes nor the mailboxes: the house puts its copies and tells it what was heard. Nor does it print: the
 //! house does, and tells it so.
 
-ghost use Rattle.std.specs.Prelude.{◌≡◌, ◌≤◌, ◌<◌, ℕ, List, [], ◌∷◌, take, length, true, false, Some, None, Ok, OnOk, OnErr, IfOk, IfSome};
+ghost use Rattle.std.specs.Prelude.{◌≡◌, ◌≤◌, ◌<◌, ℕ, List, [], ◌∷◌, take, length, true, false, Some, None, OnOk, OnErr, IfOk, IfSome};
 ghost use Rattle.delivery_token.specs.Keys.{AtLeast};
 ghost use Rattle.delivery_token.specs.declared.CopyKey.{CopyKey};
 ghost use Rattle.change_ring.specs.Log.{no_flags};
 ghost use Rattle.delivery_token.specs.declared.Job.{Job};
-ghost use Rattle.delivery_token.specs.declared.Verdict.{Verdict};
 ghost use Rattle.delivery_token.specs.declared.log.Noted.{Noted};
 ghost use Rattle.lmtp_machine.specs.Calls.{submission_of};
 ghost use Rattle.lmtp_machine.specs.Conversation.{Conversation};
@@ -24,7 +23,7 @@ ghost use Rattle.house_connection.specs.Taking.{AreKnown, HasWork, HearsVerdict,
 ghost use Rattle.house_connection.specs.inner.Taking.{AwaitsIn, TakenBy};
 
 use change_ring::NO_FLAGS;
-use delivery_token::{CopyKey, Noted, Text, Verdict};
+use delivery_token::{CopyKey, Noted, Verdict};
 use envelope::Directory;
 use incoming::Incoming;
 use lmtp_machine::{Limits, LmtpMachine, MOST_RECIPIENTS, Submission, What};

@@ -2,7 +2,7 @@
 //! lists for what is dealt of them and for what the threads leave. Where memory is refused on the way,
 //! all that was made by then is spent. What may be let go stands in `fittings`.
 
-ghost use Rattle.std.specs.Prelude.{◌≡◌, ◌<◌, ◌≤◌, [], IfOk, OnOk};
+ghost use Rattle.std.specs.Prelude.{◌<◌, IfOk, OnOk};
 ghost use Rattle.house_floor.specs.inner.Making.{AreEmptyLists, AreLists, AreStock};
 ghost use Rattle.house_floor.specs.Opening.{AreNoSpares, AreSpares};
 

@@ -1,7 +1,7 @@
 //! The answer to LIST (RFC 9051, 6.3.9 and 7.3.1), and which names a pattern stands for.
 //! Which names there are is told by whoever calls it.
 
-ghost use Rattle.std.specs.Prelude.{◌≡◌, ◌+◌, ◌<◌, ◌≤◌, ◌++◌, length, drop, IfOk, OnOk, OnErr, [], ℕ, map, flat_map, vec_capacity};
+ghost use Rattle.std.specs.Prelude.{◌≡◌, ◌+◌, ◌<◌, ◌≤◌, ◌++◌, length, drop, IfOk, OnOk, OnErr, [], map, flat_map, vec_capacity};
 ghost use Rattle.std.specs.Io.{StartsWith};
 ghost use Rattle.imap_answers.specs.Answers.{matches, is_listed, listed, asks_for_root, list_answer, name_answer};
 ghost use Rattle.imap_answers.specs.inner.Globs.{is_wild, at_byte, Reached};

@@ -7,7 +7,6 @@ ghost use Rattle.std.specs.List.Sorted.{IsNonDecreasing};
 ghost use Rattle.imap_grammar.specs.Bytes.{is_comma};
 ghost use Rattle.imap_grammar.specs.Sets.{seq_number_of, range_of, ranges_of};
 
-use crate::bytes::past_byte;
 use crate::cut::cut_at;
 use crate::number::number_up_to;
 use crate::ranges::{is_one_too_high, positions_in, ranges_in, uids_in};

@@ -1,7 +1,7 @@
 //! The words of a text, cut at its spaces, and the flags among them (RFC 9051, 2.3.2).
 //! Where a list of words may stand is told in `arguments`.
 
-ghost use Rattle.std.specs.Prelude.{◌≡◌, ◌<◌, ◌∷◌, [], IfSome, IfNone, length, Some, None, if◌then◌else◌};
+ghost use Rattle.std.specs.Prelude.{◌≡◌, ◌<◌, ◌∷◌, [], IfSome, IfNone, length};
 ghost use Rattle.std.specs.List.{list_all};
 ghost use Rattle.envelope.specs.Reading.{words};
 ghost use Rattle.imap_grammar.specs.Items.{is_word_of, is_flag, has_word};

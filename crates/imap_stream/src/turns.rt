@@ -1,7 +1,7 @@
 //! What a visit says, over the parts that it is made of: the answers to a piece of the client's bytes,
 //! and the turns of a session that idles. All of it is appended; who sends it stands in `visit`.
 
-ghost use Rattle.std.specs.Prelude.{◌≡◌, ◌++◌, List, None, false, true, OnErr, OnOk, IfErr, IfOk};
+ghost use Rattle.std.specs.Prelude.{◌≡◌, ◌++◌, List, None, false, true, OnErr, OnOk, IfErr};
 ghost use Rattle.std.specs.Vec.{vec_capacity};
 ghost use Rattle.imap_connection.specs.Dialogue.{Dialogue, StandsFor};
 ghost use Rattle.courier.specs.Carried.{Carried};

@@ -1,7 +1,7 @@
 //! A consumer's life: each copy of its lane is taken, delivered and answered, until the end of every
 //! producer came; then its own permits are ended. What becomes of one copy stands in `answering`.
 
-ghost use Rattle.std.specs.Prelude.{◌≡◌, ◌≤◌, ◌<◌, ◌+◌, ◌++◌, ◌∷◌, [], true, length, map, vec_capacity};
+ghost use Rattle.std.specs.Prelude.{◌≡◌, ◌≤◌, ◌++◌, ◌∷◌, [], true, length, map, vec_capacity};
 ghost use Rattle.std.specs.List.{list_any};
 ghost use Rattle.shard_queue.specs.Permits.{IsConsumer, got};
 ghost use Rattle.shard_queue.specs.Reply.{sent_on};

@@ -1,7 +1,7 @@
 //! A message's copies are put, each into the lane of its mailbox's shard. What is heard of them does
 //! not belong here.
 
-ghost use Rattle.std.specs.Prelude.{◌≡◌, ◌≤◌, ◌<◌, ◌+◌, ℕ, ◌++◌, ◌∷◌, [], length, map, Some, None, MatchOption, true, false, slice_index_or, slice_set, vec_len};
+ghost use Rattle.std.specs.Prelude.{◌≡◌, ◌≤◌, ◌<◌, ◌++◌, ◌∷◌, [], length, map, Some, None, MatchOption, true, false, slice_index_or, slice_set, vec_len};
 ghost use Rattle.shard_queue.specs.declared.lane.Entry.TheVariants as entries;
 ghost use Rattle.delivery_token.specs.declared.Refusal.TheVariants as refusals;
 ghost use Rattle.delivery_token.specs.declared.Verdict.TheVariants as verdicts;

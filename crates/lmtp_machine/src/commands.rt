@@ -1,7 +1,7 @@
 //! A connection between commands: where it stands, and its answer to each whole line. What it writes goes into room that was reserved
 //! before, so nothing here may fail. Bytes that aren't lines, message data and verdicts are for machine.rt.
 
-ghost use Rattle.std.specs.Prelude.{◌≡◌, ◌+◌, ◌++◌, ◌<◌, ◌≤◌, ◌∷◌, [], length, IfOk, false, vec_len, vec_capacity};
+ghost use Rattle.std.specs.Prelude.{◌≡◌, ◌+◌, ◌<◌, ◌≤◌, length, IfOk, false, vec_len, vec_capacity};
 ghost use Rattle.envelope.specs.Values.{Path, Mail, forward_path, reverse_path, said};
 ghost use Rattle.envelope.specs.Grammar.{has_long_part};
 ghost use Rattle.lmtp_machine.specs.Replies.{IsBrief};

@@ -1,7 +1,7 @@
 //! One connection over a reader and a sink, from its greeting to its end. What is done with the bytes of
 //! one read stands in `piece`, what is said last in `shutting`.
 
-ghost use Rattle.std.specs.Prelude.{◌≡◌, ◌<◌, ◌++◌, ◌∷◌, ℕ, List, [], map, length, Err, IfOk, OnOk, false, true};
+ghost use Rattle.std.specs.Prelude.{◌≡◌, ◌<◌, ◌∷◌, List, [], map, length, Err, IfOk, OnOk, false, true};
 ghost use Rattle.lmtp_machine.specs.declared.reply.Reply.TheVariants.{Greeting};
 ghost use Rattle.lmtp_machine.specs.Conversation.{opened};
 ghost use Rattle.lmtp_machine.specs.LmtpMachine.{StandsFor};

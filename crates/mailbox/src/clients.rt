@@ -1,7 +1,7 @@
 //! What a mailbox's clients do: each holds a cursor, is shown changes by it, reads messages and sets
 //! their flags. Which messages go, and how a client leaves, is told in `removal`.
 
-ghost use Rattle.std.specs.Prelude.{◌≡◌, ◌≢◌, ◌+◌, ◌-◌, ◌^◌, ◌<◌, ◌≤◌, ◌↔◌, ◌⊎◌, ℕ, List, [], ◌∷◌, ◌++◌, length, min, Some, None, Err, OnOk, OnErr, IfOk, IfErr, IfSome, IsErr, IsSome, IsTrue, option_map, if◌then◌else◌, vec_capacity};
+ghost use Rattle.std.specs.Prelude.{◌≡◌, ◌≢◌, ◌+◌, ◌-◌, ◌^◌, ◌<◌, ◌≤◌, ◌↔◌, ◌⊎◌, List, ◌++◌, length, min, Some, None, Err, OnOk, OnErr, IfOk, IfErr, IfSome, IsErr, IsSome, IsTrue, option_map, if◌then◌else◌, vec_capacity};
 ghost use Rattle.std.specs.List.Sorted.{IsStrictlyIncreasing};
 ghost use Rattle.change_ring.specs.Log.{view_at};
 ghost use Rattle.change_ring.specs.Logged.{flags_logged, seen_logged};

@@ -1,7 +1,7 @@
 //! The mailbox, and what is delivered to it. Each call that changes it is one event on every log for
 //! which it stands; the log itself is kept nowhere. What its clients do is told in `clients`.
 
-ghost use Rattle.std.specs.Prelude.{◌≡◌, ◌+◌, ◌^◌, ◌⊎◌, ◌<◌, ◌↔◌, [], ◌∷◌, ◌++◌, length, map, max, true, false, Err, OnOk, OnErr, IfOk, IfErr};
+ghost use Rattle.std.specs.Prelude.{◌≡◌, ◌^◌, ◌⊎◌, ◌<◌, ◌↔◌, [], ◌∷◌, ◌++◌, length, map, max, true, false, Err, OnOk, OnErr, IfOk, IfErr};
 ghost use Rattle.change_ring.specs.Log.{no_flags};
 ghost use Rattle.change_ring.specs.Logged.{arrival};
 ghost use Rattle.change_ring.specs.Window.{total};
@@ -74,7 +74,7 @@ pub struct Mailbox {
 }
 
 impl Model for Mailbox {
-    ghost use Rattle.std.specs.Prelude.{◌≡◌, ◌+◌, ◌≤◌, ◌<◌, length};
+    ghost use Rattle.std.specs.Prelude.{◌≡◌, ◌≤◌, ◌<◌, length};
     ghost use Rattle.mailbox.specs.Mailbox.{Mailbox, next_uid};
     ghost use Rattle.mailbox.specs.inner.Stands.{IsSound};
 

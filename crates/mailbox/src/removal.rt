@@ -1,7 +1,7 @@
 //! Which messages go: those with \Deleted, at an expunge or as a client leaves. All of a call's
 //! removals are one event, logged in the order of the UIDs. Those with \Deleted alone are passed.
 
-ghost use Rattle.std.specs.Prelude.{◌≡◌, ◌≢◌, ◌+◌, ◌^◌, ◌≤◌, ◌<◌, ◌↔◌, ◌⊎◌, ◌==◌, ℕ, true, List, [], ◌∷◌, ◌++◌, length, filter, count_by, None, Err, OnOk, OnErr, IfOk, IfErr, IsTrue, option_map, drop, IsSome, IfSome, if◌then◌else◌, vec_capacity};
+ghost use Rattle.std.specs.Prelude.{◌≡◌, ◌+◌, ◌^◌, ◌≤◌, ◌<◌, ◌↔◌, ◌⊎◌, ◌==◌, true, List, ◌++◌, length, count_by, None, Err, OnOk, OnErr, IfOk, IfErr, IsTrue, option_map, drop, IsSome, IfSome, if◌then◌else◌, vec_capacity};
 ghost use Rattle.change_ring.specs.Log.{view_at};
 ghost use Rattle.change_ring.specs.Logged.{removals, removals_if};
 ghost use Rattle.change_ring.specs.Window.{changes_from, total};
@@ -19,7 +19,7 @@ use crate::clients::MailFault;
 use crate::logging::log_change;
 use crate::mailbox::Mailbox;
 use change_ring::{Change, ChangeRing, MOST_CHANGES};
-use cursor_set::{CursorHandle, CursorSet, FeedFault};
+use cursor_set::{CursorHandle, CursorSet};
 
 // How many of the UIDs the choice has.
 fn count_taken(uids: &[u32], choice: Choice) -> usize

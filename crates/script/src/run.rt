@@ -1,7 +1,7 @@
 //! A script's run: line after line is read and done, the house settles, and what the line printed is written. How a line is read and
 //! how things are printed is told elsewhere.
 
-ghost use Rattle.std.specs.Prelude.{false, true, ◌≡◌, ◌≢◌, ◌↔◌, ◌++◌, ◌∷◌, ◌<◌, ◌≤◌, ◌+◌, ◌*◌, ◌^◌, ℕ, List, Option, Some, None, Ok, Err, IfNone, IfOk, IfSome, OnOk, OnErr, length, replicate, []};
+ghost use Rattle.std.specs.Prelude.{false, true, ◌≡◌, ◌≢◌, ◌↔◌, ◌++◌, ◌∷◌, ◌<◌, ◌≤◌, ◌+◌, ◌*◌, ◌^◌, ℕ, List, Some, Ok, Err, IfNone, IfOk, IfSome, OnOk, OnErr, length, replicate, []};
 ghost use Rattle.std.specs.Io.BufRead.{take_through, drop_through};
 ghost use Rattle.hex.specs.Hex.{decode_of};
 ghost use Rattle.hex.specs.declared.error.FromHexError.TheVariants.{OutOfMemory};

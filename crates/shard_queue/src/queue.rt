@@ -1,7 +1,7 @@
 //! A lane that threads share: a queue, a permit for each producer and one for the consumer. Whoever
 //! holds a permit acts for it, and no other.
 
-ghost use Rattle.std.specs.Prelude.{◌≡◌, ◌≢◌, ◌⊎◌, ◌↔◌, ◌==◌, ℕ, ◌+◌, ◌<◌, ◌≤◌, ◌++◌, ◌∷◌, [], true, false, Some, None, IfOk, IfErr, MatchResult, MatchOption, vec_len, map, All};
+ghost use Rattle.std.specs.Prelude.{◌≡◌, ◌==◌, ◌+◌, ◌<◌, ◌++◌, ◌∷◌, [], true, false, Some, None, IfOk, IfErr, MatchResult, MatchOption, vec_len, map, All};
 ghost use Rattle.std.specs.List.{list_any};
 ghost use Rattle.crossbeam_queue.specs.Passes.{view, IsPassOf};
 ghost use Rattle.shard_queue.specs.declared.lane.Entry.TheVariants as entries;

@@ -1,7 +1,7 @@
 //! The calls of a reply channel: a shard queue with the roles exchanged, in which many shards answer
 //! one worker, and the worker may wait.
 
-ghost use Rattle.std.specs.Prelude.{◌≡◌, ◌≢◌, ◌⊎◌, ◌==◌, ℕ, ◌+◌, ◌<◌, ◌≤◌, ◌++◌, ◌∷◌, [], true, false, None, IfOk, IfErr, MatchResult, vec_len, map, All};
+ghost use Rattle.std.specs.Prelude.{◌≡◌, ◌==◌, ◌+◌, ◌<◌, ◌++◌, ◌∷◌, [], true, false, None, IfOk, IfErr, MatchResult, vec_len, map, All};
 ghost use Rattle.std.specs.List.{list_any};
 ghost use Rattle.crossbeam_channel.specs.Claims.{view, IsSeatAt};
 ghost use Rattle.crossbeam_channel.specs.Ends.{sends_on};

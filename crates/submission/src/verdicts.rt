@@ -1,6 +1,6 @@
 //! A message that was submitted, where it lies, and the verdicts on its copies. No reply, no lane and no session is known here.
 
-ghost use Rattle.std.specs.Prelude.{◌≡◌, ◌<◌, ◌≤◌, ◌∷◌, [], ◌++◌, ℕ, List, length, true, false, None, Some, Ok, OnErr, IfOk, IfSome, vec_capacity};
+ghost use Rattle.std.specs.Prelude.{◌≡◌, ◌<◌, ◌≤◌, ◌∷◌, [], List, length, true, false, None, Some, Ok, OnErr, IfOk, IfSome, vec_capacity};
 ghost use Rattle.std.specs.List.{list_all};
 ghost use Rattle.std.specs.Option.{is_some};
 ghost use Rattle.delivery_token.specs.declared.Job.{Job};
