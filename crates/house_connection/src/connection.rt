@@ -134,7 +134,9 @@ impl HouseConnection {
         serial: u64,
         limits: Limits<'_>,
     ) -> Result<HouseConnection, AllocError>
+        // The server's name has at most 255 bytes.
         requires { length limits.host.now < 256 }
+        // On all terms with this name and limit, where its seat may use keys of this serial from the first on, it stands for a new caller, greeted.
         ensures { IfOk result (λ h. (k : Terms) (next : CopyKey) (heard : List Noted) → k.host ≡ limits.entry.host.now
             → k.max_message ≡ limits.entry.max_message
             → AtLeast next (record { seat = seat; serial = serial; message = 0; recipient = 0 })
@@ -331,6 +333,7 @@ impl HouseConnection {
 
     /// The next copy of the message at hand that is to be put. None where all are put, or no message waits.
     pub fn next_copy(&self) -> Option<NextCopy<'_>>
+        // None only where no copy is due; else the answer is the first that is.
         ensures none { result ≡ None → due self.now ≡ [] }
         ensures some { IfSome result (λ c. (others : List Job)
             × (due self.now ≡ record { key = c.key; mailbox = c.mailbox; text = c.text.now; flags = c.flags } ∷ others)) }
@@ -344,6 +347,7 @@ impl HouseConnection {
 
     /// Notes that the next copy was put: with its verdict, where that was heard at once.
     pub fn note_put(&mut self, verdict: Option<Verdict>)
+        // A copy is due.
         requires { 0 < length (due self.old) }
         ensures { self.new ≡ noted_put verdict self.old }
     {
@@ -352,6 +356,7 @@ impl HouseConnection {
 
     /// Notes a verdict that was heard, where it is awaited.
     pub fn hear(&mut self, noted: &Noted)
+        // It is noted at the position of its copy, where that is one of the message and was put; nothing else has changed.
         ensures { HearsVerdict self.old noted.now self.new }
     {
         if !self.is_waiting {

@@ -79,6 +79,7 @@ impl Verdicts {
 
     /// The next copy of the message that is to be put. None where each was put.
     pub fn next_copy<'k, 'a>(&self, message: Submitted<'k, 'a>) -> Option<NextCopy<'a>>
+        // None only where no copy is due: each was put. Else the answer is the first that is.
         ensures none { result ≡ None → due
             (copies message.entry.keys.now message.entry.mailboxes.now message.entry.text.now message.entry.flags) self.now.slots ≡ [] }
         ensures some { IfSome result (λ c. (others : List Job)
@@ -99,6 +100,7 @@ impl Verdicts {
 
     /// Notes that the next copy was put: with its verdict, where that was heard at once. It takes no memory.
     pub fn note_put(&mut self, verdict: Option<Verdict>)
+        // There is room for one copy more.
         requires { length self.old.slots < self.old.most }
         ensures { self.new ≡ with_slots (noted_put verdict self.old.slots) self.old }
     {
@@ -108,6 +110,7 @@ impl Verdicts {
     /// Notes a verdict that was heard at the position of its copy, where the message has a copy with that key there and it was put. Any other
     /// changes nothing.
     pub fn hear(&mut self, keys: &[CopyKey], noted: &Noted)
+        // It is noted at the position of its copy, where that is one of the message and was put; nothing else has changed.
         ensures hears { Hears keys.now self.old.slots noted.now self.new.slots }
         ensures room { self.new.most ≡ self.old.most }
     {
@@ -151,6 +154,7 @@ impl Verdicts {
 
     /// Whether so many copies were put, and the verdict on each is known. It takes no memory.
     pub fn are_known(&self, count: usize) -> bool
+        // True exactly where so many copies were put and the verdict on each is known.
         ensures known { result ≡ true → (vs : List Verdict) × AreKnown count self.now.slots vs }
         ensures unknown { result ≡ false → (vs : List Verdict) → AreKnown count self.now.slots vs → ⊥ }
     {
@@ -201,6 +205,7 @@ impl Verdicts {
 
     /// The verdict on the only copy, where it was put and the verdict is known. It takes no memory.
     pub fn only(&self) -> Option<Verdict>
+        // The answer is the verdict on the only copy that was put; None only where there is no such verdict.
         ensures known { IfSome result (λ v. AreKnown 1 self.now.slots (v ∷ [])) }
         ensures unknown { result ≡ None → (vs : List Verdict) → AreKnown 1 self.now.slots vs → ⊥ }
     {
