@@ -379,7 +379,7 @@ impl House {
         // From each scene for which the house stood, an event that happened leads to one for which it stands; `out` gets what it prints.
         ensures follows { OnOk result (Follows self.old event.entry self.new out.old.items out.new.items) }
 
-        // A put, take, delivery, answer, hearing or end leaves less to do, an idle turn less for its session: so settling ends.
+        // A put, take, delivery, answer, hearing or end that happened leaves less to do, an idle turn less for its session: so settling ends.
         ensures effort { OnOk result (MakesLess (event.entry) self.old self.new) }
 
         // The same six, whatever is answered, leave the directory as it was: they shut no shard.

@@ -139,7 +139,7 @@ impl House {
     /// Prints the last changes of the mailbox that a word names, or nothing: Nobody exactly where the word names none, NoMemory where
     /// memory is wanting. Busy and Nothing never come while the house stands.
     pub fn tail(&self, word: &[u8], out: &mut Vec<u8>) -> Result<(), HouseFault>
-        // Of the mailbox that the word names, a line for each change of its window, and one for how many changes there ever were.
+        // In each scene for which the house stands: of the mailbox that the word names, each change of its window, and how many there ever were.
         ensures window { OnOk result ((k : Setup) (s : Scene) → StandsFor k self.now s → PrintsWindow k s word.now out.old.items out.new.items) }
 
         // Nobody exactly where the word names no mailbox; Busy never, and Nothing only in a house that stands for no scene.

@@ -190,6 +190,7 @@ impl SeatedSession {
 
     /// Whether it awaits the verdict on a message, and that isn't known.
     pub fn awaits_verdict(&self) -> bool
+        // Whomever it stands for: if true, its seat hasn't heard the verdict that it awaits; if false, it awaits none, or its seat has heard it.
         ensures awaits { result ≡ true → (seat : ℕ) (next : Key) (heard : List NotedSpec) (v : spec.SeatedVisitor) →
             StandsForSeated seat next heard self.now v → Awaits seat heard v }
         ensures settled { result ≡ false → (seat : ℕ) (next : Key) (heard : List NotedSpec) (v : spec.SeatedVisitor) →
@@ -202,9 +203,9 @@ impl SeatedSession {
     }
 
     /// Does what it can now, over its store: where the verdict on the message at hand is known it answers that, and then what waits; where a
-    /// verdict is awaited, or its client is gone, nothing. What it says is still to be printed. Whatever it stands for, no more is left to do than
-    /// was: what a message adds that was submitted, the bytes that were taken for it more than outweigh. The store was asked some calls, one after
-    /// the other, or none; and whether its client is gone is as it was.
+    /// verdict is awaited, its session has ended, or its client is gone, nothing. What it says is still to be printed. Whatever it stands for, no
+    /// more is left to do than was: what a message adds that was submitted, the bytes that were taken for it more than outweigh. The store was asked
+    /// some calls, one after the other, or none; and whether its client is gone is as it was.
     ///
     /// Errors: `AllocError` where memory was refused. What was done stands, and the next call goes on from there.
     pub fn proceed<S: Store>(&mut self, alloc: Global, store: &mut S) -> Result<(), AllocError>
@@ -248,7 +249,7 @@ impl SeatedSession {
         // Where it shows nothing and the session goes on, nothing is changed.
         ensures quiet { IfOk result (λ count. count ≡ 0 → self.new.place.link.session.ended ≡ false → self.new ≡ self.old) }
 
-        // Where memory is refused, the session is as it was; so is the store, or it refused memory itself.
+        // After an error the session is as it was; so is the store, or it refused memory itself.
         ensures err { OnErr result ((self.new ≡ self.old) × Starves S.step store.old store.new) }
     {
         self.session.idle_turn(store)

@@ -172,7 +172,7 @@ impl HouseSession {
         // Where it shows nothing and the session goes on, nothing is changed.
         ensures quiet { IfOk result (λ count. count ≡ 0 → self.new.link.session.ended ≡ false → self.new ≡ self.old) }
 
-        // Where memory is refused, the session is as it was; so is the store, or it refused memory itself.
+        // After an error the session is as it was; so is the store, or it refused memory itself.
         ensures err { OnErr result ((self.new ≡ self.old) × Starves S.step store.old store.new) }
     {
         if self.connection.has_ended() {

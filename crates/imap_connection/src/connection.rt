@@ -179,7 +179,7 @@ impl ImapConnection {
         ensures ended { (result ≡ Err SessionFault.Ended) ↔ (self.old.session.ended ≡ true) }
         ensures refused { OnErr result ((self.new ≡ self.old) × (store.new ≡ store.old) × (out.new.items ≡ out.old.items)) }
 
-        // Where `out` had the room that `verdict_room` tells, memory is never refused.
+        // Where `out` had the room that `verdict_room` tells, NoMemory never comes.
         ensures memory { result ≡ Err SessionFault.NoMemory → vec_capacity out.old < vec_len out.old + room_for_verdict self.old.session }
 
         // Once it is answered none is awaited, and it answers what the client may send from now on.
@@ -212,7 +212,7 @@ impl ImapConnection {
         ensures ended { (result ≡ Err SessionFault.Ended) ↔ (self.old.session.ended ≡ true) }
         ensures over { result ≡ Err SessionFault.Ended → store.new ≡ store.old }
 
-        // Where memory is refused, the store is as it was, or it refused memory itself.
+        // After NoMemory the store is as it was, or it refused memory itself.
         ensures starved { result ≡ Err SessionFault.NoMemory → Starves S.step store.old store.new }
 
         // Where `out` has room for a BYE line, the store was asked.
@@ -329,7 +329,7 @@ impl ImapConnection {
         ensures used { result.used ≤ length piece.now }
         ensures all { IfSome result.after (λ after. may_follow after ≡ true → result.used ≡ length piece.now) }
 
-        // Memory is refused only where `out` has too little room behind what it has by then, and no message is submitted then.
+        // Memory is refused (None) only where `out` has too little room behind what it has by then, and no message is submitted then.
         ensures full { result.after ≡ None → vec_capacity out.new < vec_len out.new + (8282 + tag_len (kept_tag self.new.session)) }
         ensures unsent { result.after ≡ None → self.new.session.mailing.sent ≡ None }
 

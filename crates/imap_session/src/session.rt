@@ -84,7 +84,7 @@ impl Session {
         ensures ok { OnOk result (out.new.items ≡ out.old.items ++ greeting) }
         ensures err { OnErr result (out.new.items ≡ out.old.items) }
 
-        // Memory is refused only where `out` had no room for the greeting.
+        // An error comes only where `out` had no room for the greeting.
         ensures memory { OnErr result (vec_capacity out.old < vec_len out.old + length greeting) }
     {
         out.reserve(GREETING.len())?;
@@ -452,7 +452,7 @@ impl Session {
         ensures ended { (result ≡ Err SessionFault.Ended) ↔ (self.old.ended ≡ true) }
         ensures refused { OnErr result ((self.new ≡ self.old) × (store.new ≡ store.old) × (out.new.items ≡ out.old.items)) }
 
-        // Where `out` had the room of `room_for`, memory is never refused.
+        // Where `out` had the room of `room_for`, NoMemory never comes.
         ensures memory { result ≡ Err SessionFault.NoMemory → vec_capacity out.old < vec_len out.old + room_for self.old line.now }
 
         // The session keeps its mailboxes, and answers what its client may send from now on.
@@ -484,6 +484,7 @@ impl Session {
     /// Takes bytes of the literal that APPEND announced, those at the front of the piece, and answers how many: as many as are due. When
     /// none is due the rest of the line goes to `line`. Where memory is refused the bytes are dropped, and the command ends with that.
     pub fn literal(&mut self, piece: &[u8]) -> usize
+        // As many as are due, from the front of the piece: they are kept, or memory was refused to them.
         ensures count { result ≡ min (length piece.now) (due_of self.old.mailing.begun) }
         ensures taken { TakesBytes self.old (take result piece.now) self.new }
     {
@@ -682,7 +683,7 @@ impl Session {
         ensures ended { (result ≡ Err SessionFault.Ended) ↔ (self.old.ended ≡ true) }
         ensures refused { OnErr result ((self.new ≡ self.old) × (store.new ≡ store.old) × (out.new.items ≡ out.old.items)) }
 
-        // Where `out` had the room that `verdict_room` tells, memory is never refused.
+        // Where `out` had the room that `verdict_room` tells, NoMemory never comes.
         ensures memory { result ≡ Err SessionFault.NoMemory → vec_capacity out.old < vec_len out.old + room_for_verdict self.old }
 
         // Once it is answered, neither a literal nor a verdict is waited for.
@@ -715,7 +716,7 @@ impl Session {
         ensures ended { (result ≡ Err SessionFault.Ended) ↔ (self.old.ended ≡ true) }
         ensures refused { OnErr result ((self.new ≡ self.old) × (out.new.items ≡ out.old.items)) }
 
-        // Memory is refused only where `out` had no room for that line.
+        // NoMemory comes only where `out` had no room for that line.
         ensures memory { result ≡ Err SessionFault.NoMemory → vec_capacity out.old < vec_len out.old + length (long_line_text self.old) }
     {
         if self.ended {
@@ -780,7 +781,7 @@ impl Session {
         ensures ended { (result ≡ Err SessionFault.Ended) ↔ (self.old.ended ≡ true) }
         ensures over { result ≡ Err SessionFault.Ended → store.new ≡ store.old }
 
-        // Where memory is refused, the store is as it was, or it refused memory itself.
+        // After NoMemory the store is as it was, or it refused memory itself.
         ensures starved { result ≡ Err SessionFault.NoMemory → Starves S.step store.old store.new }
 
         // Where `out` has room for a BYE line, the store was asked.

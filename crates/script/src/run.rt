@@ -517,26 +517,26 @@ pub fn drive<R: BufRead, W: Sink>(
     // The writer hasn't failed.
     requires { W.failed writer.old ≡ false }
 
-    // In a house that was new, all that the script prints was written, and the house stands for the scene to which its lines lead.
+    // In a new house, by a reader whose bytes are known: all that the script prints was written; the house stands for where its lines lead.
     ensures ok { OnOk result ((k : Setup) (input : List ℕ) → StandsFor k house.old (empty_scene k) → R.remaining reader.old ≡ Some input →
         Writes k (script_of input) house.new (W.taken writer.old) (W.taken writer.new)) }
 
-    // In such a house: of what some of the first lines print the first `sent` bytes were written, not all; it stands for where these lead.
+    // In such a run, of what some of the first lines print the first `sent` bytes were written, not all; it stands for where they lead.
     ensures write { (sent : ℕ) → result ≡ Err (RunFault.Write sent) → (k : Setup) (input : List ℕ) → StandsFor k house.old (empty_scene k) →
         R.remaining reader.old ≡ Some input →
         WritesFirst k (script_of input) sent house.new (W.taken writer.old) (W.taken writer.new) }
     ensures failed { (sent : ℕ) → result ≡ Err (RunFault.Write sent) → W.failed writer.new ≡ true }
 
-    // In such a house: all that some of the first lines print was written, and nothing of the next, played in part or not at all.
+    // In such a run, all that some of the first lines print was written, and nothing of the next, played in part or not at all.
     ensures no_memory { result ≡ Err RunFault.NoMemory → (k : Setup) (input : List ℕ) → StandsFor k house.old (empty_scene k) →
         R.remaining reader.old ≡ Some input →
         WritesBeginning k (script_of input) (IsLeftWanting k house.new) (W.taken writer.old) (W.taken writer.new) }
 
-    // In such a house, whatever the result: what some of the first lines print delivers exactly once; a beginning of it was written.
+    // In such a run, whatever the result, what some of the first lines print delivers exactly once; a beginning of it was written.
     ensures once { (k : Setup) (input : List ℕ) → StandsFor k house.old (empty_scene k) → R.remaining reader.old ≡ Some input →
         WroteOnce k (script_of input) (W.taken writer.old) (W.taken writer.new) }
 
-    // In such a house: all that some of the first lines print was written, and nothing was done since.
+    // In such a run, all that some of the first lines print was written, and nothing was done since.
     ensures read { result ≡ Err RunFault.Read → (k : Setup) (input : List ℕ) → StandsFor k house.old (empty_scene k) →
         R.remaining reader.old ≡ Some input →
         WritesBeginning k (script_of input) (IsLeft k house.new) (W.taken writer.old) (W.taken writer.new) }
