@@ -106,8 +106,8 @@ impl<H: Hall> Clerk<H> {
     }
 
     /// Takes what waits on its lane until nothing does: each copy is delivered under its mailbox's lock,
-    /// and its producer is told. It was then empty at one moment of the call, behind all that had been
-    /// there when it last took.
+    /// and its producer is told. It was then empty at one moment since it last took, behind all that had
+    /// been there then.
     pub fn clear<R: Wait, G: Gate>(
         &mut self,
         rt: &R,

@@ -11,7 +11,7 @@ use delivery_token::{Text, Verdict};
 use pace::{Gate, Pace};
 use std::alloc::AllocError;
 
-/// Why a courier brings no verdict. It carries nothing more then.
+/// Why a courier brings no verdict.
 #[derive(Clone, Copy, Debug, PartialEq, Eq)]
 pub enum Lost {
     /// Memory was refused before the message was on its way: nothing was done.

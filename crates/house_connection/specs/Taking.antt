@@ -28,7 +28,7 @@ awaited_keys h = keys_of h.machine.pending
 abbrev pub with_verdicts : List (Option Verdict) → HouseConnection → HouseConnection
 with_verdicts slots h = record { serial = h.serial; gone = h.gone; machine = h.machine; waits = h.waits; unsaid = h.unsaid; verdicts = slots }
 
--- The verdict is noted at its position, where it is awaited, and nothing else is changed.
+-- The verdict is noted at its position, where its copy is one of the message and was put, and nothing else is changed.
 pub record HearsVerdict (h : HouseConnection) (r : Noted) (new : HouseConnection) : Type 0 where
   pub hears : Hears (awaited_keys h) h.verdicts r new.verdicts
   pub rest : new ≡ with_verdicts new.verdicts h

@@ -159,7 +159,7 @@ impl HouseConnection {
 
     /// Adds bytes that came to those that wait.
     ///
-    /// Errors: `AllocError` where memory was refused; nothing is changed then.
+    /// Errors: `AllocError` where memory was refused, which isn't asked for where there are no bytes; nothing is changed then.
     pub fn append(&mut self, piece: &[u8]) -> Result<(), AllocError>
         // After Ok the bytes wait behind all others; after an error nothing has changed, and there were bytes.
         ensures ok { OnOk result (self.new ≡ with_more piece.now self.old) }
@@ -354,7 +354,7 @@ impl HouseConnection {
         self.verdicts.note_put(verdict);
     }
 
-    /// Notes a verdict that was heard, where it is awaited.
+    /// Notes a verdict that was heard, where its copy is one of the message and was put.
     pub fn hear(&mut self, noted: &Noted)
         // It is noted at the position of its copy, where that is one of the message and was put; nothing else has changed.
         ensures { HearsVerdict self.old noted.now self.new }

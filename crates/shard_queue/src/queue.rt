@@ -113,7 +113,7 @@ impl<T: Drop> ShardQueue<T> {
         Ok((queue, permits, permit))
     }
 
-    /// Puts an item behind all that waits; takes no memory. Full only where at one moment of the call as
+    /// Puts an item behind all that waits; takes no memory. Full only where at one moment since its last put as
     /// many entries waited as there is room for, which goes on from what this producer had seen when it last
     /// put (a mere look doesn't give that); the item comes back then, and the producer has sent no more
     /// than before.
@@ -172,7 +172,7 @@ impl<T: Drop> ShardQueue<T> {
     }
 
     /// Takes the first entry that waits, which is of one of the queue's producers; takes no memory.
-    /// Empty only where at one moment of the call nothing waited, so that all is taken that stood behind the
+    /// Empty only where at one moment since the last take nothing waited, so that all is taken that stood behind the
     /// entry before (a mere look doesn't give that); nothing was taken then.
     pub fn take_as<R: Wait>(&self, rt: &R, permit: &mut ConsumerPermit<T>) -> Taken<T>
         // The permit is that of this queue's consumer.

@@ -112,7 +112,7 @@ impl<T: Drop> ReplyChannel<T> {
         Ok((channel, permits, permit))
     }
 
-    /// Sends an item behind all that waits; takes no memory. Full only where at one moment of the call as
+    /// Sends an item behind all that waits; takes no memory. Full only where at one moment since its last send as
     /// many entries waited as there is room for; the item comes back then, and the sender has sent no
     /// more than before.
     pub fn send_as<R: Wait>(
