@@ -9,12 +9,21 @@ ghost use Rattle.account_laws.specs.Laws.{AccountIsOfLines, ClosedGetNothing, Co
 /// each connection of a worker, one after the other; none of its messages is for a mailbox of a shard that
 /// the worker closed before it.
 pub fn connections_are_of_lines()
+    // A connection that was heard piece by piece is a dialogue over its whole lines, and each of these may be heard piece by piece.
     ensures lines { TalkIsOfLines }
     ensures back { LinesAreATalk }
+
+    // The lines that were heard are those with which the bytes begin.
     ensures first { HeardAreFirst }
+
+    // So it is of all connections of a worker, one after the other, and the other way round.
     ensures talks { TalksAreOfLines }
     ensures talks_back { ConnectionsHaveTalked }
+
+    // The i-th of them has the i-th replies, and its own part of what was judged.
     ensures each { EachIsADialogue }
+
+    // In a house with a shard no message of a connection is for a mailbox of a shard that its worker has closed by then.
     ensures closed { ClosedGetNothing }
 {}
 
@@ -29,8 +38,15 @@ pub fn lines_are_told()
 /// verdict for each copy of each message, in their order. All of it holds of one list of messages, those that
 /// its connections submitted.
 pub fn logs_meet_lanes()
+    // A copy that the log has as stored was put on its mailbox's lane, and its verdict was heard.
     ensures stored { StoredIsOnItsLane }
+
+    // What the worker put on a lane is its own: a copy of a message that its connections submitted, with a verdict in the log.
     ensures put { PutWasSubmitted }
+
+    // The log has exactly one verdict for each copy, in their order.
     ensures verdicts { LogHasEachVerdict }
+
+    // All of it holds of one list of messages, those that its connections submitted.
     ensures account { AccountIsOfLines }
 {}

@@ -51,14 +51,21 @@ pub fn lists_agree(
     accepted: &[Vec<(CopyKey, u32)>],
     texts: &[Vec<(u32, Text)>],
 ) -> Result<bool, AllocError>
+    // There is a list of copies for each shard.
     requires { directory.now.shards ≤ length copies.now }
+
+    // Where `true` is answered the lists agree.
     ensures agrees { IfOk result (λ agrees. IsTrue agrees → ListsAgree directory.now whole (map (λ l. l.notes) logs.now)
         (map (λ c. c.items) copies.now) (map (λ a. a.items) accepted.now) (map (λ t. t.items) texts.now)) }
+
+    // Where they agree, and stand in the order of a house that did its work, `true` is answered.
     ensures found { IfOk result (λ agrees. AreInOrder directory.now (map (λ c. c.items) copies.now) (map (λ a. a.items) accepted.now)
         (map (λ t. t.items) texts.now)
         → ListsAgree directory.now whole (map (λ l. l.notes) logs.now) (map (λ c. c.items) copies.now)
         (map (λ a. a.items) accepted.now) (map (λ t. t.items) texts.now)
         → IsTrue agrees) }
+
+    // In whatever order: `true` just where the logs tell what was accepted, and each message is met with its copy, one behind the other.
     ensures exact { IfOk result (λ agrees. IsTrue agrees ↔ ListsMet directory.now whole (map (λ l. l.notes) logs.now)
         (map (λ c. c.items) copies.now) (map (λ a. a.items) accepted.now) (map (λ t. t.items) texts.now)) }
 {

@@ -60,8 +60,11 @@ impl<H: Hall> Model for Clerk<H> {
 impl<H: Hall> Clerk<H> {
     /// The clerk of a shard whose stall was dealt and never worked at.
     pub fn new(stall: Stall) -> Clerk<H>
+        // The stall is one of the hall's: it has the consumer's permit of its lane there, and a sender's on each channel of its depot.
         requires lane { (lanes : List (ShardQueue Job)) → H.lanes ≡ Some lanes → IsOnLane lanes stall }
         requires senders { (depot : Depot) → H.depot ≡ Some depot → AreSenders depot.channels.items stall.shard stall.senders.items }
+
+        // It has taken nothing, and sent nothing.
         requires fresh { (got stall.permit ≡ []) × All (λ s. sent_on s ≡ []) stall.senders.items }
         ensures { result ≡ record { shard = stall.shard; took = []; seen = take_seen stall.permit } }
     {
@@ -115,10 +118,15 @@ impl<H: Hall> Clerk<H> {
         lanes: &[ShardQueue<Job>],
         depot: &Depot,
     )
+        // Lanes and depot are those of the clerk's hall.
         requires lanes { H.lanes ≡ Some lanes.now }
         requires depot { H.depot ≡ Some depot.now }
+
+        // Its shard is the same, and what it had taken stands in front of what it has taken now.
         ensures shard { self.new.shard ≡ self.old.shard }
         ensures took { IsStartOf self.old.took self.new.took }
+
+        // At one moment nothing waited on its lane, and it had taken all that it had seen there when it last took.
         ensures empty { (lane : ShardQueue Job) → slice_get lanes.now self.new.shard ≡ Some lane
             → WasEmpty (producers_of lane) (capacity_of lane) self.new.took self.new.seen }
     {
@@ -141,10 +149,15 @@ impl<H: Hall> Clerk<H> {
         room: Vec<SenderEnded<Noted>>,
         alloc: Global,
     ) -> Consumed
+        // The depot is that of the clerk's hall.
         requires depot { H.depot ≡ Some depot.now }
         requires room { (room.items ≡ []) × (length depot.now.channels.items ≤ vec_capacity room) }
+
+        // It leaves what a consumer leaves that had sent nothing before, of its lane in the hall.
         ensures consumed { (lanes : List (ShardQueue Job)) → H.lanes ≡ Some lanes → (lane : ShardQueue Job) → slice_get lanes self.shard ≡ Some lane
             → IsConsumed lane depot.now self.shard [] result }
+
+        // Its permit has taken what the clerk had; no copy is kept, and there is what is left of a sender for each channel.
         ensures took { (got result.permit ≡ self.took) × (take_seen result.permit ≡ self.seen) }
         ensures none { (result.copies.items ≡ []) × (result.kept ≡ false) }
         ensures count { vec_len result.senders ≡ length depot.now.channels.items }
@@ -169,6 +182,8 @@ impl<H: Hall> Clerk<H> {
     /// Its stall, as far as it has worked there.
     pub fn into_stall(self) -> Stall
         ensures shard { result.shard ≡ self.shard }
+
+        // The stall has taken what the clerk had, and its permits are still those of its hall.
         ensures took { (got result.permit ≡ self.took) × (take_seen result.permit ≡ self.seen) }
         ensures lane { (lanes : List (ShardQueue Job)) → H.lanes ≡ Some lanes → IsOnLane lanes result }
         ensures senders { (depot : Depot) → H.depot ≡ Some depot → AreSenders depot.channels.items self.shard result.senders.items }

@@ -79,11 +79,18 @@ fn hire<H: Hall>(
 
 /// A clerk for each stand, in their order. `staff`, which is empty, has room for all.
 pub fn hire_all<H: Hall>(floor: &Floor, mut stands: Vec<Stand>, mut staff: Staff<H>) -> Staff<H>
+    // The floor is that of the staff's hall.
     requires lanes { H.lanes ≡ Some floor.now.office.lanes.items }
     requires depot { H.depot ≡ Some floor.now.depot }
+
+    // There is a stand for each shard, at its number, which has taken nothing and sent nothing.
     requires stands { AllAt (IsStand floor.now) 0 stands.items × (vec_len stands ≡ length floor.now.office.lanes.items) }
+
+    // Nobody is hired yet, and there is room for all.
     requires clerks { (staff.clerks.items ≡ []) × (length floor.now.office.lanes.items ≤ vec_capacity staff.clerks) }
     requires rooms { (staff.rooms.items ≡ []) × (length floor.now.office.lanes.items ≤ vec_capacity staff.rooms) }
+
+    // There is a clerk for each lane, and for each an empty list with room for what is left of all its senders.
     ensures clerks { vec_len result.clerks ≡ length floor.now.office.lanes.items }
     ensures rooms { AreRooms (length floor.now.office.lanes.items) (length floor.now.depot.channels.items) result.rooms }
     ensures stands { result.stands ≡ staff.stands }
@@ -129,16 +136,23 @@ pub fn dismiss_all<H: Hall, R: Wait, G: Gate>(
     staff: Staff<H>,
     mut consumed: Vec<Consumed>,
 ) -> Dismissed
+    // The floor is that of the staff's hall.
     requires lanes { H.lanes ≡ Some floor.now.office.lanes.items }
     requires depot { H.depot ≡ Some floor.now.depot }
+
+    // There is a clerk for each lane, and for each an empty list with room for what is left of all its senders.
     requires clerks { vec_len staff.clerks ≡ length floor.now.office.lanes.items }
     requires rooms { AreRooms (length floor.now.office.lanes.items) (length floor.now.depot.channels.items) staff.rooms }
     requires stands { staff.stands.items ≡ [] }
     requires consumed { (consumed.items ≡ []) × (length floor.now.office.lanes.items ≤ vec_capacity consumed) }
     ensures count { vec_len result.consumed ≡ length floor.now.office.lanes.items }
+
+    // Where they stood in order: the i-th left what a consumer of shard i leaves, and at one moment nothing waited on its lane.
     ensures services { result.in_order ≡ true → AllAt (IsService floor.now.office.lanes.items floor.now.depot) 0 result.consumed.items }
     ensures permits { result.in_order ≡ true → AreConsumers floor.now.office.lanes.items (map (λ c. c.permit) result.consumed.items) }
     ensures hands { result.in_order ≡ true → AreSenderEndedHands floor.now.depot.channels.items 0 (map (λ c. c.senders.items) result.consumed.items) }
+
+    // In whatever order, each left what is left of a sender for each channel, and kept no copy.
     ensures senders { All (λ c. vec_len c.senders ≡ length floor.now.depot.channels.items) result.consumed.items }
     ensures none { All (λ c. (c.copies.items ≡ []) × (c.kept ≡ false)) result.consumed.items }
 {
@@ -175,11 +189,16 @@ fn leave_stand<H: Hall>(clerk: Mutex<Clerk<H>>, room: Vec<SenderEnded<Noted>>) -
 /// Each clerk's stand, in their order, whether it has worked there or not: for a run that comes to
 /// nothing. None of its senders has ended.
 pub fn stand_down<H: Hall>(floor: &Floor, staff: Staff<H>) -> Vec<Stand>
+    // The depot is that of the staff's hall.
     requires depot { H.depot ≡ Some floor.now.depot }
+
+    // There is a clerk for each lane, and for each an empty list with room for what is left of all its senders.
     requires clerks { vec_len staff.clerks ≡ length floor.now.office.lanes.items }
     requires rooms { AreRooms (length floor.now.office.lanes.items) (length floor.now.depot.channels.items) staff.rooms }
     requires stands { (staff.stands.items ≡ []) × (length floor.now.office.lanes.items ≤ vec_capacity staff.stands) }
     ensures count { vec_len result ≡ length floor.now.office.lanes.items }
+
+    // Each has a sender for each channel, and nothing lies in its room.
     ensures stands { All (λ s. (vec_len s.stall.senders ≡ length floor.now.depot.channels.items) × (s.room.items ≡ [])) result.items }
 {
     let Staff {

@@ -18,6 +18,7 @@ pub struct Floor {
     pub bells: Vec<Unparker>,
     /// So many turns a session has at most where it awaits changes.
     pub turns: u64,
+    /// Where its threads take memory from.
     pub alloc: Global,
 }
 
@@ -25,28 +26,38 @@ pub struct Floor {
 /// does.
 #[derive(Drop)]
 pub struct Guest {
+    /// The number of its user among the users of the directory, from 0.
     pub user: u8,
+    /// What its client does, in order.
     pub steps: Vec<Step>,
 }
 
 /// A producer's desk, and room for what is left of its permits.
 pub struct Post {
+    /// What the producer holds.
     pub desk: Desk,
+    /// Room for what is left of its permit on each lane.
     pub room: Vec<Ended<Job>>,
 }
 
 /// A consumer's stall, and room for what is left of its senders.
 pub struct Stand {
+    /// What the consumer holds.
     pub stall: Stall,
+    /// Room for what is left of its permit on each reply channel.
     pub room: Vec<SenderEnded<Noted>>,
 }
 
 /// A stand for each shard and a post for each producer, first the workers' and then the sessions', and
 /// empty lists with room for what comes of them: nothing grows once a thread runs.
 pub struct Crew {
+    /// The stand of each shard, at its number.
     pub stands: Vec<Stand>,
+    /// The post of each producer, at its number.
     pub posts: Vec<Post>,
+    /// For what each consumer leaves.
     pub consumed: Vec<Consumed>,
+    /// For what each producer leaves.
     pub worked: Vec<Worked>,
     /// For posts that are never handed to a thread.
     pub unmanned: Vec<Post>,

@@ -78,8 +78,11 @@ pub struct Baskets {
 
 /// A house that is ready to run.
 pub struct Opened {
+    /// What all its threads share.
     pub floor: Floor,
+    /// What is dealt to each of them.
     pub crew: Crew,
+    /// Room for what they leave.
     pub baskets: Baskets,
     /// The sessions' own ends of their bells, on which none of them waits.
     pub sleepers: Vec<Sleeper>,
@@ -99,11 +102,19 @@ pub fn open(
     requires host { length sizes.host.now < 256 }
     requires ring { 0 < sizes.limits.ring }
     requires shards { 0 < directory.shards }
+
+    // Each session's user is one of the directory.
     requires guests { All (λ v. user_numbered v.user directory.homes ≢ None) guests.now }
     requires few { length guests.now ≤ 256 }
+
+    // Without an error the floor is a house with this directory and of these sizes, with each session's user and bells for each mailbox.
     ensures floor { IfOk result (λ o. IsFloor directory sizes.entry o.floor) }
     ensures guests { IfOk result (λ o. AreGuests o.floor guests.now) }
+
+    // There is then a post for each producer and a stand for each shard, and nothing is put, taken, sent or heard yet.
     ensures crew { IfOk result (λ o. IsCrew o.floor sizes.entry.producers o.crew) }
+
+    // Nothing lies then in the baskets, which have room for what all leave; and each session has its end of a bell.
     ensures baskets { IfOk result (λ o. AreBaskets sizes.entry.producers directory.shards o.baskets) }
     ensures sleepers { IfOk result (λ o. vec_len o.sleepers ≡ length guests.now) }
 {

@@ -20,7 +20,9 @@ use std::thread::{Promise, Threads};
 /// What the thread of this shard's consumer is to return: what a consumer's life there leaves.
 #[derive(Clone, Copy)]
 pub struct Serves<'a> {
+    /// What all threads share.
     pub floor: &'a Floor,
+    /// The number of its shard, from 0.
     pub shard: u8,
 }
 

@@ -23,9 +23,13 @@ use std::thread::{Promise, Threads};
 /// session's life with its steps does.
 #[derive(Clone, Copy)]
 pub struct Produces<'a> {
+    /// What all threads share.
     pub floor: &'a Floor,
+    /// For each worker, for each of its connections, the bytes that come.
     pub plans: &'a [Vec<Vec<u8>>],
+    /// The sessions, whose numbers follow the workers'.
     pub guests: &'a [Guest],
+    /// The producer's number, from 0: first the workers', then the sessions'.
     pub number: u8,
 }
 

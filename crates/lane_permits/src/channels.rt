@@ -65,6 +65,8 @@ pub fn make_channels(
     requires { 0 < depth }
     ensures count { IfOk result (λ r. vec_len r.channels ≡ workers) }
     ensures channels { IfOk result (λ r. All (λ q. (room_of q ≡ depth) × (senders_of q ≡ senders)) r.channels.items) }
+
+    // Without an error each channel has its senders' permits, by their numbers, which sent nothing, and its receiver's, which took nothing.
     ensures permits { IfOk result (λ r. SenderRows r.channels.items 0 (map (λ v. v.items) r.permits.items)) }
     ensures receivers { IfOk result (λ r. AreReceivers r.channels.items r.receivers.items
         × All (λ s. received s ≡ []) r.receivers.items) }
@@ -112,9 +114,12 @@ pub fn deal_senders(
     number: u8,
     mut hand: Vec<SenderPermit<Noted>>,
 ) -> Vec<SenderPermit<Noted>>
+    // On each channel the permits from sender `number`'s on are left, in their order, and sent nothing; that one's is among them.
     requires left { SenderRows channels.now number (map (λ v. v.items) permits.old.items) }
     requires more { All (λ q. number < senders_of q) channels.now }
     requires room { (hand.items ≡ []) × (length channels.now ≤ vec_capacity hand) }
+
+    // The hand has this sender's permit on each channel, which sent nothing; those of the senders behind it are left.
     ensures hand { AreSenders channels.now number result.items × All (λ s. sent_on s ≡ []) result.items }
     ensures left { SenderRows channels.now (suc number) (map (λ v. v.items) permits.new.items) }
 {
@@ -134,10 +139,13 @@ pub fn deal_all_senders(
     mut rooms: Vec<Vec<SenderPermit<Noted>>>,
     mut hands: Vec<Vec<SenderPermit<Noted>>>,
 ) -> Vec<Vec<SenderPermit<Noted>>>
+    // On each channel the permits of all senders are left, in their order, and sent nothing.
     requires left { SenderRows channels.now 0 (map (λ v. v.items) permits.items) }
     requires senders { All (λ q. senders_of q ≡ senders) channels.now }
     requires rooms { AreRooms senders (length channels.now) rooms }
     requires hands { (hands.items ≡ []) × (senders ≤ vec_capacity hands) }
+
+    // There is a hand for each sender, by its number, with its permit on each channel, which sent nothing.
     ensures count { vec_len result ≡ senders }
     ensures hands { AreSenderHands channels.now 0 (map (λ v. v.items) result.items) }
 {
@@ -153,10 +161,15 @@ pub fn deal_all_senders(
 /// What is left of one sender's permits, one on each channel, goes to the lists by channel, each of
 /// which has room for one more. What stood in the lists stays there.
 pub fn collect_senders(lists: &mut Vec<Vec<SenderEnded<Noted>>>, mut ended: Vec<SenderEnded<Noted>>)
+    // There is one for each list, and each list has room for one more.
     requires each { vec_len ended ≡ vec_len lists.old }
     requires room { All (λ v. vec_len v < vec_capacity v) lists.old.items }
+
+    // Each is in its channel's list, and what stood in the lists stands there still.
     ensures here { AreSendersIn ended.items (map (λ v. v.items) lists.new.items) }
     ensures still { KeepSenders (map (λ v. v.items) lists.old.items) (map (λ v. v.items) lists.new.items) }
+
+    // Where these are one sender's ended permits, the lists are still of their channels; and none has lost room for more than one.
     ensures channels { StaySendersEnded ended.items (map (λ v. v.items) lists.old.items)
         (map (λ v. v.items) lists.new.items) }
     ensures room { (n : ℕ) → All (λ v. vec_len v + suc n ≤ vec_capacity v) lists.old.items
@@ -174,10 +187,15 @@ pub fn collect_all_senders(
     lists: &mut Vec<Vec<SenderEnded<Noted>>>,
     mut hands: Vec<Vec<SenderEnded<Noted>>>,
 )
+    // Each hand has one for each list, and each list has room for all hands'.
     requires each { All (λ v. vec_len v ≡ vec_len lists.old) hands.items }
     requires room { All (λ v. vec_len v + vec_len hands ≤ vec_capacity v) lists.old.items }
+
+    // Each is in its channel's list, and what stood in the lists stands there still.
     ensures here { AllSendersIn (map (λ v. v.items) hands.items) (map (λ v. v.items) lists.new.items) }
     ensures still { KeepSenders (map (λ v. v.items) lists.old.items) (map (λ v. v.items) lists.new.items) }
+
+    // Where the hands are of senders one after another, the lists are still of their channels.
     ensures channels { AllStaySendersEnded (map (λ v. v.items) hands.items) (map (λ v. v.items) lists.old.items)
         (map (λ v. v.items) lists.new.items) }
 {
@@ -197,9 +215,12 @@ pub fn close_channels(
     mut receivers: Vec<ReceiverPermit<Noted>>,
     mut closed: Vec<ReplyClosed<Noted>>,
 ) -> Option<Vec<ReplyClosed<Noted>>>
+    // The i-th list has ended permits of the i-th channel, and the i-th receiver's permit is of that channel.
     requires ended { SenderEndedRows channels.items (map (λ v. v.items) ended.items) }
     requires receivers { AreReceivers channels.items receivers.items }
     requires room { (closed.items ≡ []) × (vec_len channels ≤ vec_capacity closed) }
+
+    // `None`: of some channel an ended permit is missing, or an end wasn't received. Else all that was sent was received, as each said it.
     ensures { MatchOption result (AreChannelsTorn channels.items (map (λ v. v.items) ended.items) receivers.items)
         (λ cs. AreChannelsClosed channels.items (map (λ v. v.items) ended.items) receivers.items cs.items) }
 {

@@ -63,6 +63,8 @@ pub fn make_lanes(
     requires { 0 < depth }
     ensures count { IfOk result (λ r. vec_len r.queues ≡ shards) }
     ensures queues { IfOk result (λ r. All (λ q. (capacity_of q ≡ depth) × (producers_of q ≡ producers)) r.queues.items) }
+
+    // Without an error each lane has its producers' permits, by their numbers, which put nothing, and its consumer's, which took nothing.
     ensures permits { IfOk result (λ r. Rows r.queues.items 0 (map (λ v. v.items) r.permits.items)) }
     ensures consumers { IfOk result (λ r. AreConsumers r.queues.items r.consumers.items
         × All (λ s. got s ≡ []) r.consumers.items) }
@@ -110,9 +112,12 @@ pub fn deal(
     number: u8,
     mut hand: Vec<LanePermit>,
 ) -> Vec<LanePermit>
+    // On each lane the permits from producer `number`'s on are left, in their order, and put nothing; that one's is among them.
     requires left { Rows lanes.now number (map (λ v. v.items) permits.old.items) }
     requires more { All (λ q. number < producers_of q) lanes.now }
     requires room { (hand.items ≡ []) × (length lanes.now ≤ vec_capacity hand) }
+
+    // The hand has this producer's permit on each lane, which put nothing; those of the producers behind it are left.
     ensures hand { ArePermits lanes.now number result.items × All IsNew result.items }
     ensures left { Rows lanes.now (suc number) (map (λ v. v.items) permits.new.items) }
 {
@@ -132,10 +137,13 @@ pub fn deal_all(
     mut rooms: Vec<Vec<LanePermit>>,
     mut hands: Vec<Vec<LanePermit>>,
 ) -> Vec<Vec<LanePermit>>
+    // On each lane the permits of all producers are left, in their order, and put nothing.
     requires left { Rows lanes.now 0 (map (λ v. v.items) permits.items) }
     requires producers { All (λ q. producers_of q ≡ producers) lanes.now }
     requires rooms { AreRooms producers (length lanes.now) rooms }
     requires hands { (hands.items ≡ []) × (producers ≤ vec_capacity hands) }
+
+    // There is a hand for each producer, by its number, with its permit on each lane, which put nothing.
     ensures count { vec_len result ≡ producers }
     ensures hands { AreHands lanes.now 0 (map (λ v. v.items) result.items) }
 {
@@ -151,10 +159,15 @@ pub fn deal_all(
 /// What is left of one producer's permits, one on each lane, goes to the lists by lane, each of which
 /// has room for one more. What stood in the lists stays there.
 pub fn collect(lists: &mut Vec<Vec<Ended<Job>>>, mut ended: Vec<Ended<Job>>)
+    // There is one for each list, and each list has room for one more.
     requires each { vec_len ended ≡ vec_len lists.old }
     requires room { All (λ v. vec_len v < vec_capacity v) lists.old.items }
+
+    // Each is in its lane's list, and what stood in the lists stands there still.
     ensures here { AreIn ended.items (map (λ v. v.items) lists.new.items) }
     ensures still { Keep (map (λ v. v.items) lists.old.items) (map (λ v. v.items) lists.new.items) }
+
+    // Where these are one producer's ended permits, the lists are still of their lanes; and none has lost room for more than one.
     ensures lanes { StayEnded ended.items (map (λ v. v.items) lists.old.items)
         (map (λ v. v.items) lists.new.items) }
     ensures room { (n : ℕ) → All (λ v. vec_len v + suc n ≤ vec_capacity v) lists.old.items
@@ -169,10 +182,15 @@ pub fn collect(lists: &mut Vec<Vec<Ended<Job>>>, mut ended: Vec<Ended<Job>>)
 /// What is left of all producers' permits goes to the lists by lane, each of which has room for all.
 /// Each hand has one producer's, one on each lane. What stood in the lists stays there.
 pub fn collect_all(lists: &mut Vec<Vec<Ended<Job>>>, mut hands: Vec<Vec<Ended<Job>>>)
+    // Each hand has one for each list, and each list has room for all hands'.
     requires each { All (λ v. vec_len v ≡ vec_len lists.old) hands.items }
     requires room { All (λ v. vec_len v + vec_len hands ≤ vec_capacity v) lists.old.items }
+
+    // Each is in its lane's list, and what stood in the lists stands there still.
     ensures here { AllIn (map (λ v. v.items) hands.items) (map (λ v. v.items) lists.new.items) }
     ensures still { Keep (map (λ v. v.items) lists.old.items) (map (λ v. v.items) lists.new.items) }
+
+    // Where the hands are of producers one after another, the lists are still of their lanes.
     ensures lanes { AllStayEnded (map (λ v. v.items) hands.items) (map (λ v. v.items) lists.old.items)
         (map (λ v. v.items) lists.new.items) }
 {
@@ -192,9 +210,12 @@ pub fn close_lanes(
     mut consumers: Vec<ConsumerPermit<Job>>,
     mut closed: Vec<Closed<Job>>,
 ) -> Option<Vec<Closed<Job>>>
+    // The i-th list has ended permits of the i-th lane, and the i-th consumer's permit is of that lane.
     requires ended { EndedRows lanes.items (map (λ v. v.items) ended.items) }
     requires consumers { AreConsumers lanes.items consumers.items }
     requires room { (closed.items ≡ []) × (vec_len lanes ≤ vec_capacity closed) }
+
+    // `None`: of some lane an ended permit is missing, or an end wasn't taken. Else all that was put was taken, as each said it.
     ensures { MatchOption result (IsTorn lanes.items (map (λ v. v.items) ended.items) consumers.items)
         (λ cs. AreClosed lanes.items (map (λ v. v.items) ended.items) consumers.items cs.items) }
 {

@@ -6,8 +6,11 @@ ghost use Rattle.lane_permits.specs.Telling.{AccountsMeet, ChannelsAreWhole, Lan
 /// What is known of lanes that were closed: what each producer said is what was taken of it, so that a
 /// worker's account is one of the histories, and nothing else was taken.
 pub fn closed_lanes_tell()
+    // What a producer said, lane by lane, is what was taken of it; so an account by the one is an account by the other.
     ensures said { SaidIsHistory }
     ensures accounts { AccountsMeet }
+
+    // There is a history for each lane: it is what its consumer took, and it is whole.
     ensures whole { LanesAreWhole }
 {}
 

@@ -203,6 +203,8 @@ fn command<
     F: Write,
 >(rt: &R, alloc: Global, words: &[S], input: &mut I, output: &mut W, faults: &mut F) -> u8
     requires { W.failed output.old ≡ false }
+
+    // The exit status is 0, or 2 to 6; at 2 and 3 nothing was written to `output`.
     ensures status { IsStatus result }
     ensures not_asked { result ≡ NOT_ASKED_RIGHT → output.new ≡ output.old }
     ensures not_set { result ≡ 3 → output.new ≡ output.old }

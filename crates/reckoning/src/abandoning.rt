@@ -297,8 +297,14 @@ fn ends_of(baskets: Baskets) -> Ends
 pub fn abandon(alloc: Global, floor: Floor, ran: Ran, baskets: Baskets)
     requires lanes { 0 < length floor.office.lanes.items }
     requires channels { 0 < length floor.depot.channels.items }
+
+    // Nothing lies in the baskets, which have room for what so many producers and consumers leave.
     requires baskets { AreBaskets (length floor.depot.channels.items) (length floor.office.lanes.items) baskets }
+
+    // Of each producer there is its post or what it left, of each consumer its stand or what it left.
     requires left { IsSpendable floor (length floor.depot.channels.items) ran }
+
+    // Who left something left what is left of its permit on each lane, or of its sender on each channel.
     requires worked { All (λ w. vec_len w.ended ≡ length floor.office.lanes.items) ran.worked.items }
     requires consumed { All (λ c. vec_len c.senders ≡ length floor.depot.channels.items) ran.consumed.items }
 {

@@ -40,7 +40,9 @@ pub struct Books {
 
 /// What the threads left, taken apart, and room for what comes of the queues.
 pub struct Gathered {
+    /// What the producers left, by their numbers.
     pub workers: FromWorkers,
+    /// What the consumers left, by their shards.
     pub consumers: FromConsumers,
     /// For what is left of all producers' permits on each lane.
     pub lists: Vec<Vec<Ended<Job>>>,
@@ -124,12 +126,19 @@ pub fn close_queues(
     consumed: Vec<Consumed>,
     baskets: Baskets,
 ) -> Closings
+    // There is a producer for each channel, and a consumer for each lane.
     requires counts { (vec_len worked ≡ vec_len channels) × (vec_len consumed ≡ vec_len lanes) }
+
+    // Producer p left its ended permits, one on each lane, and its channel's receiver; consumer s its lane's permit and its ended senders.
     requires hands { AreEndedHands lanes.items 0 (map (λ w. w.ended.items) worked.items) }
     requires receivers { AreReceivers channels.items (map (λ w. w.receiver) worked.items) }
     requires consumers { AreConsumers lanes.items (map (λ c. c.permit) consumed.items) }
     requires senders { AreSenderEndedHands channels.items 0 (map (λ c. c.senders.items) consumed.items) }
+
+    // Nothing lies in the baskets, which have room for all of that.
     requires baskets { AreBaskets (vec_len channels) (vec_len lanes) baskets }
+
+    // What came of each queue, the rest of what the threads left, in their order, and the gravest of their faults.
     ensures { IsClosing lanes.items channels.items worked.items consumed.items result }
 {
     let Gathered {
@@ -183,13 +192,22 @@ pub fn balance(
     consumed: Vec<Consumed>,
     baskets: Baskets,
 ) -> Result<Books, Fault>
+    // There is a producer for each channel, and a consumer for each lane.
     requires counts { (vec_len worked ≡ vec_len channels) × (vec_len consumed ≡ vec_len lanes) }
+
+    // Producer p left its ended permits, one on each lane, and its channel's receiver; consumer s its lane's permit and its ended senders.
     requires hands { AreEndedHands lanes.items 0 (map (λ w. w.ended.items) worked.items) }
     requires receivers { AreReceivers channels.items (map (λ w. w.receiver) worked.items) }
     requires consumers { AreConsumers lanes.items (map (λ c. c.permit) consumed.items) }
     requires senders { AreSenderEndedHands channels.items 0 (map (λ c. c.senders.items) consumed.items) }
+
+    // Nothing lies in the baskets, which have room for all of that.
     requires baskets { AreBaskets (vec_len channels) (vec_len lanes) baskets }
+
+    // Without an error no thread had a fault, each queue was closed, and the books have the rest of what they left, in their order.
     ensures balanced { IfOk result (λ books. IsBalanced lanes.items channels.items worked.items consumed.items books) }
+
+    // An error is the gravest fault of a thread; or there was none, it is `Torn`, and some queue couldn't be closed.
     ensures fault { IfErr result (IsWhyNot lanes.items channels.items worked.items consumed.items) }
 {
     let Closings {

@@ -26,10 +26,15 @@ pub fn close_all_lanes(
     mut lists: Vec<Vec<Ended<Job>>>,
     closed: Vec<Closed<Job>>,
 ) -> Option<Vec<Closed<Job>>>
+    // Hand p has producer p's ended permits, one on each lane, and the i-th consumer's permit is the i-th lane's.
     requires hands { AreEndedHands lanes.items 0 (map (λ h. h.items) hands.items) }
     requires consumers { AreConsumers lanes.items consumers.items }
+
+    // There is an empty list for each lane, with room for all producers.
     requires lists { AreRooms (vec_len lanes) (vec_len hands) lists }
     requires closed { (closed.items ≡ []) × (vec_len lanes ≤ vec_capacity closed) }
+
+    // `None`: some lane was torn. Else each lane was closed, with the ended permits of all these producers there.
     ensures { MatchOption result (AreTornWith lanes.items (map (λ h. h.items) hands.items) consumers.items)
         (λ cs. AreClosedWith lanes.items (map (λ h. h.items) hands.items) consumers.items cs.items) }
 {
@@ -48,10 +53,15 @@ pub fn close_all_channels(
     mut lists: Vec<Vec<SenderEnded<Noted>>>,
     closed: Vec<ReplyClosed<Noted>>,
 ) -> Option<Vec<ReplyClosed<Noted>>>
+    // Hand s has consumer s's ended senders, one on each channel, and the i-th receiver is the i-th channel's.
     requires hands { AreSenderEndedHands channels.items 0 (map (λ h. h.items) hands.items) }
     requires receivers { AreReceivers channels.items receivers.items }
+
+    // There is an empty list for each channel, with room for all consumers.
     requires lists { AreRooms (vec_len channels) (vec_len hands) lists }
     requires closed { (closed.items ≡ []) × (vec_len channels ≤ vec_capacity closed) }
+
+    // `None`: some channel was torn. Else each channel was closed, with the ended senders of all these consumers there.
     ensures { MatchOption result (AreChannelsTornWith channels.items (map (λ h. h.items) hands.items) receivers.items)
         (λ cs. AreChannelsClosedWith channels.items (map (λ h. h.items) hands.items) receivers.items cs.items) }
 {

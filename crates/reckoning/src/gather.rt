@@ -102,6 +102,8 @@ fn lay_worker(worked: Worked, into: &mut FromWorkers) -> Fate
 /// of a producer, if one has any.
 pub fn gather_workers(mut worked: Vec<Worked>, into: &mut FromWorkers) -> Option<Fault>
     requires room { IsRoomForWorkers (vec_len worked) into.old }
+
+    // `into` has the producers' parts in their order, and the gravest fault is answered, if one had any.
     ensures parts { AreWorkers worked.items into.new }
     ensures fault { result ≡ gravest None (map (λ w. fault_of_fate w.fate) worked.items) }
 {
@@ -147,6 +149,8 @@ fn lay_consumer(consumed: Consumed, into: &mut FromConsumers) -> Option<Fault>
 /// of a consumer, if one has any.
 pub fn gather_consumers(mut consumed: Vec<Consumed>, into: &mut FromConsumers) -> Option<Fault>
     requires room { IsRoomForConsumers (vec_len consumed) into.old }
+
+    // `into` has the consumers' parts in their order, and the gravest fault is answered, if one had any.
     ensures parts { AreConsumers consumed.items into.new }
     ensures fault { result ≡ gravest None (map fault_of_consumer consumed.items) }
 {

@@ -12,6 +12,7 @@ use std::sync::Mutex;
 
 /// What is left of a house's floor when nothing runs there any more.
 pub struct Remains {
+    /// Which mailbox a path names, and which shard keeps it.
     pub directory: Directory,
     /// The lane of each shard.
     pub lanes: Vec<ShardQueue<Job>>,

@@ -10,8 +10,13 @@ ghost use Rattle.relay_records.specs.Laws.{ByTheRecord, OfAllEvents, OfScripts, 
 /// nothing else stands: each copy of the connection is one of these, or one whose reply it hasn't read; and there are none of
 /// connections that weren't opened. The name of a house that has settings is one that can stand in a line.
 pub fn relays_may_conclude()
+    // So of every record of a house, of each connection that was opened; and its seats have no copies of one that wasn't.
     ensures recorded { ByTheRecord }
+
+    // So of all events of a new house and what they printed, and of a script's lines that were played.
     ensures played { OfAllEvents }
     ensures scripted { OfScripts }
+
+    // The name of a house whose settings have no fault has no LF.
     ensures settings { SettingsAreInLine }
 {}

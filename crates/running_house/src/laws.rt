@@ -9,7 +9,12 @@ ghost use Rattle.running_house.specs.Tells.{AccountsAreOfLines, StoredWasAccepte
 /// mailbox's lane, and the mailbox accepted it under that UID. And whatever was taken from a lane is some
 /// worker's or session's.
 pub fn reports_tell_of_each_copy()
+    // Of each worker: connections, replies, log and what was taken of it are an account by the whole lines that came.
     ensures accounts { AccountsAreOfLines }
+
+    // In a house with a shard: a copy that a log has as stored, in a mailbox that is there, was taken from its lane and accepted under that UID.
     ensures stored { StoredWasAccepted }
+
+    // A copy that was taken from a lane is a producer's, and is in what was taken of that one.
     ensures taken { TakenIsAProducers }
 {}

@@ -176,11 +176,15 @@ fn fault_of_actors(plan: &Plan, directory: &Directory) -> Option<ConfigFault>
 /// refused.
 pub(crate) fn directory_for(alloc: Global, plan: &Plan) -> Result<Directory, WorkFault>
     requires range { IsInRange plan.now.config }
+
+    // Without an error nothing is wrong with the plan, and the directory is that of its settings.
     ensures directory { IfOk result (λ d. d ≡ (setup_of plan.now.config).directory) }
     ensures host { IfOk result (λ d. length plan.now.config.host.items < 256) }
     ensures right { IfOk result (λ d. plan_fault plan.now ≡ None) }
     ensures few { IfOk result (λ d. (length plan.now.workers.items ≤ most_workers) × (producers_in plan.now ≤ most_producers)) }
     ensures guests { IfOk result (λ d. All (λ v. user_numbered v.user d.homes ≢ None) plan.now.sessions.items) }
+
+    // An error is `NoMemory`, or `Config` with the plan's own first fault.
     ensures fault { IfErr result (IsFaultOf plan.now) }
 {
     let directory = directory_of(alloc, &plan.config)?;

@@ -63,10 +63,15 @@ pub fn run_house<R: Threads + Wait + Sync, G: Gate + Sync>(
     plan: &Plan,
     gate: &G,
 ) -> Result<Report, WorkFault>
+    // The settings are within their ranges, and there is a worker.
     requires range { IsInRange plan.now.config }
     requires some { 0 < length plan.now.workers.items }
+
+    // Without an error the plan has no fault, and the report agrees with it and in itself: accounts, lists, closed queues.
     ensures agrees { IfOk result (Agrees plan.now) }
     ensures right { IfOk result (λ report. plan_fault plan.now ≡ None) }
+
+    // `Config` tells the plan's own first fault; `Spawn` and `Torn` come only of a plan that has none; `NoMemory` says nothing of the plan.
     ensures fault { IfErr result (IsFault plan.now) }
 {
     let directory = directory_for(alloc, plan)?;

@@ -148,14 +148,19 @@ pub fn serve<
     stop: &mut I,
     output: &mut W,
 ) -> Result<(), ServeFault>
+    // The settings are within their ranges, and the output hasn't failed.
     requires range { IsInRange config.now }
     requires live { W.failed output.old ≡ false }
+
+    // `Config` tells the settings' first fault, and then nothing was written. Without an error there is no fault.
     ensures wrong { (fault : ConfigFault) → result ≡ Err (ServeFault.Config fault) → server_fault config.now ≡ Some fault }
     ensures not_set { (fault : ConfigFault) → result ≡ Err (ServeFault.Config fault) → output.new ≡ output.old }
     ensures right { OnOk result (server_fault config.now ≡ None) }
+
     // Wrong settings are told, or want of memory is, and nothing is written.
     ensures refused { (fault : ConfigFault) → server_fault config.now ≡ Some fault →
         ((result ≡ Err (ServeFault.Config fault)) ⊎ (result ≡ Err ServeFault.NoMemory)) × (output.new ≡ output.old) }
+
     // Nothing but a beginning of the lines was written, and all of them where it served.
     ensures told { (n : ℕ) × Appends (W.taken output.old) (W.taken output.new)
         (take n (announcement config.now.lmtp_port config.now.imap_port (setup_of config.now).directory.homes uidvalidity)) }

@@ -179,8 +179,8 @@ pub struct Begun<'a> {
 }
 
 /// Starts a thread for each worker, a grip for each, in their order, with the first of these posts. The others are given back, and so is
-/// the list of threads, in which there is room for all posts. None of them accepts anybody while the start of `mark` is held, as the caller
-/// does. Where a thread can't be made the mark is set, so no worker serves anybody.
+/// the list of threads, in which there is room for all posts. None of them accepts anybody while the start of `mark` is held, as whoever
+/// calls it does. Where a thread can't be made the mark is set, so no worker serves anybody.
 pub fn start_workers<'s, E, H: Hall + Send, R: Threads + Wait + Sync>(
     scope: &thread::Scope<'s, E>,
     rt: &'s R,
@@ -194,16 +194,25 @@ pub fn start_workers<'s, E, H: Hall + Send, R: Threads + Wait + Sync>(
     mut buffers: Vec<Buffers>,
     mut hired: Vec<Hired<'s>>,
 ) -> Begun<'s>
+    // The floor is a house, and that of the clerks' hall.
     requires lanes { H.lanes ≡ Some floor.now.office.lanes.items }
     requires depot { H.depot ≡ Some floor.now.depot }
     requires house { IsHouse floor.now (length floor.now.depot.channels.items) }
+
+    // There are no more workers than producers.
     requires grips { length grips.now ≤ length floor.now.depot.channels.items }
+
+    // Each producer has its post, by its number, with nothing put or heard yet; and each worker has room to read into.
     requires posts { AllAt (IsPost floor.now) 0 posts.items × (vec_len posts ≡ length floor.now.depot.channels.items) }
     requires buffers { All (λ b. 0 < length b.input.items) buffers.items × (vec_len buffers ≡ length grips.now) }
     requires room { (hired.items ≡ []) × (length floor.now.depot.channels.items ≤ vec_capacity hired) }
+
+    // For each worker, by its number: its thread, which will leave what that producer leaves, or what it has left without one.
     ensures hired { AllAt (IsHired floor.now) 0 result.hired.items }
     ensures count { vec_len result.hired ≡ length grips.now }
     ensures room { length floor.now.depot.channels.items ≤ vec_capacity result.hired }
+
+    // The posts of the producers behind the workers are given back, in their order, with nothing put or heard yet.
     ensures posts { AllAt (IsPost floor.now) (length grips.now) result.posts.items }
     ensures others { vec_len result.posts + length grips.now ≡ length floor.now.depot.channels.items }
 {
@@ -242,8 +251,11 @@ pub fn join_producers<R: Threads>(
     hired: Vec<Hired<'_>>,
     mut served: Vec<Served>,
 ) -> Vec<Served>
+    // Each is a producer's thread, by its number, or what that has left without one.
     requires hired { AllAt (IsHired floor.now) 0 hired.items }
     requires room { (served.items ≡ []) × (vec_len hired ≤ vec_capacity served) }
+
+    // Each producer left, by its number, its ended permits on all lanes, and its end of its own reply channel.
     ensures served { AllAt (IsServed floor.now) 0 result.items }
     ensures count { vec_len result ≡ vec_len hired.entry }
 {
