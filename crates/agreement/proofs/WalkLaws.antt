@@ -1,7 +1,6 @@
 -- Lists that are gone over, an element at a time.
-use Rattle.std.proofs.Common.{◌≡◌, inl, inr, ℕ, zero, suc, ◌+◌, ◌<◌, ◌++◌, ◌∙◌, ap, sym, subst, List, [], ◌∷◌, length, map, take, slice_index_or, arith, All, Bool}
+use Rattle.std.proofs.Common.{◌≡◌, inl, inr, ℕ, zero, suc, ◌+◌, ◌<◌, ◌++◌, ap, sym, subst, List, [], ◌∷◌, length, map, take, slice_index_or, arith, Bool}
 use Rattle.std.proofs.lemmas.Bool.{cases_lt}
-use Rattle.std.proofs.lemmas.List.Elements.{All-append, All-cons, All-nil}
 use Rattle.delivery_token.specs.declared.CopyKey.{CopyKey}
 use Rattle.delivery_token.specs.declared.Job.{Job}
 use Rattle.delivery_token.specs.declared.log.Noted.{Noted}
@@ -11,12 +10,6 @@ take_suc : {A : Type 0} (xs : List A) (i : ℕ) (x : A) → i < length xs → x 
 take_suc [] i x under is = absurd (omega arith)
 take_suc (y ∷ ys) zero x under is = ap (λ z. z ∷ []) (sym is)
 take_suc (y ∷ ys) (suc i) x under is = ap (λ l. y ∷ l) (take_suc ys i x (omega arith) is)
-
--- the next element too
-pub all_next : {A : Type 0} (P : A → Type 0) (xs : List A) (i : ℕ) (x : A) → i < length xs → x ≡ slice_index_or xs i x → All P (take i xs) → P x → All P (take (i + 1) xs)
-all_next P xs i x under is before here =
-    let e : i + 1 ≡ suc i = omega arith in
-    subst (All P) (sym (ap (λ n. take n xs) e ∙ take_suc xs i x under is)) (All-append P (take i xs) (x ∷ []) before (All-cons P x [] here (All-nil P)))
 
 -- what holds of each number below n, and of n, holds of each below n + 1
 pub up_to : (P : ℕ → Type 0) (n : ℕ) → ((m : ℕ) → m < n → P m) → P n → (m : ℕ) → m < n + 1 → P m

@@ -1,7 +1,7 @@
 //! One mailbox after another, each compared as a whole. How its lists are gone over does not belong
 //! here.
 
-ghost use Rattle.std.specs.Prelude.{◌≡◌, ◌≤◌, ◌↔◌, IfOk, IsTrue, length, map};
+ghost use Rattle.std.specs.Prelude.{◌≤◌, ◌↔◌, IfOk, IsTrue, length, map};
 ghost use Rattle.agreement.specs.Lists.{ListsAgree};
 ghost use Rattle.agreement.specs.Order.{AreInOrder};
 ghost use Rattle.agreement.specs.Walk.{ListsMet, MailboxMet};

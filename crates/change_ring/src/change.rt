@@ -3,10 +3,15 @@
 /// The flags of a message (RFC 9051, 2.3.2): each is set or not.
 #[derive(Clone, Copy, Debug, PartialEq, Eq)]
 pub struct Flags {
+    /// \Answered: the message has been answered.
     pub answered: bool,
+    /// \Flagged: the message is marked for attention.
     pub flagged: bool,
+    /// \Deleted: the message may be removed by an expunge.
     pub deleted: bool,
+    /// \Seen: the message has been read.
     pub seen: bool,
+    /// \Draft: the message is not complete yet.
     pub draft: bool,
 }
 

@@ -50,6 +50,7 @@ impl ChangeRing {
     /// An empty ring at the start of a log: it has room for `capacity` changes, and may grow to
     /// `max`. An error where memory is refused.
     pub fn new(alloc: Global, capacity: usize, max: usize) -> Result<Self, AllocError>
+        // There is room for one change at least, and no more than it may grow to.
         requires nonempty { 0 < capacity }
         requires within { capacity ≤ max }
         ensures { IfOk result (λ r. r ≡ record { base = 0; changes = []; capacity = capacity; max = max }) }
@@ -65,8 +66,10 @@ impl ChangeRing {
         capacity: usize,
         max: usize,
     ) -> Result<Self, AllocError>
+        // There is room for one change at least, and no more than it may grow to.
         requires nonempty { 0 < capacity }
         requires within { capacity ≤ max }
+        // No log numbers more than 2^62 changes.
         requires small { base ≤ 2 ^ 62 }
         ensures { IfOk result (λ r. r ≡ record { base = base; changes = []; capacity = capacity; max = max }) }
     {
@@ -97,6 +100,7 @@ impl ChangeRing {
     /// How many changes fit now.
     pub fn capacity(&self) -> usize
         ensures capacity { result ≡ self.now.capacity }
+        // The ring has no more changes than fit, no more fit than its most, and one fits always.
         ensures within { length self.now.changes ≤ self.now.capacity }
         ensures most { self.now.capacity ≤ self.now.max }
         ensures some { 0 < self.now.capacity }
@@ -109,18 +113,22 @@ impl ChangeRing {
     /// room, up to its most. It hands the change back too where memory for that is refused. Spent
     /// where 2^62 changes were logged; the ring is then unchanged.
     pub fn push(&mut self, change: Change, keep_from: u64) -> Result<Option<Change>, Spent>
+        // Spent exactly where 2^62 changes were logged; nothing has changed then.
         ensures spent { IsErr result ↔ (total self.old ≡ 2 ^ 62) }
         ensures err { OnErr result (self.new ≡ self.old) }
 
         // What is handed back comes first, and the change goes last.
         ensures window { IfOk result (λ lost. option_to_list lost ++ self.new.changes ≡ self.old.changes ++ change ∷ []) }
         ensures base { IfOk result (λ lost. self.new.base ≡ self.old.base + length (option_to_list lost)) }
+        // It has the room that it had, or, where it was full and handed nothing back, twice as much, up to its most.
         ensures capacity { IfOk result (λ lost. self.new.capacity ≡ capacity_after self.old lost) }
         ensures max { self.new.max ≡ self.old.max }
 
         // Only a full ring hands a change back, and it grows only to keep what is wanted.
         ensures full { IfOk result (λ lost. IsSome lost → length self.old.changes ≡ self.old.capacity) }
         ensures wanted { OnOk result (self.old.capacity < self.new.capacity → keep_from ≤ self.old.base) }
+
+        // It has no more changes than fit.
         ensures within { OnOk result (length self.new.changes ≤ self.new.capacity) }
     {
         if self.total() >= MOST_CHANGES {
@@ -206,8 +214,11 @@ impl ChangeRing {
     /// The changes from number `from` on, in two slices that follow one another. Lapped where the
     /// change of that number was overwritten.
     pub fn lend(&self, from: u64) -> Result<(&[Change], &[Change]), Lapped>
+        // The number is of a change that was logged, or of the next one.
         requires { from ≤ total self.now }
+        // Lapped exactly where the change of that number was overwritten.
         ensures lapped { IsErr result ↔ (from < self.now.base) }
+        // The two slices, one behind the other, are all changes from that number on.
         ensures lent { IfOk result (λ s. s.0.now ++ s.1.now ≡ changes_from from self.now) }
     {
         if from < self.base {

@@ -1,7 +1,7 @@
 //! A clerk: a shard's consumer whose type says of which hall its permits are, so that this is known
 //! again after it was under a lock. Whose thread makes its steps does not matter here.
 
-ghost use Rattle.std.specs.Prelude.{◌≡◌, ◌<◌, ◌≤◌, ◌++◌, ◌∷◌, [], All, List, Option, None, Some, length, slice_get, vec_len, vec_capacity, true, false};
+ghost use Rattle.std.specs.Prelude.{◌≡◌, ◌≤◌, [], All, List, Option, None, Some, length, slice_get, vec_len, vec_capacity, true, false};
 ghost use Rattle.delivery_token.specs.declared.Job.{Job};
 ghost use Rattle.shard_queue.specs.declared.queue.ShardQueue.{ShardQueue};
 ghost use Rattle.shard_queue.specs.Reply.{sent_on};

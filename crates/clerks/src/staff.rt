@@ -1,8 +1,7 @@
 //! The clerks of all shards: hired from the stands that were dealt, and dismissed when all is done, or
 //! stood down where a run comes to nothing. What one clerk does does not belong here.
 
-ghost use Rattle.std.specs.Prelude.{◌≡◌, ◌≤◌, ◌<◌, ℕ, [], All, IfOk, Some, true, false, length, map, vec_len, vec_capacity};
-ghost use Rattle.delivery_token.specs.declared.Job.{Job};
+ghost use Rattle.std.specs.Prelude.{◌≡◌, ◌≤◌, ◌<◌, [], All, IfOk, Some, true, false, length, map, vec_len, vec_capacity};
 ghost use Rattle.lane_work.specs.declared.consumer.Depot.{Depot};
 ghost use Rattle.lane_permits.specs.Rooms.{AreRooms};
 ghost use Rattle.lane_permits.specs.rows.Rows.{AreConsumers};
@@ -11,7 +10,7 @@ ghost use Rattle.house_floor.specs.Crew.{AllAt, IsStand};
 ghost use Rattle.clerks.specs.Staff.{IsService};
 
 use crate::clerk::{Clerk, Hall};
-use delivery_token::{Job, Noted};
+use delivery_token::Noted;
 use house_floor::{Floor, Stand};
 use lane_work::Consumed;
 use pace::{Actor, Gate, Pace};

@@ -1,4 +1,5 @@
-//! Laws of what a client believes of flags, as functions that do nothing.
+//! Laws of what a client believes of flags, as functions that do nothing. In a house they ask that the numbers can be printed
+//! (`HasSmallNumbers` of the settings) and that texts are short (`HasShortTexts` of the world), which settings without a fault see to.
 
 ghost use Rattle.client_flags.specs.Laws.{AnswerTellsFlags, ChangeIsHeard, FetchIsHeard, FlagsAreByUid, FlagsAreCurrent, FlagsOutlast, IdleTellsFlags, LinesTellFlags, RowTellsFlags, StoreIsHeard, StoreTellsFlags, VerdictTellsFlags};
 ghost use Rattle.client_flags.specs.One.{OneLifeKnowsFlags};
@@ -9,8 +10,13 @@ ghost use Rattle.client_flags.specs.Worlds.{CallsTellFlags, DoneTellsFlags, Live
 /// pending they are those that it has now. A client that is right about UIDs and about flags is right about the flags under
 /// each UID.
 pub fn flags_have_moments()
+    // Flags of a moment not before the cursor are such whatever is logged later.
     ensures outlast { FlagsOutlast }
+
+    // Where the cursor is at the log's end, they are those that the message has now.
     ensures current { FlagsAreCurrent }
+
+    // Who is right about UIDs and about flags is right about the flags under each UID.
     ensures by_uid { FlagsAreByUid }
 {}
 
@@ -18,7 +24,10 @@ pub fn flags_have_moments()
 /// cursor. It stays so when it reads the lines of changes that the cursor moves over, the answer to a FETCH with the flags that
 /// the message has, also where reading it set `\Seen`, and the flags after a STORE (RFC 9051, 6.4.6, 7.5.2).
 pub fn flags_are_told()
+    // By the lines of the changes behind the cursor who was right about flags is right about them where the cursor is then.
     ensures lines { LinesTellFlags }
+
+    // The answer about a row, and the flags after a STORE, leave a client as right, where they are those that the message has.
     ensures row { RowTellsFlags }
     ensures store { StoreTellsFlags }
 {}
@@ -26,8 +35,11 @@ pub fn flags_are_told()
 /// What is told is heard: whatever a client knew, when it has read the line of a change of flags, the flags after a STORE, or
 /// the answer to a FETCH that asked for FLAGS or has set `\Seen`, it knows these flags of that message (7.5.2).
 pub fn flags_are_heard()
+    // Once a client whose list is as long as the view has read such a text it knows these flags of that message, whatever it knew before.
     ensures change { ChangeIsHeard }
     ensures store { StoreIsHeard }
+
+    // So it is of a FETCH that asked for FLAGS, or that has set \Seen.
     ensures fetch { FetchIsHeard }
 {}
 
@@ -35,6 +47,7 @@ pub fn flags_are_heard()
 /// answer to the verdict on a message, and of a turn while the session idles. Of the store it is asked that what it shows are
 /// the changes that were pending, in their order, and the flags that it answers are the message's (`SeesAllFlags`).
 pub fn turns_tell_flags()
+    // By each of these turns who was right about flags before is right about them then.
     ensures answer { AnswerTellsFlags }
     ensures verdict { VerdictTellsFlags }
     ensures idle { IdleTellsFlags }
@@ -59,17 +72,24 @@ pub fn lives_tell_flags()
 /// Where nothing is pending all that the client knows of flags is what they are in the mailbox. So it is when it has read that
 /// a NOOP is OK, or the IDLE that its DONE ends (RFC 9051, 6.1.2; RFC 2177).
 pub fn flags_become_current()
+    // At a moment of a session's life at which nothing is pending, all that its client knows of flags is what they are.
     ensures pending { NothingPendingTellsFlags }
+
+    // So it is when it has read that a NOOP is OK, or the IDLE that its DONE ends.
     ensures noop { NoopTellsFlags }
     ensures done { DoneTellsFlags }
 {}
 
 /// Over any record of a house that was new, of whatever events: the client of each session that is there is right about flags,
-/// by all that was printed to it since it was let in; and where nothing is pending all that it knows of flags is what they are.
+/// by all that was printed to it since it was let in; and where nothing is pending all that it knows of flags is what they are. So it
+/// is, too, of all that the lines of a script did.
 /// Of the house it is asked that numbers and names can be printed and messages have less than 2 GiB, which settings that are
 /// right see to.
 pub fn clients_know_flags()
+    // Over any record of a new house that is printable: the client of a session there is right about flags; if nothing is pending, as they are.
     ensures record { ClientsKnowFlags }
+
+    // So it is of the record that exactly-once delivery has, of whatever events, and of what the lines of a script did.
     ensures house { ClientsOfHousesKnowFlags }
     ensures scripts { ClientsOfScriptsKnowFlags }
 {}

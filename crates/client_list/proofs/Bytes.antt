@@ -67,14 +67,6 @@ words_cut (b ∷ bs) rest h = by (b == 32) (first_of is_word b bs h) (words_cut 
     by true e more = absurd (false≢true e)
     by false e more = ap (into_first b) more
 
-pub words_last : (w : List ℕ) → list_all is_word w ≡ true → words w ≡ w ∷ []
-words_last [] h = refl
-words_last (b ∷ bs) h = by (b == 32) (first_of is_word b bs h) (words_last bs (rest_of is_word b bs h))
-  where
-    by : (t : Bool) → (if t then false else is_inner b) ≡ true → words bs ≡ bs ∷ [] → (if t then [] ∷ words bs else into_first b (words bs)) ≡ (b ∷ bs) ∷ []
-    by true e more = absurd (false≢true e)
-    by false e more = ap (into_first b) more
-
 word_is_inner : (b : ℕ) → is_word b ≡ true → is_inner b ≡ true
 word_is_inner b h = by (b == 32) h
   where

@@ -6,8 +6,13 @@ ghost use Rattle.client_list.specs.Laws.{AnswerIsFollowed, ByeTellsNothing, Flag
 /// It makes no difference in which pieces bytes come, and a literal leaves nothing but its count in the line in which it
 /// stands, whatever its bytes (RFC 9051, 4.3). So a message's text can't be taken for lines.
 pub fn literals_are_passed_over()
+    // It makes no difference in which pieces bytes come.
     ensures pieces { PiecesAreTheWhole }
+
+    // Within a line a literal leaves its count alone, as if that stood there without its bytes.
     ensures count { LiteralLeavesItsCount }
+
+    // So two texts of one length can't be told apart, whatever lines they have.
     ensures alike { LiteralsAreAlike }
 {}
 
@@ -22,6 +27,7 @@ pub fn lines_are_followed()
 /// Tagged lines, BYE, the greeting and what is said where the store or memory refuses tell a client nothing of messages:
 /// its list stays as it was (2.2.2, 7.1).
 pub fn ends_tell_nothing()
+    // Each of these leaves what a client knows of messages as it was, whatever that is.
     ensures tagged { TaggedTellsNothing }
     ensures bye { ByeTellsNothing }
     ensures refusal { RefusalTellsNothing }
@@ -41,21 +47,31 @@ pub fn turns_are_followed()
 /// STORE leave a client as right as it was (7.5.2). What SELECT and EXAMINE say of a mailbox before their tagged line
 /// leads a client with no messages to a list as long as the mailbox (6.3.2).
 pub fn messages_are_told()
+    // The answer about a row that was read, whatever was asked of it, and the flags after a STORE leave a client as right as it was.
     ensures row { RowIsTold }
     ensures flags { FlagsAreTold }
+
+    // What SELECT or EXAMINE says before its tagged line leads a client with no messages to a list as long as the mailbox is told to be.
     ensures opening { OpeningIsFollowed }
 {}
 
-/// The tag of each command that is read begins with no star and has no LF, and so does that of an IDLE or an APPEND while it lasts. Over any store, whatever it answers: after the
-/// answer to any line but SELECT, EXAMINE, CLOSE and UNSELECT, a client that was right about the session's view is right
-/// about its view then. So it is of a line that is no command, of the line that ends an IDLE, of what stands behind a literal and of
-/// the verdict on a message; a line that is too long leaves the list as it was. What the store shows and answers is to fit the view (`SeesAll`), and the numbers of the view and
-/// of the command, and the names of mailboxes, are to be such as can be printed (`MayAsk`).
+/// The tag of each command that is read begins with no star and has no LF, and so does that of an IDLE or an APPEND while it lasts. Over any store,
+/// whatever it answers: after the answer to any line but SELECT, EXAMINE, CLOSE and UNSELECT, a client that was right about the session's view is
+/// right about its view then. So it is of a line that is no command, of the line that ends an IDLE, of what stands behind a literal and of
+/// the verdict on a message; a line that is too long leaves the list as it was. What the store shows and answers is to fit the view (`SeesAll`), and
+/// the numbers of the view and of the command, and the names of mailboxes, are to be such as can be printed (`MayAsk`).
 pub fn answers_are_followed()
+    // What is read as a command's tag is a tag, and those that a session keeps stay tags.
     ensures tags { TagsAreTags }
     ensures kept_tags { KeptTagsAreTags }
+
+    // By the answer to any line but SELECT, EXAMINE, CLOSE and UNSELECT who was right about the view before is right about the view then.
     ensures answer { AnswerIsFollowed }
+
+    // The answer to a line that is too long tells nothing of messages.
     ensures long_line { LongLineTellsNothing }
+
+    // By the answer to a verdict who was right about the view before is right about the view then.
     ensures verdict { VerdictIsFollowed }
 {}
 

@@ -38,7 +38,7 @@ use Rattle.client_list.specs.Talks.{Line}
 use Rattle.client_list.proofs.Tags.{tags_are_tags}
 use Rattle.client_records.specs.Current.{DoneCommandsMakeCurrent, IsAnswered, IsCurrent, ListsAreCurrent, shows_all}
 use Rattle.client_records.proofs.Current.{fed_current, kept_moved}
-use Rattle.client_records.proofs.Entering.{Only, mapped, only_done, only_refused}
+use Rattle.client_records.proofs.Entering.{mapped, only_done, only_refused}
 use Rattle.client_records.specs.Clients.{Answer as Answer_to, Asked, Neither, IsRightAbout, Told, answered, asked, asked_by, hears, hears_all}
 use Rattle.client_list.specs.Beliefs.{IsRight}
 use Rattle.client_list.specs.Client.{Client, Known, knowing, reads}
@@ -103,9 +103,6 @@ ShowsLast fed (Leave remove x) = ⊥
 
 never : {A : Type 0} → false ≡ true → A
 never e = absurd (false≢true e)
-
-only_ends : (k : Config) (n : ℕ) (w : World) (front text : List ℕ) (turn : Turn) (v : World) → Only text turn → NoEnd text → last_of (front ++ turn.bytes) ≡ the_end → IsCurrent v n
-only_ends k n w front text turn v only unlike ends = absurd (unlike front (ap (λ (b : List ℕ). last_of (front ++ b)) (sym only.bytes) ∙ ends))
 
 given_up : (tag front : List ℕ) (now : Standing) (fault : MailFault) (turn : Turn) (v : World) (n : ℕ) → IsTag tag → Some (refused tag now fault) ≡ Some turn → last_of (front ++ turn.bytes) ≡ the_end → IsCurrent v n
 given_up tag front now fault turn v n t e ends =
@@ -282,9 +279,6 @@ ok_current k n tag front fed now w (Leave remove x) (Refused a ∷ b ∷ more) t
 ok_current k n tag front fed now w (Leave remove x) (Starved a ∷ more) turn v K t c p e met ends = absurd (none-some turn e)
 
 -- ---- commands
-
-done_last : (words : List ℕ) → ShowsLast true (says words)
-done_last words = inl refl
 
 missing : NotDone (codes "NO [NONEXISTENT] No such mailbox")
 missing = no_end (codes "NO [NONEXISTENT] No such mailbox\r\n") 2 120 (λ b. refl) refl

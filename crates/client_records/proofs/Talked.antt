@@ -1,5 +1,5 @@
 -- What a session answers and says goes on from what it answered and said before.
-use Rattle.std.proofs.Common.{◌≡◌, ◌≢◌, ℕ, List, [], ◌∷◌, ◌++◌, Contains, refl, sym, subst, ap, ap₂, ◌∙◌, append-nil, append_assoc}
+use Rattle.std.proofs.Common.{◌≡◌, ℕ, List, [], ◌∷◌, ◌++◌, Contains, refl, sym, subst, ap, ap₂, ◌∙◌, append-nil, append_assoc}
 use Rattle.std.specs.Prelude.{Bool, Option, Some, None, flat_map}
 use Rattle.std.proofs.lemmas.Grind.{flat_map-append}
 use Rattle.line_io.specs.Wire.{crlf}
@@ -23,7 +23,7 @@ use Rattle.client_records.specs.Clients.{Told, bytes_in}
 use Rattle.client_records.specs.Lives.{IsSentFor, Lives, comes, turns, others}
 use Rattle.client_records.specs.Turns.{VerdictsArePrinted, told_line, told_of}
 use Rattle.client_records.specs.Views.{IsOfOthers}
-use Rattle.client_records.proofs.Moved.{Calls, Moved, rested, stepped}
+use Rattle.client_records.proofs.Moved.{Calls}
 
 -- since it came it answered these bytes, and said those
 pub record Talked (k : Config) (n : ℕ) (first : Standing) (began : World) (sent said : List ℕ) (now : Standing) (w : World) : Type 0 where
@@ -60,11 +60,6 @@ talked_turn k n first began sent said now w happening bytes turn v t is printed 
 pub talked_others : (k : Config) (n : ℕ) (first : Standing) (began : World) (sent said : List ℕ) (now : Standing) (w : World) (event : Event) (v : World)
     → Talked k n first began sent said now w → IsOfOthers n event → Step k w event v → Talked k n first began sent said now v
 talked_others k n first began sent said now w event v t o step = record { told = t.told; lives = others t.lives event v o step; bytes = t.bytes }
-
-pub talked_moved : (k : Config) (n q : ℕ) (first : Standing) (began : World) (sent said : List ℕ) (now : Standing) (w v : World)
-    → n ≢ q → Moved k q w v → Talked k n first began sent said now w → Talked k n first began sent said now v
-talked_moved k n q first began sent said now w v o (rested e) t = rw e t
-talked_moved k n q first began sent said now w v o (stepped event step own short) t = talked_others k n first began sent said now w event v t (own n o) step
 
 -- ---- what its client sends
 

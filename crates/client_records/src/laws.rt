@@ -1,5 +1,6 @@
 //! Laws of what a client reads of a house, as functions that do nothing: what its session counts in every world, what its calls
-//! come to, its turns, and its whole life.
+//! come to, its turns, and its whole life. Laws of what a client reads ask that the numbers can be printed (`HasSmallNumbers` of
+//! the settings) and that texts are short (`HasShortTexts` of the world): settings without a fault see to both (`clients_keep_up`).
 
 ghost use Rattle.client_records.specs.Clients.{KnowsWhereItIs};
 ghost use Rattle.client_records.specs.Current.{DoneCommandsMakeCurrent, DoneMakesCurrent, FeedsMakeCurrent, ListsAreCurrent, NoopMakesCurrent};
@@ -15,9 +16,16 @@ ghost use Rattle.client_records.specs.Turns.{StandsStill, TurnIsKnown};
 /// UID that was asked for, and what is counted can be printed. A session that enters a mailbox counts all that is there, as
 /// many as it tells, and one that leaves counts nothing.
 pub fn calls_are_seen()
+    // Where the settings' numbers are small, the UIDs and the positions of what a session counts can be printed.
     ensures numbered { ViewsAreNumbered }
+
+    // What others do leaves what a session counts as it was.
     ensures others { OthersLeaveViews }
+
+    // Where texts are short too, what a call shows may be shown, what it reads was asked for, and what it counts can be printed.
     ensures calls { CallsAreSeen }
+
+    // A session that enters a mailbox counts all that is there, as many as it is told; one that leaves counts nothing.
     ensures entries { EntriesAreCounted }
     ensures leavers { LeaversCountNothing }
 {}
@@ -26,9 +34,14 @@ pub fn calls_are_seen()
 /// text, whatever happened since; and what is gone doesn't come back (RFC 9051, 2.3.1.1). Each UID that a session counts was
 /// given, and over a record of a house the world moves on by its events, so this is so from any moment to any later one.
 pub fn uids_stay()
+    // A UID that a session counts names the same copy at any later moment.
     ensures same { UidsStay }
+
+    // A message that is there later, under a UID that was given, was there already; and each UID that a session counts was given.
     ensures gone { GoneStayGone }
     ensures given { CountedAreGiven }
+
+    // From one moment of a house's record to a later one the world moves on by its events, so all this holds between them.
     ensures records { RecordsMoveOn }
 {}
 
@@ -38,8 +51,13 @@ pub fn uids_stay()
 /// and that its tags are tags; it stays so. A SELECT or EXAMINE that isn't answered OK leaves no mailbox selected (RFC 9051,
 /// 6.3.2), wherever memory is refused, or the session has ended.
 pub fn turns_are_known()
+    // A client that was right about what its session counts hears a turn, and is right about what the session counts then.
     ensures turn { TurnIsKnown }
+
+    // What that asks of a session, of its tags and its mailboxes' names, stays so.
     ensures stands { StandsStill }
+
+    // After a SELECT or EXAMINE that isn't answered OK no mailbox is selected, or the session has ended.
     ensures unselected { RefusedSelectsNone }
 {}
 
@@ -48,8 +66,13 @@ pub fn turns_are_known()
 /// no number was out of its list. It knows where it is from that answer on, for as long as it asks for none of SELECT, EXAMINE, CLOSE
 /// and UNSELECT. Where it knows where it is, its session has selected a mailbox.
 pub fn lives_are_known()
+    // At each moment of a session's life its client is right about what the session counts, where it knows where it is.
     ensures life { LivesAreKnown }
+
+    // It does from a SELECT or EXAMINE that was answered OK on, as long as it asks for none of SELECT, EXAMINE, CLOSE and UNSELECT.
     ensures knows { KnowsWhereItIs }
+
+    // Where it knows where it is, its session has selected a mailbox.
     ensures selected { KnowingIsSelected }
 {}
 
@@ -64,10 +87,15 @@ pub fn one_life_happens()
 /// selected (RFC 9051, 5.2 and 6.1.2; RFC 2177). A client that knows where it is, and has read such a command's answer to its end,
 /// has a list of the mailbox as it is.
 pub fn lists_are_current()
+    // Where the last call of a turn was for all that is pending, and was answered, the session counts all that is in its mailbox.
     ensures fed { FeedsMakeCurrent }
+
+    // So it does after a command that `shows_all` names and whose last line says that it is completed, and after a NOOP or DONE that is OK.
     ensures commands { DoneCommandsMakeCurrent }
     ensures noop { NoopMakesCurrent }
     ensures done { DoneMakesCurrent }
+
+    // Who knows where it is and has read the answer to such a command to its end has a list of the mailbox as it is.
     ensures list { ListsAreCurrent }
 {}
 
@@ -76,8 +104,15 @@ pub fn lists_are_current()
 /// that it knows: since a SELECT or EXAMINE was answered OK. Of the house it is asked that numbers and names can be printed
 /// and messages have less than 2 GiB, which settings that are right see to; then no text was accepted that is too long to be told of.
 pub fn clients_keep_up()
+    // Over any record of a new house that is printable: the client of a session there keeps up with what it counts, by what it was told.
     ensures record { ClientsKeepUp }
+
+    // So it is of the record that exactly-once delivery has, of whatever events.
     ensures house { ClientsOfHousesKeepUp }
+
+    // Where a message has less than 2 GiB, no text was accepted that is too long to be told of.
     ensures texts { TextsStayShort }
+
+    // A house of settings that are in range and without a fault is printable.
     ensures settings { SettingsCanBePrinted }
 {}

@@ -1,7 +1,7 @@
 -- How a command grows, argument by argument, as clap's own calls say it.
 use Rattle.std.proofs.Common.{◌≡◌, ◌<◌, ◌+◌, ◌∙◌, ◌++◌, ◌∷◌, ◌||◌, ℕ, Bool, true, false, List, [], length, map, take, get_or, append_assoc, ap, ap₂, refl, sym, subst}
 use Rattle.std.proofs.lemmas.List.{map_more}
-use Rattle.clap.specs.Words.{AddsArg, App, Rule, Text, app_of, new_app, rule_of, shape_of, with_rule}
+use Rattle.clap.specs.Words.{AddsArg, App, Rule, app_of, rule_of, with_rule}
 use Rattle.clap.specs.declared.builder.arg.Arg.{Arg}
 use Rattle.clap.specs.declared.builder.command.Command.{Command}
 use Rattle.command_line.specs.inner.Words.{HasMore, rule_for, with_rules}
@@ -40,6 +40,3 @@ pub adds_next : (options : List NumberOption) (i : ℕ) (old mid new : Command) 
 adds_next options i old mid new a d under more adds global rule =
     subst (λ rules. HasMore rules old new) (sym (map_more rule_for options i d under))
     (adds_one (map rule_for (take i options)) old mid new a (rule_for (get_or options i d)) more adds global rule)
-
-pub shape_from : (name : Text) (rules : List Rule) (old new : Command) → app_of old ≡ new_app name → HasMore rules old new → shape_of new ≡ record (new_app name).top { rules = rules }
-shape_from name rules old new is more = ap (λ (a : App). a.top) (more.app ∙ ap (λ (a : App). with_rules a rules) is)

@@ -7,8 +7,8 @@ ghost use Rattle.command_line.specs.Asking.{IsAskedInRange};
 ghost use Rattle.command_line.specs.Words as words_taken;
 
 use crate::options::{
-    DEPTH, FIRST_UID, HOUSE_OPTIONS, IMAP_PORT, LMTP_PORT, MAX_MESSAGE, MESSAGES, NumberOption,
-    RING, RING_MAX, SERVER_OPTIONS, SESSIONS, SHARDS, UIDVALIDITY, WORKERS, command_line, helps_of,
+    DEPTH, FIRST_UID, Helps, IMAP_PORT, LMTP_PORT, MAX_MESSAGE, MESSAGES, NumberOption, RING,
+    RING_MAX, SESSIONS, SHARDS, UIDVALIDITY, WORKERS, command_line,
 };
 use clap::error::ErrorKind;
 use clap::{ArgMatches, Command, Error};
@@ -26,7 +26,7 @@ pub enum Asked {
     Serve {
         /// The settings, its ports and numbers of threads among them.
         config: Config,
-        /// Whether the UIDVALIDITY among them was given, or stands where none is: of that the server warns.
+        /// Whether the UIDVALIDITY among them was given, or is the default: of that the server warns.
         uidvalidity: Uidvalidity,
     },
 }
@@ -54,17 +54,17 @@ fn are_digits(text: &str) -> bool {
     text.bytes().all(|b| b.is_ascii_digit())
 }
 
-// The number that was given, or else the one that stands.
+// The number that was given, or else its default.
 fn given<'a>(
     matches: &ArgMatches<'a>,
     option: NumberOption,
-    standing: u64,
+    default: u64,
 ) -> Result<u64, Refused<'a>>
-    requires { IsFrom option.number.least option.number.most standing }
+    requires { IsFrom option.number.least option.number.most default }
     ensures { IfOk result (IsFrom option.number.least option.number.most) }
 {
     let Some(text) = matches.get_str(option.name) else {
-        return Ok(standing);
+        return Ok(default);
     };
     match text.parse::<u64>() {
         Ok(value) if are_digits(text) && option.number.allows(value) => Ok(value),
@@ -77,10 +77,10 @@ fn set_name<'a>(
     alloc: Global,
     matches: &ArgMatches<'a>,
     name: &str,
-    standing: &mut Vec<u8>,
+    value: &mut Vec<u8>,
 ) -> Result<(), AllocError> {
     if let Some(text) = matches.get_str(name) {
-        *standing = Vec::from_slice(alloc, text.as_bytes())?;
+        *value = Vec::from_slice(alloc, text.as_bytes())?;
     }
     Ok(())
 }
@@ -174,8 +174,8 @@ fn set_given<'a>(
     set_uids(matches, config)
 }
 
-// The settings that stand where no option is given, with the mailboxes of these words.
-fn standing<'a>(alloc: Global, matches: &ArgMatches<'a>) -> Result<Config, Refused<'a>>
+// The defaults, with the mailboxes of these words.
+fn defaults<'a>(alloc: Global, matches: &ArgMatches<'a>) -> Result<Config, Refused<'a>>
     ensures { IfOk result IsInRange }
 {
     let words = mailboxes_of(alloc, matches)?;
@@ -186,7 +186,7 @@ fn standing<'a>(alloc: Global, matches: &ArgMatches<'a>) -> Result<Config, Refus
 fn settings_of<'a>(alloc: Global, matches: &ArgMatches<'a>) -> Result<Config, Refused<'a>>
     ensures { IfOk result IsInRange }
 {
-    let mut config = standing(alloc, matches)?;
+    let mut config = defaults(alloc, matches)?;
     set_given(alloc, matches, &mut config)?;
     Ok(config)
 }
@@ -195,7 +195,7 @@ fn settings_of<'a>(alloc: Global, matches: &ArgMatches<'a>) -> Result<Config, Re
 fn uidvalidity_of<'a>(matches: &ArgMatches<'a>) -> Uidvalidity {
     match matches.get_str(UIDVALIDITY.name) {
         Some(_) => Uidvalidity::Given,
-        None => Uidvalidity::Standing,
+        None => Uidvalidity::Default,
     }
 }
 
@@ -286,7 +286,6 @@ pub fn asked_of<'a, S: AsStr>(alloc: Global, words: &'a [S]) -> Result<Asked, Er
     ensures answered { MatchResult result (λ asked. words_taken.faults_at (map S.text words.entry.now) ≡ [])
         (λ e. words_taken.FailsWith (words_taken.faults_at (map S.text words.entry.now)) (kind_of e)) }
 {
-    let helps = helps_of(alloc, HOUSE_OPTIONS)?;
-    let server_helps = helps_of(alloc, SERVER_OPTIONS)?;
-    asked_by(alloc, command_line(alloc, &helps, &server_helps)?, words)
+    let helps = Helps::new(alloc)?;
+    asked_by(alloc, command_line(alloc, &helps)?, words)
 }

@@ -4,14 +4,15 @@ ghost use Rattle.std.specs.Prelude.{◌≡◌, ◌≤◌, ◌∷◌, [], IfOk, c
 ghost use Rattle.clap.specs.Words.{app_of, rule_of, shape_of};
 ghost use Rattle.clap.specs.declared.builder.command.Command.TheViews.{out-Command as fields_of};
 ghost use Rattle.command_line.specs.Words as words;
-ghost use Rattle.command_line.specs.inner.Words.{HasMore, rule_for};
+ghost use Rattle.command_line.specs.inner.Words.{AreThere, HasMore, rule_for};
 
 use clap::builder::ValueParser;
 use clap::{Arg, ArgAction, Command};
 use house::numbers::{self, Number};
+use house::{DOMAIN, HOST};
 use std::alloc::{AllocError, Global};
 
-/// An option that sets a number. How far it may go, and what stands where it is not given, is the settings' to say.
+/// An option that sets a number. How far it may go, and its default, is the settings' to say.
 #[derive(Clone, Copy)]
 pub(crate) struct NumberOption {
     pub(crate) name: &'static str,
@@ -92,7 +93,7 @@ pub(crate) const SESSIONS: NumberOption = NumberOption {
 };
 
 // What both subcommands may be given.
-pub(crate) const HOUSE_OPTIONS: &[NumberOption] = &[
+const HOUSE_OPTIONS: &[NumberOption] = &[
     SHARDS,
     DEPTH,
     RING,
@@ -104,13 +105,12 @@ pub(crate) const HOUSE_OPTIONS: &[NumberOption] = &[
 ];
 
 // What `serve` may be given besides.
-pub(crate) const SERVER_OPTIONS: &[NumberOption] = &[LMTP_PORT, IMAP_PORT, WORKERS, SESSIONS];
+const SERVER_OPTIONS: &[NumberOption] = &[LMTP_PORT, IMAP_PORT, WORKERS, SESSIONS];
 
 // The program's version, and the logic that its proofs were checked by, as `rt version` names it.
 const VERSION: &str = "0.1.0, proved with logic dac8208d650f15bf";
 
-// An option that sets a number. Its help says what it is for, how far it may go, and what stands where it
-// is not given.
+// An option that sets a number. Its help says what it is for, how far it may go, and its default.
 fn option<'a>(alloc: Global, option: NumberOption, help: &'a str) -> Arg<'a>
     ensures rule { rule_of result ≡ rule_for option }
     ensures local { result.global ≡ false }
@@ -123,7 +123,7 @@ fn option<'a>(alloc: Global, option: NumberOption, help: &'a str) -> Arg<'a>
 }
 
 // The help of each of these options.
-pub(crate) fn helps_of(alloc: Global, options: &[NumberOption]) -> Result<Vec<String>, AllocError>
+fn helps_of(alloc: Global, options: &[NumberOption]) -> Result<Vec<String>, AllocError>
     ensures { IfOk result (λ helps. length helps.items ≡ length options.now) }
 {
     let mut helps = Vec::new(alloc);
@@ -131,11 +131,32 @@ pub(crate) fn helps_of(alloc: Global, options: &[NumberOption]) -> Result<Vec<St
         let number = option.number;
         let help = format!(in alloc;
             "{}: {} to {}, and {} where it is not given",
-            option.help, number.least, number.most, number.standing
+            option.help, number.least, number.most, number.default
         )?;
         helps.push(help)?;
     }
     Ok(helps)
+}
+
+/// The help of all names and options. It is made before the command line, which borrows it.
+#[derive(Drop)]
+pub(crate) struct Helps {
+    names: Vec<String>,
+    house: Vec<String>,
+    server: Vec<String>,
+}
+
+impl Helps {
+    /// The help of each. An error where memory is refused.
+    pub(crate) fn new(alloc: Global) -> Result<Helps, AllocError>
+        ensures { IfOk result (λ h. AreThere h.names.items h.house.items h.server.items) }
+    {
+        Ok(Helps {
+            names: name_helps(alloc)?,
+            house: helps_of(alloc, HOUSE_OPTIONS)?,
+            server: helps_of(alloc, SERVER_OPTIONS)?,
+        })
+    }
 }
 
 // A subcommand with these options besides.
@@ -156,7 +177,7 @@ fn with_options<'a>(
 }
 
 // A name that may be set. Which names are right is the settings' to say.
-fn name<'a>(alloc: Global, name: &'static str, help: &'static str) -> Arg<'a>
+fn name<'a>(alloc: Global, name: &'static str, help: &'a str) -> Arg<'a>
     ensures rule { rule_of result ≡ words.name_rule name.now }
     ensures local { result.global ≡ false }
 {
@@ -166,21 +187,28 @@ fn name<'a>(alloc: Global, name: &'static str, help: &'static str) -> Arg<'a>
         .action(ArgAction::Set)
 }
 
+// The help of the names that may be set: the host's, and the domain's.
+fn name_helps(alloc: Global) -> Result<Vec<String>, AllocError>
+    ensures { IfOk result (λ helps. length helps.items ≡ 2) }
+{
+    let mut helps = Vec::new(alloc);
+    helps.push(format!(in alloc; "The name that the house greets with: {} where it is not given", HOST)?)?;
+    helps.push(format!(in alloc; "The domain that mail comes for: {} where it is not given", DOMAIN)?)?;
+    Ok(helps)
+}
+
 // A subcommand with the names that may be set.
-fn with_names_of<'a>(alloc: Global, subcommand: Command<'a>) -> Result<Command<'a>, AllocError>
+fn with_names_of<'a>(
+    alloc: Global,
+    subcommand: Command<'a>,
+    helps: &'a [String],
+) -> Result<Command<'a>, AllocError>
+    requires { 2 ≤ length helps.now }
     ensures { IfOk result (HasMore (words.name_rule (codes "host") ∷ words.name_rule (codes "domain") ∷ []) subcommand.entry) }
 {
     subcommand
-        .arg(name(
-            alloc,
-            "host",
-            "The name that the house greets with: mx.example.org where it is not given",
-        ))?
-        .arg(name(
-            alloc,
-            "domain",
-            "The domain that mail comes for: example.org where it is not given",
-        ))
+        .arg(name(alloc, "host", &helps[0]))?
+        .arg(name(alloc, "domain", &helps[1]))
 }
 
 // The mailboxes, of which there is one at least.
@@ -199,18 +227,18 @@ fn mailboxes<'a>(alloc: Global) -> Arg<'a>
 fn with_house<'a>(
     alloc: Global,
     subcommand: Command<'a>,
-    helps: &'a [String],
+    helps: &'a Helps,
 ) -> Result<Command<'a>, AllocError>
-    requires { 8 ≤ length helps.now }
+    requires { AreThere helps.now.names.items helps.now.house.items helps.now.server.items }
     ensures { IfOk result (HasMore words.house_rules subcommand.entry) }
 {
-    let named = with_names_of(alloc, subcommand)?;
-    with_options(alloc, named, HOUSE_OPTIONS, helps)?.arg(mailboxes(alloc))
+    let named = with_names_of(alloc, subcommand, &helps.names)?;
+    with_options(alloc, named, HOUSE_OPTIONS, &helps.house)?.arg(mailboxes(alloc))
 }
 
 // `script`, with its options and its mailboxes.
-fn script_line<'a>(alloc: Global, helps: &'a [String]) -> Result<Command<'a>, AllocError>
-    requires { 8 ≤ length helps.now }
+fn script_line<'a>(alloc: Global, helps: &'a Helps) -> Result<Command<'a>, AllocError>
+    requires { AreThere helps.now.names.items helps.now.house.items helps.now.server.items }
     ensures shape { IfOk result (λ c. shape_of c ≡ words.script) }
     ensures local { IfOk result (λ c. (fields_of c).has_globals ≡ false) }
 {
@@ -221,12 +249,8 @@ fn script_line<'a>(alloc: Global, helps: &'a [String]) -> Result<Command<'a>, Al
 }
 
 // `serve`, with its options and its mailboxes.
-fn serve_line<'a>(
-    alloc: Global,
-    helps: &'a [String],
-    server_helps: &'a [String],
-) -> Result<Command<'a>, AllocError>
-    requires { (8 ≤ length helps.now) × (4 ≤ length server_helps.now) }
+fn serve_line<'a>(alloc: Global, helps: &'a Helps) -> Result<Command<'a>, AllocError>
+    requires { AreThere helps.now.names.items helps.now.house.items helps.now.server.items }
     ensures shape { IfOk result (λ c. shape_of c ≡ words.serve) }
     ensures local { IfOk result (λ c. (fields_of c).has_globals ≡ false) }
 {
@@ -234,7 +258,7 @@ fn serve_line<'a>(
         "Serves on the loopback address until standard input is at its end",
     );
     let housed = with_house(alloc, serve, helps)?;
-    with_options(alloc, housed, SERVER_OPTIONS, server_helps)
+    with_options(alloc, housed, SERVER_OPTIONS, &helps.server)
 }
 
 // The program, with no subcommand yet.
@@ -248,14 +272,10 @@ fn program<'a>(alloc: Global) -> Command<'a>
 }
 
 // What the program takes: one of two subcommands.
-pub(crate) fn command_line<'a>(
-    alloc: Global,
-    helps: &'a [String],
-    server_helps: &'a [String],
-) -> Result<Command<'a>, AllocError>
-    requires { (8 ≤ length helps.now) × (4 ≤ length server_helps.now) }
+pub(crate) fn command_line<'a>(alloc: Global, helps: &'a Helps) -> Result<Command<'a>, AllocError>
+    requires { AreThere helps.now.names.items helps.now.house.items helps.now.server.items }
     ensures { IfOk result (λ c. app_of c ≡ words.program) }
 {
     let with_script = program(alloc).subcommand(script_line(alloc, helps)?)?;
-    with_script.subcommand(serve_line(alloc, helps, server_helps)?)
+    with_script.subcommand(serve_line(alloc, helps)?)
 }

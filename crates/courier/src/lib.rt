@@ -53,9 +53,12 @@ pub trait Courier {
         text: &Text,
         flags: Flags,
     ) -> Result<Verdict, Lost>
+        // It may carry a message, and so it may afterwards, whatever it answers.
         requires ready { ready self.old }
         ensures ready { ready self.new }
+        // What it may have come from before, it may have come from still.
         ensures kept { (first : Self) → kept first self.old → kept first self.new }
+        // After Ok it has carried this message behind those before, and the answer is the verdict that it brought on it.
         ensures carried { IfOk result (λ verdict. (done : List Carried) → carried self.old done
             → carried self.new (done ++ record { message = message; mailbox = mailbox; text = text.now; flags = flags; verdict = verdict } ∷ [])) };
 }

@@ -1,7 +1,7 @@
 //! A gap that moves up a view: it takes in one UID after another and is closed at the end. So each
 //! UID behind the first of them is moved once. Which UIDs are taken in is told in `leaving`.
 
-ghost use Rattle.std.specs.Prelude.{◌≡◌, ◌+◌, ◌<◌, ◌≤◌, ◌++◌, length, remove, vec_len, vec_capacity};
+ghost use Rattle.std.specs.Prelude.{◌≡◌, ◌+◌, ◌<◌, ◌≤◌, length, remove, vec_len, vec_capacity};
 ghost use Rattle.cursor_set.specs.Gap.{around, IsGapOf};
 
 /// The part of a view that was taken in, from the index `start` up to `end`.
@@ -44,12 +44,17 @@ impl Gap {
 
     /// Takes in the UID that is counted at this index, which isn't before the gap.
     pub fn without(self, view: &mut Vec<u32>, index: usize) -> Gap
+        // The gap is a part of the view, and the index, of what stands on either side of it, is not before it.
         requires gap { IsGapOf self view.old.items }
         requires up { self.start ≤ index }
         requires within { index < length (around self view.old.items) }
+
+        // The gap is a part of the view still; on either side stands what did, without the UID at the index.
         ensures gap { IsGapOf result view.new.items }
         ensures around { around result view.new.items ≡ remove (around self view.old.items) index }
         ensures start { result.start ≡ index }
+
+        // The vector keeps its length and its room.
         ensures len { vec_len view.new ≡ vec_len view.old }
         ensures capacity { vec_capacity view.new ≡ vec_capacity view.old }
     {
@@ -63,6 +68,7 @@ impl Gap {
     /// Leaves the UIDs on either side, and no gap.
     pub fn close(self, view: &mut Vec<u32>)
         requires { IsGapOf self view.old.items }
+        // What stood on either side of the gap is the view now; the vector keeps its room.
         ensures items { view.new.items ≡ around self view.old.items }
         ensures len { vec_len view.new ≤ vec_len view.old }
         ensures capacity { vec_capacity view.new ≡ vec_capacity view.old }

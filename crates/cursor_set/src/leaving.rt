@@ -70,9 +70,12 @@ impl Leaving {
 
     /// The position of a message among those that count, from 1.
     pub fn position(&mut self, view: &[u32], uid: u32) -> usize
+        // The indices that are gone lie in the view and rise; the message counts; the UIDs of the view rise.
         requires gone { AreIn self.old.gone.items view.now }
         requires there { Contains (counted self.old.gone.items view.now) uid }
         requires rising { IsStrictlyIncreasing view.now }
+
+        // Nothing more is gone, and the answer is the message's position among the UIDs that count.
         ensures gone { self.new.gone.items ≡ self.old.gone.items }
         ensures position { result ≡ position uid (counted self.old.gone.items view.now) }
     {
@@ -105,13 +108,22 @@ impl Leaving {
 
     /// Takes out a message, and answers the position that it had.
     pub fn take_out(&mut self, view: &mut Vec<u32>, uid: u32) -> usize
+        // The indices that are gone lie in the view and rise; the message counts; the UIDs of the view rise.
         requires gone { AreIn self.old.gone.items view.old.items }
         requires there { Contains (counted self.old.gone.items view.old.items) uid }
         requires rising { IsStrictlyIncreasing view.old.items }
+
+        // What counts is what did before, without this UID; the indices that are gone still lie in the view and rise.
         ensures gone { AreIn self.new.gone.items view.new.items }
         ensures counted { counted self.new.gone.items view.new.items ≡ without uid (counted self.old.gone.items view.old.items) }
+
+        // Where the view rose, with any UIDs that are still to come behind it, it does so still.
         ensures rising { (later : List ℕ) → IsStrictlyIncreasing (view.old.items ++ later) → IsStrictlyIncreasing (view.new.items ++ later) }
+
+        // The answer is the position that the message had among the UIDs that counted.
         ensures position { result ≡ position uid (counted self.old.gone.items view.old.items) }
+
+        // The view never grows, and the vector keeps its room.
         ensures len { vec_len view.new ≤ vec_len view.old }
         ensures capacity { vec_capacity view.new ≡ vec_capacity view.old }
     {
@@ -124,9 +136,13 @@ impl Leaving {
 
     /// Leaves the UIDs that count, and none that is gone.
     pub fn close(&mut self, view: &mut Vec<u32>)
+        // The indices that are gone lie in the view and rise.
         requires { AreIn self.old.gone.items view.old.items }
+        // The view is what counted, and nothing is gone.
         ensures items { view.new.items ≡ counted self.old.gone.items view.old.items }
         ensures gone { self.new.gone.items ≡ [] }
+
+        // The view never grows, and the vector keeps its room.
         ensures len { vec_len view.new ≤ vec_len view.old }
         ensures capacity { vec_capacity view.new ≡ vec_capacity view.old }
     {

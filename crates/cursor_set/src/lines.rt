@@ -1,7 +1,7 @@
 //! The lines that show changes to a client, written in room that was reserved, and what the client
 //! counts after them. Which changes are shown, and to whom, is told in `set`.
 
-ghost use Rattle.std.specs.Prelude.{◌≡◌, ◌+◌, ◌*◌, ◌<◌, ◌≤◌, [], ◌++◌, List, length, ◌∷◌, not, ◌&&◌, if◌then◌else◌, codes, decimal, vec_len, vec_capacity};
+ghost use Rattle.std.specs.Prelude.{◌≡◌, ◌+◌, ◌*◌, ◌≤◌, [], ◌++◌, List, length, ◌∷◌, not, ◌&&◌, if◌then◌else◌, codes, decimal, vec_len, vec_capacity};
 ghost use Rattle.std.specs.List.Sorted.{IsStrictlyIncreasing};
 ghost use Rattle.change_ring.specs.declared.change.Change.{Change};
 ghost use Rattle.change_ring.specs.Log.{Names, added, shown, replay};
@@ -63,7 +63,9 @@ pub const FLAGS_ROOM: usize = 41;
 /// Writes the names of the flags that are set, with a space between two, behind `out`, which has room
 /// for them (RFC 9051, 2.3.2).
 pub fn put_flags(flags: Flags, out: &mut Vec<u8>)
+    // There is room for the names of all five flags.
     requires { vec_len out.old + 41 ≤ vec_capacity out.old }
+    // The names of the flags that are set go behind `out`, with a space between two, and `out` keeps its room or has more.
     ensures items { out.new.items ≡ out.old.items ++ spaced (flag_words flags) }
     ensures len { vec_len out.new ≤ vec_len out.old + 41 }
     ensures capacity { vec_capacity out.old ≤ vec_capacity out.new }
@@ -136,13 +138,18 @@ fn show_change(change: Change, leaving: &mut Leaving, view: &mut Vec<u32>, out: 
 /// Shows changes: their lines, and the view after them. What is taken out is noted beside the view,
 /// which is closed at the end, so that it isn't moved for each.
 pub fn show_changes(changes: &[Change], view: &mut Vec<u32>, out: &mut Vec<u8>)
+    // UIDs rise, those of the view and then those that are added, and each change speaks of a message that is there then.
     requires legal { IsLegalOn view.old.items changes.now }
+    // There is room for each message that may be added, and for the longest line of each change.
     requires view_room { vec_len view.old + length changes.now ≤ vec_capacity view.old }
     requires out_room { vec_len out.old + length changes.now * LINE_ROOM ≤ vec_capacity out.old }
 
+    // The client counts what it did, with these changes replayed.
     ensures view { view.new.items ≡ replay view.old.items changes.now }
+    // A line for each change goes behind `out`, as the client counts after the changes before it.
     ensures text { out.new.items ≡ out.old.items ++ lines view.old.items changes.now }
 
+    // The view grows by a UID a change at most, `out` by a line of the longest; neither has less room.
     ensures view_len { vec_len view.new ≤ vec_len view.old + length changes.now }
     ensures view_capacity { vec_capacity view.old ≤ vec_capacity view.new }
     ensures out_len { vec_len out.new ≤ vec_len out.old + length changes.now * LINE_ROOM }

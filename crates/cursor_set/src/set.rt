@@ -209,12 +209,18 @@ impl CursorSet {
     /// Opens a cursor for a client that counts these UIDs, and is to be shown the change of number
     /// `at` next. An error where memory is refused; the set is then unchanged.
     pub fn enter(&mut self, uids: &[u32], at: u64) -> Result<CursorHandle, AllocError>
+        // A serial is left for it, as `can_open` tells.
         requires { self.old.next < 2 ^ 64 - 1 }
+        // The handle has the serial that was due and stands at the number `at`; the slot was vacant.
         ensures handle { IfOk result (λ handle. (handle.number ≡ self.old.number) × (handle.serial ≡ self.old.next) × (handle.at ≡ at)) }
         ensures vacant { IfOk result (λ handle. in_slot self.old handle.slot ≡ None) }
+
+        // The new cursor is in its slot, and no other slot has changed; the next cursor gets the next serial.
         ensures opened { IfOk result (λ handle. Updates self.old self.new handle.slot
             (Some (record { serial = self.old.next; at = at; view = uids.now }))) }
         ensures next { OnOk result (self.new.next ≡ self.old.next + 1) }
+
+        // After an error nothing has changed.
         ensures err { OnErr result (self.new ≡ self.old) }
     {
         let view = Vec::from_slice(self.alloc, uids)?;
@@ -257,9 +263,14 @@ impl CursorSet {
 
     /// Closes a cursor. A handle that has no cursor here is handed back, and the set is unchanged.
     pub fn close(&mut self, handle: CursorHandle) -> Result<(), CursorHandle>
+        // After Ok the handle had its cursor here and its slot is vacant; no other slot has changed.
         ensures ok { OnOk result (Updates self.old self.new handle.slot None) }
         ensures held { OnOk result (IsSome (held self.old handle)) }
+
+        // The serial of the next cursor stays.
         ensures next { self.new.next ≡ self.old.next }
+
+        // After an error the handle comes back, it had no cursor here, and nothing has changed.
         ensures stranger { IfErr result (λ back. (back ≡ handle) × (held self.old handle ≡ None) × (self.new ≡ self.old)) }
     {
         if self.find(&handle).is_none() {
@@ -292,20 +303,27 @@ impl CursorSet {
         limit: usize,
         out: &mut Vec<u8>,
     ) -> Result<usize, FeedFault>
+        // What is pending for the handle's cursor, if it isn't lapped, is within the log and legal on what its client counts.
         requires known { (o : Open) → held self.old handle.old ≡ Some o → ring.now.base ≤ handle.old.at →
             (handle.old.at ≤ total ring.now) × IsLegalOn o.view (changes_from handle.old.at ring.now) }
 
+        // Stranger exactly where the handle has no cursor here, Lapped exactly where it has and the next change was overwritten.
         ensures stranger { (result ≡ Err FeedFault.Stranger) ↔ (held self.old handle.old ≡ None) }
         ensures lapped { (result ≡ Err FeedFault.Lapped) ↔ (IsSome (held self.old handle.old) × (handle.old.at < ring.now.base)) }
+        // NoMemory comes only where there is something to show. After an error nothing has changed, nor was anything written.
         ensures memory { (result ≡ Err FeedFault.NoMemory) → 0 < min limit (total ring.now - handle.old.at) }
         ensures err { OnErr result ((self.new ≡ self.old) × (handle.new ≡ handle.old) × (out.new.items ≡ out.old.items)) }
 
+        // It shows as many as are pending, up to `limit`: their lines, as the client counts, go behind `out`.
         ensures count { IfOk result (λ n. n ≡ min limit (total ring.now - handle.old.at)) }
         ensures shown { IfOk result (λ n. IfSome (held self.old handle.old) (λ o.
             out.new.items ≡ out.old.items ++ lines o.view (next_changes ring.now handle.old.at n))) }
+
+        // Handle and cursor go on by as many, the view is what the changes make of it, and no other slot has changed.
         ensures handle { IfOk result (λ n. handle.new ≡ record handle.old { at = handle.old.at + n }) }
         ensures moved { IfOk result (λ n. Updates self.old self.new handle.old.slot
             (option_map (after_showing (next_changes ring.now handle.old.at n)) (held self.old handle.old))) }
+        // The serial of the next cursor stays, and `out` keeps its room or has more.
         ensures next { self.new.next ≡ self.old.next }
         ensures room { vec_capacity out.old ≤ vec_capacity out.new }
     {

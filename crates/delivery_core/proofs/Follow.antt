@@ -1,5 +1,5 @@
 -- What is changed at one position, the world changes at the same position.
-use Rattle.std.proofs.Common.{◌≡◌, ◌≢◌, ◌⊎◌, inl, inr, true, false, ℕ, zero, suc, ◌<◌, List, [], ◌∷◌, ◌++◌, length, get_or, set, refl, sym, ap, subst, arith, eqb, get_or-set_same, get_or-set_other, length-set, Result, Ok, Err, OnOk, OnErr}
+use Rattle.std.proofs.Common.{◌≡◌, ◌≢◌, ◌⊎◌, inl, inr, true, false, ℕ, zero, suc, ◌<◌, List, [], ◌∷◌, ◌++◌, length, get_or, set, refl, ap, arith, eqb, get_or-set_same, get_or-set_other, length-set}
 use Rattle.std.proofs.lemmas.Bool.Decides.{eqb_tells}
 use Rattle.shard_queue.specs.At.{set_at}
 use Rattle.shard_queue.proofs.AtLaws.{at_cases}
@@ -7,7 +7,7 @@ use Rattle.world.specs.World.{Config, World, Event, Step, Steps, IsWorld, empty_
 use Rattle.world.proofs.Always.{steps_join, always}
 use Rattle.delivery_core.specs.DeliveryCore.{DeliveryCore}
 use Rattle.delivery_core.specs.Stands.{EachAt, StandsFor, IsNext, Reached, Follows}
-use Rattle.delivery_core.specs.inner.Stands.{Runs, Lives}
+use Rattle.delivery_core.specs.inner.Stands.{Lives}
 use Rattle.delivery_token.specs.declared.CopyKey.{CopyKey}
 
 -- an element is changed, and what is said of its position holds of it
@@ -59,15 +59,6 @@ next_same w v ys sent heard all p d l =
     let n : IsNext w p (get_or ys p d) = all p d l in
     record { own = n.own; sent = λ t. rw (sent t p) (n.sent t); heard = rw (heard p) n.heard }
 
-pub follows_none : (k : Config) (h : DeliveryCore) → Follows k h [] h
-follows_none k h w S = (w, refl, S)
-
-pub follows_join : (k : Config) (a b c : DeliveryCore) (es fs : List Event) → Follows k a es b → Follows k b fs c → Follows k a (es ++ fs) c
-follows_join k a b c es fs f g w S =
-    let first : (v : World) × Steps k w es v × StandsFor k b v = f w S in
-    let next : (v : World) × Steps k first.0 fs v × StandsFor k c v = g first.0 first.2 in
-    (next.0, steps_join k w es first.0 fs next.0 first.1 next.1, next.2)
-
 -- a call that follows some events lives on under the law
 pub lives : (k : Config) (a b : DeliveryCore) (es : List Event) → Follows k a es b → Lives k a b
 lives k a b es f events w world S =
@@ -80,23 +71,3 @@ each_push P [] x all here zero d l = here
 each_push P [] x all here (suc j) d l = absurd (omega arith)
 each_push P (y ∷ ys) x all here zero d l = all zero d (omega arith)
 each_push P (y ∷ ys) x all here (suc j) d l = each_push (λ i. P (suc i)) ys x (λ i e h. all (suc i) e (omega arith)) here j d (omega arith)
-
-pub each_none : {A : Type 0} (P : ℕ → A → Type 0) (xs : List A) → xs ≡ [] → EachAt P xs
-each_none P xs e i d l = absurd (omega (arith, ap length e))
-
-pub runs_none : (k : Config) (h : DeliveryCore) → Runs k h h
-runs_none k h w S = ([], w, refl, S)
-
--- an event that was made or refused
-pub runs_step : {T E : Type 0} (r : Result T E) (k : Config) (a b c : DeliveryCore) (e : Event) → OnOk r ((x : Config) → Follows x b (e ∷ []) c) → OnErr r (c ≡ b) → Runs k a b → Runs k a c
-runs_step (Ok x) k a b c e ok err runs w S =
-    let first : (events : List Event) × (v : World) × Steps k w events v × StandsFor k b v = runs w S in
-    let next : (v : World) × Steps k first.1 (e ∷ []) v × StandsFor k c v = ok k first.1 first.3 in
-    (first.0 ++ e ∷ [], next.0, steps_join k w first.0 first.1 (e ∷ []) next.0 first.2 next.1, next.2)
-runs_step (Err x) k a b c e ok err runs w S = subst (λ (h : DeliveryCore). Runs k a h) (sym err) runs w S
-
-pub lives_of_runs : (k : Config) (a b : DeliveryCore) → Runs k a b → Lives k a b
-lives_of_runs k a b r events w world S =
-    let more : (events : List Event) × (v : World) × Steps k w events v × StandsFor k b v = r w S in
-    let whole : IsWorld k (events ++ more.0) more.1 = steps_join k empty_world events w more.0 more.1 world more.2 in
-    (more.0, more.1, whole, more.3, always k (events ++ more.0) more.1 whole)

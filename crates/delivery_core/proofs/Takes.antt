@@ -141,12 +141,6 @@ below_sent y key (Item p c ∷ es) h (inl e) = rw e (All-head (EntryBelow y) (It
 below_sent y key (Item p c ∷ es) h (inr i) = below_sent y key es (All-tail (EntryBelow y) (Item p c) es h) i
 below_sent y key (End p ∷ es) h i = below_sent y key es (All-tail (EntryBelow y) (End p) es h) i
 
--- a reply lane has no ends
-pub no_reply_end : (k : Config) (w : World) (old : DeliveryCore) (p s : ℕ) (l : PlainLane Noted) (others : List (Entry Noted)) → StandsFor k old w → p < length old.replies → l ≡ get_or old.replies p l → l.waiting ≡ End s ∷ others → ⊥
-no_reply_end k w old p s l others S inp there front =
-    let was : StandsForLane k.shards reply_room l (w.replies p) = rw there (S.replies p l inp) in
-    (rw (sym was.waiting ∙ front) at ((known_always k S.reached.0 w S.reached.1).replies p)).0
-
 pub hear_follows : (k : Config) (w : World) (old new : DeliveryCore) (p s : ℕ) (r : Noted) (l l2 : PlainLane Noted) (book0 book1 book2 book3 : WorkerLog) → StandsFor k old w
     → p < length old.replies → p < length old.heard → l ≡ get_or old.replies p l → l ≡ record { capacity = l2.capacity; live = l2.live; waiting = Item s r ∷ l2.waiting }
     → book0 ≡ get_or old.heard p book0 → book1.notes ≡ book0.notes → book2 ≡ get_or (set old.heard p book1) p book2 → book3.notes ≡ book2.notes ++ r ∷ []

@@ -46,19 +46,30 @@ impl DeliveryCore {
     /// 7.4 and 7.5), and it is told how many. Stranger where it has entered no mailbox, else Lapped
     /// where the next change was overwritten, else NoMemory; nothing is then changed.
     pub fn feed(&mut self, session: u8, limit: usize, out: &mut Vec<u8>) -> Result<usize, MailFault>
+        // Stranger exactly where no mailbox is entered; Spent never; NoMemory only where there is something to show.
         ensures stranger { (result ≡ Err MailFault.Stranger) ↔ (client_of self.old session ≡ None) }
         ensures spent { result ≢ Err MailFault.Spent }
         ensures memory { result ≡ Err MailFault.NoMemory → 0 < length (take limit (pending_for self.old session)) }
+
+        // With a mailbox entered: from each world for which it stood, the event leads to one for which it stands, and the answer is true.
         ensures event { IsSome (client_of self.old session) → (k : Config) →
             Does k self.old (Feed session limit) session (Feeds limit out.old.items out.new.items result) self.new }
+        // After Ok: for each world for which it stood it stands for one where the session was shown these changes, and nothing else changed.
         ensures done { OnOk result ((k : Config) → Makes k self.old session (λ b s. take limit (pending b s)) (λ b. []) self.new) }
+        // The lines of these changes go behind `out`, and the session counts the UIDs that they leave.
         ensures shown { IfOk result (λ n. Sees self.old self.new session (take n (pending_for self.old session)) out.old.items out.new.items) }
+        // The answer is how many, `limit` or, where that is less, all that it was behind; it is behind by as many less.
         ensures count { IfOk result (λ n. (n ≤ limit) × (length (take n (pending_for self.old session)) ≡ n)) }
         ensures less { IfOk result (λ n. (n ≡ min limit (behind self.old session)) × (behind self.new session + n ≡ behind self.old session)) }
+
+        // Nothing between seats and mailboxes has changed, no mailbox has other settings, and there are as many of each.
         ensures rest { SameDelivery self.old self.new }
         ensures same { OnOk result ((m : ℕ) (d : Mailbox) → SameMailbox (slice_index_or self.old.boxes m d) (slice_index_or self.new.boxes m d)) }
         ensures counts { SameCounts self.old self.new }
+        // `out` keeps its room or has more.
         ensures room { vec_capacity out.old ≤ vec_capacity out.new }
+
+        // After an error nothing has changed, nor was anything written.
         ensures refused { OnErr result ((self.new ≡ self.old) × (out.new.items ≡ out.old.items)) }
     {
         let place = usize::from(session);
@@ -79,15 +90,24 @@ impl DeliveryCore {
     /// Stranger where it has entered no mailbox, else Lapped, Spent or NoMemory, in this order;
     /// nothing is then changed.
     pub fn read(&mut self, session: u8, uid: u32, mark_seen: bool) -> Result<Option<Row>, MailFault>
+        // Stranger exactly where no mailbox is entered.
         ensures stranger { (result ≡ Err MailFault.Stranger) ↔ (client_of self.old session ≡ None) }
+        // No session is shown anything: clients and view stay.
         ensures clients { self.new.clients ≡ self.old.clients }
         ensures view { view_of self.new session ≡ view_of self.old session }
+
+        // With a mailbox entered: from each world for which it stood, the event leads to one for which it stands, and the answer is true.
         ensures event { IsSome (client_of self.old session) → (k : Config) →
             Does k self.old (Read session uid mark_seen) session (Reads mark_seen uid result) self.new }
+        // After Ok: for each world for which it stood it stands for one where at most \Seen was logged, if asked for, and nothing else changed.
         ensures done { OnOk result ((k : Config) → Makes k self.old session (λ b s. []) (λ b. seen_logged mark_seen (rows_of b.log) uid) self.new) }
+
+        // Nothing between seats and mailboxes has changed, no mailbox has other settings, and there are as many of each.
         ensures rest { SameDelivery self.old self.new }
         ensures same { OnOk result ((m : ℕ) (d : Mailbox) → SameMailbox (slice_index_or self.old.boxes m d) (slice_index_or self.new.boxes m d)) }
         ensures counts { SameCounts self.old self.new }
+
+        // After an error nothing has changed.
         ensures refused { OnErr result (self.new ≡ self.old) }
     {
         let place = usize::from(session);
@@ -105,16 +125,25 @@ impl DeliveryCore {
     /// told them as they are then; None where no message has the UID. Stranger where it has entered
     /// no mailbox, else Lapped or Spent, in this order; nothing is then changed.
     pub fn store(&mut self, session: u8, uid: u32, op: FlagOp) -> Result<Option<Flags>, MailFault>
+        // Stranger exactly where no mailbox is entered; NoMemory never.
         ensures stranger { (result ≡ Err MailFault.Stranger) ↔ (client_of self.old session ≡ None) }
         ensures memory { result ≢ Err MailFault.NoMemory }
+
+        // With a mailbox entered: from each world for which it stood, the event leads to one for which it stands, and the answer is true.
         ensures event { IsSome (client_of self.old session) → (k : Config) →
             Does k self.old (Store session uid op) session (Alters uid op result) self.new }
+        // After Ok: for each world for which it stood it stands for one where the flags are logged, if they are others, and nothing else changed.
         ensures done { OnOk result ((k : Config) → Makes k self.old session (λ b s. []) (λ b. flags_logged (rows_of b.log) uid op) self.new) }
+
+        // No session is shown anything: clients and view stay.
         ensures clients { self.new.clients ≡ self.old.clients }
         ensures view { view_of self.new session ≡ view_of self.old session }
+        // Nothing between seats and mailboxes has changed, no mailbox has other settings, and there are as many of each.
         ensures rest { SameDelivery self.old self.new }
         ensures same { OnOk result ((m : ℕ) (d : Mailbox) → SameMailbox (slice_index_or self.old.boxes m d) (slice_index_or self.new.boxes m d)) }
         ensures counts { SameCounts self.old self.new }
+
+        // After an error nothing has changed.
         ensures refused { OnErr result (self.new ≡ self.old) }
     {
         let place = usize::from(session);
@@ -138,18 +167,28 @@ impl DeliveryCore {
         uids: Option<&[u32]>,
         out: &mut Vec<u8>,
     ) -> Result<usize, MailFault>
+        // Stranger exactly where no mailbox is entered; NoMemory only where something is pending.
         ensures stranger { (result ≡ Err MailFault.Stranger) ↔ (client_of self.old session ≡ None) }
         ensures memory { result ≡ Err MailFault.NoMemory → 0 < length (pending_for self.old session) }
+
+        // With a mailbox entered: from each world for which it stood, the event leads to one for which it stands, and the answer is true.
         ensures event { IsSome (client_of self.old session) → (k : Config) →
             Does k self.old (Expunge session (in_set (option_map (λ uids. uids.now) uids.entry))) session
             (Expunges (in_set (option_map (λ uids. uids.now) uids.entry)) out.old.items out.new.items result) self.new }
+        // After Ok: for each world for which it stood it stands for one where all pending was shown and what goes logged, and nothing else changed.
         ensures done { OnOk result ((k : Config) → Makes k self.old session (λ b s. pending b s) (λ b.
             removals (in_set (option_map (λ uids. uids.now) uids.entry)) (rows_of b.log)) self.new) }
+        // The lines of all that was pending go behind `out`, and the session counts the UIDs that they leave.
         ensures shown { OnOk result (Sees self.old self.new session (pending_for self.old session) out.old.items out.new.items) }
+
+        // Nothing between seats and mailboxes has changed, no mailbox has other settings, and there are as many of each.
         ensures rest { SameDelivery self.old self.new }
         ensures same { OnOk result ((m : ℕ) (d : Mailbox) → SameMailbox (slice_index_or self.old.boxes m d) (slice_index_or self.new.boxes m d)) }
         ensures counts { SameCounts self.old self.new }
+        // `out` keeps its room or has more.
         ensures room { vec_capacity out.old ≤ vec_capacity out.new }
+
+        // After an error nothing has changed, nor was anything written.
         ensures refused { OnErr result ((self.new ≡ self.old) × (out.new.items ≡ out.old.items)) }
     {
         let place = usize::from(session);
@@ -170,16 +209,25 @@ impl DeliveryCore {
     /// session or mailbox, or the session has entered one already; else Spent where the mailbox has
     /// no serial left for a cursor, else NoMemory; nothing is then changed.
     pub fn enter(&mut self, session: u8, mailbox: u8) -> Result<Opening, MailFault>
+        // Stranger exactly where there is no such session or mailbox, or the session has entered one already; Lapped never.
         ensures stranger { (result ≡ Err MailFault.Stranger) ↔ ((length self.old.clients ≤ session) ⊎
             (IsSome (client_of self.old session) ⊎ (length self.old.boxes ≤ mailbox))) }
         ensures lapsed { result ≢ Err MailFault.Lapped }
+        // Spent only where the mailbox has no serial left for a cursor.
         ensures spent { result ≡ Err MailFault.Spent → (d : Mailbox) → 2 ^ 64 - 1 ≤ (slice_index_or self.old.boxes mailbox d).cursors.next }
+
+        // Unless Stranger: from each world for which it stood, the event leads to one for which it stands, and the answer is true.
         ensures event { result ≢ Err MailFault.Stranger → (k : Config) → Enters k self.old session mailbox result self.new }
+        // The session is in this mailbox now, and is told its UIDVALIDITY.
         ensures entered { OnOk result (option_map (λ client. client.mailbox) (client_of self.new session) ≡ Some mailbox) }
         ensures validity { IfOk result (λ opening. (d : Mailbox) → opening.uidvalidity ≡ (slice_index_or self.old.boxes mailbox d).uidvalidity) }
+
+        // Nothing between seats and mailboxes has changed, no mailbox has other settings, and there are as many of each.
         ensures rest { SameDelivery self.old self.new }
         ensures same { OnOk result ((m : ℕ) (d : Mailbox) → SameMailbox (slice_index_or self.old.boxes m d) (slice_index_or self.new.boxes m d)) }
         ensures counts { SameCounts self.old self.new }
+
+        // After an error nothing has changed.
         ensures refused { OnErr result (self.new ≡ self.old) }
     {
         let place = usize::from(session);
@@ -205,14 +253,22 @@ impl DeliveryCore {
     /// 9051, 6.4.1 and 6.4.2): it is told how many went. Stranger where it has entered no mailbox,
     /// else Spent where the log has no room for the removals; nothing is then changed.
     pub fn leave(&mut self, session: u8, remove: bool) -> Result<usize, MailFault>
+        // Stranger exactly where no mailbox is entered; the only other fault is Spent.
         ensures stranger { (result ≡ Err MailFault.Stranger) ↔ (client_of self.old session ≡ None) }
         ensures faults { IfErr result (λ fault. (fault ≡ MailFault.Stranger) ⊎ (fault ≡ MailFault.Spent)) }
+
+        // With a mailbox entered: from each world for which it stood, the event leads to one for which it stands, and the answer is true.
         ensures event { IsSome (client_of self.old session) → (k : Config) →
             Does k self.old (Leave session remove) session (Leaves remove result) self.new }
+        // The session is in no mailbox now.
         ensures gone { OnOk result (client_of self.new session ≡ None) }
+
+        // Nothing between seats and mailboxes has changed, no mailbox has other settings, and there are as many of each.
         ensures rest { SameDelivery self.old self.new }
         ensures same { OnOk result ((m : ℕ) (d : Mailbox) → SameMailbox (slice_index_or self.old.boxes m d) (slice_index_or self.new.boxes m d)) }
         ensures counts { SameCounts self.old self.new }
+
+        // After an error nothing has changed.
         ensures refused { OnErr result (self.new ≡ self.old) }
     {
         let place = usize::from(session);
@@ -239,10 +295,13 @@ impl DeliveryCore {
     /// the window. It takes no memory.
     /// Stranger where it has entered no mailbox.
     pub fn view(&self, session: u8) -> Result<View<'_>, MailFault>
+        // Stranger exactly where no mailbox is entered; there is no other fault.
         ensures stranger { IsErr result ↔ (client_of self.now session ≡ None) }
         ensures faults { IfErr result (λ fault. fault ≡ MailFault.Stranger) }
+        // The view is what the session counts, and its UIDs rise.
         ensures shown { IfOk result (λ view. view ≡ view_of self.now session) }
         ensures rising { IfOk result (λ view. IsStrictlyIncreasing view) }
+        // In each world for which it stands, that is what the changes leave that the session was shown of its mailbox's log.
         ensures log { IfOk result (λ view. (k : Config) (w : World) → StandsFor k self.now w →
             Selected w session (λ s. view ≡ view_at (w.box s.mailbox).log s.cursor)) }
     {
@@ -275,8 +334,11 @@ impl DeliveryCore {
 
     /// What STATUS tells of a mailbox (RFC 9051, 6.3.11). None where it is not there.
     pub fn status(&self, mailbox: u8) -> Option<Status>
+        // None exactly where the mailbox is not there.
         ensures there { IsSome result ↔ (mailbox < length self.now.boxes) }
+        // In each world for which it stands, the counts are those of its log, and the size is that of the texts as they were accepted.
         ensures status { IfSome result (λ status. (k : Config) (w : World) → StandsFor k self.now w → IsStatus k (w.box mailbox) status) }
+        // The UIDVALIDITY is the mailbox's.
         ensures validity { IfSome result (λ status. (d : Mailbox) → status.uidvalidity ≡ (slice_index_or self.now.boxes mailbox d).uidvalidity) }
     {
         let number = usize::from(mailbox);

@@ -12,6 +12,9 @@ use shard_queue::PlainLane;
 use std::alloc::{AllocError, Global};
 use world::hand::Hand;
 
+/// So many empty lanes, each with this capacity, into which so many producers may put.
+///
+/// Errors: `AllocError` where memory was refused.
 pub fn new_lanes<T: Drop>(
     alloc: Global,
     count: u8,
@@ -28,6 +31,9 @@ pub fn new_lanes<T: Drop>(
     Ok(lanes)
 }
 
+/// So many hands, with nothing in them: one for each shard.
+///
+/// Errors: `AllocError` where memory was refused.
 pub fn empty_hands(alloc: Global, count: u8) -> Result<Vec<Hand>, AllocError>
     ensures count { IfOk result (λ v. length v.items ≡ count) }
     ensures each { IfOk result (λ v. EachAt (λ i h. h ≡ Hand.Empty) v.items) }
@@ -39,6 +45,9 @@ pub fn empty_hands(alloc: Global, count: u8) -> Result<Vec<Hand>, AllocError>
     Ok(hands)
 }
 
+/// So many logs, in which nothing was noted: one for each seat, in their order.
+///
+/// Errors: `AllocError` where memory was refused.
 pub fn new_logs(alloc: Global, count: u8) -> Result<Vec<WorkerLog>, AllocError>
     ensures count { IfOk result (λ v. length v.items ≡ count) }
     ensures each { IfOk result (λ v. EachAt (λ i b. b.notes ≡ []) v.items) }
@@ -50,6 +59,9 @@ pub fn new_logs(alloc: Global, count: u8) -> Result<Vec<WorkerLog>, AllocError>
     Ok(logs)
 }
 
+/// The least key of each of so many seats, in their order.
+///
+/// Errors: `AllocError` where memory was refused.
 pub fn first_keys(alloc: Global, count: u8) -> Result<Vec<CopyKey>, AllocError>
     ensures count { IfOk result (λ v. length v.items ≡ count) }
     ensures each { IfOk result (λ v. EachAt (λ p y. y ≡ first_key p) v.items) }
@@ -66,6 +78,9 @@ pub fn first_keys(alloc: Global, count: u8) -> Result<Vec<CopyKey>, AllocError>
     Ok(keys)
 }
 
+/// So many mailboxes, numbered from 0, with nothing in them and no client, which keep the copies that they take.
+///
+/// Errors: `AllocError` where memory was refused.
 pub fn new_boxes(
     alloc: Global,
     count: u8,
@@ -73,8 +88,10 @@ pub fn new_boxes(
     first_uid: u32,
     limits: Limits,
 ) -> Result<Vec<Mailbox>, AllocError>
+    // The window has room for one change at least.
     requires { 0 < limits.ring }
     ensures count { IfOk result (λ v. length v.items ≡ count) }
+    // Each has its position as its number, these settings, and an empty log.
     ensures each { IfOk result (λ v. EachAt (λ m b. IsNewBox m uidvalidity first_uid limits.messages limits.ring
         (max limits.ring limits.ring_max) b) v.items) }
 {
@@ -86,6 +103,9 @@ pub fn new_boxes(
     Ok(boxes)
 }
 
+/// So many places for clients, with none there.
+///
+/// Errors: `AllocError` where memory was refused.
 pub fn no_clients(alloc: Global, count: usize) -> Result<Vec<Option<Client>>, AllocError>
     ensures { IfOk result (λ v. v.items ≡ replicate count None) }
 {

@@ -23,7 +23,7 @@ ghost use Rattle.mailbox.specs.Mailbox.{Mailbox, SameMailbox};
 use crate::client::Client;
 use crate::make::{empty_hands, first_keys, new_boxes, new_lanes, new_logs, no_clients};
 use change_ring::{Change, Flags};
-use delivery_token::{CopyKey, Job, Noted, Refusal, Text, Verdict, WorkerLog, precedes};
+use delivery_token::{CopyKey, Job, Noted, REPLY_ROOM, Refusal, Text, Verdict, WorkerLog, precedes};
 use mailbox::{Limits, Mailbox, Receipt};
 use shard_queue::{PlainLane, Taken};
 use std::alloc::{AllocError, Global};
@@ -164,6 +164,7 @@ pub struct Settings {
     pub seats: u8,
     /// So many consumers deliver, each to the mailboxes of its shard.
     pub shards: u8,
+    /// So many mailboxes there are, numbered from 0.
     pub mailboxes: u8,
     /// So many entries have room in a shard's lane.
     pub depth: usize,
@@ -176,19 +177,19 @@ pub struct Settings {
     /// So many sessions may have entered a mailbox at a time, each at a place of its own.
     pub sessions: usize,
 }
-
-// So many verdicts have room in a reply lane.
-const REPLY_ROOM: usize = 128;
-
 impl DeliveryCore {
     /// At the start of all: nothing was put, and the mailboxes are empty. An error where memory is
     /// refused.
     pub fn new(alloc: Global, settings: Settings) -> Result<DeliveryCore, AllocError>
+        // A window has room for one change at least.
         requires { 0 < settings.limits.ring }
+        // It stands for the world in which nothing has happened yet.
         ensures stands { IfOk result (λ h. (k : Config) → IsFor k settings → StandsFor k h empty_world) }
+        // There are as many of each as the settings say.
         ensures seats { IfOk result (λ h. length h.replies ≡ settings.seats) }
         ensures shards { IfOk result (λ h. length h.lanes ≡ settings.shards) }
         ensures mailboxes { IfOk result (λ h. length h.boxes ≡ settings.mailboxes) }
+        // Each mailbox is new, with these settings; no session has entered one, and each seat begins with its least key.
         ensures boxes { IfOk result (λ h. EachAt
             (λ m b. IsNewBox m settings.uidvalidity settings.first_uid settings.limits.messages settings.limits.ring
             (max settings.limits.ring settings.limits.ring_max) b) h.boxes) }
@@ -240,11 +241,15 @@ impl DeliveryCore {
         text: &Text,
         flags: Flags,
     ) -> Result<Option<Refusal>, AllocError>
+        // The seat is there, and the key is its next one or a later one, and there is one behind it.
         requires seat { key.seat < length self.old.replies }
         requires next { AtLeast (slice_index_or self.old.next key.seat key) key }
         requires last { key.recipient < 255 }
+        // There is such a mailbox, and a shard.
         requires mailbox { mailbox < length self.old.boxes }
         requires shards { 0 < length self.old.lanes }
+
+        // After Ok: from each world for which it stood, the event leads to one for which it stands.
         ensures follows { OnOk result ((k : Config) → Follows k self.old
             (Put key.seat (mailbox % length self.old.lanes) (record {
               key = key;
@@ -252,15 +257,24 @@ impl DeliveryCore {
               text = text.now;
               flags = flags;
             }) ∷ []) self.new) }
+        // The key is used up: the one behind it is next.
         ensures next { OnOk result (self.new.next ≡ slice_set self.old.next key.seat (past key)) }
+
+        // An error only where the seat's log had no room for a note.
         ensures memory { OnErr result ((d : WorkerLog) → (slice_index_or self.old.heard key.seat d).spare ≡ 0) }
+        // Shut exactly where the seat had put its end into that lane.
         ensures shut { IfOk result (λ why. (why ≡ Some Refusal.Shut) ↔
             (is_ended key.seat (lane_of self.old (mailbox % length self.old.lanes)) ≡ true)) }
+        // The seat has heard of a refusal, where there was one; nobody has heard anything else.
         ensures heard { IfOk result (λ why. Hears self.old self.new key.seat (heard_at_once key mailbox why)) }
+
+        // Mailboxes and clients stay, and there are as many of each.
         ensures boxes { self.new.boxes ≡ self.old.boxes }
         ensures clients { self.new.clients ≡ self.old.clients }
         ensures counts { SameCounts self.old self.new }
+        // What is left to do is more by one copy at most: it is taken, delivered, answered and heard.
         ensures load { OnOk result (load self.new ≤ load self.old + 4) }
+        // After an error nothing has changed.
         ensures refused { OnErr result (self.new ≡ self.old) }
     {
         let seat = usize::from(key.seat);
@@ -307,17 +321,26 @@ impl DeliveryCore {
     /// A seat puts its end into a shard's lane, after which it puts nothing more there. Nobody where
     /// shard or seat is not there, and Nothing where it has ended there already or the lane is full.
     pub fn end(&mut self, seat: u8, shard: u8) -> Result<(), Fault>
+        // After Ok: from each world for which it stood, the event leads to one for which it stands.
         ensures follows { OnOk result ((k : Config) → Follows k self.old (PutEnd seat shard ∷ []) self.new) }
+        // Nobody exactly where shard or seat is not there; Nothing only where the event would change nothing.
         ensures nobody { (result ≡ Err Fault.Nobody) ↔ ((length self.old.lanes ≤ shard) ⊎ (length self.old.replies ≤ seat)) }
         ensures changes_nothing { result ≡ Err Fault.Nothing → (k : Config) → ChangesNothing k self.old (PutEnd seat shard) }
+
+        // After Ok the end waits behind all that waited: the seat had put none there, and there was room.
         ensures ends { OnOk result (Ends self.old self.new seat shard) }
+        // Nothing only where the seat had put its end there, or the lane was full.
         ensures nothing { result ≡ Err Fault.Nothing → CannotEnd self.old seat shard }
+
+        // No seat has heard anything, and the keys stay; mailboxes and clients too, and there are as many of each.
         ensures heard { self.new.heard ≡ self.old.heard }
         ensures next { self.new.next ≡ self.old.next }
         ensures boxes { self.new.boxes ≡ self.old.boxes }
         ensures clients { self.new.clients ≡ self.old.clients }
         ensures counts { SameCounts self.old self.new }
+        // After Ok less is left to do than before: so such events come to an end.
         ensures load { OnOk result (load self.new < load self.old) }
+        // After an error nothing has changed.
         ensures refused { OnErr result (self.new ≡ self.old) }
     {
         let at = usize::from(shard);
@@ -337,15 +360,21 @@ impl DeliveryCore {
     /// The consumer of a shard takes what waits at the front of its lane. Nobody where the shard is
     /// not there, and Nothing where its hand is not empty or nothing waits.
     pub fn take(&mut self, shard: u8) -> Result<(), Fault>
+        // After Ok: from each world for which it stood, the event leads to one for which it stands.
         ensures follows { OnOk result ((k : Config) → Follows k self.old (Take shard ∷ []) self.new) }
+        // Nobody exactly where the shard is not there; Nothing only where the event would change nothing.
         ensures nobody { (result ≡ Err Fault.Nobody) ↔ (length self.old.lanes ≤ shard) }
         ensures changes_nothing { result ≡ Err Fault.Nothing → (k : Config) → ChangesNothing k self.old (Take shard) }
+
+        // No seat has heard anything, and the keys stay; mailboxes and clients too, and there are as many of each.
         ensures heard { self.new.heard ≡ self.old.heard }
         ensures next { self.new.next ≡ self.old.next }
         ensures boxes { self.new.boxes ≡ self.old.boxes }
         ensures clients { self.new.clients ≡ self.old.clients }
         ensures counts { SameCounts self.old self.new }
+        // After Ok less is left to do than before: so such events come to an end.
         ensures load { OnOk result (load self.new < load self.old) }
+        // After an error nothing has changed.
         ensures refused { OnErr result (self.new ≡ self.old) }
     {
         let at = usize::from(shard);
@@ -368,16 +397,22 @@ impl DeliveryCore {
     /// The copy in a shard's hand is delivered to its mailbox, or refused by it, and the hand holds
     /// the verdict. Nobody where the shard is not there, and Nothing where it has no copy in hand.
     pub fn deliver(&mut self, shard: u8) -> Result<(), Fault>
+        // After Ok: from each world for which it stood, the event leads to one for which it stands.
         ensures follows { OnOk result ((k : Config) → Follows k self.old (Deliver shard ∷ []) self.new) }
+        // Nobody exactly where the shard is not there; Nothing only where the event would change nothing.
         ensures nobody { (result ≡ Err Fault.Nobody) ↔ (length self.old.lanes ≤ shard) }
         ensures changes_nothing { result ≡ Err Fault.Nothing → (k : Config) → ChangesNothing k self.old (Deliver shard) }
+
+        // No seat has heard anything, and the keys stay; so do all cursors, the settings of mailboxes and the clients.
         ensures heard { self.new.heard ≡ self.old.heard }
         ensures next { self.new.next ≡ self.old.next }
         ensures cursors { cursors_of self.new.boxes ≡ cursors_of self.old.boxes }
         ensures same { OnOk result ((m : ℕ) (d : Mailbox) → SameMailbox (slice_index_or self.old.boxes m d) (slice_index_or self.new.boxes m d)) }
         ensures clients { self.new.clients ≡ self.old.clients }
         ensures counts { SameCounts self.old self.new }
+        // After Ok less is left to do than before: so such events come to an end.
         ensures load { OnOk result (load self.new < load self.old) }
+        // After an error nothing has changed.
         ensures refused { OnErr result (self.new ≡ self.old) }
     {
         let at = usize::from(shard);
@@ -405,15 +440,21 @@ impl DeliveryCore {
     /// The verdict in a shard's hand goes into the reply lane of the copy's seat. Nobody where the
     /// shard is not there, and Nothing where it has no verdict in hand or the reply lane is full.
     pub fn answer(&mut self, shard: u8) -> Result<(), Fault>
+        // After Ok: from each world for which it stood, the event leads to one for which it stands.
         ensures follows { OnOk result ((k : Config) → Follows k self.old (Answer shard ∷ []) self.new) }
+        // Nobody exactly where the shard is not there; Nothing only where the event would change nothing.
         ensures nobody { (result ≡ Err Fault.Nobody) ↔ (length self.old.lanes ≤ shard) }
         ensures changes_nothing { result ≡ Err Fault.Nothing → (k : Config) → ChangesNothing k self.old (Answer shard) }
+
+        // No seat has heard anything, and the keys stay; mailboxes and clients too, and there are as many of each.
         ensures heard { self.new.heard ≡ self.old.heard }
         ensures next { self.new.next ≡ self.old.next }
         ensures boxes { self.new.boxes ≡ self.old.boxes }
         ensures clients { self.new.clients ≡ self.old.clients }
         ensures counts { SameCounts self.old self.new }
+        // After Ok less is left to do than before: so such events come to an end.
         ensures load { OnOk result (load self.new < load self.old) }
+        // After an error nothing has changed.
         ensures refused { OnErr result (self.new ≡ self.old) }
     {
         let at = usize::from(shard);
@@ -441,16 +482,25 @@ impl DeliveryCore {
     /// is not there, Nothing where no verdict waits, and NoMemory where its log has no room for the
     /// note and gets none.
     pub fn hear(&mut self, seat: u8) -> Result<Noted, HearFault>
+        // After Ok: from each world for which it stood, the event leads to one for which it stands.
         ensures follows { OnOk result ((k : Config) → Follows k self.old (Hear seat ∷ []) self.new) }
+        // Nobody exactly where the seat is not there.
         ensures nobody { (result ≡ Err HearFault.Nobody) ↔ (length self.old.replies ≤ seat) }
+        // NoMemory only where the seat's log had no room for a note; Nothing only where the event would change nothing.
         ensures memory { result ≡ Err HearFault.NoMemory → (d : WorkerLog) → (slice_index_or self.old.heard seat d).spare ≡ 0 }
         ensures changes_nothing { result ≡ Err HearFault.Nothing → (k : Config) → ChangesNothing k self.old (Hear seat) }
+
+        // The seat has noted the verdict behind all that it had heard, and no other seat has heard anything.
         ensures heard { IfOk result (λ noted. Hears self.old self.new seat (noted ∷ [])) }
+
+        // Keys, mailboxes and clients stay, and there are as many of each.
         ensures next { self.new.next ≡ self.old.next }
         ensures boxes { self.new.boxes ≡ self.old.boxes }
         ensures clients { self.new.clients ≡ self.old.clients }
         ensures counts { SameCounts self.old self.new }
+        // After Ok less is left to do than before: so such events come to an end.
         ensures load { OnOk result (load self.new < load self.old) }
+        // After an error nothing has changed.
         ensures refused { OnErr result (self.new ≡ self.old) }
     {
         let at = usize::from(seat);
@@ -474,7 +524,9 @@ impl DeliveryCore {
 
     /// The last changes of a mailbox, as the mailbox tells them. None where it is not there.
     pub fn tail(&self, mailbox: u8) -> Option<(u64, &[Change], &[Change])>
+        // None exactly where the mailbox is not there.
         ensures there { IsSome result ↔ (mailbox < length self.now.boxes) }
+        // The number is that of the oldest change that is kept, and the two slices, one behind the other, are all that are kept.
         ensures base { IfSome result (λ t. (d : Mailbox) → t.0 ≡ (slice_index_or self.now.boxes mailbox d).window.base) }
         ensures changes { IfSome result (λ t. (d : Mailbox) → t.1.now ++ t.2.now ≡ (slice_index_or self.now.boxes mailbox d).window.changes) }
     {

@@ -1,6 +1,6 @@
 //! Whole connections, byte for byte. What is expected is what a client sees on the wire.
 
-ghost use Rattle.std.specs.Prelude.{◌≡◌, ◌≤◌, ◌<◌, [], length, IfOk, OnOk};
+ghost use Rattle.std.specs.Prelude.{◌≡◌, ◌≤◌, [], length, IfOk, OnOk};
 
 use delivery_token::{CopyKey, Refusal, Verdict};
 use envelope::{Directory, DirectoryFault};

@@ -14,13 +14,20 @@ use std::alloc::AllocError;
 use std::marker::Model;
 use std::sync::Arc;
 
+/// So many verdicts have room on a producer's way back: more than a message has copies.
+pub const REPLY_ROOM: usize = 128;
+
 /// Which copy it is: the connection's seat and serial, its message, and the position of the recipient
 /// among those accepted. Keys of one seat stand in the order of the fields.
 #[derive(Clone, Copy, Debug, PartialEq, Eq, PartialOrd, Ord)]
 pub struct CopyKey {
+    /// The number of the seat that puts the copy.
     pub seat: u8,
+    /// The serial that the connection or the session was given.
     pub serial: u64,
+    /// The number of its message there.
     pub message: u32,
+    /// The position of the recipient among those accepted, from 0.
     pub recipient: u8,
 }
 
@@ -79,9 +86,13 @@ impl Text {
 /// there: none where LMTP brought it.
 #[derive(Drop)]
 pub struct Job {
+    /// Which copy it is: it goes with the verdict, back to the seat.
     pub key: CopyKey,
+    /// The number of the mailbox that it is for.
     pub mailbox: u8,
+    /// The bytes that are to be stored, which all copies of the message share.
     pub text: Text,
+    /// The flags that it is to have as it arrives.
     pub flags: Flags,
 }
 

@@ -11,8 +11,11 @@ use std::marker::Model;
 /// A verdict, with the key and the mailbox of its copy.
 #[derive(Clone, Copy, Debug, PartialEq, Eq)]
 pub struct Noted {
+    /// The key of the copy that the verdict is on.
     pub key: CopyKey,
+    /// The number of the mailbox that the copy was for.
     pub mailbox: u8,
+    /// What became of the copy.
     pub verdict: Verdict,
 }
 
@@ -51,10 +54,15 @@ impl WorkerLog {
     /// Makes room for `n` notes beyond those that are there. Where memory is refused the log is
     /// unchanged.
     pub fn reserve(&mut self, n: usize) -> Result<(), AllocError>
+        // Whose log it is and what was noted stays, also after an error.
         ensures seat { self.new.seat ≡ self.old.seat }
         ensures notes { self.new.notes ≡ self.old.notes }
+
+        // After Ok there is room for `n` notes; where there was already, it is Ok.
         ensures ok { OnOk result (n ≤ self.new.spare) }
         ensures succeeds { n ≤ self.old.spare → IsOk result }
+
+        // After an error nothing has changed, the room neither.
         ensures err { OnErr result (self.new ≡ self.old) }
     {
         self.notes.reserve(n)
@@ -62,7 +70,9 @@ impl WorkerLog {
 
     /// Notes a verdict, in room that was reserved.
     pub fn note(&mut self, key: CopyKey, mailbox: u8, verdict: Verdict)
+        // The room for it was reserved, as by `reserve`.
         requires { 1 ≤ self.old.spare }
+        // The note goes last, behind all others, and takes one place of the room.
         ensures seat { self.new.seat ≡ self.old.seat }
         ensures notes { self.new.notes ≡ self.old.notes ++ record { key = key; mailbox = mailbox; verdict = verdict } ∷ [] }
         ensures spare { self.new.spare + 1 ≡ self.old.spare }

@@ -1,6 +1,6 @@
 //! What follows from the definitions of mail data, for readers and for proofs above. No code runs here.
 
-ghost use Rattle.std.specs.Prelude.{◌≡◌, ℕ, List, [], ◌∷◌, ◌++◌};
+ghost use Rattle.std.specs.Prelude.{◌≡◌, ℕ, List, [], ◌++◌};
 ghost use Rattle.line_io.specs.Wire.{crlf};
 ghost use Rattle.dot_stuffing.specs.Data.{dot, stuffed, EndsWhole, IsOpen, Plain};
 

@@ -49,5 +49,6 @@ pub enum Progress {
 pub struct Taken {
     /// How many bytes at the front of the piece were used. What is behind the end of the data isn't.
     pub used: usize,
+    /// Whether the data ended with them, and what came of it.
     pub what: Progress,
 }

@@ -48,6 +48,7 @@ impl Unstuffer {
     /// An unstuffer at the start of data, for a text of at most `max` bytes with nothing before it. Takes no memory.
     pub fn new(alloc: Global, max: usize) -> Unstuffer
         ensures max { result.collected.max ≡ max }
+        // It has taken nothing, has no outcome, and nothing is to stand before the text.
         ensures live { result.outcome ≡ None }
         ensures stands { StandsFor result [] }
         ensures behind { IsBehind result.collected [] }
@@ -62,9 +63,12 @@ impl Unstuffer {
     /// Goes to the start of other data, whose text is to stand behind these parts, in one buffer with them. They don't count as
     /// bytes of the text. Where memory for them is refused, that is told with the outcome, as for the text.
     pub fn begin_behind(&mut self, parts: &[&[u8]])
+        // The most bytes of a text stay the same.
         ensures max { self.new.collected.max ≡ self.old.collected.max }
+        // It has taken nothing of the data, and has no outcome.
         ensures live { self.new.outcome ≡ None }
         ensures stands { StandsFor self.new [] }
+        // The text is to stand behind these parts, unless memory for them was refused.
         ensures behind { IsBehind self.new.collected (flat_map (λ part. part.now) parts.now) }
     {
         self.context = Context::Start;
@@ -75,15 +79,18 @@ impl Unstuffer {
     /// Takes bytes of the piece up to the end of the data, or else all. What is wrong with the text
     /// is told only then, with the outcome; none may be taken afterwards.
     pub fn take(&mut self, piece: &[u8]) -> Taken
+        // The data has not ended.
         requires { self.old.outcome ≡ None }
+        // It uses no more than the piece: all of it where the data has not ended, and something where it has.
         ensures used { result.used ≤ length piece.now }
         ensures all_used { result.what ≡ Progress.More → result.used ≡ length piece.now }
         ensures some_used { result.what ≢ Progress.More → 0 < result.used }
         ensures max { self.new.collected.max ≡ self.old.collected.max }
         // What the text is to stand behind stays.
         ensures behind { (front : List ℕ) → IsBehind self.old.collected front → IsBehind self.new.collected front }
+        // It has an outcome exactly where the data ended, and it is the one that is told.
         ensures outcome { self.new.outcome ≡ outcome_of result.what }
-        // Whatever came before the call, in whatever pieces.
+        // Whatever came before, in whatever pieces: after Done it is whole data with the bytes used, and the outcome is that of its text.
         ensures data { (wire : List ℕ) → StandsFor self.old wire →
             Tells result.what self.new wire (take result.used piece.now) }
     {

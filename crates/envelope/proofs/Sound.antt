@@ -8,7 +8,7 @@ use Rattle.std.proofs.lemmas.List.Sums.{prefix_len-le-length}
 use Rattle.std.proofs.lemmas.Bool.Decides.{Decides-eqb, not_from_Decides}
 use Rattle.envelope.specs.Values.{Address}
 use Rattle.envelope.specs.Bytes.{is_text, is_atom, is_name, is_literal, is_quotable}
-use Rattle.envelope.specs.Grammar.{◌⨾◌, Many, Some1, Quoted, end, plain, escaped, LocalPart, Domain, Hops, hop, Route, Spells, PathTo}
+use Rattle.envelope.specs.Grammar.{Many, Some1, Quoted, end, plain, escaped, LocalPart, Domain, Hops, hop, Route, Spells, PathTo}
 use Rattle.envelope.specs.Grammar as grammar
 use Rattle.envelope.specs.Reading.{◌>>=◌, first_is, some_len, quoted_len, local_len, literal_len, domain_len, past_byte, past_domain, past_comma, next_hop, past_hops, past_all_hops, past_route, address_at, path_at}
 

@@ -43,9 +43,6 @@ pub each_of : (p : ℕ → Bool) (a : List ℕ) → list_all p a ≡ true → Ma
 each_of p [] h = tt
 each_of p (x ∷ xs) h = let k = both_true (p x) (list_all p xs) h in (k.0, each_of p xs k.1)
 
-not_is : (b : Bool) → b ≡ true → not b ≡ false
-not_is b e = ap not e
-
 text_graphic : (b : ℕ) → is_text b ≡ true → is_not_space b ≡ true → is_graphic b ≡ true
 text_graphic b t s = grind (arith, nat_tests)
 

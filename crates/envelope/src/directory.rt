@@ -52,7 +52,7 @@ impl From<AllocError> for DirectoryFault {
 }
 
 /// The most mailboxes that a directory may have.
-const MOST: usize = 64;
+pub const MOST_MAILBOXES: usize = 64;
 
 /// Bytes that the directory keeps.
 #[derive(Drop)]
@@ -172,7 +172,7 @@ fn are_names(names: &[&[u8]]) -> bool
 fn fault_of(domains: &[&[u8]], words: &[&[u8]]) -> Option<DirectoryFault>
     ensures { result ≡ result_err (words_read (texts domains.now) (texts words.now)) }
 {
-    if words.len() > MOST {
+    if words.len() > MOST_MAILBOXES {
         Some(DirectoryFault::TooMany)
     } else if !are_names(domains) {
         Some(DirectoryFault::BadName)
@@ -272,12 +272,15 @@ impl Directory {
         shards: u8,
     ) -> Result<Directory, DirectoryFault>
         requires { 0 < shards }
+        // After Ok nothing is wrong with the names, and the mailboxes are those of the words, in their order.
         ensures homes { IfOk result (λ d. words_read (texts domains.now) (texts mailboxes.now) ≡ Ok d.homes) }
         ensures domains { IfOk result (λ d. d.domains ≡ texts domains.now) }
         ensures shards { IfOk result (λ d. d.shards ≡ shards) }
+        // No shard is shut.
         ensures shut { IfOk result (λ d. d.shut ≡ none_shut shards) }
+        // Where something is wrong with the names that is the answer: too many words first, then the domains, then word by word.
         ensures fault { IfErr (words_read (texts domains.now) (texts mailboxes.now)) (λ fault. result ≡ Err fault) }
-        // Where nothing is wrong with the names.
+        // Where nothing is wrong with the names it is made, or refused as NoMemory.
         ensures made { IsOk (words_read (texts domains.now) (texts mailboxes.now)) → IsOkUnless result DirectoryFault.NoMemory }
     {
         if let Some(fault) = fault_of(domains, mailboxes) {

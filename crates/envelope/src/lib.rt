@@ -13,8 +13,8 @@ mod recipients;
 mod word;
 
 pub use command::{CommandFault, ForwardPath, LmtpCommand, Mailbox, ReversePath, Verb};
-pub use directory::{Directory, DirectoryFault, NoSuch};
+pub use directory::{Directory, DirectoryFault, MOST_MAILBOXES, NoSuch};
 pub use laws::words_have_their_positions;
 pub use names::{is_folder, is_name, is_user};
 pub use reading::read_command;
-pub use recipients::{Recipients, TooMany};
+pub use recipients::{MOST_RECIPIENTS, Recipients, TooMany};

@@ -1,7 +1,7 @@
 //! Reading a line from left to right: each function takes its part from the front of the bytes.
 //! What each answers is its namesake in specs/Reading.antt; that file is tied to the grammar by `read_command`.
 
-ghost use Rattle.std.specs.Prelude.{◌≡◌, ◌+◌, ◌≤◌, ◌<◌, length, false, Option, Some, None, ℕ, ◌↔◌, IfSome, ◌||◌, not, nat_lt, Result};
+ghost use Rattle.std.specs.Prelude.{◌≡◌, ◌≤◌, ◌<◌, length, false, IfSome, ◌||◌, not, nat_lt, Result};
 ghost use Rattle.std.specs.List.{prefix_len, list_all};
 ghost use Rattle.std.specs.Option.{option_copied, option_map};
 ghost use Rattle.envelope.specs.Bytes.{is_text};
@@ -26,6 +26,7 @@ pub enum Class {
     Literal,
 }
 
+/// Whether a byte is of this class.
 pub fn is_of(class: Class, b: u8) -> bool
     ensures { result ≡ is_of class b }
 {
@@ -326,10 +327,19 @@ fn verb_of(word: &[u8]) -> Option<Verb>
     }
 }
 
+/// The most bytes of a path, its angle brackets among them (RFC 5321, 4.5.3.1.3).
+const MOST_PATH: usize = 256;
+
+/// The most bytes of a local part (RFC 5321, 4.5.3.1.1).
+const MOST_LOCAL: usize = 64;
+
+/// The most bytes of a domain (RFC 5321, 4.5.3.1.2).
+const MOST_DOMAIN: usize = 255;
+
 fn is_too_long(spelled: usize, mailbox: &Mailbox<'_>) -> bool
     ensures { result ≡ (nat_lt 256 spelled || has_long_part (To (address mailbox.now))) }
 {
-    spelled > 256 || mailbox.local.len() > 64 || mailbox.domain.len() > 255
+    spelled > MOST_PATH || mailbox.local.len() > MOST_LOCAL || mailbox.domain.len() > MOST_DOMAIN
 }
 
 const BAD: CommandFault = CommandFault::Syntax { lhlo: false };
@@ -338,7 +348,7 @@ fn reverse_fits(spelled: usize, path: &ReversePath<'_>) -> bool
     ensures { result ≡ not (nat_lt 256 spelled || has_long_part (reverse_path path.now)) }
 {
     match path {
-        ReversePath::Null => spelled <= 256,
+        ReversePath::Null => spelled <= MOST_PATH,
         ReversePath::Sender(mailbox) => !is_too_long(spelled, mailbox),
     }
 }
@@ -347,7 +357,7 @@ fn forward_fits(spelled: usize, path: &ForwardPath<'_>) -> bool
     ensures { result ≡ not (nat_lt 256 spelled || has_long_part (forward_path path.now)) }
 {
     match path {
-        ForwardPath::Postmaster => spelled <= 256,
+        ForwardPath::Postmaster => spelled <= MOST_PATH,
         ForwardPath::Recipient(mailbox) => !is_too_long(spelled, mailbox),
     }
 }

@@ -18,7 +18,7 @@ pub struct Recipients {
 }
 
 /// The most recipients that a transaction may have.
-const MOST: usize = 100;
+pub const MOST_RECIPIENTS: usize = 100;
 
 impl Model for Recipients {
     ghost use Rattle.std.specs.Prelude.{List, ℕ, ◌≤◌, vec_len, vec_capacity};
@@ -38,7 +38,7 @@ impl Recipients {
         ensures { IfOk result (λ r. r ≡ []) }
     {
         Ok(Recipients {
-            mailboxes: Vec::with_capacity(alloc, MOST)?,
+            mailboxes: Vec::with_capacity(alloc, MOST_RECIPIENTS)?,
         })
     }
 
@@ -46,12 +46,14 @@ impl Recipients {
     ///
     /// Errors: `TooMany` where there are 100 already; then nothing changes.
     pub fn add(&mut self, mailbox: u8) -> Result<(), TooMany>
+        // After Ok the mailbox is the last; after an error nothing has changed.
         ensures ok { OnOk result (self.new ≡ self.old ++ mailbox ∷ []) }
         ensures full { OnErr result (self.new ≡ self.old) }
+        // Ok exactly where there were fewer than 100; there were never more.
         ensures cases { IsOk result ↔ (length self.old < 100) }
         ensures most { length self.old ≤ 100 }
     {
-        if self.mailboxes.len() == MOST {
+        if self.mailboxes.len() == MOST_RECIPIENTS {
             return Err(TooMany);
         }
         self.mailboxes.push_reserved(mailbox);

@@ -1,7 +1,7 @@
 //! The words that a directory is made of, `user` or `user/folder`, and what may be wrong with them.
 //! Words are checked here and stored elsewhere.
 
-ghost use Rattle.std.specs.Prelude.{◌≡◌, ◌+◌, ℕ, map, [], nat_lt, if◌then◌else◌, Some, None, drop, length};
+ghost use Rattle.std.specs.Prelude.{◌≡◌, ◌+◌, map, [], nat_lt, if◌then◌else◌, Some, None, drop, length};
 ghost use Rattle.std.specs.Option.{option_copied};
 ghost use Rattle.std.specs.List.{list_any};
 ghost use Rattle.envelope.specs.Directory.{is_home};
@@ -15,7 +15,9 @@ use crate::reading::{Class, run_len};
 /// A word, cut at its first slash.
 #[derive(Clone, Copy)]
 pub struct Word<'a> {
+    /// What stands before the first slash, or all where there is none.
     pub user: &'a [u8],
+    /// What stands past the first slash, where there is one.
     pub folder: Option<&'a [u8]>,
 }
 

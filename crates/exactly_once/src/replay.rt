@@ -35,14 +35,15 @@ fn try_event(house: &mut House, event: Event<'_>, out: &mut Vec<u8>) -> Result<(
 ///
 /// Errors: `AllocError` where memory was wanting; what happened by then stands, and the events that were left weren't tried.
 pub fn play(house: &mut House, events: &[Event<'_>], out: &mut Vec<u8>) -> Result<(), AllocError>
+    // Each event happened, or was refused and changed nothing, from each scene for which the house stood.
     ensures tried { OnOk result ((k : Setup) (s : Scene) → StandsFor k house.old s →
         TriedFrom k events.now house.old s house.new out.old.items out.new.items) }
+
+    // In a house that was new, also after an error: what happened and was printed is exactly-once delivery.
     ensures once { (k : Setup) → StandsFor k house.old (empty_scene k) → CameOnce k house.new out.old.items out.new.items }
 {
     for event in events {
-        let Ok(()) = try_event(house, *event, out) else {
-            return Err(AllocError);
-        };
+        try_event(house, *event, out)?;
     }
     Ok(())
 }

@@ -1,10 +1,10 @@
 -- Ends of seats, and who stands at a seat.
-use Rattle.std.proofs.Common.{◌≡◌, ℕ, zero, suc, if◌then◌else◌, ◌+◌, ◌-◌, ◌<◌, ◌≤◌, ◌⊎◌, inl, inr, ◌++◌, Option, None, Some, Bool, true, false, not, List, [], ◌∷◌, length, refl, ap, sym, ◌∙◌, subst, arith, get_or}
+use Rattle.std.proofs.Common.{◌≡◌, ℕ, if◌then◌else◌, ◌+◌, ◌-◌, ◌<◌, inl, inr, ◌++◌, Option, None, Some, Bool, true, false, List, [], ◌∷◌, length, refl, ap, sym, ◌∙◌, subst, arith, get_or}
 use Rattle.std.specs.Prelude.{◌↔◌, IsTrue, nat_lt}
 use Rattle.std.specs.Option.{is_some}
 use Rattle.std.proofs.lemmas.Bool.{cases_lt}
 use Rattle.std.proofs.lemmas.Bool.Decides.{nat_tests}
-use Rattle.world.specs.World.{Config, World}
+use Rattle.world.specs.World.{Config}
 use Rattle.delivery_core.specs.DeliveryCore.{DeliveryCore}
 use Rattle.delivery_core.specs.Stands as core
 use Rattle.std.proofs.lemmas.List.{append-nil}
@@ -19,7 +19,7 @@ use Rattle.house_session.specs.SeatedSession.{SeatedSession}
 use Rattle.house.specs.Scene.{Moves, Scene, with_world}
 use Rattle.house.specs.Stands.{StandsFor, StandsForOne, StandsForVisit}
 use Rattle.house_connection.specs.Taking.{due}
-use Rattle.house.specs.Steps.{IsNoNumber, IsVacant, due_at, due_by, due_of, is_taken}
+use Rattle.house.specs.Steps.{IsNoNumber, due_at, due_by, due_of, is_taken}
 use Rattle.house.proofs.Worldly.{moves}
 
 -- nobody stands at this seat, neither a connection nor a session
@@ -83,39 +83,11 @@ taken_behind h seat place e =
     ap (λ (b : Bool). if b then is_some (get_or h.callers seat None) else is_some (get_or h.visitors (seat - length h.callers) None)) (let f : nat_lt seat (length h.callers) ≡ false = grind (arith, nat_tests, e) in f)
     ∙ ap (λ (n : ℕ). is_some (get_or h.visitors n None)) (let x : seat - length h.callers ≡ place = omega (arith, e) in x)
 
-none_is : {A : Type 0} (o : Option A) → o ≡ None → is_some o ≡ false
-none_is o e = ap is_some e
-
--- a connection's seat is vacant where no line stands there, and a session's where no seat does
-pub vacant_first : (h : House) (n : ℕ) → 0 < n → n ≤ length h.callers → (get_or h.callers (n - 1) None ≡ None) ↔ IsVacant h n
-vacant_first h n some l =
-    let e = taken_first h (n - 1) (omega (arith, some, l)) in
-    (λ none. e ∙ none_is (get_or h.callers (n - 1) None) none, λ vacant. not_some (get_or h.callers (n - 1) None) (sym e ∙ vacant))
-
-pub vacant_behind : (h : House) (n place : ℕ) → n - 1 ≡ length h.callers + place → (get_or h.visitors place None ≡ None) ↔ IsVacant h n
-vacant_behind h n place at =
-    let e = taken_behind h (n - 1) place at in
-    (λ none. e ∙ none_is (get_or h.visitors place None) none, λ vacant. not_some (get_or h.visitors place None) (sym e ∙ vacant))
-
 pub same_as : {P Q R : Type 0} → P ↔ Q → Q ↔ R → P ↔ R
 same_as a b = (λ p. b.0 (a.0 p), λ r. a.1 (b.1 r))
 
-pub nobody_of : {P : Type 0} (h : House) (n : ℕ) → (IsNoNumber h n → ⊥) → P ↔ IsVacant h n → P ↔ (IsNoNumber h n ⊎ IsVacant h n)
-nobody_of {P} h n not iff = (λ p. inr (iff.0 p), λ q. by q)
-  where
-    by : IsNoNumber h n ⊎ IsVacant h n → P
-    by (inl none) = absurd (not none)
-    by (inr vacant) = iff.1 vacant
-
 pub is_number : (h : House) (n : ℕ) (b : Bool) → (IsTrue b) ↔ IsNoNumber h n → b ≡ false → IsNoNumber h n → ⊥
 is_number h n b iff e none = let t : b ≡ true = iff.1 none in let f : true ≡ false = sym t ∙ e in cc
-
-pub number_within : (h : House) (n : ℕ) → (IsNoNumber h n → ⊥) → (0 < n) × (n ≤ length h.callers + length h.visitors)
-number_within h zero not = absurd (not (inl refl))
-number_within h (suc n) not = elim (cases_lt (length h.callers + length h.visitors) (suc n)) [
-  | inl l ↦ absurd (not (inr (inl l)))
-  | inr l ↦ (omega arith, l)
-]
 
 -- what is due at a seat
 pub due_first : (h : House) (seat : ℕ) (g : HouseConnection) → seat < length h.callers → get_or h.callers seat None ≡ Some g → due_at h seat ≡ due g

@@ -169,21 +169,6 @@ up_to_date k place w v b o printed some c i =
 standing_is : (seat : ℕ) (next : CopyKey) (heard : List Noted) (p : SeatedSession) (b : SeatedVisitor) → StandsForSeated seat next heard p b → b.gone ≡ false → p.place.link.session ≡ b.session.standing
 standing_is seat next heard p b s live = (s.place (s.gone ∙ live)).connection.session
 
-pub none_gone : (p : SeatedSession) (place : ℕ) (h : DeliveryCore) → p.gone ≡ true → HasNoTurn place (Some p) h
-none_gone p place h gone k next heard w v b o printed stands there i = let f : true ≡ false = sym gone ∙ there.gone ∙ i.is_read in cc
-
-pub none_awake : (p : SeatedSession) (place : ℕ) (h : DeliveryCore) → is_idling p.place.link.session ≡ false → HasNoTurn place (Some p) h
-none_awake p place h awake k next heard w v b o printed stands there i =
-    let f : false ≡ true = sym awake ∙ ap is_idling (standing_is (session_seat k place) next heard p b there i.is_read) ∙ i.idling in cc
-
-pub none_unselected : (p : SeatedSession) (place : ℕ) (h : DeliveryCore) → p.place.link.session.selected ≡ None → HasNoTurn place (Some p) h
-none_unselected p place h unselected k next heard w v b o printed stands there i =
-    let t = i.idles.turned in
-    let e : b.session.standing.selected ≡ None = sym (ap (λ (x : Standing). x.selected) (standing_is (session_seat k place) next heard p b there i.is_read)) ∙ unselected in
-    let c = in_none (is_idling b.session.standing) b.session.standing t.answers (record { events = t.events; bytes = t.bytes; after = t.how; standing = i.after.standing })
-    (sym (ap (λ (x : Option Chosen). idle_turn_in x (is_idling b.session.standing) b.session.standing t.answers) e) ∙ t.played) in
-    quiet i.shown i.after.standing.ended i.something (t.shown ∙ ap count_shown c.0) (ap (λ (x : Turn). x.standing.ended) c.1 ∙ lives b.session.standing i.idling)
-
 pub none_new : (p : SeatedSession) (place : ℕ) (h : DeliveryCore) → IsSome p.place.link.session.selected → ((k : Config) (w : World) → core.StandsFor k h w → IsCurrent w place) → HasNoTurn place (Some p) h
 none_new p place h some current k next heard w v b o printed stands there i =
     up_to_date k place w v b o printed (subst (λ (x : Standing). IsSome x.selected) (standing_is (session_seat k place) next heard p b there i.is_read) some) (current k.config w stands) i

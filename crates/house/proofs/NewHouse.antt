@@ -14,7 +14,7 @@ use Rattle.house.specs.declared.config.Config.{Config}
 use Rattle.house_connection.specs.HouseConnection.{HouseConnection}
 use Rattle.house.specs.House.{House}
 use Rattle.house.specs.Scene.{empty_scene}
-use Rattle.house.specs.Settings.{connections, sessions, setup_of, words_of}
+use Rattle.house.specs.Settings.{connection_seats, places as all_places, setup_of, words_of}
 use Rattle.house.specs.Setup.{session_seat, terms_of}
 use Rattle.house.specs.Stands.{StandsFor, StandsForOne, StandsForVisit}
 use Rattle.house_session.specs.SeatedSession.{SeatedSession}
@@ -31,8 +31,8 @@ pub read_homes : (domains words : List (List ℕ)) (read : List Home) → words_
 read_homes domains words read e = homes_are (nat_lt 64 (length words)) (list_all is_name domains) (first_fault [] (map home_of words)) (map home_of words) read e
 
 pub new_house : (c : Config) (h : House) → core.StandsFor (setup_of c).config h.core (empty_scene (setup_of c)).world
-    → ((p : ℕ) (d : CopyKey) → p < connections + sessions → get_or h.core.next p d ≡ first_key p)
-    → h.callers ≡ replicate connections None → h.serials ≡ replicate connections 0 → h.visitors ≡ replicate sessions None → h.entered ≡ replicate sessions 0 → h.directory ≡ (setup_of c).directory → h.host ≡ c.host.items → h.max_message ≡ c.max_message
+    → ((p : ℕ) (d : CopyKey) → p < connection_seats + all_places → get_or h.core.next p d ≡ first_key p)
+    → h.callers ≡ replicate connection_seats None → h.serials ≡ replicate connection_seats 0 → h.visitors ≡ replicate all_places None → h.entered ≡ replicate all_places 0 → h.directory ≡ (setup_of c).directory → h.host ≡ c.host.items → h.max_message ≡ c.max_message
     → 0 < c.shards
     → StandsFor (setup_of c) h (empty_scene (setup_of c))
 new_house c h stands keys callers serials places entered directory host most some = record {
@@ -44,23 +44,23 @@ new_house c h stands keys callers serials places entered directory host most som
   shards = refl;
   some_shard = some;
   homes = length-map (words_of c) home_of;
-  seats = let a : length h.callers ≡ connections = ap length callers in let b : length h.visitors ≡ sessions = ap length places in omega (arith, a, b);
+  seats = let a : length h.callers ≡ connection_seats = ap length callers in let b : length h.visitors ≡ all_places = ap length places in omega (arith, a, b);
   connections = ap length callers;
   numbers = ap length serials;
   each = λ seat y n d below.
-      let lt : seat < connections = let e : length h.callers ≡ connections = ap length callers in omega (arith, below, e) in
-      let nobody : get_or h.callers seat d ≡ None = ap (λ (xs : List (Option HouseConnection)). get_or xs seat d) callers ∙ get_or-replicate connections seat None d lt in
+      let lt : seat < connection_seats = let e : length h.callers ≡ connection_seats = ap length callers in omega (arith, below, e) in
+      let nobody : get_or h.callers seat d ≡ None = ap (λ (xs : List (Option HouseConnection)). get_or xs seat d) callers ∙ get_or-replicate connection_seats seat None d lt in
       record {
-        counted = ap (λ (xs : List ℕ). get_or xs seat n) serials ∙ get_or-replicate connections seat 0 n lt;
+        counted = ap (λ (xs : List ℕ). get_or xs seat n) serials ∙ get_or-replicate connection_seats seat 0 n lt;
         who = subst (λ (o : Option HouseConnection). StandsForOne (terms_of (setup_of c) (none_shut c.shards)) seat (get_or h.core.next seat y) [] 0 o None) (sym nobody) (inl (keys seat y (omega (arith, lt))));
       };
   places = ap length places;
   entries = ap length entered;
   visitors = λ place y n d below.
-      let lt : place < sessions = let e : length h.visitors ≡ sessions = ap length places in omega (arith, below, e) in
-      let free : get_or h.visitors place d ≡ None = ap (λ (xs : List (Option SeatedSession)). get_or xs place d) places ∙ get_or-replicate sessions place None d lt in
+      let lt : place < all_places = let e : length h.visitors ≡ all_places = ap length places in omega (arith, below, e) in
+      let free : get_or h.visitors place d ≡ None = ap (λ (xs : List (Option SeatedSession)). get_or xs place d) places ∙ get_or-replicate all_places place None d lt in
       record {
-        counted = ap (λ (xs : List ℕ). get_or xs place n) entered ∙ get_or-replicate sessions place 0 n lt;
+        counted = ap (λ (xs : List ℕ). get_or xs place n) entered ∙ get_or-replicate all_places place 0 n lt;
         who = subst (λ (o : Option SeatedSession). StandsForVisit (session_seat (setup_of c) place) (get_or h.core.next (session_seat (setup_of c) place) y) [] 0 o None) (sym free) (inl (keys (session_seat (setup_of c) place) y (omega (arith, lt))));
       };
 }

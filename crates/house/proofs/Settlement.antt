@@ -26,7 +26,7 @@ use Rattle.house_session.specs.SeatedSession.{SeatedSession}
 use Rattle.house.specs.Settling.{GoesRounds, Happened, InTurn, Tries, Stint, Stints, happens, in_a_row, passes, round}
 use Rattle.house.specs.Settled.{HappenedFrom}
 use Rattle.house.specs.Stands.{StandsFor}
-use Rattle.house.specs.Steps.{Follows, FollowsInPart, IsBusy, IsFreePlace, IsLeft, IsNoNumber, IsNoPlace, IsNobody, IsVacant, KeepsMarks, Led, is_left}
+use Rattle.house.specs.Steps.{Follows, FollowsInPart, IsFreePlace, IsLeft, IsNoNumber, IsNoPlace, IsNobody, IsVacant, KeepsMarks, Led, is_left}
 use Rattle.house.proofs.Ended.{IsFree, nobody_at_place, vacant_free}
 use Rattle.house.proofs.Visiting.{at_place}
 use Rattle.envelope.specs.Directory.{Directory, is_shut}
@@ -412,22 +412,6 @@ own_less (Deliver shard) old new o l = l
 own_less (Answer shard) old new o l = l
 own_less (Hear connection) old new o l = l
 
--- an own event is never refused as busy
-pub own_not_busy : (e : Event) (h : House) → IsOwn e → IsBusy h e → ⊥
-own_not_busy (Bytes connection piece) h o b = o
-own_not_busy (Vanish connection) h o b = o
-own_not_busy (Put connection) h o b = b
-own_not_busy (Take shard) h o b = b
-own_not_busy (Deliver shard) h o b = b
-own_not_busy (Answer shard) h o b = b
-own_not_busy (Hear connection) h o b = b
-own_not_busy (End connection shard) h o b = b
-own_not_busy (Close shard) h o b = o
-own_not_busy (Enter session user) h o b = o
-own_not_busy (Say session piece) h o b = o
-own_not_busy (Leave session) h o b = o
-own_not_busy (Idle session) h o b = o
-
 -- an own event opens and shuts no shard
 pub own_keeps : (e : Event) (old new : House) → IsOwn e → KeepsMarks e old new → new.directory ≡ old.directory
 own_keeps (Bytes connection piece) old new o m = absurd o
@@ -552,10 +536,6 @@ often_again group h o h1 o1 h2 o2 a true e c d = record {
       (λ k s m t one two x y. often_more k group s m t one two x y) k s h1 h2 o o1 o2 w (d.went k w.after q w.stands);
   less = let x = no_more group h o h1 o1 a c in let y = d.less in omega (arith, x, y);
 }
-
-pub turn_less : (group : List Event) (h : House) (o : List ℕ) (h1 : House) (o1 : List ℕ) (b : Bool) → b ≡ true → DidTurn group group h o h1 o1 b → effort h1 < effort h
-turn_less group h o h1 o1 false e d = cc
-turn_less group h o h1 o1 true e d = d.less
 
 pub often_wants : (group : List Event) (h : House) (o : List ℕ) (h1 : House) (o1 : List ℕ) (h2 : House) (o2 : List ℕ) (a : Bool) → DidOften group h o h1 o1 a → Wants (λ k. All (IsAmong k) group) h1 o1 h2 o2
     → Wants (λ k. All (IsAmong k) group) h o h2 o2
@@ -682,19 +662,12 @@ rounds_more k held shut s m t one two (n, a) b =
 rounds_some : (k : Setup) (held shut : ℕ → Bool) (s t : Scene) (printed : List ℕ) → Rounds k held shut s t printed → SomeHappened k s t printed
 rounds_some k held shut s t printed (n, a) = stints_happened k (in_a_row (replicate n (round k held shut))) s t printed a
 
-pub no_round : (k : Setup) (held shut : ℕ → Bool) (s : Scene) (h : House) (o : List ℕ) → StandsFor k h s → Went (λ k s t printed. Rounds k held shut s t printed) k s h o o
-no_round k held shut s h o st = record { after = s; printed = []; goes = (0, (refl, refl)); stands = st; out = sym (append-nil o) }
-
 pub round_again : (held shut : ℕ → Bool) (k : Setup) (s : Scene) (h1 h2 : House) (o o1 o2 : List ℕ) (b : Bool) → Went (λ k s t printed. Rounds k held shut s t printed) k s h1 o o1 → DidRound held shut h1 o1 h2 o2 b
     → Went (λ k s t printed. Rounds k held shut s t printed) k s h2 o o2
 round_again held shut k s h1 h2 o o1 o2 b w d =
     joined (λ k s t printed. Rounds k held shut s t printed) (λ k s t printed. Stints k (round k held shut) s t printed) (λ k s t printed. Rounds k held shut s t printed)
     (λ k s m t one two x y. rounds_more k held shut s m t one two x y) k s h1 h2 o o1 o2 w
     (went (λ k. Unit {0}) (λ k s t printed. Stints k (round k held shut) s t printed) (λ k s. All (λ group. All (HasNothing k s) group) (round k held shut)) h1 o1 h2 o2 b (λ k s x. rest_stints k (round k held shut) s x) d k w.after tt w.stands)
-
-pub round_less : (held shut : ℕ → Bool) (h : House) (o : List ℕ) (h1 : House) (o1 : List ℕ) (b : Bool) → b ≡ true → DidRound held shut h o h1 o1 b → effort h1 < effort h
-round_less held shut h o h1 o1 false e d = cc
-round_less held shut h o h1 o1 true e d = d.less
 
 pub rounds_want : (held shut : ℕ → Bool) (k : Setup) (s : Scene) (h1 h2 : House) (o o1 o2 : List ℕ) → Went (λ k s t printed. Rounds k held shut s t printed) k s h1 o o1 → Wants (λ k. Unit {0}) h1 o1 h2 o2 → HappenedFrom k s h2 o o2
 rounds_want held shut k s h1 h2 o o1 o2 w d =

@@ -263,10 +263,6 @@ pub some_seat : (o : Option SeatedSession) → is_some o ≡ true → (p : Seate
 some_seat None e = absurd (let f : false ≡ true = e in cc)
 some_seat (Some p) e = (p, refl)
 
-pub no_seat : (o : Option SeatedSession) → is_some o ≡ false → o ≡ None
-no_seat None e = refl
-no_seat (Some p) e = absurd (let f : true ≡ false = e in cc)
-
 -- there is such a session, where the test says so
 pub has_place : (h : House) (session : ℕ) (b : Bool) → (IsTrue b) ↔ IsNoPlace h session → b ≡ false → (0 < session) × (session ≤ length h.visitors)
 has_place h zero b iff e = absurd (let t : b ≡ true = iff.1 (inl refl) in cc)

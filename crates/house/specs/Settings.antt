@@ -11,12 +11,12 @@ use Rattle.house.specs.declared.config.ConfigFault.TheVariants.{TooMany, BadName
 use Rattle.house.specs.Setup.{Setup}
 
 -- so many connections may stand at a time
-abbrev pub connections : ℕ
-connections = 8
+abbrev pub connection_seats : ℕ
+connection_seats = 8
 
--- and so many sessions
-abbrev pub sessions : ℕ
-sessions = 8
+-- and so many sessions, each at its place
+abbrev pub places : ℕ
+places = 8
 
 -- the words of the mailboxes
 abbrev pub words_of : Config → List (List ℕ)
@@ -102,10 +102,10 @@ config_fault c = names_first (words_read (c.host.items ∷ c.domain.items ∷ []
 abbrev pub setup_of : Config → Setup
 setup_of c = record {
   config = record {
-    seats = connections + sessions;
+    seats = connection_seats + places;
     shards = c.shards;
     mailboxes = length (words_of c);
-    sessions = sessions;
+    sessions = places;
     depth = c.depth;
     messages = c.messages;
     ring = c.ring;
@@ -113,7 +113,7 @@ setup_of c = record {
     first_uid = c.first_uid;
     uidvalidity = c.uidvalidity;
   };
-  connections = connections;
+  connections = connection_seats;
   directory = record { domains = c.domain.items ∷ []; homes = map home_of (words_of c); shards = c.shards; shut = none_shut c.shards };
   host = c.host.items;
   max_message = c.max_message;

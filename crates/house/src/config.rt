@@ -91,6 +91,12 @@ impl From<DirectoryFault> for ConfigFault {
     }
 }
 
+/// The name that a house greets with, where none is given.
+pub const HOST: &str = "mx.example.org";
+
+/// The domain that mail comes for, where none is given.
+pub const DOMAIN: &str = "example.org";
+
 /// Bytes of their own for each of the words.
 fn own_words(alloc: Global, words: &[&[u8]]) -> Result<Vec<Vec<u8>>, AllocError>
     ensures { IfOk result (λ own. map (λ w. w.items) own.items ≡ texts words.now) }
@@ -109,21 +115,21 @@ impl Config {
         ensures { IfOk result (λ config. IsDefault config (texts mailboxes.now)) }
     {
         Ok(Config {
-            host: Vec::from_slice(alloc, b"mx.example.org")?,
-            domain: Vec::from_slice(alloc, b"example.org")?,
+            host: Vec::from_slice(alloc, HOST.as_bytes())?,
+            domain: Vec::from_slice(alloc, DOMAIN.as_bytes())?,
             mailboxes: own_words(alloc, mailboxes)?,
-            shards: numbers::SHARDS.standing as u8,
-            depth: numbers::DEPTH.standing as usize,
-            ring: numbers::RING.standing as usize,
-            ring_max: numbers::RING_MAX.standing as usize,
-            messages: numbers::MESSAGES.standing as usize,
-            max_message: numbers::MAX_MESSAGE.standing as usize,
-            uidvalidity: numbers::UIDVALIDITY.standing as u32,
-            first_uid: numbers::FIRST_UID.standing as u32,
-            sessions: numbers::SESSIONS.standing as u8,
-            workers: numbers::WORKERS.standing as u8,
-            lmtp_port: numbers::LMTP_PORT.standing as u16,
-            imap_port: numbers::IMAP_PORT.standing as u16,
+            shards: numbers::SHARDS.default as u8,
+            depth: numbers::DEPTH.default as usize,
+            ring: numbers::RING.default as usize,
+            ring_max: numbers::RING_MAX.default as usize,
+            messages: numbers::MESSAGES.default as usize,
+            max_message: numbers::MAX_MESSAGE.default as usize,
+            uidvalidity: numbers::UIDVALIDITY.default as u32,
+            first_uid: numbers::FIRST_UID.default as u32,
+            sessions: numbers::SESSIONS.default as u8,
+            workers: numbers::WORKERS.default as u8,
+            lmtp_port: numbers::LMTP_PORT.default as u16,
+            imap_port: numbers::IMAP_PORT.default as u16,
         })
     }
 

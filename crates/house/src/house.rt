@@ -1,7 +1,7 @@
 //! The house: who stands at each seat, over the delivery core. Each call is one event, and what it appends to `out` is what the event
 //! prints. No script and no socket is known here.
 
-ghost use Rattle.std.specs.Prelude.{true, false, IsTrue, ◌≡◌, ◌≢◌, ◌≤◌, ◌<◌, ◌+◌, ◌-◌, ◌⊎◌, ◌↔◌, ℕ, List, [], length, None, Some, Err, OnOk, OnErr, IfOk, IfErr, IfSome, IsSomeAnd, MatchOption, option_map};
+ghost use Rattle.std.specs.Prelude.{true, false, IsTrue, ◌≡◌, ◌≢◌, ◌≤◌, ◌<◌, ◌+◌, ◌-◌, ◌⊎◌, ◌↔◌, ℕ, List, length, None, Some, Err, OnOk, OnErr, IfOk, IfErr, IfSome, IsSomeAnd, MatchOption, option_map};
 ghost use Rattle.delivery_token.specs.Keys.{AtLeast};
 ghost use Rattle.house_connection.specs.HouseConnection.{HouseConnection};
 ghost use Rattle.house_connection.specs.Taking.{HearsVerdict, due, noted_put, with_more, with_nobody_there};
@@ -370,21 +370,38 @@ impl House {
     /// One event. What it appends to `out` is what it prints.
     ///
     /// Nobody, Busy and Nothing come in this order, and after them nothing changed: Nobody where the connection, the shard, the session or
-    /// the user isn't there, and where a seat that is free takes nobody any more; Busy where bytes, a vanishing or a leave are for a seat that still
-    /// waits for the verdicts of a peer that is gone, where a shard is shut that is shut already, and where a user enters at a place that is taken;
-    /// Nothing where the event would change nothing. After NoMemory, which no take, delivery, answer, end, close, leave or vanishing answers, what was
-    /// done by then stands, and the next event of the connection or session goes on from there; bytes that came with it were taken up or weren't
-    /// there at all.
+    /// the user isn't there (an end asks for its seat alone), and where a seat that is free takes nobody any more; Busy where bytes, a vanishing, an
+    /// idle turn or a leave are for a seat that still waits for the verdicts of a peer that is gone, where a shard is shut that is shut already, and
+    /// where a user enters at a place that is taken; Nothing where the event would change nothing. After NoMemory, which no take, delivery, answer,
+    /// end, close, leave or vanishing answers, what was done by then stands, and the next event of the connection or session goes on from there;
+    /// bytes that came with it were taken up or weren't there at all.
     pub fn step(&mut self, event: Event<'_>, out: &mut Vec<u8>) -> Result<(), HouseFault>
+        // From each scene for which the house stood, an event that happened leads to one for which it stands; `out` gets what it prints.
         ensures follows { OnOk result (Follows self.old event.entry self.new out.old.items out.new.items) }
+
+        // A put, take, delivery, answer, hearing or end leaves less to do, an idle turn less for its session: so settling ends.
         ensures effort { OnOk result (MakesLess (event.entry) self.old self.new) }
+
+        // The same six, whatever is answered, leave the directory as it was: they shut no shard.
         ensures marks { KeepsMarks event.entry self.old self.new }
+
+        // Nobody exactly where the connection, session, user or shard (of an end: the seat) isn't there, or a free seat takes no more.
         ensures nobody { (result ≡ Err HouseFault.Nobody) ↔ IsNobody self.old event.entry }
+
+        // Busy exactly for bytes, a vanishing, an idle turn or a leave where the peer is gone, a close of a shut shard, a user at a taken place.
         ensures busy { (result ≡ Err HouseFault.Busy) ↔ IsBusy self.old event.entry }
+
+        // Nothing comes only where the event would change and print nothing, and never to bytes of a connection.
         ensures changes_nothing { result ≡ Err HouseFault.Nothing → ChangesNothing self.old event.entry }
         ensures bytes { (connection : ℕ) (piece : Bor (List ℕ)) → event.entry ≡ events.Bytes connection piece → result ≢ Err HouseFault.Nothing }
+
+        // From each such scene the event was cut short, or nothing happened, and the house stands for what came of it.
         ensures no_memory { result ≡ Err HouseFault.NoMemory → FollowsInPart self.old event.entry self.new out.old.items out.new.items }
+
+        // No take, delivery, answer, end, close, leave or vanishing is refused so; a put, hearing or idle turn as `MayWant` says.
         ensures asks { result ≡ Err HouseFault.NoMemory → MayWant event.entry self.old self.new }
+
+        // A refusal but for memory leaves the house and `out` as they were.
         ensures refused { result ≢ Err HouseFault.NoMemory → OnErr result ((self.new ≡ self.old) × (out.new.items ≡ out.old.items)) }
     {
         match event {

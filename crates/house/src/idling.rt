@@ -1,7 +1,7 @@
 //! Sessions that idle (RFC 2177): the event by which one is shown what is new, and the turns that all of them have when the house settles. What
 //! a turn shows is the session's matter, over the mailboxes of the delivery core.
 
-ghost use Rattle.std.specs.Prelude.{◌≡◌, ◌≢◌, ◌↔◌, ◌<◌, ◌≤◌, ◌-◌, ℕ, List, [], ◌∷◌, true, false, Some, Err, IfSome, OnErr, OnOk};
+ghost use Rattle.std.specs.Prelude.{◌≡◌, ◌≢◌, ◌↔◌, ◌<◌, ◌-◌, List, [], ◌∷◌, true, false, Some, Err, IfSome, OnErr, OnOk};
 ghost use Rattle.house.specs.Setup.{Setup, session_seat};
 ghost use Rattle.delivery_core.specs.DeliveryCore.{behind};
 ghost use Rattle.delivery_core.specs.Stands as core;
@@ -26,7 +26,8 @@ use imap_session::Store;
 use session_store::CoreStore;
 use std::alloc::AllocError;
 
-// Whether the session at a place, counted from 0, has something to do in a turn: its client is there, it idles in a mailbox and wasn't shown all of its log.
+// Whether the session at a place, counted from 0, has something to do in a turn: its client is there, it idles in a mailbox and wasn't shown all of
+// its log.
 fn has_turn(visitor: &SeatedSession, place: u8, core: &DeliveryCore) -> bool
     ensures some { result ≡ true → MayIdle visitor.now place core.now }
     ensures none { result ≡ false → HasNoTurn place (Some visitor.now) core.now }

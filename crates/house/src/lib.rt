@@ -13,7 +13,7 @@ mod sessions;
 mod settle;
 mod tail;
 
-pub use config::{Config, ConfigFault};
+pub use config::{Config, ConfigFault, DOMAIN, HOST};
 pub use event::{Event, HouseFault};
 pub use house::House;
 pub use make::directory_of;

@@ -1,19 +1,19 @@
 //! The making of a house from its settings: its directory, and its parts, each as large as the settings say. What it does then is
 //! told in `house`.
 
-ghost use Rattle.std.specs.Prelude.{◌≡◌, ◌≢◌, ◌<◌, ◌≤◌, ◌⊎◌, ℕ, [], ◌∷◌, length, map, max, IfOk, IfErr, IfSome, IsOk, IsOkUnless, Ok, Err, None, replicate};
+ghost use Rattle.std.specs.Prelude.{◌≡◌, ◌<◌, ◌⊎◌, [], ◌∷◌, length, map, max, IfOk, IfErr, IfSome, IsOk, IsOkUnless, Ok, Err, None, replicate};
 ghost use Rattle.delivery_core.specs.New.{IsNewBox};
 ghost use Rattle.delivery_core.specs.Stands.{EachAt};
 ghost use Rattle.envelope.specs.Directory.{none_shut};
 ghost use Rattle.envelope.specs.Names.{texts, words_read};
 ghost use Rattle.house.specs.Scene.{empty_scene};
-ghost use Rattle.house.specs.Settings.{IsInRange, are_ports_wrong, config_fault, connections, fault_named, fault_of_numbers, has_slash, is_ring_wrong, setup_of, users_in, words_of};
+ghost use Rattle.house.specs.Settings.{IsInRange, are_ports_wrong, config_fault, fault_named, fault_of_numbers, has_slash, is_ring_wrong, setup_of, users_in, words_of};
 ghost use Rattle.house.specs.Stands.{StandsFor};
 
 use crate::config::{Config, ConfigFault};
 use crate::house::House;
 use delivery_core::{DeliveryCore, Settings};
-use envelope::{Directory, is_name};
+use envelope::{Directory, MOST_MAILBOXES, is_name};
 use house_connection::HouseConnection;
 use house_session::SeatedSession;
 use mailbox::Limits;
@@ -21,13 +21,10 @@ use session_store::CoreStore;
 use std::alloc::{AllocError, Global};
 
 /// So many connections may stand at a time. Their seats come first.
-const CONNECTIONS: u8 = 8;
+const CONNECTION_SEATS: u8 = 8;
 
 /// So many sessions may be there at a time. Their seats are behind those of connections.
-const SESSIONS: u8 = 8;
-
-/// The most mailboxes of a house.
-const MOST_MAILBOXES: usize = 64;
+const PLACES: u8 = 8;
 
 /// Where mail comes by SMTP, which an LMTP server must keep away from (RFC 2033, 5).
 const SMTP_PORT: u16 = 25;
@@ -122,12 +119,20 @@ fn fault_of_numbers(config: &Config) -> Option<ConfigFault>
 ///
 /// Errors: those of `House::new`, in the same order.
 pub fn directory_of(alloc: Global, config: &Config) -> Result<Directory, ConfigFault>
+    // Each number is in its range, and there is a mailbox: `Config::is_in_range`.
     requires { IsInRange config.now }
+
+    // The directory that the settings settle: their domain, a mailbox for each word, and no shard shut.
     ensures directory { IfOk result (λ d. d ≡ (setup_of config.now).directory) }
+
+    // An answer means that nothing is wrong, and that the host's name has fewer than 256 bytes.
     ensures right { IfOk result (λ d. config_fault config.now ≡ None) }
     ensures host { IfOk result (λ d. length config.now.host.items < 256) }
+
+    // Where something is wrong, the first fault that holds is the error, or NoMemory.
     ensures fault { IfSome (config_fault config.now) (λ fault. (result ≡ Err fault) ⊎ (result ≡ Err ConfigFault.NoMemory)) }
-    // Where nothing is wrong.
+
+    // Where nothing is wrong, there is one, unless memory is refused.
     ensures made { config_fault config.now ≡ None → IsOkUnless result ConfigFault.NoMemory }
 {
     let directory = named_directory(alloc, config)?;
@@ -139,10 +144,10 @@ pub fn directory_of(alloc: Global, config: &Config) -> Result<Directory, ConfigF
 
 // At each seat nobody.
 fn empty_seats(alloc: Global) -> Result<Vec<Option<HouseConnection>>, AllocError>
-    ensures { IfOk result (λ v. v.items ≡ replicate CONNECTIONS None) }
+    ensures { IfOk result (λ v. v.items ≡ replicate CONNECTION_SEATS None) }
 {
     let mut seats = Vec::new(alloc);
-    for _seat in 0..CONNECTIONS {
+    for _seat in 0..CONNECTION_SEATS {
         seats.push(None)?;
     }
     Ok(seats)
@@ -150,10 +155,10 @@ fn empty_seats(alloc: Global) -> Result<Vec<Option<HouseConnection>>, AllocError
 
 // At each place nobody.
 fn free_places(alloc: Global) -> Result<Vec<Option<SeatedSession>>, AllocError>
-    ensures { IfOk result (λ v. v.items ≡ replicate SESSIONS None) }
+    ensures { IfOk result (λ v. v.items ≡ replicate PLACES None) }
 {
     let mut places = Vec::new(alloc);
-    for _place in 0..SESSIONS {
+    for _place in 0..PLACES {
         places.push(None)?;
     }
     Ok(places)
@@ -165,24 +170,32 @@ impl House {
     /// Errors, the first that holds: `TooMany` for more than 64 mailboxes; `BadName` for the host, then for the domain; then the fault
     /// of the first word that has one, `BadName` if it is spelled wrong or its user has no word before it, `Twice` if it names an
     /// earlier one's mailbox in upper or lower case; `Ring` where the ring keeps fewer than two changes for each message, or its most
-    /// is not 0 and is less than it; `Ports` where mail is to come to port 25 or to a user's port. In place of any of them, and where nothing else is wrong, `NoMemory` if memory is refused.
+    /// is not 0 and is less than it; `Ports` where mail is to come to port 25 or to a user's port. In place of any of them, and where nothing else is
+    /// wrong, `NoMemory` if memory is refused.
     pub fn new(alloc: Global, config: &Config) -> Result<House, ConfigFault>
+        // Each number is in its range, and there is a mailbox: `Config::is_in_range`.
         requires { IsInRange config.now }
+
+        // It stands for the empty scene of these settings: nobody is there, nothing has happened, no shard is shut.
         ensures stands { IfOk result (λ h. StandsFor (setup_of config.now) h (empty_scene (setup_of config.now))) }
+
+        // Where something is wrong, the first fault that holds is the error, or NoMemory.
         ensures fault { IfSome (config_fault config.now) (λ fault. (result ≡ Err fault) ⊎ (result ≡ Err ConfigFault.NoMemory)) }
+
         // Each mailbox is empty, with the settings' UIDs, room and window.
         ensures mailboxes { IfOk result (λ h. EachAt (λ m b.
             IsNewBox m config.now.uidvalidity config.now.first_uid config.now.messages config.now.ring
             (max config.now.ring config.now.ring_max) b) h.core.boxes) }
-        // Where nothing is wrong.
+
+        // Where nothing is wrong, there is one, unless memory is refused.
         ensures made { config_fault config.now ≡ None → IsOkUnless result ConfigFault.NoMemory }
     {
         let directory = directory_of(alloc, config)?;
         let settings = Settings {
-            seats: CONNECTIONS + SESSIONS,
+            seats: CONNECTION_SEATS + PLACES,
             shards: config.shards,
             mailboxes: directory.mailboxes() as u8,
-            sessions: usize::from(SESSIONS),
+            sessions: usize::from(PLACES),
             depth: config.depth,
             uidvalidity: config.uidvalidity,
             first_uid: config.first_uid,
@@ -198,9 +211,9 @@ impl House {
                 session: 0,
             },
             callers: empty_seats(alloc)?,
-            serials: vec![in alloc; 0; usize::from(CONNECTIONS)]?,
+            serials: vec![in alloc; 0; usize::from(CONNECTION_SEATS)]?,
             visitors: free_places(alloc)?,
-            entered: vec![in alloc; 0; usize::from(SESSIONS)]?,
+            entered: vec![in alloc; 0; usize::from(PLACES)]?,
             directory,
             host: Vec::from_slice(alloc, &config.host)?,
             max_message: config.max_message,

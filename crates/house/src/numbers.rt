@@ -12,7 +12,7 @@ pub struct Number {
     /// The most that it may be.
     pub most: u64,
     /// What it is where none is given.
-    pub standing: u64,
+    pub default: u64,
 }
 
 impl Number {
@@ -29,82 +29,82 @@ impl Number {
 pub const SHARDS: Number = Number {
     least: 1,
     most: 8,
-    standing: 1,
+    default: 1,
 };
 
 /// Entries that each shard's lane has room for.
 pub const DEPTH: Number = Number {
     least: 1,
     most: 1024,
-    standing: 64,
+    default: 64,
 };
 
 /// Changes that each mailbox keeps.
 pub const RING: Number = Number {
     least: 16,
     most: 65_536,
-    standing: 2048,
+    default: 2048,
 };
 
 /// Changes that each mailbox keeps at most, for clients that fall behind.
 pub const RING_MAX: Number = Number {
     least: 0,
     most: 65_536,
-    standing: 0,
+    default: 0,
 };
 
 /// Messages that each mailbox may hold.
 pub const MESSAGES: Number = Number {
     least: 1,
     most: 32_768,
-    standing: 1024,
+    default: 1024,
 };
 
 /// Bytes that a message's data may have.
 pub const MAX_MESSAGE: Number = Number {
     least: 1,
     most: 16_777_216,
-    standing: 1_048_576,
+    default: 1_048_576,
 };
 
 /// What each mailbox tells as its UIDVALIDITY (RFC 9051, 2.3.1.1).
 pub const UIDVALIDITY: Number = Number {
     least: 1,
     most: 4_294_967_295,
-    standing: 1,
+    default: 1,
 };
 
 /// The UID of each mailbox's first message.
 pub const FIRST_UID: Number = Number {
     least: 1,
     most: 4_294_967_294,
-    standing: 1,
+    default: 1,
 };
 
 /// Sessions of each user that run or are served at a time.
 pub const SESSIONS: Number = Number {
     least: 1,
     most: 4,
-    standing: 2,
+    default: 2,
 };
 
 /// LMTP connections that are served at a time.
 pub const WORKERS: Number = Number {
     least: 1,
     most: 8,
-    standing: 4,
+    default: 4,
 };
 
 /// The port that mail comes to.
 pub const LMTP_PORT: Number = Number {
     least: 1,
     most: 65_535,
-    standing: 2424,
+    default: 2424,
 };
 
 /// The port of the first user's sessions.
 pub const IMAP_PORT: Number = Number {
     least: 1024,
     most: 65_472,
-    standing: 14_300,
+    default: 14_300,
 };

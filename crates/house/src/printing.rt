@@ -1,7 +1,7 @@
 //! What connections and sessions say is printed: each line with a mark that tells who said it, all of it or nothing. Where memory is refused it is
 //! printed at the next event of the same connection or session.
 
-ghost use Rattle.std.specs.Prelude.{◌≡◌, ◌≤◌, ◌<◌, ◌++◌, ℕ, List, [], length, true, false, OnOk, OnErr, IfOk};
+ghost use Rattle.std.specs.Prelude.{◌≡◌, ◌≤◌, ◌<◌, ◌++◌, ℕ, List, length, true, false, OnOk, OnErr, IfOk};
 ghost use Rattle.delivery_token.specs.declared.CopyKey.{CopyKey};
 ghost use Rattle.delivery_token.specs.declared.log.Noted.{Noted};
 ghost use Rattle.line_io.specs.Marks.{marked};

@@ -1,5 +1,5 @@
-//! What happens to sessions: users enter, their clients say something and leave, and the messages that they append are put and heard of. What a session
-//! answers is its own matter, over the mailboxes of the delivery core.
+//! What happens to sessions: users enter, their clients say something and leave, and the messages that they append are put and heard of. What a
+//! session answers is its own matter, over the mailboxes of the delivery core.
 
 ghost use Rattle.std.specs.Prelude.{◌≡◌, ◌≢◌, ◌↔◌, ◌⊎◌, ◌+◌, ◌-◌, ◌<◌, ◌≤◌, ℕ, List, length, true, false, None, Some, Err, OnOk, OnErr, IfErr, IfOk, IfSome, IsSomeAnd, IsTrue, MatchOption, option_map};
 ghost use Rattle.delivery_core.specs.Changes.{SameDelivery};

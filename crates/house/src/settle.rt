@@ -1,7 +1,7 @@
 //! How the house settles: each in turn does what it has to do, over and over until nobody has anything to do. What an event does is
 //! the house's own; nothing here looks into it.
 
-ghost use Rattle.std.specs.Prelude.{◌≡◌, ◌<◌, ℕ, All, OnOk, OnErr};
+ghost use Rattle.std.specs.Prelude.{◌≡◌, ◌<◌, All, OnOk, OnErr};
 ghost use Rattle.house.specs.Scene as scene;
 ghost use Rattle.house.specs.Setup.{Setup};
 ghost use Rattle.house.specs.Settled.{HappenedFrom, SettledFrom, is_held};
@@ -195,13 +195,16 @@ impl House {
         }
     }
 
-    /// Settles: each seat ends on each shard that is shut, where it hasn't ended; each connection from 1, and each session behind them, puts its copies; each shard from 0 that isn't held takes, delivers and answers
-    /// until its lane is empty; each connection and each session hears its verdicts; and so on in rounds until nothing moves. Then each session from 1 that idles is
-    /// shown what is pending, until nothing is.
+    /// Settles: each seat ends on each shard that is shut, where it hasn't ended; each connection from 1, and each session behind them, puts its
+    /// copies; each shard from 0 that isn't held takes, delivers and answers as long as it can; each connection and each session hears its
+    /// verdicts; and so on in rounds until nothing moves. Then each session from 1 that idles is shown what is pending, until nothing is.
     /// The one error is want of memory: what happened by then stands.
     pub fn settle(&mut self, held: &[bool], out: &mut Vec<u8>) -> Result<(), AllocError>
+        // From each scene for which it stood: rounds without held shards till nothing moves, then idle turns; it stands for where they lead.
         ensures settles { OnOk result ((k : Setup) (s : scene.Scene) → StandsFor k self.old s →
             SettledFrom k held.now s self.new out.old.items out.new.items) }
+
+        // From each such scene some events happened, each perhaps cut short, and the house stands for where they led.
         ensures no_memory { OnErr result ((k : Setup) (s : scene.Scene) → StandsFor k self.old s →
             HappenedFrom k s self.new out.old.items out.new.items) }
     {

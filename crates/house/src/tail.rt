@@ -1,6 +1,6 @@
 //! What is printed of a mailbox's last changes, a line for each and one for their number. No connection and no event is known here.
 
-ghost use Rattle.std.specs.Prelude.{◌≡◌, ◌≢◌, ◌↔◌, None, Err, ◌++◌, ◌+◌, [], length, if◌then◌else◌, OnOk, OnErr, decimal, flat_map};
+ghost use Rattle.std.specs.Prelude.{◌≡◌, ◌≢◌, ◌↔◌, None, Err, ◌++◌, ◌+◌, length, OnOk, OnErr, decimal, flat_map};
 ghost use Rattle.std.specs.Io.{StartsWith};
 ghost use Rattle.envelope.specs.Names.{number_of};
 ghost use Rattle.house.specs.Setup.{Setup};
@@ -139,10 +139,15 @@ impl House {
     /// Prints the last changes of the mailbox that a word names, or nothing: Nobody exactly where the word names none, NoMemory where
     /// memory is wanting. Busy and Nothing never come while the house stands.
     pub fn tail(&self, word: &[u8], out: &mut Vec<u8>) -> Result<(), HouseFault>
+        // Of the mailbox that the word names, a line for each change of its window, and one for how many changes there ever were.
         ensures window { OnOk result ((k : Setup) (s : Scene) → StandsFor k self.now s → PrintsWindow k s word.now out.old.items out.new.items) }
+
+        // Nobody exactly where the word names no mailbox; Busy never, and Nothing only in a house that stands for no scene.
         ensures nobody { (result ≡ Err HouseFault.Nobody) ↔ (number_of self.now.directory word.now ≡ None) }
         ensures busy { result ≢ Err HouseFault.Busy }
         ensures nothing { result ≡ Err HouseFault.Nothing → (k : Setup) (s : Scene) → StandsFor k self.now s → ⊥ }
+
+        // A refusal prints nothing.
         ensures refused { OnErr result (out.new.items ≡ out.old.items) }
     {
         let Some(mailbox) = self.directory.number_of(word) else {

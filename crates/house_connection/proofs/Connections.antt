@@ -20,7 +20,7 @@ use Rattle.lmtp_machine.proofs.Calls.{nothing_taken}
 use Rattle.lmtp_machine.proofs.Follow.{still_listens}
 use Rattle.lmtp_machine.proofs.Kept.{taken_keeps, event_keeps}
 use Rattle.house_connection.specs.HouseConnection.{HouseConnection}
-use Rattle.house_connection.specs.Caller.{Caller, IsAnswered, Terms, answers, copies_of, fades, greeted, keys_of, lingers, meets, setting_of, stalls, talks, unread, waits, with_unsaid, works}
+use Rattle.house_connection.specs.Caller.{Caller, IsAnswered, Terms, answers, copies_of, fades, greeted, keys_of, lingers, meets, setting_of, talks, unread, waits, with_unsaid, works}
 use Rattle.house_connection.specs.Taking.{AreKnown, with_all_said, with_nobody_there}
 use Rattle.house_connection.specs.inner.Taking.{TakenBy}
 use Rattle.delivery_token.specs.Keys.{AtLeast}
@@ -220,9 +220,6 @@ module _ (k : Terms) (seat : ℕ) (next : CopyKey) (heard : List Noted) where
   went_answers whole b vs h m new_h what s one said w =
       record { after = w.after; goes = answers vs (some_pending _ _ s.pending one) said.answered w.works; stands = w.stands }
 
-  pub went_stalls : (b : Caller) (h : HouseConnection) → StandsForConnection k seat next heard h b → WentOn k false seat next heard b More h
-  went_stalls b h s = record { after = b; goes = stalls refl refl refl; stands = s }
-
   -- before every verdict is known nothing is done
   pub went_waits : (b : Caller) (h : HouseConnection) → StandsForConnection k seat next heard h b → length h.machine.pending ≡ 1
       → ((vs : List Verdict) → AreKnown h vs → ⊥) → WentOn k true seat next heard b Submit h
@@ -329,26 +326,6 @@ under shut k = record k { directory = marked shut k.directory }
 pub stands_marked : (k : Terms) (shut : List Bool) (seat : ℕ) (next : CopyKey) (heard : List Noted) (h : HouseConnection) (b : Caller)
     → StandsForConnection k seat next heard h b → StandsForConnection (under shut k) seat next heard h b
 stands_marked k shut seat next heard h b s = record {
-  serial = s.serial;
-  gone = s.gone;
-  setting = s.setting;
-  host = s.host;
-  machine = s.machine;
-  waits = s.waits;
-  unsaid = s.unsaid;
-  pending = s.pending;
-  to_put = s.to_put;
-  verdicts = s.verdicts;
-  awaited = s.awaited;
-  kept = s.kept;
-  message = s.message;
-  numbered = s.numbered;
-  ahead = s.ahead;
-}
-
-pub stands_unmarked : (k : Terms) (shut : List Bool) (seat : ℕ) (next : CopyKey) (heard : List Noted) (h : HouseConnection) (b : Caller)
-    → StandsForConnection (under shut k) seat next heard h b → StandsForConnection k seat next heard h b
-stands_unmarked k shut seat next heard h b s = record {
   serial = s.serial;
   gone = s.gone;
   setting = s.setting;

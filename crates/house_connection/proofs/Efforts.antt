@@ -1,20 +1,16 @@
 -- How the work that is left becomes less.
-use Rattle.std.proofs.Common.{◌≡◌, Bool, true, nat_eq, sym, ℕ, suc, ◌+◌, ◌*◌, ◌<◌, ◌≤◌, List, [], ◌∷◌, ◌++◌, length, drop, refl, ap, ◌∙◌, arith, Option, Some, None, length-drop, length-append, append-nil}
+use Rattle.std.proofs.Common.{◌≡◌, Bool, true, nat_eq, sym, ℕ, ◌+◌, ◌*◌, ◌<◌, ◌≤◌, List, [], ◌∷◌, length, drop, refl, ap, ◌∙◌, arith, Option, Some, None, length-drop, append-nil}
 use Rattle.change_ring.specs.Log.{no_flags}
 use Rattle.std.proofs.lemmas.Bool.{eqb-true}
 use Rattle.std.proofs.Math.Seq.{drop-length, drop-nil}
 use Rattle.std.proofs.lemmas.List.Elements.{All-head}
 use Rattle.delivery_token.specs.declared.Job.{Job}
-use Rattle.delivery_token.specs.declared.Verdict.{Verdict}
 use Rattle.lmtp_machine.specs.declared.connection.What.{What}
 use Rattle.lmtp_machine.specs.declared.connection.What.TheVariants.{More, Submit, Quit}
 use Rattle.lmtp_machine.specs.Dialogue.{Submission}
-use Rattle.house_connection.specs.HouseConnection.{HouseConnection}
-use Rattle.house_connection.specs.Taking.{line_effort}
 use Rattle.house_connection.specs.inner.Few.{AreFew}
 use Rattle.submission.specs.Copies.{copies}
 use Rattle.house_connection.specs.Caller.{copies_of}
-use Rattle.house_connection.specs.Taking.{due, noted_put}
 use Rattle.house_connection.specs.inner.Taking.{AwaitsIn}
 use Rattle.submission.proofs.Copies.{length-copies}
 
@@ -40,17 +36,6 @@ took_less waits used n (Some More) before after e l m a f = let d = length-drop 
 took_less waits used n (Some Submit) before after e l m a f =
     let d = length-drop used waits in let z = few_copies n after (omega (arith, a)) f in let p = m refl in omega (arith, d, z, p, l)
 took_less waits used n (Some Quit) before after e l m a f = let d = length-drop used waits in let z = no_copies n after a in omega (arith, d, z)
-
--- a copy was put
-drop_one : {A : Type 0} (n : ℕ) (xs : List A) → 0 < length (drop n xs) → length (drop (suc n) xs) + 1 ≡ length (drop n xs)
-drop_one n xs h = let a = length-drop n xs in let b = length-drop (suc n) xs in omega (arith, a, b, h)
-
-pub put_less : (v : Option Verdict) (h : HouseConnection) → 0 < length (due h) → line_effort (noted_put v h) + 5 ≡ line_effort h
-put_less v h more =
-    let e : length (h.verdicts ++ v ∷ []) ≡ suc (length h.verdicts) = let l = length-append h.verdicts (v ∷ []) in omega (arith, l) in
-    let d = drop_one (length h.verdicts) (copies_of h.machine.pending) more in
-    let s = ap (λ (n : ℕ). length (drop n (copies_of h.machine.pending))) e in
-    omega (arith, d, s)
 
 -- ---- what waits
 

@@ -2,12 +2,11 @@
 //! awaits. It knows neither the lanes nor the mailboxes: the house puts its copies and tells it what was heard. Nor does it print: the
 //! house does, and tells it so.
 
-ghost use Rattle.std.specs.Prelude.{◌≡◌, ◌≤◌, ◌<◌, ℕ, List, [], ◌∷◌, take, length, true, false, Some, None, Ok, OnOk, OnErr, IfOk, IfSome};
+ghost use Rattle.std.specs.Prelude.{◌≡◌, ◌≤◌, ◌<◌, ℕ, List, [], ◌∷◌, take, length, true, false, Some, None, OnOk, OnErr, IfOk, IfSome};
 ghost use Rattle.delivery_token.specs.Keys.{AtLeast};
 ghost use Rattle.delivery_token.specs.declared.CopyKey.{CopyKey};
 ghost use Rattle.change_ring.specs.Log.{no_flags};
 ghost use Rattle.delivery_token.specs.declared.Job.{Job};
-ghost use Rattle.delivery_token.specs.declared.Verdict.{Verdict};
 ghost use Rattle.delivery_token.specs.declared.log.Noted.{Noted};
 ghost use Rattle.lmtp_machine.specs.Calls.{submission_of};
 ghost use Rattle.lmtp_machine.specs.Conversation.{Conversation};
@@ -24,7 +23,7 @@ ghost use Rattle.house_connection.specs.Taking.{AreKnown, HasWork, HearsVerdict,
 ghost use Rattle.house_connection.specs.inner.Taking.{AwaitsIn, TakenBy};
 
 use change_ring::NO_FLAGS;
-use delivery_token::{CopyKey, Noted, Text, Verdict};
+use delivery_token::{CopyKey, Noted, Verdict};
 use envelope::Directory;
 use incoming::Incoming;
 use lmtp_machine::{Limits, LmtpMachine, MOST_RECIPIENTS, Submission, What};
@@ -160,6 +159,7 @@ impl HouseConnection {
     ///
     /// Errors: `AllocError` where memory was refused; nothing is changed then.
     pub fn append(&mut self, piece: &[u8]) -> Result<(), AllocError>
+        // After Ok the bytes wait behind all others; after an error nothing has changed, and there were bytes.
         ensures ok { OnOk result (self.new ≡ with_more piece.now self.old) }
         ensures err { OnErr result (self.new ≡ self.old) }
         ensures asks { OnErr result (0 < length piece.now) }
@@ -289,14 +289,19 @@ impl HouseConnection {
     /// Errors: `AllocError` where memory was refused, and only where there was something to be done and its peer is there. What was done stands,
     /// and the next call goes on from there.
     pub fn proceed(&mut self, directory: &Directory) -> Result<What, AllocError>
+        // Whether its peer is gone stays, and no more is left to do than before.
         ensures same { self.new.gone ≡ self.old.gone }
         ensures less { line_effort self.new ≤ line_effort self.old }
+
+        // After Ok: for each caller for which it stood, it stands for one that did all it could, and the answer is what that one came to.
         ensures ok { IfOk result (λ what. (k : Terms) (seat : ℕ) (next : CopyKey) (heard : List Noted) (b : spec.Caller)
             → directory.now ≡ k.directory → StandsForConnection k seat next heard self.old b →
             Proceeded k true seat next heard b what self.new) }
+        // After an error: the same, but that the caller may have stopped for want of memory; what was done stands.
         ensures err { OnErr result ((k : Terms) (seat : ℕ) (next : CopyKey) (heard : List Noted) (b : spec.Caller) → directory.now ≡ k.directory
             → StandsForConnection k seat next heard self.old b →
             (what : What) × Proceeded k false seat next heard b what self.new) }
+        // An error only where the peer is there and there was something to be done.
         ensures asks { OnErr result ((self.old.gone ≡ false) × HasWork self.old) }
     {
         if self.is_gone {

@@ -1,5 +1,5 @@
-//! Those who talk to a house: a connection at its seat, with what came for it, what it said, and how that is printed. Lanes and mailboxes
-//! are the house's matter.
+//! An LMTP connection at its seat in a house on one thread: what came for it and waits, what it said and isn't printed yet, and the verdicts
+//! that it awaits. Lanes, mailboxes and printing are the house's matter.
 #![tactic(auto)]
 
 mod connection;

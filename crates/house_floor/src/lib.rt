@@ -13,6 +13,6 @@ mod stock;
 mod users;
 
 pub use floor::{Crew, Floor, Guest, Post, Stand};
-pub use opening::{Baskets, Opened, Sizes, open};
-pub use stock::{REPLY_ROOM, Spares};
+pub use opening::{Baskets, MOST_PRODUCERS, Opened, Sizes, open};
+pub use stock::Spares;
 pub use users::{inbox_numbered, is_nobody};

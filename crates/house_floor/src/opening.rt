@@ -44,6 +44,9 @@ pub struct Sizes<'a> {
     pub closings: &'a [Vec<Closing>],
 }
 
+/// The most producers of a house: workers, and behind them sessions, whose seats a lane tells apart by a byte.
+pub const MOST_PRODUCERS: usize = 255;
+
 /// Room for what the threads leave.
 pub struct Baskets {
     /// For each producer, what is left of its permits on the lanes.

@@ -2,12 +2,12 @@
 //! lists for what is dealt of them and for what the threads leave. Where memory is refused on the way,
 //! all that was made by then is spent. What may be let go stands in `fittings`.
 
-ghost use Rattle.std.specs.Prelude.{◌≡◌, ◌<◌, ◌≤◌, [], IfOk, OnOk};
+ghost use Rattle.std.specs.Prelude.{◌<◌, IfOk, OnOk};
 ghost use Rattle.house_floor.specs.inner.Making.{AreEmptyLists, AreLists, AreStock};
 ghost use Rattle.house_floor.specs.Opening.{AreNoSpares, AreSpares};
 
 use crate::floor::{Post, Stand};
-use delivery_token::{Job, Noted};
+use delivery_token::{Job, Noted, REPLY_ROOM};
 use lane_permits::{
     Channels, Lanes, Rooms, abandon_lanes, make_channels, make_lanes, make_rooms, spend_rooms,
 };
@@ -16,9 +16,6 @@ use shard_queue::{
     ConsumerPermit, Ended, ProducerPermit, ReceiverPermit, SenderEnded, SenderPermit,
 };
 use std::alloc::{AllocError, Global};
-
-/// So many verdicts have room in a producer's reply channel.
-pub const REPLY_ROOM: usize = 128;
 
 /// Empty lists for what the threads are given, and for what comes of them.
 pub(crate) struct CrewLists {

@@ -121,6 +121,7 @@ impl SeatedSession {
 
     /// The copy of the message at hand, where that is still to be put.
     pub fn next_copy(&self) -> Option<NextCopy<'_>>
+        // It lends the first of the copies that are still to be put; None only where none is.
         ensures none { result ≡ None → due self.now ≡ [] }
         ensures some { IfSome result (λ c. (others : List Job) ×
             (due self.now ≡ record { key = c.key; mailbox = c.mailbox; text = c.text.now; flags = c.flags } ∷ others)) }
@@ -207,10 +208,13 @@ impl SeatedSession {
     ///
     /// Errors: `AllocError` where memory was refused. What was done stands, and the next call goes on from there.
     pub fn proceed<S: Store>(&mut self, alloc: Global, store: &mut S) -> Result<(), AllocError>
+        // From each session for which it stood: it did what it can by what its seat has heard, after an error perhaps less; nothing is printed yet.
         ensures ok { OnOk result ((seat : ℕ) (next : Key) (heard : List NotedSpec) (v : spec.SeatedVisitor) →
             StandsForSeated seat next heard self.old v → Proceeded S.step true seat next heard v store.old store.new self.new) }
         ensures err { OnErr result ((seat : ℕ) (next : Key) (heard : List NotedSpec) (v : spec.SeatedVisitor) →
             StandsForSeated seat next heard self.old v → Proceeded S.step false seat next heard v store.old store.new self.new) }
+
+        // No more is left to do than was. Whatever it stands for, the store was asked some calls in turn, or none.
         ensures less { seat_effort self.new ≤ seat_effort self.old }
         ensures asked { Asks S.step store.old store.new }
         ensures gone { self.new.gone ≡ self.old.gone }
@@ -229,15 +233,22 @@ impl SeatedSession {
 
     /// Its session has a turn while it idles, over its store, as in `HouseSession::idle_turn`. Answers how many changes were shown.
     ///
-    /// Errors: `AllocError` where memory was refused. Nothing happened then.
+    /// Errors: `AllocError` where memory was refused. The session is then as it was; so is the store, or it refused the call that shows.
     pub fn idle_turn<S: Store>(&mut self, store: &mut S) -> Result<usize, AllocError>
+        // Its client is there.
         requires there { self.old.gone ≡ false }
+
+        // From each session for which it stood, and whatever it stands for: it had a turn and showed so many changes, 64 at most.
         ensures ok { IfOk result (λ count. (seat : ℕ) (next : Key) (heard : List NotedSpec) (v : spec.SeatedVisitor) →
             StandsForSeated seat next heard self.old v → SeatedTurned S.step count seat next heard v store.old store.new self.new) }
         ensures session { IfOk result (λ count. HadTurn S.step self.old.place store.old store.new count self.new.place) }
         ensures few { IfOk result (λ count. count ≤ 64) }
         ensures gone { self.new.gone ≡ self.old.gone }
+
+        // Where it shows nothing and the session goes on, nothing is changed.
         ensures quiet { IfOk result (λ count. count ≡ 0 → self.new.place.link.session.ended ≡ false → self.new ≡ self.old) }
+
+        // Where memory is refused, the session is as it was; so is the store, or it refused memory itself.
         ensures err { OnErr result ((self.new ≡ self.old) × Starves S.step store.old store.new) }
     {
         self.session.idle_turn(store)

@@ -1,7 +1,7 @@
 //! A session at its place: an IMAP connection, the bytes that came for it, and what it said and has not printed yet. It knows no mailbox: its
 //! store does. Nor does it print: the house does, and tells it so.
 
-ghost use Rattle.std.specs.Prelude.{◌≡◌, ◌<◌, ◌≤◌, true, false, [], length, None, OnOk, OnErr, IfOk};
+ghost use Rattle.std.specs.Prelude.{◌≡◌, ◌<◌, ◌≤◌, true, false, length, None, OnOk, OnErr, IfOk};
 ghost use Rattle.std.specs.Option.{is_some, option_map};
 ghost use Rattle.imap_session.specs.Exchange.{Sent, is_idling};
 ghost use Rattle.imap_session.specs.Store.{Starves};
@@ -17,7 +17,7 @@ use incoming::Incoming;
 use std::alloc::{AllocError, Global};
 use std::marker::Model;
 
-/// One who visits the house: a client's session at its place.
+/// A client's session at its place: its connection, the bytes that came and weren't taken, and what it said and isn't printed yet.
 #[derive(Drop)]
 pub struct HouseSession {
     connection: ImapConnection,
@@ -34,7 +34,7 @@ impl Model for HouseSession {
 }
 
 impl HouseSession {
-    /// A visitor that was just let in, whose mailboxes have these names, and of which messages of at most so many bytes are taken, or none. Its
+    /// A session that was just let in, whose mailboxes have these names, and of which messages of at most so many bytes are taken, or none. Its
     /// greeting is said, and still to be printed.
     ///
     /// Errors: `AllocError` where memory for a line or the greeting was refused.
@@ -104,11 +104,18 @@ impl HouseSession {
     ///
     /// Errors: `AllocError` where memory was refused. Nothing happened then, and the same verdict is waited for.
     pub fn answer<S: Store>(&mut self, verdict: Verdict, store: &mut S) -> Result<(), AllocError>
+        // The session goes on, and a verdict is awaited.
         requires going { self.old.link.session.ended ≡ false }
         requires waits { is_some self.old.link.session.mailing.sent ≡ true }
+
+        // From each visitor for which it stood: the verdict was answered over the store, and what that says is still to be printed.
         ensures ok { OnOk result ((v : spec.Visitor) → StandsFor self.old v → AnsweredVerdict S.step verdict v store.old store.new self.new) }
+
+        // Once it is answered none is awaited. What came stays.
         ensures done { OnOk result (self.new.link.session.mailing.sent ≡ None) }
         ensures came { self.new.came ≡ self.old.came }
+
+        // Whatever it stands for, the store was asked some calls in turn, or none; an error leaves it and the session as they were.
         ensures asked { Asks S.step store.old store.new }
         ensures err { OnErr result ((self.new ≡ self.old) × (store.new ≡ store.old)) }
     {
@@ -124,9 +131,14 @@ impl HouseSession {
     ///
     /// Errors: `AllocError` where memory was refused. What was done stands, and the next call goes on from there.
     pub fn go_on<S: Store>(&mut self, alloc: Global, store: &mut S) -> Result<(), AllocError>
+        // From each visitor for which it stood: some of what waits was answered in turn, without error all that may be; nothing is printed yet.
         ensures ok { OnOk result ((v : spec.Visitor) → StandsFor self.old v → Answered S.step true v store.old store.new self.new) }
         ensures err { OnErr result ((v : spec.Visitor) → StandsFor self.old v → Answered S.step false v store.old store.new self.new) }
+
+        // Whatever it stands for, the store was asked some calls in turn, or none.
         ensures asked { Asks S.step store.old store.new }
+
+        // No more bytes are left than were; fewer, where a message was submitted by it.
         ensures fewer { length self.new.came ≤ length self.old.came }
         ensures moves { self.old.link.session.mailing.sent ≡ None → is_some self.new.link.session.mailing.sent ≡ true →
             length self.new.came < length self.old.came }
@@ -141,8 +153,8 @@ impl HouseSession {
         let progress = self.connection.take(alloc, waits, store, &mut self.unsaid);
         self.incoming.take(progress.used);
         match progress.after {
-            Some(_) => return Ok(()),
-            None => return Err(AllocError),
+            Some(_) => Ok(()),
+            None => Err(AllocError),
         }
     }
 
@@ -150,12 +162,17 @@ impl HouseSession {
     /// how many were shown; what it says is still to be printed. Where the session doesn't idle, has selected no mailbox or has ended, none are;
     /// a client that missed changes is told BYE, and its session has then ended.
     ///
-    /// Errors: `AllocError` where memory was refused. Nothing happened then.
+    /// Errors: `AllocError` where memory was refused. The session is then as it was; so is the store, or it refused the call that shows.
     pub fn idle_turn<S: Store>(&mut self, store: &mut S) -> Result<usize, AllocError>
+        // From each visitor for which it stood, and whatever it stands for: its session had a turn and showed so many changes, 64 at most.
         ensures ok { IfOk result (λ count. (v : spec.Visitor) → StandsFor self.old v → Turned S.step count v store.old store.new self.new) }
         ensures session { IfOk result (λ count. HadTurn S.step self.old store.old store.new count self.new) }
         ensures few { IfOk result (λ count. count ≤ 64) }
+
+        // Where it shows nothing and the session goes on, nothing is changed.
         ensures quiet { IfOk result (λ count. count ≡ 0 → self.new.link.session.ended ≡ false → self.new ≡ self.old) }
+
+        // Where memory is refused, the session is as it was; so is the store, or it refused memory itself.
         ensures err { OnErr result ((self.new ≡ self.old) × Starves S.step store.old store.new) }
     {
         if self.connection.has_ended() {

@@ -1,7 +1,7 @@
 //! Tests of a script that is played in a house: one whose reader or writer fails in its middle, what is answered then, and what was
 //! written by then.
 
-ghost use Rattle.std.specs.Prelude.{◌≡◌, Some, false};
+ghost use Rattle.std.specs.Prelude.{Some};
 
 use crate::events::house;
 use house::House;

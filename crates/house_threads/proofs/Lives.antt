@@ -1,5 +1,5 @@
 -- A life that was led with what lies at one's own position.
-use Rattle.std.proofs.Common.{◌≡◌, ◌<◌, ◌+◌, ◌∙◌, ◌∷◌, ℕ, zero, suc, arith, sym, ap, subst, List, [], All, Option, None, Some, IfSome, Vec, map, length, slice_get, slice_index_or}
+use Rattle.std.proofs.Common.{◌≡◌, ◌<◌, ◌∙◌, ℕ, arith, sym, ap, subst, List, [], All, Option, None, Some, IfSome, Vec, map, length, slice_get, slice_index_or}
 use Rattle.std.specs.Global.{Global}
 use Rattle.std.proofs.lemmas.Option.{get_or_from_slice_get, slice_get-get_or}
 use Rattle.delivery_token.specs.declared.Job.{Job}
@@ -22,20 +22,13 @@ use Rattle.lane_work.specs.Consuming.{IsConsumed}
 use Rattle.envelope.specs.Directory.{Home}
 use Rattle.house_floor.specs.Users.{user_numbered}
 use Rattle.house_floor.specs.declared.floor.Floor.{Floor}
-use Rattle.house_threads.specs.Crew.{IsProduceOf, IsServiceOf, Plans, SessionAccount}
-use Rattle.house_threads.specs.inner.Crew.{IsAttended}
+use Rattle.house_threads.specs.Crew.{IsProduceOf, IsServiceOf, Plans}
 
 pub here_at : {A : Type 0} (xs : List A) (i n : ℕ) (d : A) → i ≡ n → n < length xs → slice_get xs n ≡ Some (slice_index_or xs i d)
 here_at xs i n d same under = slice_get-get_or xs n d under ∙ ap (λ k. Some (slice_index_or xs k d)) (sym same)
 
 pub found_at : {A : Type 0} (xs : List A) (i n : ℕ) (d x : A) → i ≡ n → slice_get xs n ≡ Some x → slice_index_or xs i d ≡ x
 found_at xs i n d x same is = ap (λ k. slice_index_or xs k d) same ∙ get_or_from_slice_get xs n x d is
-
--- there is nothing at a position behind the end of a list
-pub nothing_at : {A : Type 0} (xs : List A) (n k : ℕ) (x : A) → n ≡ length xs + k → slice_get xs n ≡ Some x → ⊥
-nothing_at [] n k x is at = let e : None ≡ Some x = at in cc
-nothing_at (y ∷ ys) zero k x is at = omega (arith, is)
-nothing_at (y ∷ ys) (suc n) k x is at = nothing_at ys n k x (omega (arith, is)) at
 
 -- what a worker at its position left
 pub work_of : (floor : Floor) (plans : Plans) (guests : List Guest) (i n number : ℕ) (c : ReplyChannel Noted) (p : Vec (Vec ℕ Global) Global) (bytes : List (Vec ℕ Global)) (w : Worked)
@@ -51,23 +44,6 @@ work_of floor plans guests i n number c p bytes w same under of are worked =
           subst (λ (x : List (Vec ℕ Global)). Account (premises_of floor.office) n (map (λ b. b.items) x) (map (λ b. b.items) w.replies.items) w.log.notes (received w.receiver) (map said w.ended.items))
           (are ∙ ap (λ (v : Vec (Vec ℕ Global) Global). v.items) (found_at plans i n p plan same at)) (own.3 whole);
       session = λ k guest behind at whole. absurd (omega (arith, under, behind));
-    }
-
--- what a session at its position left
-pub attended_of : (floor : Floor) (plans : Plans) (guests : List Guest) (i n number j : ℕ) (c : ReplyChannel Noted) (v : Guest) (w : Worked)
-    → i ≡ n → number ≡ n → n ≡ length plans + j
-    → IsAttended floor (slice_index_or floor.depot.channels.items i c) number (slice_index_or guests j v) w → IsProduceOf floor plans guests n w
-attended_of floor plans guests i n number j c v w same of behind attended =
-    let own = subst (λ (x : ℕ). IsAttended floor (slice_index_or floor.depot.channels.items i c) x (slice_index_or guests j v) w) of attended in
-    record {
-      ended = own.0;
-      receiver = λ channel at. subst (λ (x : ReplyChannel Noted). IsReceiver x w.receiver) (found_at floor.depot.channels.items i n c channel same at) own.1;
-      seat = own.2;
-      worker = λ plan at whole. absurd (nothing_at plans n j plan behind at);
-      session = λ k guest is at whole.
-          let e : j ≡ k = omega (arith, behind, is) in
-          subst (λ (x : Guest). SessionAccount (premises_of floor.office) (length floor.depot.mailboxes.items) floor.turns n x (map (λ b. b.items) w.replies.items) w.log.notes (received w.receiver) (map said w.ended.items))
-          (found_at guests j k v guest e at) (own.3 whole);
     }
 
 -- what is left of a producer that stood down

@@ -1,7 +1,7 @@
 //! Actors for whom no thread could be made: what of theirs other threads wait for is ended. Nothing is
 //! started here, and no life is led.
 
-ghost use Rattle.std.specs.Prelude.{◌≡◌, ◌≤◌, ◌+◌, [], ℕ, length, map, vec_capacity};
+ghost use Rattle.std.specs.Prelude.{◌≡◌, ◌≤◌, [], length, map, vec_capacity};
 ghost use Rattle.delivery_token.specs.declared.Job.{Job};
 ghost use Rattle.shard_queue.specs.declared.queue.ShardQueue.{ShardQueue};
 ghost use Rattle.shard_queue.specs.Reply.{sent_on};

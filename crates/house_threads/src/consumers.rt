@@ -1,6 +1,6 @@
 //! The consumers' threads: started in order, and joined. What a consumer does stands in `lane_work`.
 
-ghost use Rattle.std.specs.Prelude.{ℕ, ◌≡◌, ◌≤◌, ◌<◌, ◌+◌, [], length, vec_len, vec_capacity};
+ghost use Rattle.std.specs.Prelude.{ℕ, ◌≡◌, ◌≤◌, ◌<◌, [], length, vec_len, vec_capacity};
 ghost use Rattle.std.specs.Mem.{manually_drop_value};
 ghost use Rattle.house_floor.specs.Crew.{AllAt, IsStand};
 ghost use Rattle.house_threads.specs.Crew.{IsServiceOf};

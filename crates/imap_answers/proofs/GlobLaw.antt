@@ -8,7 +8,6 @@ use Rattle.envelope.proofs.Words.{both_true}
 use Rattle.envelope.specs.Bytes.{is_not_slash}
 use Rattle.envelope.specs.Grammar.{Many}
 use Rattle.imap_answers.specs.Answers.{Glob, end, any, level, same, some_rest, after_byte, matches, is_listed, name_answer, listed, asks_for_root, root_answer, list_answer}
-use Rattle.imap_answers.specs.inner.Globs.{is_wild, at_byte}
 
 -- ---- one byte of a pattern
 
@@ -17,17 +16,6 @@ at_end : (s t : Bool) (p : ℕ) (test : List ℕ → Bool)
 at_end true t p test = refl
 at_end false true p test = refl
 at_end false false p test = refl
-
-pub matches_end : (p : ℕ) (ps : List ℕ) → matches (p ∷ ps) [] ≡ (is_wild p && matches ps [])
-matches_end p ps = at_end (p == 42) (p == 37) p (matches ps)
-
-pub matches_byte : (p b : ℕ) (ps bs : List ℕ) → matches (p ∷ ps) (b ∷ bs) ≡ at_byte p b (matches ps (b ∷ bs)) (matches ps bs) (matches (p ∷ ps) bs)
-matches_byte p b ps bs = by_case (p == 42) (p == 37) refl refl
-  where
-    by_case : (s t : Bool) → (p == 42) ≡ s → (p == 37) ≡ t → matches (p ∷ ps) (b ∷ bs) ≡ at_byte p b (matches ps (b ∷ bs)) (matches ps bs) (matches (p ∷ ps) bs)
-    by_case true t e f = rw e refl
-    by_case false true e f = rw (e, f) refl
-    by_case false false e f = rw (e, f) refl
 
 -- ---- the relation and its test
 

@@ -1,8 +1,8 @@
 -- Words with a space between two, from left to right.
-use Rattle.std.proofs.Common.{◌≡◌, ℕ, ◌+◌, ◌≤◌, Bool, true, false, List, [], ◌∷◌, ◌++◌, length, length-append, length-take, take, arith, refl, ap, sym, ◌∙◌, append_assoc}
+use Rattle.std.proofs.Common.{◌≡◌, ℕ, ◌+◌, ◌≤◌, Bool, true, false, List, [], ◌∷◌, ◌++◌, length, length-append, take, arith, refl, ap, sym, ◌∙◌, append_assoc}
 use Rattle.std.specs.Prelude.{Result, Ok, Err, OnErr, Option, Some, None, MatchOption, ◌&&◌, map}
 use Rattle.std.specs.Io.{StartsWith}
-use Rattle.std.proofs.lemmas.List.{take-append-le, take-take, take_at, map-append}
+use Rattle.std.proofs.lemmas.List.{take-take, take_at, map-append}
 use Rattle.cursor_set.specs.Lines.{spaced}
 use Rattle.imap_answers.specs.inner.Joined.{lead, joined, is_none, whole}
 
@@ -49,11 +49,6 @@ three_joined g xs ys zs one two e f =
     ∙ ap (λ (t : Bool). joined true (map g xs) ++ joined t (map g (ys ++ zs))) (sym e)
     ∙ ap (λ (l : List ℕ). joined true (map g xs) ++ l) (joined_map g one ys zs)
     ∙ ap (λ (t : Bool). joined true (map g xs) ++ (joined one (map g ys) ++ joined t (map g zs))) (sym f)
-
-pub starts_more : (old mid new added : List ℕ) → StartsWith mid old → new ≡ mid ++ added → StartsWith new old
-starts_more old mid new added h e =
-    let le : length old ≤ length mid = omega (arith, ap length h, length-take (length old) mid) in
-    ap (take (length old)) e ∙ take-append-le (length old) mid added le ∙ h
 
 pub starts_behind : (old mid new added : List ℕ) → StartsWith new mid → mid ≡ old ++ added → StartsWith new old
 starts_behind old mid new added h e =

@@ -165,6 +165,7 @@ pub fn write_row(
     row: &Row,
     out: &mut Vec<u8>,
 ) -> Result<(), AllocError>
+    // The answer is `row_answer`, byte by byte. An error writes nothing, and the room of `out` never becomes less.
     ensures ok { OnOk result (out.new.items ≡ out.old.items ++ row_answer position by_uid items.now row.now) }
     ensures err { OnErr result (out.new.items ≡ out.old.items) }
     ensures room { vec_capacity out.old ≤ vec_capacity out.new }

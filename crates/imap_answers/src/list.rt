@@ -1,7 +1,7 @@
 //! The answer to LIST (RFC 9051, 6.3.9 and 7.3.1), and which names a pattern stands for.
-//! Which names there are is the caller's matter.
+//! Which names there are is told by whoever calls it.
 
-ghost use Rattle.std.specs.Prelude.{◌≡◌, ◌+◌, ◌<◌, ◌≤◌, ◌++◌, length, drop, IfOk, OnOk, OnErr, [], ℕ, map, flat_map, vec_capacity};
+ghost use Rattle.std.specs.Prelude.{◌≡◌, ◌+◌, ◌<◌, ◌≤◌, ◌++◌, length, drop, IfOk, OnOk, OnErr, [], map, flat_map, vec_capacity};
 ghost use Rattle.std.specs.Io.{StartsWith};
 ghost use Rattle.imap_answers.specs.Answers.{matches, is_listed, listed, asks_for_root, list_answer, name_answer};
 ghost use Rattle.imap_answers.specs.inner.Globs.{is_wild, at_byte, Reached};
@@ -182,6 +182,7 @@ pub fn write_list(
     names: &[&[u8]],
     out: &mut Vec<u8>,
 ) -> Result<(), AllocError>
+    // The answer is `list_answer`, byte by byte. An error writes nothing, and the room of `out` never becomes less.
     ensures ok { OnOk result (out.new.items ≡ out.old.items ++ list_answer reference.now pattern.now (map (λ name. name.now) names.now)) }
     ensures err { OnErr result (out.new.items ≡ out.old.items) }
     ensures room { vec_capacity out.old ≤ vec_capacity out.new }

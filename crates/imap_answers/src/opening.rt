@@ -23,7 +23,10 @@ fn kept_flags(read_only: bool, all: &[u8]) -> &[u8]
 /// for it: who enters one reserves that before, and so tells of each that was entered.
 #[tactic(auto, using(crate::proofs::OpeningParts::ten_digits, crate::proofs::OpeningParts::twenty_digits))]
 pub fn put_opening(read_only: bool, name: &[u8], opening: &Opening, out: &mut Vec<u8>)
+    // `out` has room for the name's length and 264 bytes more.
     requires { vec_len out.old + (length name.now + 264) ≤ vec_capacity out.old }
+
+    // What is told is `opening_text`, byte by byte, in no more room than that; the room of `out` never becomes less.
     ensures items { out.new.items ≡ out.old.items ++ opening_text read_only name.now opening.now }
     ensures len { vec_len out.new ≤ vec_len out.old + (length name.now + 264) }
     ensures room { vec_capacity out.old ≤ vec_capacity out.new }

@@ -1,5 +1,5 @@
-//! A part of a message's text as FETCH prints it (RFC 9051, 6.4.5 and 7.5.2): all of it, its header, what follows that, or some bytes of one of these.
-//! Which part is asked for stands in the command.
+//! A part of a message's text as FETCH prints it (RFC 9051, 6.4.5 and 7.5.2): all of it, its header, what follows that, or some bytes of one of
+//! these. Which part is asked for stands in the command.
 
 ghost use Rattle.std.specs.Prelude.{◌≡◌, ◌++◌, ◌≤◌, length, take, drop, codes, decimal, OnOk, OnErr, vec_capacity};
 ghost use Rattle.imap_grammar.specs.Grammar.{section_word};

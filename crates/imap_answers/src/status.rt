@@ -115,6 +115,7 @@ pub fn write_status(
     status: &Status,
     out: &mut Vec<u8>,
 ) -> Result<(), AllocError>
+    // The answer is `status_answer`, byte by byte. An error writes nothing, and the room of `out` never becomes less.
     ensures ok { OnOk result (out.new.items ≡ out.old.items ++ status_answer name.now items.now status.now) }
     ensures err { OnErr result (out.new.items ≡ out.old.items) }
     ensures room { vec_capacity out.old ≤ vec_capacity out.new }

@@ -62,6 +62,7 @@ pub fn write_stored(
     flags: Flags,
     out: &mut Vec<u8>,
 ) -> Result<(), AllocError>
+    // The answer is `flags_answer`, byte by byte. An error writes nothing, and the room of `out` never becomes less.
     ensures ok { OnOk result (out.new.items ≡ out.old.items ++ flags_answer by_uid position uid flags) }
     ensures err { OnErr result (out.new.items ≡ out.old.items) }
     ensures room { vec_capacity out.old ≤ vec_capacity out.new }

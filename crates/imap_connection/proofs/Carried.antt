@@ -1,11 +1,9 @@
 -- What was answered over one store was answered over another, where each call of the one is the same call of the other.
-use Rattle.std.proofs.Common.{ℕ, List, [], ◌∷◌, refl, sym, subst, inl, inr}
+use Rattle.std.proofs.Common.{ℕ, List, [], ◌∷◌, refl, sym, subst}
 use Rattle.imap_session.specs.declared.standing.After.{After}
 use Rattle.delivery_token.specs.declared.Verdict.{Verdict}
-use Rattle.mailbox.specs.declared.clients.MailFault.TheVariants.{NoMemory}
-use Rattle.imap_session.specs.Exchange.{Call, Answer, Event, Feed, Refused, Standing, waits_for}
-use Rattle.imap_session.specs.Commands.{most_changes}
-use Rattle.imap_session.specs.Store.{AnswersVerdict, IdleTurns, Met, Starves}
+use Rattle.imap_session.specs.Exchange.{Call, Answer, Event, Standing, waits_for}
+use Rattle.imap_session.specs.Store.{AnswersVerdict, IdleTurns, Met}
 use Rattle.imap_connection.specs.Dialogue.{AnswersLine, AnswersOne, Bytes, Converses, Line, Sends, goes_on, parts, reads, silent, too_long}
 
 -- each call of a store for which another stood is that call of the other, which stands afterwards
@@ -67,10 +65,3 @@ pub turns_carried : {S T : Type 0} (step : S → Call → Answer → S → Type 
 turns_carried step other Stands carries now old new before after count next t a stands =
     let m = met_carried step other Stands carries old new a.events t a.met stands in
     (m.0, record { answers = a.answers; events = a.events; bytes = a.bytes; how = a.how; played = a.played; met = m.1; wrote = a.wrote; shown = a.shown }, m.2)
-
-pub starves_carried : {S T : Type 0} (step : S → Call → Answer → S → Type 0) (other : T → Call → Answer → T → Type 0) (Stands : S → T → Type 0) → Carries step other Stands
-    → (old new : S) (t : T) → Starves step old new → Stands old t → (u : T) × Starves other t u × Stands new u
-starves_carried step other Stands carries old new t (inl same) stands = (t, inl refl, subst (λ s. Stands s t) (sym same) stands)
-starves_carried step other Stands carries old new t (inr refused) stands =
-    let one = carries old new (Feed most_changes) (Refused NoMemory) t refused stands in
-    (one.0, inr one.1, one.2)

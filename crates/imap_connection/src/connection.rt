@@ -1,7 +1,7 @@
-//! One IMAP connection, over bytes that come in any pieces: they are cut into lines and the literals behind them, and the session answers each. It knows nothing of
-//! sockets; how it gets at mailboxes is its store's matter.
+//! One IMAP connection, over bytes that come in any pieces: they are cut into lines and the literals behind them, and the session answers each. It
+//! knows nothing of sockets; how it gets at mailboxes is its store's matter.
 
-ghost use Rattle.std.specs.Prelude.{◌≡◌, ◌≢◌, ◌↔◌, ◌+◌, ◌^◌, ◌<◌, ◌≤◌, ◌++◌, false, true, is_some, min, take, None, Some, Err, [], length, IfOk, IfSome, OnOk, OnErr, vec_len};
+ghost use Rattle.std.specs.Prelude.{◌≡◌, ◌↔◌, ◌+◌, ◌^◌, ◌<◌, ◌≤◌, ◌++◌, false, true, is_some, min, take, None, Some, Err, [], length, IfOk, IfSome, OnOk, OnErr, vec_len};
 ghost use Rattle.std.specs.Option.{option_map};
 ghost use Rattle.std.specs.Vec.{vec_capacity};
 ghost use Rattle.imap_session.specs.Exchange.{Feed, Refused, Sent, is_idling, kept_tag, may_send, nothing_sent};
@@ -166,14 +166,23 @@ impl ImapConnection {
         store: &mut S,
         out: &mut Vec<u8>,
     ) -> Result<After, SessionFault>
+        // A verdict is awaited.
         requires waits { is_some self.old.session.mailing.sent ≡ true }
+
+        // The verdict was answered over the store as `turn_of_verdict` tells, by the session and in each dialogue for which it stood.
         ensures session { IfOk result (λ after. AnswersVerdict S.step self.old.session verdict store.old store.new out.old.items out.new.items
             after self.new.session) }
         ensures heard { IfOk result (λ after. (d : Dialogue) → StandsFor self.old d →
             Hears S.step d verdict store.old store.new out.old.items out.new.items after self.new) }
+
+        // Ended exactly where the session has ended. A refusal leaves the connection, the store and `out` as they were.
         ensures ended { (result ≡ Err SessionFault.Ended) ↔ (self.old.session.ended ≡ true) }
         ensures refused { OnErr result ((self.new ≡ self.old) × (store.new ≡ store.old) × (out.new.items ≡ out.old.items)) }
+
+        // Where `out` had the room that `verdict_room` tells, memory is never refused.
         ensures memory { result ≡ Err SessionFault.NoMemory → vec_capacity out.old < vec_len out.old + room_for_verdict self.old.session }
+
+        // Once it is answered none is awaited, and it answers what the client may send from now on.
         ensures done { OnOk result (self.new.session.mailing.sent ≡ None) }
         ensures sends { IfOk result (λ after. after ≡ may_send self.new.session) }
     {
@@ -189,18 +198,28 @@ impl ImapConnection {
         store: &mut S,
         out: &mut Vec<u8>,
     ) -> Result<usize, SessionFault>
+        // The session had a turn over the store as `Session::idle_turn` tells, and showed so many changes; so in each dialogue for which it stood.
         ensures session { IfOk result (λ count. IdleTurns S.step self.old.session store.old store.new out.old.items out.new.items count
             self.new.session) }
         ensures turned { IfOk result (λ count. (d : Dialogue) → StandsFor self.old d →
             Turns S.step d store.old store.new out.old.items out.new.items count self.new) }
         ensures few { IfOk result (λ count. count ≤ 64) }
+
+        // Where it shows nothing and the session goes on, nothing is changed and nothing said.
         ensures quiet { IfOk result (λ count. count ≡ 0 → self.new.session.ended ≡ false → (self.new ≡ self.old) × (out.new.items ≡ out.old.items)) }
+
+        // Ended exactly where the session has ended, and the store is as it was.
         ensures ended { (result ≡ Err SessionFault.Ended) ↔ (self.old.session.ended ≡ true) }
         ensures over { result ≡ Err SessionFault.Ended → store.new ≡ store.old }
+
+        // Where memory is refused, the store is as it was, or it refused memory itself.
         ensures starved { result ≡ Err SessionFault.NoMemory → Starves S.step store.old store.new }
+
         // Where `out` has room for a BYE line, the store was asked.
         ensures asked { result ≡ Err SessionFault.NoMemory → vec_len out.old + 48 ≤ vec_capacity out.old →
             S.step store.old (Feed most_changes) (Refused MailFault.NoMemory) store.new }
+
+        // A refusal leaves the connection and `out` as they were.
         ensures refused { OnErr result ((self.new ≡ self.old) × (out.new.items ≡ out.old.items)) }
     {
         self.session.idle_turn(store, out)
@@ -302,15 +321,26 @@ impl ImapConnection {
         store: &mut S,
         out: &mut Vec<u8>,
     ) -> Progress
+        // The session goes on, and no verdict is awaited.
         requires going { self.old.session.ended ≡ false }
         requires unsent { self.old.session.mailing.sent ≡ None }
+
+        // All of the piece was taken, unless the session ended, a message was submitted, or memory was refused.
         ensures used { result.used ≤ length piece.now }
         ensures all { IfSome result.after (λ after. may_follow after ≡ true → result.used ≡ length piece.now) }
+
+        // Memory is refused only where `out` has too little room behind what it has by then, and no message is submitted then.
         ensures full { result.after ≡ None → vec_capacity out.new < vec_len out.new + (8282 + tag_len (kept_tag self.new.session)) }
         ensures unsent { result.after ≡ None → self.new.session.mailing.sent ≡ None }
+
+        // A message is submitted only by a byte that was taken. Whatever it stands for, the store was asked some calls in turn, or none.
         ensures moves { is_some self.new.session.mailing.sent ≡ true → 0 < result.used }
         ensures asked { Asks S.step store.old store.new }
+
+        // It answers what the client may send from now on.
         ensures sends { IfSome result.after (λ after. after ≡ may_send self.new.session) }
+
+        // In each dialogue for which it stood: lines and literals were answered one after another, and it stands for where they lead.
         ensures took { (d : Dialogue) → StandsFor self.old d →
             Took S.step d piece.now store.old store.new out.old.items out.new.items result self.new }
     {

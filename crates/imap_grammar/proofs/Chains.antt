@@ -64,9 +64,6 @@ atom_not_space b e = not_true (b == 32) (excludes is_atom 32 refl b e)
 pattern_not_space : (b : ℕ) → is_pattern b ≡ true → is_space b ≡ false
 pattern_not_space b e = not_true (b == 32) (excludes is_pattern 32 refl b e)
 
-NameThen : List ℕ → (List ℕ → Type 0) → List ℕ → Type 0
-NameThen name P = Joined (Name name) P
-
 pub name_read : (name : List ℕ) (P : List ℕ → Type 0) (bytes : List ℕ) → (q : Joined (Name name) P bytes) → Stops is_not_space q.back
     → (string_at is_atom bytes ≡ Some (name, q.back)) × Stops is_space bytes
 name_read name P bytes q s = (

@@ -83,7 +83,9 @@ pub enum Verb {
 pub struct Fetch<'a> {
     /// The set names UIDs.
     pub by_uid: bool,
+    /// Which messages: by their positions, unless `by_uid`.
     pub set: SeqSet<'a>,
+    /// What is asked of each.
     pub items: FetchItems<'a>,
 }
 
@@ -92,9 +94,11 @@ pub struct Fetch<'a> {
 pub struct Store<'a> {
     /// The set names UIDs.
     pub by_uid: bool,
+    /// Which messages: by their positions, unless `by_uid`.
     pub set: SeqSet<'a>,
     /// The new flags aren't answered.
     pub silent: bool,
+    /// What becomes of the flags of each.
     pub change: FlagOp,
 }
 
@@ -110,8 +114,11 @@ pub struct Literal {
 /// APPEND (RFC 9051, 6.3.12), as far as its line goes. Its date and time are dropped.
 #[derive(Drop)]
 pub struct Append<'a> {
+    /// The name of the mailbox that it is for.
     pub name: Name<'a>,
+    /// The flags that it is to have: none where the line has no list of them.
     pub flags: Flags,
+    /// Its bytes, as the line announces them.
     pub literal: Literal,
 }
 

@@ -27,7 +27,9 @@ pub enum Section {
 /// So many bytes from this one on: `origin` counts from 0, `count` is 1 at least, and both are below 2^63.
 #[derive(Clone, Copy, Debug, PartialEq, Eq)]
 pub struct Span {
+    /// So many bytes of the part stand before it: from 0 to 2^63 - 1.
     pub origin: u64,
+    /// So many bytes at most, since the part may end before them: from 1 to 2^63 - 1.
     pub count: u64,
 }
 
@@ -40,7 +42,9 @@ pub enum FetchItem {
     Body {
         /// \Seen isn't set.
         peek: bool,
+        /// Which part of the text.
         section: Section,
+        /// Which bytes of that, or None for all of them.
         partial: Option<Span>,
     },
 }
@@ -103,14 +107,15 @@ fn section_of(text: &[u8]) -> Option<Section>
     }
 }
 
-const GREATEST: u64 = 9_223_372_036_854_775_807;
+/// The greatest number that a span may have (RFC 9051, 9: number64).
+const GREATEST_NUMBER64: u64 = 9_223_372_036_854_775_807;
 
 /// A span of these two numbers.
 fn span_between(origin: &[u8], count: &[u8]) -> Option<Span>
     ensures { result ≡ span_between (origin.now, count.now) }
 {
-    let origin = number_up_to(GREATEST, origin)?;
-    let count = number_up_to(GREATEST, count)?;
+    let origin = number_up_to(GREATEST_NUMBER64, origin)?;
+    let count = number_up_to(GREATEST_NUMBER64, count)?;
     if count == 0 {
         None
     } else {

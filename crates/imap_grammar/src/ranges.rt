@@ -1,7 +1,7 @@
 //! The ranges of a set, and which messages of a view they name. How a set is called and what it refuses is told in `set`, and how
 //! messages are chosen by their positions in `positions`.
 
-ghost use Rattle.std.specs.Prelude.{◌≡◌, ℕ, ◌-◌, ◌++◌, IfOk, OnOk, Some, None, length, option_to_list};
+ghost use Rattle.std.specs.Prelude.{◌≡◌, ◌++◌, IfOk, OnOk, length, option_to_list};
 ghost use Rattle.std.specs.List.Sorted.{IsNonDecreasing};
 ghost use Rattle.imap_grammar.specs.Sets.{range_of, ranges_of, numeric, is_named, is_above, is_too_high, by_uid, at_positions, last_uid};
 

@@ -1,7 +1,7 @@
 //! A whole line, read from left to right: its tag, its verb, and which arguments that takes.
 //! Which lines the grammar has is told in specs/Grammar.antt, not here.
 
-ghost use Rattle.std.specs.Prelude.{◌≡◌, ◌↔◌, true, Some, None, List, ℕ, Result};
+ghost use Rattle.std.specs.Prelude.{◌≡◌, ◌↔◌, true, List, ℕ, Result};
 ghost use Rattle.std.specs.Option.{option_map};
 ghost use Rattle.imap_grammar.specs.Grammar.{DoneLine, Reads};
 ghost use Rattle.imap_grammar.specs.declared.command.Command.{Command};

@@ -7,7 +7,6 @@ ghost use Rattle.std.specs.List.Sorted.{IsNonDecreasing};
 ghost use Rattle.imap_grammar.specs.Bytes.{is_comma};
 ghost use Rattle.imap_grammar.specs.Sets.{seq_number_of, range_of, ranges_of};
 
-use crate::bytes::past_byte;
 use crate::cut::cut_at;
 use crate::number::number_up_to;
 use crate::ranges::{is_one_too_high, positions_in, ranges_in, uids_in};
@@ -38,14 +37,18 @@ impl From<AllocError> for SetFault {
 /// A number of a message or a UID, or `*`, the greatest there is.
 #[derive(Clone, Copy, Debug, PartialEq, Eq)]
 pub enum SeqNumber {
+    /// From 1 on.
     Number(u32),
+    /// `*`: the last position in a view, or its last UID.
     Star,
 }
 
 /// All numbers between two, in either order.
 #[derive(Clone, Copy, Debug, PartialEq, Eq)]
 pub struct SeqRange {
+    /// The number that stands first, from 1, or `*`.
     pub from: SeqNumber,
+    /// The number behind the colon, or `*`: it may be the lesser one. Where one number stands alone, that.
     pub to: SeqNumber,
 }
 
@@ -65,7 +68,8 @@ impl<'a> Model for SeqSet<'a> {
     ghost view = { λ s. ranges_of s.spelled.now };
 }
 
-const GREATEST: u64 = 4_294_967_295;
+/// The greatest number that a set may name (RFC 9051, 9: nz-number).
+const GREATEST_NUMBER: u64 = 4_294_967_295;
 
 /// A number in a set, or `*`.
 fn seq_number(text: &[u8]) -> Option<SeqNumber>
@@ -74,7 +78,7 @@ fn seq_number(text: &[u8]) -> Option<SeqNumber>
     match text {
         [b'*'] => Some(SeqNumber::Star),
         [b'0', ..] => None,
-        _ => match number_up_to(GREATEST, text) {
+        _ => match number_up_to(GREATEST_NUMBER, text) {
             None => None,
             Some(n) => Some(SeqNumber::Number(n as u32)),
         },
@@ -156,8 +160,13 @@ impl<'a> SeqSet<'a> {
         view: &View<'_>,
         by_uid: bool,
     ) -> Result<Vec<Named>, SetFault>
+        // The messages that the set names in the view, in the view's order, each with its position there.
         ensures found { IfOk result (λ named. messages_in by_uid self.now view.now ≡ Some named.items) }
+
+        // TooHigh exactly where it says a position that isn't there, as `*` is in an empty view; by UID never.
         ensures too_high { (result ≡ Err SetFault.TooHigh) ↔ (named_in by_uid self.now view.now ≡ None) }
+
+        // Their UIDs rise.
         ensures rising { IfOk result (λ named. IsStrictlyIncreasing (map (λ m. m.uid) named.items)) }
     {
         let shown = view.uids();

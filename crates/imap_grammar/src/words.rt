@@ -1,7 +1,7 @@
 //! The words of a text, cut at its spaces, and the flags among them (RFC 9051, 2.3.2).
 //! Where a list of words may stand is told in `arguments`.
 
-ghost use Rattle.std.specs.Prelude.{◌≡◌, ◌<◌, ◌∷◌, [], IfSome, IfNone, length, Some, None, if◌then◌else◌};
+ghost use Rattle.std.specs.Prelude.{◌≡◌, ◌<◌, ◌∷◌, [], IfSome, IfNone, length};
 ghost use Rattle.std.specs.List.{list_all};
 ghost use Rattle.envelope.specs.Reading.{words};
 ghost use Rattle.imap_grammar.specs.Items.{is_word_of, is_flag, has_word};
@@ -22,6 +22,7 @@ pub fn count_words(text: &[u8]) -> usize
 /// The first word, and what follows it.
 #[tactic(auto, using(crate::proofs::WordLaws::no_word, crate::proofs::WordLaws::one_word, crate::proofs::WordLaws::rest_shorter))]
 pub fn next_word(text: &[u8]) -> Option<(&[u8], &[u8])>
+    // The first of the text's words, and what follows, which has the others and is shorter; None where there is no word.
     ensures first { IfSome result (λ x. words text.now ≡ x.0.now ∷ words x.1.now) }
     ensures shorter { IfSome result (λ x. length x.1.now < length text.now) }
     ensures none { IfNone result (words text.now ≡ []) }

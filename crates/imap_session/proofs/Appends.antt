@@ -95,12 +95,6 @@ unfolding if_fits
 asked_over most number folders a e some big =
     asked most folders a e ∙ ap (λ o. wanting (asked_at most a o)) some ∙ ap (if_fits most a number) big
 
-pub asked_fits : (most : Option ℕ) (number : ℕ) (folders : List Folder) (a : Append) → a.literal.waits ≡ true → number_named a.name folders ≡ Some number → is_over most a.literal.size ≡ false
-    → appending most folders a ≡ wanting (awaiting (codes "+ ready\r\n") (Some number) a.flags a.literal.size)
-unfolding if_fits
-asked_fits most number folders a e some fits =
-    asked most folders a e ∙ ap (λ o. wanting (asked_at most a o)) some ∙ ap (if_fits most a number) fits
-
 if_asked : Option ℕ → Append → Option ℕ → Bool → Exchange
 if_asked most a o big = if big then Wait (bye (codes "Literal too big")) ForNothing else wanting (awaiting [] o a.flags a.literal.size)
 

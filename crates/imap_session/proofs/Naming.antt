@@ -40,15 +40,6 @@ moves_then_does step from to x y z old mid new first second third (Err fault) p 
 
 -- ---- names
 
-pub moves_wanting : {S V : Type 0} (step : S → Call → Answer → S → Type 0) (from to : Option Selected) (x : Exchange) (z : V → Exchange) (old new : S) (before after : Response) (r : Result V MailFault)
-    → Moves step from to x z old new before after r → Moves step from to (wanting x) z old new before after r
-moves_wanting step from to x z old new before after (Ok v) p = λ tag now was.
-    reaches_then step tag now now (record now { selected = to }) (wanting x) x (z v) old old new before before after
-    (reaches_write step tag now [] x old before before (nothing_added before)) (p tag now was)
-moves_wanting step from to x z old new before after (Err fault) p = λ tag now was.
-    stops_then step tag now now (record now { selected = to }) (wanting x) x fault old old new before before after
-    (reaches_write step tag now [] x old before before (nothing_added before)) (p tag now was)
-
 pub does_wanting : {S V : Type 0} (step : S → Call → Answer → S → Type 0) (x : Exchange) (z : V → Exchange) (old new : S) (before after : Response) (r : Result V MailFault)
     → Does step x z old new before after r → Does step (wanting x) z old new before after r
 does_wanting step x z old new before after (Ok v) p = λ tag now.
@@ -115,10 +106,6 @@ pub entering_refused : {S V : Type 0} (step : S → Call → Answer → S → Ty
 entering_refused {S} {V} step from to read_only folder number name fault z old new before between n m h p =
     rw (← n, ← m)
     (moves_holding {V = V} step from to (ex.Enter (record { mailbox = number; read_only = read_only }) (opened read_only name)) z old new before between between (Err fault) h p)
-
-pub moves_found : {S V : Type 0} (step : S → Call → Answer → S → Type 0) (from to : Option Selected) (name : List ℕ) (folders : List Folder) (folder : Folder) (next : Folder → Exchange) (z : V → Exchange) (old new : S) (before after : Response) (r : Result V MailFault)
-    → Some folder ≡ folder_of name folders → Moves step from to (wanting (next folder)) z old new before after r → Moves step from to (wanting (on_folder name folders next)) z old new before after r
-moves_found step from to name folders folder next z old new before after r h p = rw (← h) p
 
 -- memory was refused, and the rest isn't done
 pub starves_wanting : {S V : Type 0} (step : S → Call → Answer → S → Type 0) (sel : Option Selected) (x : Exchange) (z : V → Exchange) (s : S) (text : Response)

@@ -56,11 +56,6 @@ turns_shown step now selected old new view changes count before after there idle
   shown = omega (arith, n);
 }
 
--- a turn that shows no change writes nothing
-pub none_shown : (view : List ℕ) (changes : List Change) (before after : List ℕ) → length changes ≡ 0 → after ≡ before ++ lines view changes → after ≡ before
-none_shown view [] before after n e = e ∙ append-nil before
-none_shown view (c ∷ changes) before after n e = absurd (omega (arith, n))
-
 -- it missed changes
 pub turns_lapped : {S : Type 0} (step : S → Call → Answer → S → Type 0) (now next : Standing) (selected : Selected) (old new : S) (before after : List ℕ) → now.selected ≡ Some selected → is_idling now ≡ true
     → step old (Feed most_changes) (Refused Lapped) new → after ≡ before ++ refusal_text [] Lapped → next ≡ record now { ended = true } → IdleTurns step now old new before after 0 next

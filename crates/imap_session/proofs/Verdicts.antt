@@ -1,21 +1,18 @@
 -- The verdict on an appended message, answered.
-use Rattle.std.proofs.Common.{◌≡◌, ◌<◌, ◌≤◌, ◌^◌, ◌-◌, ◌==◌, ◌++◌, ℕ, arith, length, Bool, true, false, codes, Option, Some, None, List, [], refl, ap, ap₂, sym, ◌∙◌, subst, append_assoc}
+use Rattle.std.proofs.Common.{◌≡◌, ◌<◌, ◌≤◌, ◌^◌, ◌-◌, ◌==◌, ◌++◌, ℕ, arith, length, Bool, true, false, codes, Option, Some, None, List, [], refl, ap, ap₂, ◌∙◌, append_assoc}
 use Rattle.std.specs.Prelude.{decimal, is_some, ◌&&◌, nat_le, if◌then◌else◌}
 use Rattle.std.specs.List.{list_any}
 use Rattle.std.specs.Option.{option_map}
 use Rattle.std.proofs.lemmas.List.{length-append}
 use Rattle.std.proofs.lemmas.Fmt.{length-decimal-le}
 use Rattle.delivery_token.specs.declared.Verdict.{Verdict}
-use Rattle.imap_session.specs.declared.standing.After.{After}
 use Rattle.delivery_token.specs.declared.Verdict.TheVariants.{Stored, Refused}
 use Rattle.delivery_token.specs.declared.Refusal.{Refusal}
 use Rattle.delivery_token.specs.declared.Refusal.TheVariants.{Full, MailboxFull, NoMemory, UidSpent, Shut}
 use Rattle.imap_session.specs.declared.standing.Selected.{Selected}
-use Rattle.imap_session.specs.Exchange.{Answer, Appending, Call, Exchange, ForVerdict, Mailing, Sent, Standing, Wait, closed, tagged}
-use Rattle.imap_session.specs.Commands.{appended_words, is_over, kept_text, last_number, nowhere, on_found, on_rest, on_text, on_verdict, refused_words, says, showing, over, taking, turn_with, wanting, with_bytes, without_sent}
+use Rattle.imap_session.specs.Exchange.{Appending, Exchange, ForVerdict, Mailing, Standing, Wait, tagged}
+use Rattle.imap_session.specs.Commands.{appended_words, is_over, kept_text, last_number, nowhere, on_found, on_rest, on_text, on_verdict, refused_words, says, showing, over, taking, wanting, with_bytes}
 use Rattle.imap_session.specs.Shows.{IsNoOk, RestShowsNone, ShowsBefore, VerdictShowsInOrder}
-use Rattle.imap_session.specs.Store.{AnswersVerdict}
-use Rattle.imap_session.specs.inner.Store.{Plays}
 
 pub ten_digits : (n : ℕ) → n < 2 ^ 32 → length (decimal n) ≤ 10
 ten_digits n l = length-decimal-le 10 n (omega arith) (omega (arith, l)) (omega (arith, l))
@@ -32,22 +29,6 @@ line_in_parts out tag validity number a b c d e f one two three four five six =
     six ∙ ap (λ (t : List ℕ). t ++ codes "] APPEND completed\r\n")
     (five ∙ ap (λ (t : List ℕ). t ++ decimal number) (four ∙ ap (λ (t : List ℕ). t ++ codes " ") (three ∙ ap (λ (t : List ℕ). t ++ decimal validity) (two ∙ ap (λ (t : List ℕ). t ++ codes " OK [APPENDUID ") one))))
     ∙ in_parts out tag (codes " ") (codes "OK [APPENDUID ") (decimal validity) (codes " ") (decimal number) (codes "] APPEND completed") (codes "\r\n")
-
--- ---- a whole answer
-
-pub answers_verdict : {S : Type 0} (step : S → Call → Answer → S → Type 0) (now next : Standing) (sent : Sent) (verdict : Verdict) (old new : S) (before after : List ℕ) (how : After)
-    → now.mailing.sent ≡ Some sent
-    → Plays step sent.tag (without_sent now) (without_sent now) (on_verdict now.selected sent.append.mailbox verdict) old new before after how → next ≡ (closed (without_sent now) how).standing
-    → AnswersVerdict step now verdict old new before after how next
-answers_verdict {S} step now next sent verdict old new before after how is p e =
-    subst (λ (s : Standing). AnswersVerdict step now verdict old new before after how s) (sym e) (record {
-      answers = p.answers;
-      events = p.events;
-      bytes = p.bytes;
-      played = ap (λ s. turn_with s now verdict p.answers) is ∙ p.leads;
-      met = p.met;
-      wrote = p.wrote;
-    })
 
 -- ---- what shows changes
 

@@ -36,18 +36,25 @@ pub fn verdicts_show_in_order()
         VerdictShowsInOrder selected verdict (on_verdict selected mailbox verdict) }
 {}
 
-/// A tagged last line begins `OK [APPENDUID` where it answers a verdict that was `Stored`, and nowhere else: not where it ends a command or an IDLE, not
-/// behind a literal, not for a line that is too long or no command, and not where the message is refused or the store or memory refuses. It tells
+/// A tagged last line begins `OK [APPENDUID` where it answers a verdict that was `Stored`, and nowhere else: not where it ends a command or an IDLE,
+/// not behind a literal, not for a line that is too long or no command, and not where the message is refused or the store or memory refuses. It tells
 /// that verdict's UID, behind the UIDVALIDITY that the store told of the mailbox. So a client that reads such a line under the tag of its APPEND may
 /// conclude that its message was stored, under this UID (RFC 9051, 6.3.12; RFC 4315, 3).
 pub fn only_a_stored_verdict_tells_a_uid()
+    // Words that tell a UID begin `OK [APPENDUID `, and the same words tell the same UIDVALIDITY and UID.
     ensures words { (uidvalidity uid : ℕ) → tells_uid (appended_words uidvalidity uid) ≡ true }
     ensures numbers { WordsTellWhich }
+
+    // Where the verdict was `Stored`, the last line tells its UID, behind the UIDVALIDITY as the mailbox was counted; else none.
     ensures verdicts { (selected : Option Selected) (mailbox : ℕ) (verdict : Verdict) →
         VerdictTellsUid selected mailbox verdict (on_verdict selected mailbox verdict) }
+
+    // No last line of a command, of an IDLE, or behind a literal tells one.
     ensures commands { (now : Standing) (command : Command) → TellsNoUid (on_command now command) }
     ensures idling { (selected : Option Selected) (line : List ℕ) → TellsNoUid (on_idle_line selected line) }
     ensures rest { (mailing : Mailing) (begun : Appending) (ends : Bool) → TellsNoUid (on_rest mailing begun ends) }
+
+    // Nor does the line for no command, for one that is too long, or for a refusal of the store or of memory.
     ensures faults { (fault : ImapFault) → LineTellsNoUid (fault_tag fault) (fault_text fault) }
     ensures long { (now : Standing) → LineTellsNoUid (kept_tag now) (turn_of_long_line now).bytes }
     ensures refusals { (tag : List ℕ) (fault : MailFault) → RefusalTellsNoUid tag (refusal_text tag fault) }

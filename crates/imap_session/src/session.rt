@@ -22,7 +22,7 @@ use std::marker::Model;
 const MOST_UNASKED: u64 = 4_096;
 
 /// At most so many changes are shown in a turn of a session that idles.
-const MOST_CHANGES: usize = 64;
+const MOST_SHOWN_A_TURN: usize = 64;
 
 /// One client's session: its mailboxes by their names, the one that it selected, whether it idles, the message that its client appends, and
 /// whether it has ended.
@@ -83,6 +83,8 @@ impl Session {
     pub fn greet(&self, out: &mut Vec<u8>) -> Result<(), AllocError>
         ensures ok { OnOk result (out.new.items ≡ out.old.items ++ greeting) }
         ensures err { OnErr result (out.new.items ≡ out.old.items) }
+
+        // Memory is refused only where `out` had no room for the greeting.
         ensures memory { OnErr result (vec_capacity out.old < vec_len out.old + length greeting) }
     {
         out.reserve(GREETING.len())?;
@@ -427,8 +429,8 @@ impl Session {
     /// SELECT and EXAMINE leave the mailbox that was selected, and tell that, before they want any; once they entered the new one all is told.
     ///
     /// Behind the literal of an APPEND the line is the rest of that command's, which is to be empty: the message is then submitted, or it is said
-    /// why not (6.3.12). It has the bytes that were taken till then, so a caller hands over all that are due first. While the verdict on a message
-    /// is awaited no line may come.
+    /// why not (6.3.12). It has the bytes that were taken till then, so whoever calls it hands over all that are due first. While the verdict on a
+    /// message is awaited no line may come.
     ///
     /// Errors, after which the session, the store and `out` are as they were: `Ended` exactly where the session has ended; `NoMemory` where
     /// memory was refused, and `out` has no room for the line's length and 90 bytes more; where the line ends an IDLE or an APPEND, for the
@@ -440,11 +442,20 @@ impl Session {
         store: &mut S,
         out: &mut Vec<u8>,
     ) -> Result<After, SessionFault>
+        // No verdict is awaited.
         requires unsent { self.old.mailing.sent ≡ None }
+
+        // What was asked of the store, what is said, and how the session stands then is what `turn_of` tells, by the store's answers.
         ensures answered { IfOk result (λ after. Answers S.step self.old line.now store.old store.new out.old.items out.new.items after self.new) }
+
+        // Ended exactly where the session has ended. A refusal leaves the session, the store and `out` as they were.
         ensures ended { (result ≡ Err SessionFault.Ended) ↔ (self.old.ended ≡ true) }
         ensures refused { OnErr result ((self.new ≡ self.old) × (store.new ≡ store.old) × (out.new.items ≡ out.old.items)) }
+
+        // Where `out` had the room of `room_for`, memory is never refused.
         ensures memory { result ≡ Err SessionFault.NoMemory → vec_capacity out.old < vec_len out.old + room_for self.old line.now }
+
+        // The session keeps its mailboxes, and answers what its client may send from now on.
         ensures folders { self.new.folders ≡ self.old.folders }
         ensures sends { IfOk result (λ after. after ≡ may_send self.new) }
     {
@@ -660,13 +671,24 @@ impl Session {
         store: &mut S,
         out: &mut Vec<u8>,
     ) -> Result<After, SessionFault>
+        // A verdict is awaited.
         requires waits { is_some self.old.mailing.sent ≡ true }
+
+        // What was asked of the store, what is said, and how the session stands then is what `turn_of_verdict` tells, by the store's answers.
         ensures answered { IfOk result (λ after. AnswersVerdict S.step self.old verdict
             store.old store.new out.old.items out.new.items after self.new) }
+
+        // Ended exactly where the session has ended. A refusal leaves the session, the store and `out` as they were.
         ensures ended { (result ≡ Err SessionFault.Ended) ↔ (self.old.ended ≡ true) }
         ensures refused { OnErr result ((self.new ≡ self.old) × (store.new ≡ store.old) × (out.new.items ≡ out.old.items)) }
+
+        // Where `out` had the room that `verdict_room` tells, memory is never refused.
         ensures memory { result ≡ Err SessionFault.NoMemory → vec_capacity out.old < vec_len out.old + room_for_verdict self.old }
+
+        // Once it is answered, neither a literal nor a verdict is waited for.
         ensures done { OnOk result ((self.new.mailing.begun ≡ None) × (self.new.mailing.sent ≡ None)) }
+
+        // The session keeps its mailboxes, and answers what its client may send from now on.
         ensures folders { self.new.folders ≡ self.old.folders }
         ensures sends { IfOk result (λ after. after ≡ may_send self.new) }
     {
@@ -685,10 +707,15 @@ impl Session {
     /// Errors, after which the session and `out` are as they were: `Ended` exactly where the session has ended; `NoMemory` where `out` has no
     /// room for the answer and memory was refused.
     pub fn long_line(&mut self, out: &mut Vec<u8>) -> Result<After, SessionFault>
+        // One line is said, that of `long_line_text`, and a command may follow: an IDLE or APPEND that was begun is over.
         ensures answered { IfOk result (λ after. (after ≡ After.Go) × (out.new.items ≡ out.old.items ++ long_line_text self.old)) }
         ensures standing { OnOk result (self.new ≡ (turn_of_long_line self.old).standing) }
+
+        // Ended exactly where the session has ended. A refusal leaves the session and `out` as they were.
         ensures ended { (result ≡ Err SessionFault.Ended) ↔ (self.old.ended ≡ true) }
         ensures refused { OnErr result ((self.new ≡ self.old) × (out.new.items ≡ out.old.items)) }
+
+        // Memory is refused only where `out` had no room for that line.
         ensures memory { result ≡ Err SessionFault.NoMemory → vec_capacity out.old < vec_len out.old + length (long_line_text self.old) }
     {
         if self.ended {
@@ -741,16 +768,26 @@ impl Session {
         store: &mut S,
         out: &mut Vec<u8>,
     ) -> Result<usize, SessionFault>
+        // What was asked of the store, what is said, and how the session stands then is what the spec's `idle_turn` tells, for so many changes.
         ensures turned { IfOk result (λ count. IdleTurns S.step self.old store.old store.new out.old.items out.new.items count self.new) }
         ensures mailing { self.new.mailing ≡ self.old.mailing }
         ensures few { IfOk result (λ count. count ≤ 64) }
+
+        // Where it shows nothing and the session goes on, nothing is changed and nothing said.
         ensures quiet { IfOk result (λ count. count ≡ 0 → self.new.ended ≡ false → (self.new ≡ self.old) × (out.new.items ≡ out.old.items)) }
+
+        // Ended exactly where the session has ended, and the store is as it was.
         ensures ended { (result ≡ Err SessionFault.Ended) ↔ (self.old.ended ≡ true) }
         ensures over { result ≡ Err SessionFault.Ended → store.new ≡ store.old }
+
+        // Where memory is refused, the store is as it was, or it refused memory itself.
         ensures starved { result ≡ Err SessionFault.NoMemory → Starves S.step store.old store.new }
+
         // Where `out` has room for a BYE line, the store was asked.
         ensures asked { result ≡ Err SessionFault.NoMemory → vec_len out.old + 48 ≤ vec_capacity out.old →
             S.step store.old (Feed most_changes) (Refused MailFault.NoMemory) store.new }
+
+        // A refusal leaves the session and `out` as they were.
         ensures refused { OnErr result ((self.new ≡ self.old) × (out.new.items ≡ out.old.items)) }
     {
         if self.ended {
@@ -764,7 +801,7 @@ impl Session {
         };
         out.reserve(LAST)?;
         let mut response = Response::new(b"", LAST, out);
-        match response.show(MOST_CHANGES, store) {
+        match response.show(MOST_SHOWN_A_TURN, store) {
             Ok(count) => {
                 response.release(out);
                 Ok(count)

@@ -28,7 +28,9 @@ pub struct Append {
     pub message: u32,
     /// The mailbox's number.
     pub mailbox: u8,
+    /// Its bytes, as they came in the literal.
     pub text: Text,
+    /// The flags that it is to have in the mailbox.
     pub flags: Flags,
 }
 

@@ -33,6 +33,7 @@ pub trait Store {
         set: &SeqSet<'_>,
         by_uid: bool,
     ) -> Result<Option<Vec<Named>>, MailFault>
+        // It looked at a view, and answers which messages the set names there, or None for a position that isn't there.
         ensures event { Chooses (λ a. step self.now Look a self.now) by_uid set.now result }
         ensures faults { IfErr result (λ f. (f ≡ MailFault.Stranger) ⊎ (f ≡ MailFault.NoMemory)) };
 
@@ -52,12 +53,18 @@ pub trait Store {
     /// Shows all that is pending, then removes the messages that have \Deleted, of these UIDs where some are
     /// named. Answers how many went.
     fn expunge(&mut self, uids: Option<&[u32]>, out: &mut Vec<u8>) -> Result<usize, MailFault>
+        // It met a view, showed changes behind `out` as they count there, and removed as many messages as it answers. A refusal writes nothing.
         ensures event { Expunges (λ a. step self.old (Expunge (option_copied uids.entry)) a self.new) out.old.items out.new.items result }
+
+        // The room of `out` never becomes less.
         ensures room { vec_capacity out.old ≤ vec_capacity out.new };
 
     /// Shows the changes that are pending, so many of them at most. Answers how many it showed.
     fn feed(&mut self, limit: usize, out: &mut Vec<u8>) -> Result<usize, MailFault>
+        // It met a view and showed as many changes as it answers, `limit` at most, as they count there. A refusal writes nothing.
         ensures event { Feeds (λ a. step self.old (Feed limit) a self.new) limit out.old.items out.new.items result }
+
+        // The room of `out` never becomes less.
         ensures room { vec_capacity out.old ≤ vec_capacity out.new }
         ensures faults { IfErr result (λ f. f ≢ MailFault.Spent) };
 

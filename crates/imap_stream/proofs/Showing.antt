@@ -1,19 +1,14 @@
 -- Turns of a session that idles, and what stands behind them.
-use Rattle.std.proofs.Common.{◌≡◌, ℕ, true, false, List, refl, sym, subst}
-use Rattle.imap_session.specs.Exchange.{Standing, is_idling}
-use Rattle.imap_session.specs.Store.{IdleTurns}
-use Rattle.imap_connection.specs.Dialogue as dialogue
+use Rattle.std.proofs.Common.{◌≡◌, ℕ, true, List, refl, sym, subst}
+use Rattle.imap_session.specs.Exchange.{is_idling}
 use Rattle.imap_connection.specs.Dialogue.{Dialogue, ImapConnection, StandsFor}
-use Rattle.session_thread.specs.Locks.{Holds, LockedStore}
+use Rattle.session_thread.specs.Locks.{LockedStore}
 use Rattle.session_thread.specs.Life.{HasShown, IsShort, Moment, moment}
 use Rattle.session_thread.proofs.Living.{idle_of}
 use Rattle.courier.specs.Carried.{Carried}
 use Rattle.courier.specs.declared.Lost.TheVariants as lost
 use Rattle.session_thread.specs.Life.{Says}
 use Rattle.imap_stream.specs.Visits.{GoesOnShowing, Hears, HearsInPart, ShowsAll, ShowsInPart, nothing_left, within_turns}
-
-pub awake_of : (d : Dialogue) (was : ImapConnection) → StandsFor was d → is_idling was.session ≡ false → is_idling d.standing ≡ false
-awake_of d was s idles = subst (λ (x : Standing). is_idling x ≡ false) s.session idles
 
 pub shows_in_part : (room : ℕ) (first : Moment) (d : Dialogue) (old new : LockedStore) (before after : List ℕ) (was : ImapConnection) → StandsFor was d → is_idling was.session ≡ true → GoesOnShowing first (moment d old before)
     → moment d new after ≡ moment d old before → IsShort room (moment d new after) → ShowsInPart room first (moment d new after)

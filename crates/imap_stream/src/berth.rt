@@ -76,8 +76,13 @@ impl<'a, R: Wait, G: Gate, W: Sink + Drop> Berth<'a, R, G, W> {
         buffer: &mut [u8],
         stop: &AtomicBool,
     ) -> Result<(), Visit<'a, R, G, W>>
+        // The courier may carry a message.
         requires ready { C.ready courier.old }
+
+        // An error gives the visit back as it was, and the courier carried nothing.
         ensures back { IfErr result (λ back. (back ≡ visit.entry) × (courier.new ≡ courier.old)) }
+
+        // The courier may carry a message still, and is what it may have become by carrying.
         ensures ready { C.ready courier.new }
         ensures kept { (first : C) → C.kept first courier.old → C.kept first courier.new }
     {

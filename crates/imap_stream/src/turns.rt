@@ -1,7 +1,7 @@
 //! What a visit says, over the parts that it is made of: the answers to a piece of the client's bytes,
 //! and the turns of a session that idles. All of it is appended; who sends it stands in `visit`.
 
-ghost use Rattle.std.specs.Prelude.{◌≡◌, ◌++◌, List, None, false, true, OnErr, OnOk, IfErr, IfOk};
+ghost use Rattle.std.specs.Prelude.{◌≡◌, ◌++◌, List, None, false, true, OnErr, OnOk, IfErr};
 ghost use Rattle.std.specs.Vec.{vec_capacity};
 ghost use Rattle.imap_connection.specs.Dialogue.{Dialogue, StandsFor};
 ghost use Rattle.courier.specs.Carried.{Carried};
@@ -58,15 +58,22 @@ pub(crate) fn answer_and_show<R: Wait, G: Gate, C: Courier>(
     idles: &AtomicBool,
     out: &mut Vec<u8>,
 ) -> Result<(), Lost>
+    // The session hasn't ended, no message of it waits for a verdict, and the courier may carry one.
     requires going { connection.old.session.ended ≡ false }
     requires unsent { connection.old.session.mailing.sent ≡ None }
     requires ready { C.ready courier.old }
+
+    // The courier may carry a message still, and is what it may have become by carrying.
     ensures ready { C.ready courier.new }
     ensures kept { (first : C) → C.kept first courier.old → C.kept first courier.new }
+
+    // Without an error the piece was answered, its messages and no others were carried, and what there is was shown while it idles.
     ensures ok { OnOk result ((carried : List Carried) ×
         ((done : List Carried) → C.carried courier.old done → C.carried courier.new (done ++ carried))
         × ((d : Dialogue) → StandsFor connection.old d → (next : Dialogue) × StandsFor connection.new next
         × Hears piece.now carried (moment d store.old out.old.items) (moment next store.new out.new.items))) }
+
+    // After an error it stopped within the piece, or in the turns behind it; what was said by then stands behind `out`.
     ensures err { IfErr result (λ why. (d : Dialogue) → StandsFor connection.old d → (next : Dialogue) × StandsFor connection.new next
         × HearsInPart (vec_capacity out.new) piece.now why (moment d store.old out.old.items) (moment next store.new out.new.items)) }
 {

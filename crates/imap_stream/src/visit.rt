@@ -171,9 +171,15 @@ impl<'a, R: Wait, G: Gate, W: Sink> Visit<'a, R, G, W> {
     ) -> Result<Visit<'a, R, G, W>, (W, VisitFault)>
         requires live { W.failed output ≡ false }
         requires outside { store.entered ≡ None }
+
+        // Without an error the client was greeted, and nothing else was done.
         ensures ok { IfOk result (λ visit. IsGreeted most folders.items store.entry (W.taken output) visit) }
+
+        // It is never `Torn`; with `NoMemory` the output is given back as it was.
         ensures untorn { IfErr result (λ stop. stop.1 ≢ VisitFault.Torn) }
         ensures short { IfErr result (λ stop. stop.1 ≡ VisitFault.NoMemory → stop.0 ≡ output) }
+
+        // With `Write` it is given back failed: it took the first bytes of the greeting, and not all.
         ensures cut { IfErr result (λ stop. stop.1 ≡ VisitFault.Write →
             (sent : ℕ) × (sent < length greeting) × Appends (W.taken output) (W.taken stop.0) (take sent greeting)) }
         ensures failed { IfErr result (λ stop. stop.1 ≡ VisitFault.Write → W.failed stop.0 ≡ true) }
@@ -238,18 +244,29 @@ impl<'a, R: Wait, G: Gate, W: Sink> Visit<'a, R, G, W> {
         piece: &[u8],
         idles: &AtomicBool,
     ) -> Result<After, VisitFault>
+        // The courier may carry a message; it may after, and is what it may have become by carrying.
         requires ready { C.ready courier.old }
         ensures ready { C.ready courier.new }
         ensures kept { (first : C) → C.kept first courier.old → C.kept first courier.new }
+
+        // Where the visit is over, or its session awaits a verdict, nothing is done.
         ensures over { takes_bytes self.old ≡ false → (result ≡ Ok (awaited self.old)) × (self.new ≡ self.old) × (courier.new ≡ courier.old) }
+
+        // Without an error the piece was answered, its messages and no others were carried, what there is shown while it idles, and all sent.
         ensures ok { OnOk result (takes_bytes self.old ≡ true
             → (carried : List Carried) × ((done : List Carried) → C.carried courier.old done → C.carried courier.new (done ++ carried))
             × Tells (Hears piece.now carried) SendsAll self.old self.new) }
+
+        // What is answered is what the client may send next; an error closes the visit, and nothing else here does.
         ensures next { IfOk result (λ after. after ≡ awaited self.new) }
         ensures goes_on { OnOk result (self.new.closed ≡ self.old.closed) }
         ensures ends { OnErr result (self.new.closed ≡ true) }
+
+        // After `NoMemory` or `Torn` it stopped within the piece, or in the turns behind it, and all that was said by then was sent.
         ensures short { result ≡ Err VisitFault.NoMemory → Tells (HearsInPart self.new.room piece.now Lost.NoMemory) SendsAll self.old self.new }
         ensures torn { result ≡ Err VisitFault.Torn → Tells (HearsInPart self.new.room piece.now Lost.Torn) SendsAll self.old self.new }
+
+        // After `Write` the output took the first bytes of what was said, and not all: of the whole, or up to such a stop.
         ensures cut { result ≡ Err VisitFault.Write
             → ((carried : List Carried) × ((done : List Carried) → C.carried courier.old done → C.carried courier.new (done ++ carried))
             × Tells (Hears piece.now carried) SendsFirst self.old self.new)
@@ -293,13 +310,22 @@ impl<'a, R: Wait, G: Gate, W: Sink> Visit<'a, R, G, W> {
     /// session idles still. `Write`
     /// where the output failed: it took the first bytes of what was said, and the visit is over.
     pub fn look(&mut self) -> Result<After, VisitFault>
+        // Where the visit is over nothing is done.
         ensures over { is_over self.old ≡ true → (result ≡ Ok After.Bye) × (self.new ≡ self.old) }
+
+        // Without an error the client was shown what there is, where its session idles, and all that was said was sent.
         ensures ok { OnOk result (is_over self.old ≡ false → Tells ShowsAll SendsAll self.old self.new) }
+
+        // What is answered is then what the client may send next, and the visit isn't closed by it.
         ensures next { IfOk result (λ after. after ≡ awaited self.new) }
         ensures goes_on { OnOk result (self.new.closed ≡ self.old.closed) }
+
+        // It is never `Torn`. After `NoMemory` the visit goes on, the session idles still, and what the turns before said was sent.
         ensures untorn { IfErr result (λ fault. fault ≢ VisitFault.Torn) }
         ensures waits { result ≡ Err VisitFault.NoMemory → self.new.closed ≡ self.old.closed }
         ensures short { result ≡ Err VisitFault.NoMemory → Tells (ShowsInPart self.new.room) SendsAll self.old self.new }
+
+        // After `Write` the output took the first bytes of what was said, and not all, and the visit is over.
         ensures cut { result ≡ Err VisitFault.Write → Tells ShowsAll SendsFirst self.old self.new ⊎
             Tells (ShowsInPart self.new.room) SendsFirst self.old self.new }
     {
@@ -326,10 +352,15 @@ impl<'a, R: Wait, G: Gate, W: Sink> Visit<'a, R, G, W> {
     ///
     /// Errors: `Write` where the output failed behind the first bytes of that line.
     pub fn dismiss(&mut self) -> Result<(), VisitFault>
+        // Where the visit is over nothing is done; else, without an error, the whole farewell was sent.
         ensures over { is_over self.old ≡ true → (result ≡ Ok tt) × (self.new ≡ self.old) }
         ensures ok { OnOk result (is_over self.old ≡ false → Appends self.old.taken self.new.taken farewell × (self.new.failed ≡ false)) }
+
+        // An error is `Write`: the output failed when it had taken the first bytes of the farewell, and not all.
         ensures fault { IfErr result (λ fault. fault ≡ VisitFault.Write) }
         ensures cut { OnErr result (SendsFirst self.old farewell self.new) }
+
+        // After either the visit is over, and its session stands as before.
         ensures ends { is_over self.new ≡ true }
         ensures rest { (self.new.link ≡ self.old.link) × (self.new.selection ≡ self.old.selection) × (self.new.room ≡ self.old.room) }
     {

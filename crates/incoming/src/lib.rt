@@ -40,6 +40,7 @@ impl Incoming {
     ///
     /// Errors: `AllocError` where memory was refused, and only where there are bytes; nothing is changed then.
     pub fn append(&mut self, piece: &[u8]) -> Result<(), AllocError>
+        // After Ok the bytes wait behind all others; after an error nothing has changed, and there were bytes.
         ensures ok { OnOk result (self.new ≡ self.old ++ piece.now) }
         ensures err { OnErr result (self.new ≡ self.old) }
         ensures asks { OnErr result (0 < length piece.now) }

@@ -1,5 +1,5 @@
 -- Permits by lane.
-use Rattle.std.proofs.Common.{◌≡◌, ℕ, zero, suc, ◌<◌, ◌+◌, ◌++◌, ◌∙◌, ap, refl, sym, subst, List, [], ◌∷◌, length, map, slice_index_or, slice_set, take, drop, arith, All, Contains}
+use Rattle.std.proofs.Common.{◌≡◌, ℕ, zero, suc, ◌<◌, ◌+◌, ◌++◌, ◌∙◌, ap, refl, sym, subst, List, [], ◌∷◌, length, map, slice_index_or, slice_set, drop, arith, All, Contains}
 use Rattle.std.proofs.lemmas.List.Elements.{All-nil, All-cons, All-head, All-tail, All-push, Contains-push}
 use Rattle.delivery_token.specs.declared.Job.{Job}
 use Rattle.shard_queue.specs.declared.queue.ShardQueue.{ShardQueue}
@@ -236,14 +236,3 @@ consumer_read qs ss h i under q s qe se =
 pub consumers_written : (qs : List (ShardQueue Job)) (ss : List (ConsumerPermit Job)) → AreConsumers qs ss → (i : ℕ) (q : ShardQueue Job) (s : ConsumerPermit Job)
     → q ≡ slice_index_or qs i q → IsConsumer q s → AreConsumers qs (slice_set ss i s)
 consumers_written qs ss h i q s qe is = consumers_set qs ss h i q s (subst (λ (x : ShardQueue Job). IsConsumer x s) qe is)
-
--- the consumer's permit of the next lane came back
-pub consumer_back : (qs : List (ShardQueue Job)) (i : ℕ) (ss : List (ConsumerPermit Job)) (q : ShardQueue Job) (s : ConsumerPermit Job) → i < length qs → AreConsumers (take i qs) ss
-    → IsConsumer (slice_index_or qs i q) s → AreConsumers (take (i + 1) qs) (ss ++ s ∷ [])
-consumer_back [] i ss q s under h is = absurd (omega (arith, under))
-consumer_back (x ∷ qs) zero [] q s under h is = (is, tt)
-consumer_back (x ∷ qs) zero (y ∷ ss) q s under h is = absurd h
-consumer_back (x ∷ qs) (suc i) [] q s under h is = absurd h
-consumer_back (x ∷ qs) (suc i) (y ∷ ss) q s under h is =
-    let e : suc i + 1 ≡ suc (i + 1) = omega arith in
-    subst (λ n. AreConsumers (take n (x ∷ qs)) (y ∷ ss ++ s ∷ [])) (sym e) (h.0, consumer_back qs i ss q s (omega (arith, under)) h.1 is)

@@ -1,5 +1,5 @@
 -- Permits by channel.
-use Rattle.std.proofs.Common.{◌≡◌, ℕ, zero, suc, ◌<◌, ◌+◌, ◌++◌, ◌∙◌, ap, refl, sym, subst, List, [], ◌∷◌, length, map, slice_index_or, slice_set, take, arith, All, Contains}
+use Rattle.std.proofs.Common.{◌≡◌, ℕ, zero, suc, ◌<◌, ◌+◌, ◌++◌, ◌∙◌, ap, refl, sym, subst, List, [], ◌∷◌, length, map, slice_index_or, arith, All, Contains}
 use Rattle.std.proofs.lemmas.List.Elements.{All-nil, All-cons, All-head, All-tail, All-push, Contains-push}
 use Rattle.delivery_token.specs.declared.log.Noted.{Noted}
 use Rattle.shard_queue.specs.declared.ends.ReplyChannel.{ReplyChannel}
@@ -197,39 +197,3 @@ ended_hand_length [] p [] h = refl
 ended_hand_length [] p (e ∷ es) h = absurd h
 ended_hand_length (q ∷ qs) p [] h = absurd h
 ended_hand_length (q ∷ qs) p (e ∷ es) h = ap suc (ended_hand_length qs p es h.1)
-
-pub receiver_at : (qs : List (ReplyChannel Noted)) (ss : List (ReceiverPermit Noted)) → AreReceivers qs ss → (i : ℕ) → i < length qs → (q : ReplyChannel Noted) (s : ReceiverPermit Noted)
-    → IsReceiver (slice_index_or qs i q) (slice_index_or ss i s)
-receiver_at [] ss h i under q s = absurd (omega (arith, under))
-receiver_at (x ∷ qs) [] h i under q s = absurd h
-receiver_at (x ∷ qs) (y ∷ ss) h zero under q s = h.0
-receiver_at (x ∷ qs) (y ∷ ss) h (suc i) under q s = receiver_at qs ss h.1 i (omega (arith, under)) q s
-
-pub receivers_set : (qs : List (ReplyChannel Noted)) (ss : List (ReceiverPermit Noted)) → AreReceivers qs ss → (i : ℕ) (q : ReplyChannel Noted) (s : ReceiverPermit Noted) → IsReceiver (slice_index_or qs i q) s
-    → AreReceivers qs (slice_set ss i s)
-receivers_set [] [] h i q s is = h
-receivers_set [] (y ∷ ss) h i q s is = absurd h
-receivers_set (x ∷ qs) [] h i q s is = absurd h
-receivers_set (x ∷ qs) (y ∷ ss) h zero q s is = (is, h.1)
-receivers_set (x ∷ qs) (y ∷ ss) h (suc i) q s is = (h.0, receivers_set qs ss h.1 i q s is)
-
--- the same, where the two at a position were read
-pub receiver_read : (qs : List (ReplyChannel Noted)) (ss : List (ReceiverPermit Noted)) → AreReceivers qs ss → (i : ℕ) → i < length qs → (q : ReplyChannel Noted) (s : ReceiverPermit Noted)
-    → q ≡ slice_index_or qs i q → s ≡ slice_index_or ss i s → IsReceiver q s
-receiver_read qs ss h i under q s qe se =
-    subst (λ (x : ReplyChannel Noted). IsReceiver x s) (sym qe) (subst (λ (x : ReceiverPermit Noted). IsReceiver (slice_index_or qs i q) x) (sym se) (receiver_at qs ss h i under q s))
-
-pub receivers_written : (qs : List (ReplyChannel Noted)) (ss : List (ReceiverPermit Noted)) → AreReceivers qs ss → (i : ℕ) (q : ReplyChannel Noted) (s : ReceiverPermit Noted)
-    → q ≡ slice_index_or qs i q → IsReceiver q s → AreReceivers qs (slice_set ss i s)
-receivers_written qs ss h i q s qe is = receivers_set qs ss h i q s (subst (λ (x : ReplyChannel Noted). IsReceiver x s) qe is)
-
--- the receiver's permit of the next channel came back
-pub receiver_back : (qs : List (ReplyChannel Noted)) (i : ℕ) (ss : List (ReceiverPermit Noted)) (q : ReplyChannel Noted) (s : ReceiverPermit Noted) → i < length qs → AreReceivers (take i qs) ss
-    → IsReceiver (slice_index_or qs i q) s → AreReceivers (take (i + 1) qs) (ss ++ s ∷ [])
-receiver_back [] i ss q s under h is = absurd (omega (arith, under))
-receiver_back (x ∷ qs) zero [] q s under h is = (is, tt)
-receiver_back (x ∷ qs) zero (y ∷ ss) q s under h is = absurd h
-receiver_back (x ∷ qs) (suc i) [] q s under h is = absurd h
-receiver_back (x ∷ qs) (suc i) (y ∷ ss) q s under h is =
-    let e : suc i + 1 ≡ suc (i + 1) = omega arith in
-    subst (λ n. AreReceivers (take n (x ∷ qs)) (y ∷ ss ++ s ∷ [])) (sym e) (h.0, receiver_back qs i ss q s (omega (arith, under)) h.1 is)

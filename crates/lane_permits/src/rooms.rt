@@ -2,7 +2,7 @@
 //! house's lanes and channels, and to collect them. They are made before the first permit is, so that
 //! behind the dealing nothing can be refused. What goes into them stands in the modules beside this.
 
-ghost use Rattle.std.specs.Prelude.{◌≡◌, ◌≤◌, [], All, IfOk};
+ghost use Rattle.std.specs.Prelude.{◌≡◌, [], All, IfOk};
 ghost use Rattle.lane_permits.specs.Rooms.{AreEmptyHands, AreEmptyPermitRooms, AreHandRooms, ArePermitRooms, AreRooms};
 
 use delivery_token::{Job, Noted};

@@ -1,9 +1,9 @@
 -- Which shards are marked before which connection.
-use Rattle.std.proofs.Common.{◌≡◌, ℕ, zero, suc, ◌+◌, ◌<◌, ◌≤◌, ◌∙◌, ◌⊎◌, inl, inr, ◌≢◌, eqb, Bool, true, false, List, [], ◌∷◌, length, refl, ap, sym, subst, arith, take, slice_index_or, slice_set, ◌==◌, ◌&&◌, ◌||◌}
+use Rattle.std.proofs.Common.{◌≡◌, ℕ, zero, suc, ◌+◌, ◌<◌, ◌∙◌, ◌⊎◌, inl, inr, ◌≢◌, eqb, Bool, true, false, List, [], ◌∷◌, length, refl, ap, sym, subst, arith, take, slice_index_or, slice_set, ◌==◌, ◌&&◌, ◌||◌}
 use Rattle.std.specs.Prelude.{nat_lt, nat_le}
 use Rattle.std.specs.List.{list_any}
 use Rattle.std.proofs.lemmas.Bool.Decides.{eqb_tells, nat_tests}
-use Rattle.std.proofs.lemmas.List.{get_or-set_same, get_or-set_other, length-set}
+use Rattle.std.proofs.lemmas.List.{get_or-set_same, get_or-set_other}
 use Rattle.envelope.specs.Directory.{Directory, is_shut, marked}
 use Rattle.lane_work.specs.declared.desk.Closing.{Closing}
 use Rattle.lane_work.specs.Account.{IsMarkedBy, is_closed_by}
@@ -106,41 +106,6 @@ one_marked d s shard under = go (eqb_tells s shard) where
 pub none_marked : (i : ℕ) (d : Directory) → Marks i [] d d
 none_marked i d = (refl, refl, λ shard within. sym (or_none (is_shut d shard)))
 
--- one was for this connection
-pub is_marked : (i : ℕ) (c : Closing) (old new : Directory) → c.connection ≡ i → c.shard < length old.shut → new ≡ marked (slice_set old.shut c.shard true) old → Marks i (c ∷ []) old new
-is_marked i c old new now there new_is =
-    let shut : new.shut ≡ slice_set old.shut c.shard true = ap (λ (d : Directory). d.shut) new_is in
-    let at_it : (c.connection == i) ≡ true = grind (arith, nat_tests) in (
-      new_is ∙ ap (λ l. marked l old) (sym shut),
-      ap length shut ∙ length-set old.shut c.shard true,
-      λ shard within.
-          ap (λ (d : Directory). is_shut d shard) new_is
-          ∙ one_marked old c.shard shard there
-          ∙ ap (λ b. is_shut old shard || b) (sym (ap (λ b. (b && (c.shard == shard)) || false) at_it ∙ or_none (c.shard == shard))),
-    )
-
--- it was for another connection, or for a shard that isn't there
-pub passed_over : (i : ℕ) (c : Closing) (d : Directory) → ((shard : ℕ) → shard < d.shards → is_closed_at i shard c ≡ false) → Marks i (c ∷ []) d d
-passed_over i c d other = (
-  refl,
-  refl,
-  λ shard within. sym (ap (λ b. is_shut d shard || b) (or_none (is_closed_at i shard c) ∙ other shard within) ∙ or_none (is_shut d shard)),
-)
-
-pub next_marked : (i : ℕ) (cs : List Closing) (k : ℕ) (c : Closing) (first old new : Directory) → k < length cs → c ≡ slice_index_or cs k c → Marks i (take k cs) first old → Marks i (c ∷ []) old new
-    → Marks i (take (k + 1) cs) first new
-next_marked i cs k c first old new under is was one = (
-  one.0 ∙ ap (marked new.shut) was.0,
-  one.1 ∙ was.1,
-  λ shard within.
-      let shards : old.shards ≡ first.shards = ap (λ (d : Directory). d.shards) was.0 in
-      one.2 shard (omega (arith, within, shards))
-      ∙ ap (λ b. is_shut old shard || b) (or_none (is_closed_at i shard c))
-      ∙ ap (λ b. b || is_closed_at i shard c) (was.2 shard within)
-      ∙ or_assoc (is_shut first shard) (list_any (is_closed_at i shard) (take k cs)) (is_closed_at i shard c)
-      ∙ ap (λ b. is_shut first shard || b) (sym (any_next i shard cs k c under is)),
-)
-
 take_all : (cs : List Closing) (k : ℕ) → k ≡ length cs → take k cs ≡ cs
 take_all [] zero e = refl
 take_all [] (suc k) e = refl
@@ -149,19 +114,6 @@ take_all (c ∷ cs) (suc k) e = ap (λ l. c ∷ l) (take_all cs k (omega arith))
 
 pub all_marked : (i : ℕ) (cs : List Closing) (k : ℕ) (first now : Directory) → k ≡ length cs → Marks i (take k cs) first now → Marks i cs first now
 all_marked i cs k first now e h = subst (λ l. Marks i l first now) (take_all cs k e) h
-
-pub other_connection : (i : ℕ) (c : Closing) (d : Directory) → (c.connection ≡ i → ⊥) → (shard : ℕ) → shard < d.shards → is_closed_at i shard c ≡ false
-other_connection i c d not shard within = go (eqb_tells c.connection i) where
-  go : ((eqb c.connection i ≡ true) × (c.connection ≡ i)) ⊎ ((eqb c.connection i ≡ false) × (c.connection ≢ i)) → ((c.connection == i) && (c.shard == shard)) ≡ false
-  go (inl (is, here)) = absurd (not here)
-  go (inr (is, there)) = ap (λ b. b && (c.shard == shard)) is
-
-pub no_such_shard : (i : ℕ) (c : Closing) (d : Directory) → d.shards ≤ c.shard → (shard : ℕ) → shard < d.shards → is_closed_at i shard c ≡ false
-no_such_shard i c d beyond shard within = go (eqb_tells c.shard shard) (c.connection == i) where
-  go : ((eqb c.shard shard ≡ true) × (c.shard ≡ shard)) ⊎ ((eqb c.shard shard ≡ false) × (c.shard ≢ shard)) → (b : Bool) → (b && (c.shard == shard)) ≡ false
-  go (inl (is, here)) b = absurd (omega (arith, here, within, beyond))
-  go (inr (is, there)) true = is
-  go (inr (is, there)) false = refl
 
 -- ---- permits over such a directory
 

@@ -115,19 +115,6 @@ puts_at ss i p d old new job (Some v) room same rooms under is number put =
       subst (λ (r : Room). IsAtOnce (FoundFull r p (slice_index_or (map put_by ss) i [])) v) (sym rooms) two,
     )
 
--- the same, where the two at a position were read
-pub permit_read : (qs : List (ShardQueue Job)) (p : ℕ) (ss : List LanePermit) → ArePermits qs p ss → (i : ℕ) → i < length qs → (q : ShardQueue Job) (s : LanePermit)
-    → q ≡ slice_index_or qs i q → s ≡ slice_index_or ss i s → IsPermit q s × (permit_number s ≡ p)
-permit_read qs p ss h i under q s qe se =
-    let both = permit_at qs p ss h i under q s in (
-      subst (λ (x : ShardQueue Job). IsPermit x s) (sym qe) (subst (λ (x : LanePermit). IsPermit (slice_index_or qs i q) x) (sym se) both.0),
-      ap permit_number se ∙ both.1,
-    )
-
-pub permits_written : (qs : List (ShardQueue Job)) (p : ℕ) (ss : List LanePermit) → ArePermits qs p ss → (i : ℕ) (q : ShardQueue Job) (s : LanePermit)
-    → q ≡ slice_index_or qs i q → IsPermit q s → permit_number s ≡ p → ArePermits qs p (slice_set ss i s)
-permits_written qs p ss h i q s qe is number = permits_set qs p ss h i q s (subst (λ (x : ShardQueue Job). IsPermit x s) qe is) number
-
 -- the same, where the lane is named by its position
 pub permit_here : (qs : List (ShardQueue Job)) (p : ℕ) (ss : List LanePermit) → ArePermits qs p ss → (i : ℕ) → i < length qs → (q : ShardQueue Job) (s : LanePermit)
     → s ≡ slice_index_or ss i s → IsPermit (slice_index_or qs i q) s × (permit_number s ≡ p)
@@ -188,11 +175,6 @@ ended_next (x ∷ qs) (suc i) p (y ∷ es) e under h q is number =
     let k : suc i + 1 ≡ suc (i + 1) = omega arith in
     subst (λ n. AreEnded (take n (x ∷ qs)) p (y ∷ es ++ e ∷ [])) (sym k) (h.0, ended_next qs i p es e (omega arith) h.1 q is number)
 
-pub no_permits : (p : ℕ) (qs : List (ShardQueue Job)) (ss : List LanePermit) → qs ≡ [] → ArePermits qs p ss → ss ≡ []
-no_permits p [] [] e h = refl
-no_permits p [] (s ∷ ss) e h = absurd h
-no_permits p (q ∷ qs) ss e h = absurd (let x : q ∷ qs ≡ [] = e in cc)
-
 pub said_next : (p : ℕ) (es more : List (Ended Job)) (ss less : List LanePermit) (e : Ended Job) (s : LanePermit) (all : List (List (Entry Job)))
     → more ≡ es ++ e ∷ [] → ss ≡ s ∷ drop 1 ss → less ≡ drop 1 ss → permit_number s ≡ p → said e ≡ put_by s ++ End (permit_number s) ∷ []
     → map said es ++ map (λ entries. entries ++ End p ∷ []) (map put_by ss) ≡ map (λ entries. entries ++ End p ∷ []) all
@@ -241,11 +223,6 @@ told_next p es more ss less e s all is first rest number says so =
     ∙ ap (λ l. map said_on es ++ close (sent_on s) ∷ map close (map sent_on l)) rest
     ∙ ap (λ l. map said_on es ++ map close (map sent_on l)) (sym first)
     ∙ so
-
-pub none_sending : (p : ℕ) (qs : List (ReplyChannel Noted)) (ss : List (SenderPermit Noted)) → qs ≡ [] → AreSenders qs p ss → ss ≡ []
-none_sending p [] [] e h = refl
-none_sending p [] (s ∷ ss) e h = absurd h
-none_sending p (q ∷ qs) ss e h = absurd (let x : q ∷ qs ≡ [] = e in cc)
 
 pub items_next : {A : Type 0} (es : List (Entry A)) (e : Entry A) → items_of (es ++ e ∷ []) ≡ items_of es ++ items_of (e ∷ [])
 items_next es e = filter_map-append item_of es (e ∷ [])

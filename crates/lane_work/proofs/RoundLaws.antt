@@ -1,6 +1,5 @@
 -- Permits that go round: each is taken from the front and put back behind the others.
-use Rattle.std.proofs.Common.{◌≡◌, ℕ, zero, suc, ◌+◌, ◌-◌, ◌<◌, ◌++◌, ◌∙◌, ◌⊎◌, inl, inr, ◌≢◌, eqb, Bool, true, false, List, [], ◌∷◌, length, length-drop, map, take, drop, refl, ap, sym, subst, arith, append_assoc, append-nil, slice_index_or, ◌||◌}
-use Rattle.std.proofs.Math.Seq.{take-append_seam}
+use Rattle.std.proofs.Common.{◌≡◌, ℕ, zero, suc, ◌+◌, ◌<◌, ◌++◌, ◌∙◌, ◌⊎◌, inl, inr, ◌≢◌, eqb, Bool, true, false, List, [], ◌∷◌, length, length-drop, map, take, drop, refl, ap, sym, subst, arith, append_assoc, append-nil, slice_index_or, ◌||◌}
 use Rattle.std.proofs.lemmas.Bool.Decides.{eqb_tells}
 use Rattle.std.proofs.lemmas.List.{length-append, length-map, map-append}
 use Rattle.delivery_token.specs.declared.Job.{Job}
@@ -9,11 +8,6 @@ use Rattle.shard_queue.specs.declared.queue.ShardQueue.{ShardQueue}
 use Rattle.lane_work.specs.declared.desk.LanePermit.{LanePermit}
 use Rattle.lane_work.specs.Permits.{ArePermits, AreShutWhereOver, IsPermit, is_over, overs, permit_number, put_by}
 use Rattle.lane_work.proofs.PermitLaws.{permit_at, permits_length}
-
-pub front_of : {A : Type 0} (xs ys : List A) (y : A) → ys ≡ xs ++ y ∷ [] → take (length ys - 1) ys ≡ xs
-front_of xs ys y is =
-    let n : length ys - 1 ≡ length xs = let l = ap length is ∙ length-append xs (y ∷ []) in omega (arith, l) in
-    ap (λ k. take k ys) n ∙ ap (take (length xs)) is ∙ take-append_seam xs (y ∷ [])
 
 drop_split : {A : Type 0} (xs : List A) (i : ℕ) (d : A) → i < length xs → drop i xs ≡ slice_index_or xs i d ∷ drop (i + 1) xs
 drop_split [] i d under = absurd (omega arith)

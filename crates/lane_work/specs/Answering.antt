@@ -8,14 +8,9 @@ use Rattle.delivery_token.specs.declared.Verdict.TheVariants.{Stored, Refused}
 use Rattle.delivery_token.specs.declared.log.Noted.{Noted}
 use Rattle.mailbox.specs.Mailbox.{Mailbox}
 use Rattle.mailbox.specs.declared.mailbox.Receipt.{Receipt}
-use Rattle.mailbox_holds.specs.Holds.{DoesDeliver}
+use Rattle.mailbox_holds.specs.Holds.{DoesDeliver, UnderLock}
 use Rattle.shard_queue.specs.declared.lane.Entry.{Entry}
 use Rattle.shard_queue.specs.declared.lane.Entry.TheVariants.{Item, End}
-
--- A lock was taken: this mailbox was found, this was done to it, it was left like that, and the lock was let go. Of what one hold leaves and the next
--- one finds nothing is said.
-abbrev pub UnderLock : (Mailbox → Mailbox → Type 0) → Type 0
-UnderLock P = (found : Mailbox) × (left : Mailbox) × P found left
 
 -- a delivery's answer, as its producer is told
 abbrev pub verdict_of : Result Receipt Refusal → Verdict

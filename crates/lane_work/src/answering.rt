@@ -5,7 +5,8 @@ ghost use Rattle.std.specs.Prelude.{◌≡◌, ◌++◌, ◌∷◌, [], length, 
 ghost use Rattle.shard_queue.specs.declared.lane.Entry.TheVariants as entries;
 ghost use Rattle.shard_queue.specs.Reply.{IsSender, sender_number, sent_on};
 ghost use Rattle.lane_work.specs.Permits.{AreSenders};
-ghost use Rattle.lane_work.specs.Answering.{IsDelivered, IsVerdict, Serves, UnderLock, is_ours, verdict_of};
+ghost use Rattle.lane_work.specs.Answering.{IsDelivered, IsVerdict, Serves, is_ours, verdict_of};
+ghost use Rattle.mailbox_holds.specs.Holds.{UnderLock};
 
 use crate::bells::ring_sessions;
 use crate::consumer::Depot;
@@ -94,9 +95,14 @@ pub fn serve_copy<R: Wait, G: Gate>(
     producer: u8,
     job: &Job,
 ) -> bool
+    // There is a sender's permit on each channel, of this shard's number.
     requires senders { AreSenders depot.now.channels.items shard senders.old.items }
     ensures senders { AreSenders depot.now.channels.items shard senders.new.items }
+
+    // `true` is said of just the copies whose producer has a channel and whose mailbox is there.
     ensures known { result ≡ is_ours (length depot.now.mailboxes.items) (length depot.now.channels.items) producer job.now }
+
+    // The copy's producer was told its one verdict, and nobody else anything; where that has no channel, nobody was.
     ensures served { Serves (length depot.now.mailboxes.items) (length depot.now.channels.items) shard producer job.now
         (map sent_on senders.old.items) (map sent_on senders.new.items) }
 {

@@ -1,7 +1,7 @@
 //! A session's way to the lanes: its permit on each, and its end of a reply channel, as a worker has them.
 //! What a session is answered stands above.
 
-ghost use Rattle.std.specs.Prelude.{◌≡◌, ◌+◌, ◌≤◌, IfOk, length, map};
+ghost use Rattle.std.specs.Prelude.{◌≡◌, IfOk, length, map};
 ghost use Rattle.shard_queue.specs.Reply.{IsReceiver, received};
 ghost use Rattle.shard_queue.specs.Shared.{IsStartOf};
 ghost use Rattle.lane_work.specs.Copies.{rooms_of};
@@ -78,10 +78,13 @@ fn judge<R: Wait, G: Gate, S: Summons>(
 }
 
 impl<'a, R: Wait, S: Summons, N: Notebook> Courier for LaneCourier<'a, R, S, N> {
+    // It has the seat's own permit on each lane, none of them over, and the receiver of its channel.
     ghost ready = { λ c. IsReady c.office.now c.channel.now c.desk };
 
+    // Its books tell of just these messages of its session, and of the verdicts on them.
     ghost carried = { λ c done. HasCarried c.office.now c.desk c.serial (N.tells c.book) done };
 
+    // Office, channel, number, serial and the book's owner are the same, and no end was counted that wasn't heard.
     ghost kept = { λ first now. IsSameDesk first.office.now now.office.now first.channel.now now.channel.now first.desk now.desk
         × (now.serial ≡ first.serial) × (N.owner now.book ≡ N.owner first.book) };
 

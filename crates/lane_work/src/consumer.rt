@@ -1,7 +1,7 @@
 //! A consumer's life: each copy of its lane is taken, delivered and answered, until the end of every
 //! producer came; then its own permits are ended. What becomes of one copy stands in `answering`.
 
-ghost use Rattle.std.specs.Prelude.{◌≡◌, ◌≤◌, ◌<◌, ◌+◌, ◌++◌, ◌∷◌, [], true, length, map, vec_capacity};
+ghost use Rattle.std.specs.Prelude.{◌≡◌, ◌≤◌, ◌++◌, ◌∷◌, [], true, length, map, vec_capacity};
 ghost use Rattle.std.specs.List.{list_any};
 ghost use Rattle.shard_queue.specs.Permits.{IsConsumer, got};
 ghost use Rattle.shard_queue.specs.Reply.{sent_on};
@@ -149,11 +149,16 @@ pub fn consume<R: Wait, G: Gate>(
     mut copies: Vec<Job>,
     producers: usize,
 ) -> Consumed
+    // The stall has its lane's consumer's permit, which took nothing yet, and on each channel a sender's of its shard's number.
     requires permit { IsConsumer lane.now stall.permit × (got stall.permit ≡ []) }
     requires senders { AreSenders depot.now.channels.items stall.shard stall.senders.items }
     requires room { (ended.items ≡ []) × (length depot.now.channels.items ≤ vec_capacity ended) }
     requires none { copies.items ≡ [] }
+
+    // Each channel got one verdict on each copy taken of its producer, in order, then the end; where `kept`, `copies` is all that was taken.
     ensures consumed { IsConsumed lane.now depot.now stall.shard (map sent_on stall.senders.items) result }
+
+    // As many producers' ends were taken as `producers` says, or more.
     ensures ends { producers ≤ ends_in (got result.permit) }
 {
     let tally = serve_all(rt, pace, depot, lane, &mut stall, &mut copies, producers);

@@ -73,8 +73,11 @@ pub fn end_all<R: Wait, G: Gate, S: Summons>(
     mut permits: Vec<LanePermit>,
     mut ended: Vec<Ended<Job>>,
 ) -> Vec<Ended<Job>>
+    // There is a permit of this producer on each lane, over or not.
     requires permits { ArePermits office.now.lanes.items number permits.items }
     requires room { (ended.items ≡ []) × (length office.now.lanes.items ≤ vec_capacity ended) }
+
+    // Each has ended: on its lane was said what had been put there, then the producer's end, and nothing else.
     ensures ended { AreEnded office.now.lanes.items number result.items }
     ensures said { HaveEnded number (map put_by permits.items) (map said result.items) }
 {
@@ -98,10 +101,16 @@ pub fn hear_ends<R: Wait, G: Gate>(
     shards: usize,
 ) -> bool
     requires { IsReceiver channel.now receiver.old }
+
+    // The receiver stays the channel's, and what it had received stands in front of what it received since.
     ensures receiver { IsReceiver channel.now receiver.new }
     ensures grew { IsStartOf (received receiver.old) (received receiver.new) }
+
+    // `true` is answered only where nothing but ends came.
     ensures quiet { result ≡ true → length (received receiver.new) + ends_in (received receiver.old) ≡ length
         (received receiver.old) + ends_in (received receiver.new) }
+
+    // The ends that were heard before (`heard`) and those that came now are as many as `shards`, or more.
     ensures ends { shards + ends_in (received receiver.old) ≤ heard + ends_in (received receiver.new) }
 {
     let mut quiet = true;
@@ -151,8 +160,11 @@ pub fn end_senders<R: Wait, G: Gate>(
     mut senders: Vec<SenderPermit<Noted>>,
     mut ended: Vec<SenderEnded<Noted>>,
 ) -> Vec<SenderEnded<Noted>>
+    // There is a sender's permit on each channel, of this shard's number.
     requires senders { AreSenders channels.now shard senders.items }
     requires room { (ended.items ≡ []) × (length channels.now ≤ vec_capacity ended) }
+
+    // Each has ended: on its channel was said what had been sent there, then the sender's end, and nothing else.
     ensures ended { AreSendersEnded channels.now shard result.items }
     ensures said { HaveClosed shard (map sent_on senders.items) (map said_on result.items) }
 {

@@ -25,18 +25,26 @@ pub trait Notebook {
     ///
     /// Errors: `AllocError` where there was no room and memory was refused; then nothing is changed.
     fn reserve(&mut self, count: usize) -> Result<(), AllocError>
+        // It stays the same worker's, and tells of all copies of which it told.
         ensures owner { owner self.new ≡ owner self.old }
         ensures tells { (copies : List (Job × Verdict)) → tells self.old copies → tells self.new copies }
+
+        // Without an error there is room for `count` more; where there was before, it succeeds.
         ensures ok { OnOk result (has_room self.new count) }
         ensures succeeds { has_room self.old count → IsOk result }
+
+        // After an error nothing is changed.
         ensures err { OnErr result (self.new ≡ self.old) };
 
     /// Notes the verdict on each copy of a message, in the order of its recipients, in room that was
     /// reserved.
     fn note_all(&mut self, message: &Submission, verdicts: &[Verdict])
+        // There is a mailbox, and a verdict, for each of the message's recipients.
         requires mailboxes { vec_len message.now.mailboxes ≡ vec_len message.now.keys }
         requires verdicts { length verdicts.now ≡ vec_len message.now.keys }
         requires room { has_room self.old (length verdicts.now) }
+
+        // It tells of the message's copies too, each with its verdict, behind those of which it told.
         ensures owner { owner self.new ≡ owner self.old }
         ensures tells { (copies : List (Job × Verdict)) → tells self.old copies →
             tells self.new (copies ++ zip (copies_of (submission_of message.now)) verdicts.now) };
@@ -44,6 +52,8 @@ pub trait Notebook {
     /// Notes the verdict on one copy, in room that was reserved.
     fn note_one(&mut self, key: CopyKey, mailbox: u8, verdict: Verdict)
         requires room { has_room self.old 1 }
+
+        // It tells of the copy of this key and mailbox too, with its verdict, behind those of which it told. Its text doesn't matter.
         ensures owner { owner self.new ≡ owner self.old }
         ensures tells { (copy : Job) (copies : List (Job × Verdict)) → copy.key ≡ key → copy.mailbox ≡ mailbox → tells self.old copies →
             tells self.new (copies ++ (copy, verdict) ∷ []) };

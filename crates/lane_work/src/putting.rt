@@ -1,7 +1,7 @@
 //! A message's copies are put, each into the lane of its mailbox's shard. What is heard of them does
 //! not belong here.
 
-ghost use Rattle.std.specs.Prelude.{◌≡◌, ◌≤◌, ◌<◌, ◌+◌, ℕ, ◌++◌, ◌∷◌, [], length, map, Some, None, MatchOption, true, false, slice_index_or, slice_set, vec_len};
+ghost use Rattle.std.specs.Prelude.{◌≡◌, ◌≤◌, ◌<◌, ◌++◌, ◌∷◌, [], length, map, Some, None, MatchOption, true, false, slice_index_or, slice_set, vec_len};
 ghost use Rattle.shard_queue.specs.declared.lane.Entry.TheVariants as entries;
 ghost use Rattle.delivery_token.specs.declared.Refusal.TheVariants as refusals;
 ghost use Rattle.delivery_token.specs.declared.Verdict.TheVariants as verdicts;
@@ -98,6 +98,8 @@ pub(crate) fn put_copy<R: Wait, G: Gate, S: Summons>(
     ensures permits { ArePermits office.now.lanes.items desk.old.number desk.new.permits.items }
     ensures same { SameButPermits desk.old desk.new }
     ensures within { shard_of office.now.directory mailbox < length office.now.lanes.items }
+
+    // Where the mailbox's permit isn't over: just the copy was put, on its lane; or it is refused, for want of room or memory, and nothing put.
     ensures put { slice_index_or (overs desk.old.permits.items) (shard_of office.now.directory mailbox) false ≡ false → MatchOption result
         (map put_by desk.new.permits.items ≡ slice_set (map put_by desk.old.permits.items) (shard_of office.now.directory mailbox)
         (slice_index_or (map put_by desk.old.permits.items) (shard_of office.now.directory mailbox) []
@@ -105,6 +107,8 @@ pub(crate) fn put_copy<R: Wait, G: Gate, S: Summons>(
         (λ v. (map put_by desk.new.permits.items ≡ map put_by desk.old.permits.items)
         × IsAtOnce (FoundFull (room_at (rooms_of office.now.lanes.items) (shard_of office.now.directory mailbox)) desk.old.number
         (slice_index_or (map put_by desk.old.permits.items) (shard_of office.now.directory mailbox) [])) v) }
+
+    // Where it is over, the copy is refused as `Shut`, and nothing is put.
     ensures over { slice_index_or (overs desk.old.permits.items) (shard_of office.now.directory mailbox) false ≡ true
         → (result ≡ Some (verdicts.Refused refusals.Shut)) × (map put_by desk.new.permits.items ≡ map put_by desk.old.permits.items) }
 {

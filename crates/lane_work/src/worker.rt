@@ -1,7 +1,7 @@
 //! A worker's connections, from the first greeting to the end of its permit on each lane. How copies are
 //! put and verdicts are heard stands in `putting` and `hearing`.
 
-ghost use Rattle.std.specs.Prelude.{◌≡◌, ◌≢◌, ◌≤◌, ◌<◌, ◌+◌, ◌-◌, ℕ, ◌++◌, ◌∷◌, [], take, true, false, length, map, All, List, Ok, Err, OnOk, OnErr, IfOk, vec_len, vec_capacity};
+ghost use Rattle.std.specs.Prelude.{◌≡◌, ◌≢◌, ◌≤◌, ◌<◌, ◌+◌, ℕ, ◌++◌, ◌∷◌, [], take, true, false, length, map, All, List, Ok, Err, OnOk, OnErr, IfOk, vec_len, vec_capacity};
 ghost use Rattle.std.specs.Io.{StartsWith};
 ghost use Rattle.delivery_token.specs.declared.Job.{Job};
 ghost use Rattle.delivery_token.specs.declared.Verdict.{Verdict};
@@ -120,7 +120,7 @@ fn put_and_hear<R: Wait, G: Gate, S: Summons, N: Notebook>(
 }
 
 /// Takes bytes from the front of a piece: one line, or one end of data. A message that is submitted by
-/// it is settled before anything more is taken: its copies are put, each into the lane of its mailbox's
+/// it is put and heard of before anything more is taken: its copies are put, each into the lane of its mailbox's
 /// shard, for which `summons` is asked; the verdict on each is awaited, and noted in `book`; and then
 /// they are said. Replies go to `out`, behind what stands there; what was said before may have been
 /// sent. `directory` is the producer's own, which may have more marks than the office's.
@@ -142,32 +142,51 @@ pub fn turn<R: Wait, G: Gate, S: Summons, N: Notebook>(
     piece: &[u8],
     out: &mut Vec<u8>,
 ) -> Result<Fed, Stop>
+    // The desk has its own permit on each lane, over only where `directory` marks the shard as shut; its receiver is of `channel`.
     requires permits { AreInForce directory.now office.now.lanes.items desk.old.number desk.old.permits.items }
     requires receiver { IsReceiver channel.now desk.old.receiver }
+
+    // There is a lane for each shard, and but for its marks `directory` is the office's.
     requires lanes { office.now.directory.shards ≡ length office.now.lanes.items }
     requires marks { directory.now ≡ marked directory.now.shut office.now.directory }
+
+    // No message of the connection waits for its verdicts.
     requires quiet { machine.old.pending ≡ [] }
+
+    // Desk and book stay whose they were, and no end was counted that wasn't heard.
     ensures permits { AreInForce directory.now office.now.lanes.items desk.old.number desk.new.permits.items }
     ensures receiver { IsReceiver channel.now desk.new.receiver }
     ensures number { desk.new.number ≡ desk.old.number }
     ensures ends { CountsEnds desk.old desk.new }
     ensures owner { N.owner book.new ≡ N.owner book.old }
+
+    // Without an error the next turn may follow: no message waits, and the connection's setting and host are the same.
     ensures quiet { OnOk result (machine.new.pending ≡ []) }
     ensures same { OnOk result ((machine.new.setting ≡ machine.old.setting) × (machine.new.host ≡ machine.old.host)) }
+
+    // Without an error no more was taken than the piece has, and at least one byte, where it has any, unless the dialogue ended.
     ensures used { IfOk result (λ fed. fed.used ≤ length piece.now) }
     ensures moves { IfOk result (λ fed. Moves fed.used fed.what piece.now) }
+
+    // Without an error: where `told`, then `out`, was the replies to `bytes`, and the books told of them, both are so with what was taken.
     ensures stands { IfOk result (λ fed. (done : List Judged) (bytes told : List ℕ)
         → Stands directory.now office.now.directory (rooms_of office.now.lanes.items) desk.old.number done bytes false machine.old (told
         ++ out.old.items) (N.tells book.old) (received desk.old.receiver) (map put_by desk.old.permits.items)
         → Stands directory.now office.now.directory (rooms_of office.now.lanes.items) desk.old.number done (bytes ++ take fed.used piece.now)
         (is_quit fed.what) machine.new (told ++ out.new.items) (N.tells book.new) (received desk.new.receiver) (map put_by desk.new.permits.items)) }
+
+    // After an error, if they were so before: what stood in `out` stands there still, in front.
     ensures kept { OnErr result ((done : List Judged) (bytes told : List ℕ)
         → Stands directory.now office.now.directory (rooms_of office.now.lanes.items) desk.old.number done bytes false machine.old (told
         ++ out.old.items) (N.tells book.old) (received desk.old.receiver) (map put_by desk.old.permits.items)
         → StartsWith out.new.items out.old.items) }
+
+    // After `NoMemory` nothing was put or heard, and the book tells of all copies of which it told.
     ensures err { result ≡ Err Stop.NoMemory → (map put_by desk.new.permits.items ≡ map put_by desk.old.permits.items) ×
         (received desk.new.receiver ≡ received desk.old.receiver) }
     ensures noted { result ≡ Err Stop.NoMemory → (copies : List (Job × Verdict)) → N.tells book.old copies → N.tells book.new copies }
+
+    // After `Torn` something was heard; and after any result, what was heard before stands in front of what was heard since.
     ensures torn { result ≡ Err Stop.Torn → length (received desk.old.receiver) < length (received desk.new.receiver) }
     ensures grew { IsStartOf (received desk.old.receiver) (received desk.new.receiver) }
 {
@@ -404,13 +423,20 @@ pub fn work<R: Wait, G: Gate, S: Summons>(
     room: Vec<Ended<Job>>,
     connections: &[Vec<u8>],
 ) -> Worked
+    // The desk has its own permit on each lane, none of them over, and put nothing yet; its receiver is of `channel`.
     requires permits { ArePermits office.now.lanes.items desk.number desk.permits.items × All IsNew desk.permits.items }
     requires receiver { IsReceiver channel.now desk.receiver }
     requires lanes { office.now.directory.shards ≡ length office.now.lanes.items }
     requires host { length office.now.host.items < 256 }
     requires room { (room.items ≡ []) × (length office.now.lanes.items ≤ vec_capacity room) }
+
+    // It did begin, however it came to its end.
     ensures began { result.fate ≢ Fate.NotBegun }
+
+    // It heard as many shards' ends as there are lanes, or more, of which `desk.ends` were counted before.
     ensures heard { length office.now.lanes.items + ends_in (received desk.receiver) ≤ desk.ends + ends_in (received result.receiver) }
+
+    // The permits, the receiver and the log are its own; where it is `Whole`, this is its account: of replies, notes and what it put.
     ensures worked { IsWorked office.now channel.now desk.number (map (λ b. b.items) connections.now) result }
 {
     let mut log = WorkerLog::new(alloc, desk.number);
@@ -449,18 +475,29 @@ pub fn finish<R: Wait, G: Gate, S: Summons>(
     replies: Vec<Vec<u8>>,
     fate: Fate,
 ) -> Worked
+    // The desk has its own permit on each lane, over or not; its receiver is of `channel`.
     requires permits { ArePermits office.now.lanes.items desk.number desk.permits.items }
     requires receiver { IsReceiver channel.now desk.receiver }
     requires room { (room.items ≡ []) × (length office.now.lanes.items ≤ vec_capacity room) }
+
+    // Its permit on each lane has ended: there it has said what it had put, then its end, and nothing else.
     ensures ended { AreEnded office.now.lanes.items desk.number result.ended.items }
     ensures said { HaveEnded desk.number (map put_by desk.permits.items) (map said result.ended.items) }
+
+    // It heard as many shards' ends as there are lanes, or more, of which `desk.ends` were counted before.
     ensures receiver { IsReceiver channel.now result.receiver }
     ensures grew { IsStartOf (received desk.receiver) (received result.receiver) }
     ensures heard { length office.now.lanes.items + ends_in (received desk.receiver) ≤ desk.ends + ends_in (received result.receiver) }
+
+    // Log and replies are those that were given.
     ensures kept { (result.log ≡ log) × (result.replies ≡ replies) }
+
+    // It is `Whole` only where it was given as `Whole`, and nothing but ends was heard since.
     ensures whole { result.fate ≡ Fate.Whole → fate ≡ Fate.Whole }
     ensures quiet { result.fate ≡ Fate.Whole → length (received result.receiver) + ends_in (received desk.receiver) ≡ length
         (received desk.receiver) + ends_in (received result.receiver) }
+
+    // It is `NotBegun` only where it was given as that.
     ensures began { fate ≢ Fate.NotBegun → result.fate ≢ Fate.NotBegun }
 {
     let Desk {

@@ -72,8 +72,10 @@ impl LineCutter {
     ///
     /// Errors: `AllocError` where memory for `max` bytes was refused.
     pub fn new(alloc: Global, max: usize) -> Result<LineCutter, AllocError>
+        // A line has room for one byte besides its CRLF.
         requires { 3 ≤ max }
         ensures max { IfOk result (λ cutter. cutter.max ≡ max) }
+        // It has taken nothing of a stream yet.
         ensures stands { IfOk result (λ cutter. StandsFor cutter []) }
     {
         Ok(LineCutter {
@@ -89,14 +91,17 @@ impl LineCutter {
     /// A line that is too long is answered once, when it ends; the next take is at the line behind
     /// it. The line that the take before gave is let go of.
     pub fn take(&mut self, piece: &[u8]) -> Cut
+        // It uses no more than the piece: all of it where no line ended, and something where one did.
         ensures used { result.used ≤ length piece.now }
         ensures all_used { result.what ≡ What.NeedMore → result.used ≡ length piece.now }
         ensures some_used { result.what ≢ What.NeedMore → 0 < result.used }
+        // The most bytes of a line stay the same, and after Line the line is there.
         ensures max { self.new.max ≡ self.old.max }
         ensures line { result.what ≡ What.Line → IsSome self.new.line }
         // Whatever stream came before the call, in whatever pieces.
         ensures stands { (stream : List ℕ) → StandsFor self.old stream →
             StandsFor self.new (stream ++ take result.used piece.now) }
+        // Of that stream NeedMore ends no line more, Line one within the most and TooLong a longer one, with the last byte used.
         ensures lines { (stream : List ℕ) → StandsFor self.old stream →
             Tells result.what self.new stream (take result.used piece.now) }
     {

@@ -30,5 +30,6 @@ pub enum What {
 pub struct Cut {
     /// How many bytes at the front of the piece were used. The rest is for the next take.
     pub used: usize,
+    /// What was found in them.
     pub what: What,
 }

@@ -139,12 +139,6 @@ tells_of stages.Data sender recipients t e s = (s.submissions, subst (λ (p : Ph
 tells_of stages.Waiting sender recipients t e s = absurd (subst (λ (p : Phase). IsGoing p) (sym e) s.going)
 tells_of stages.Ended sender recipients t e s = (s.submissions, sym e)
 
--- after a command line no verdicts are awaited
-pub not_waiting : (stage : Stage) (sender recipients : List ℕ) (t : Turn) → phase_of stage sender recipients ≡ t.standing.phase → Spoken t → stage ≡ stages.Waiting → ⊥
-not_waiting stage sender recipients t e s w =
-    let k : phase_of stages.Waiting sender recipients ≡ t.standing.phase = subst (λ (x : Stage). phase_of x sender recipients ≡ t.standing.phase) w e in
-    subst (λ (p : Phase). IsGoing p) (sym k) s.going
-
 -- ---- events
 
 one_event : (setting : Setting) (directory : Directory) (s : Standing) (e : Event) → dialogue setting directory s (e ∷ []) ≡ on_event setting directory s e

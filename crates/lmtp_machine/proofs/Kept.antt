@@ -19,14 +19,12 @@ use Rattle.dot_stuffing.specs.declared.Outcome.{Outcome}
 use Rattle.dot_stuffing.specs.declared.Outcome.TheVariants as outcomes
 use Rattle.lmtp_machine.specs.declared.reply.Reply.{Reply}
 use Rattle.lmtp_machine.specs.declared.reply.Reply.TheVariants.{LineTooLong, ShardClosed, TooManyRecipients, RecipientOk, ShuttingDown, SenderOk}
-use Rattle.lmtp_machine.specs.declared.connection.Fed.{Fed}
 use Rattle.lmtp_machine.specs.declared.connection.What.{What}
 use Rattle.lmtp_machine.specs.Message.{outcome, plain, sender_text}
 use Rattle.lmtp_machine.specs.Dialogue.{Phase, Start, Ready, Transaction, Data, Waiting, Ended, Standing, Setting, Submission, Event, Opened, Line, Starved, Answered, Shut, Turn, turn, dialogue, fresh, last_number, keys_from, cleared, is_dot, on_event, on_mail, on_recipient, on_rcpt, on_data, on_command, on_reading, on_command_line, on_outcome, at_end, on_data_line, on_line, on_starved, on_verdicts, fault_reply}
 use Rattle.lmtp_machine.specs.Conversation.{Conversation, Leads}
-use Rattle.lmtp_machine.specs.Calls.{Follows}
 use Rattle.lmtp_machine.specs.inner.Calls.{Taken}
-use Rattle.lmtp_machine.specs.Kept.{IsKeptAt, Kept, IsMessage, AreMessages, Numbered, KeptAfter}
+use Rattle.lmtp_machine.specs.Kept.{IsKeptAt, Kept, AreMessages, Numbered, KeptAfter}
 
 -- ---- a look-up finds a mailbox of the directory
 
@@ -271,12 +269,6 @@ leads_keeps setting directory before bytes t after l h =
     let here : KeptAfter setting (length directory.homes) before.standing t.submissions t.standing = subst (λ (u : Turn). KeptAfter setting (length directory.homes) before.standing u.submissions u.standing) (sym l.turns) k in
     subst (λ (s : Standing). KeptAfter setting (length directory.homes) before.standing t.submissions s) (sym l.stands) here
 
--- a call of `feed`
-pub follows_keeps : (S : Conversation → Type 0) (setting : Setting) (host : List ℕ) (directory : Directory) (before : Conversation) (piece : List ℕ) (fed : Fed) (old new : List ℕ) (pending : List Submission)
-    → (f : Follows S setting host directory before piece fed old new pending) → Kept (length directory.homes) before.standing → KeptAfter setting (length directory.homes) before.standing pending f.after.standing
-follows_keeps S setting host directory before piece fed old new pending f h =
-    subst (λ (ss : List Submission). KeptAfter setting (length directory.homes) before.standing ss f.after.standing) (sym f.submits) (leads_keeps setting directory before _ f.turn f.after f.leads h)
-
 -- several calls of `feed`
 pub taken_keeps : (S : Conversation → Type 0) (setting : Setting) (host : List ℕ) (directory : Directory) (before : Conversation) (bytes old new : List ℕ) (what : What) (pending : List Submission)
     → Kept (length directory.homes) before.standing → (t : Taken S setting host directory before bytes old new what pending) → KeptAfter setting (length directory.homes) before.standing pending t.after.standing
@@ -288,9 +280,3 @@ pub none_numbered : (setting : Setting) (directory : Directory) (before after : 
     → after.submitted ≡ before.submitted
 none_numbered setting directory before after pending e n =
     let k : before.submitted ≡ after.submitted = subst (λ (ss : List Submission). AreMessages setting (length directory.homes) before.submitted ss after.submitted) e n.are in sym k
-
--- where one was
-pub one_numbered : (setting : Setting) (directory : Directory) (before after : Standing) (pending : List Submission) (s : Submission) → pending ≡ s ∷ [] → Numbered setting (length directory.homes) before pending after
-    → IsMessage setting (length directory.homes) before.submitted s × (after.submitted ≡ before.submitted + 1)
-one_numbered setting directory before after pending s e n =
-    let k : AreMessages setting (length directory.homes) before.submitted (s ∷ []) after.submitted = subst (λ (ss : List Submission). AreMessages setting (length directory.homes) before.submitted ss after.submitted) e n.are in (k.0, sym k.1)

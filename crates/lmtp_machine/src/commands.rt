@@ -1,7 +1,7 @@
 //! A connection between commands: where it stands, and its answer to each whole line. What it writes goes into room that was reserved
 //! before, so nothing here may fail. Bytes that aren't lines, message data and verdicts are for machine.rt.
 
-ghost use Rattle.std.specs.Prelude.{◌≡◌, ◌+◌, ◌++◌, ◌<◌, ◌≤◌, ◌∷◌, [], length, IfOk, false, vec_len, vec_capacity};
+ghost use Rattle.std.specs.Prelude.{◌≡◌, ◌+◌, ◌<◌, ◌≤◌, length, IfOk, false, vec_len, vec_capacity};
 ghost use Rattle.envelope.specs.Values.{Path, Mail, forward_path, reverse_path, said};
 ghost use Rattle.envelope.specs.Grammar.{has_long_part};
 ghost use Rattle.lmtp_machine.specs.Replies.{IsBrief};
@@ -38,9 +38,6 @@ const SENDER_ROOM: usize = 320;
 
 // The most bytes that a command line has before its CRLF (RFC 5321, 4.5.3.1.4).
 const MOST_TEXT: usize = 510;
-
-/// A transaction has at most so many recipients (RFC 5321, section 4.5.3.1.8).
-pub const MOST_RECIPIENTS: usize = 100;
 
 /// A connection between commands.
 #[derive(Drop)]
@@ -255,8 +252,11 @@ impl Commands {
 
     /// Answers a command line, without its CRLF, in room that was reserved.
     pub fn line(&mut self, line: &[u8], directory: &Directory, host: &[u8], out: &mut Vec<u8>)
+        // There is room for the longest reply to one line, with the server's name.
         requires room { vec_len out.old + length host.now + NAMED_ROOM ≤ vec_capacity out.old }
+        // It is between commands: within no data, awaiting no verdicts, and not ended.
         requires stage { IsOpen self.old.stage }
+        // It stands where the dialogue does after this line, and what the dialogue replies stands behind what was written.
         ensures { Takes host.now (on_command_line directory.now (standing_of self.old) line.now) self.new out.old.items out.new.items }
     {
         if line.len() > MOST_TEXT {

@@ -17,15 +17,20 @@ pub enum What {
 /// How many bytes of a piece were used, and what that came to.
 #[derive(Clone, Copy, Debug, PartialEq, Eq)]
 pub struct Fed {
+    /// So many bytes of the piece were used, from its front.
     pub used: usize,
+    /// What that came to.
     pub what: What,
 }
 
 /// A message for its recipients: key and mailbox of each, in the order of RCPT, and the text that is to be stored.
 #[derive(Drop)]
 pub struct Submission {
+    /// The key of each copy, at most 100 of them.
     pub keys: Vec<CopyKey>,
+    /// The number of the mailbox that each copy is for, at the position of its key.
     pub mailboxes: Vec<u8>,
+    /// The text that is to be stored, which all copies share.
     pub text: Text,
 }
 

@@ -9,7 +9,7 @@ mod machine;
 mod message;
 mod reply;
 
-pub use commands::MOST_RECIPIENTS;
+pub use envelope::MOST_RECIPIENTS;
 pub use connection::{Fed, Limits, Submission, What};
 pub use laws::{any_pieces, lines_are_heard_in_time, messages_are_numbered};
 pub use machine::LmtpMachine;

@@ -15,13 +15,13 @@ ghost use Rattle.lmtp_machine.specs.Replies.{wire, IsBrief};
 ghost use Rattle.lmtp_machine.specs.inner.Ending.{Becomes, Does, what_of};
 ghost use Rattle.lmtp_machine.specs.Calls.{Awaits, Follows, Happens, Moves, submission_of};
 
-use crate::commands::{Commands, MOST_RECIPIENTS, Stage};
+use crate::commands::{Commands, Stage};
 use crate::connection::{Fed, Limits, Submission, What};
 use crate::message::{begin_data, keys_of, say_to_each, say_verdicts};
 use crate::reply::{ANSWER_ROOM, BRIEF_ROOM, NAMED_ROOM, Reply, say, say_any};
 use delivery_token::{Text, Verdict};
 use dot_stuffing::{Outcome, Progress, Unstuffer};
-use envelope::Directory;
+use envelope::{Directory, MOST_RECIPIENTS};
 use line_io::{LineCutter, What as Found};
 use std::alloc::{AllocError, Global};
 use std::marker::Model;
@@ -87,8 +87,11 @@ impl LmtpMachine {
         serial: u64,
         limits: Limits<'_>,
     ) -> Result<LmtpMachine, AllocError>
+        // The server's name has at most 255 bytes.
         requires { length limits.host.now < 256 }
+        // It stands for the conversation of a new connection, in which nothing was said.
         ensures stands { IfOk result (λ m. StandsFor m opened) }
+        // It has what it was given, and no verdicts are awaited.
         ensures setting { IfOk result (λ m. m.setting ≡ record { seat = seat; serial = serial; max_message = limits.entry.max_message }) }
         ensures host { IfOk result (λ m. m.host ≡ limits.entry.host.now) }
         ensures quiet { IfOk result (λ m. m.pending ≡ []) }
@@ -110,9 +113,12 @@ impl LmtpMachine {
     ///
     /// Errors: `AllocError` where `out` has no room for it and memory was refused; then nothing was written and nothing changed.
     pub fn greet(&mut self, out: &mut Vec<u8>) -> Result<(), AllocError>
+        // From each conversation for which it stood, the opening leads to one for which it stands, and what the dialogue says to it is written.
         ensures ok { OnOk result ((d : Directory) (c : Conversation) → StandsFor self.old c
             → Happens (StandsFor self.new) self.old.setting self.old.host d c dialogue.Opened out.old.items out.new.items) }
+        // Seat, serial, limit and name stay, and so does the message whose verdicts are awaited.
         ensures same { OnOk result ((self.new.setting ≡ self.old.setting) × (self.new.host ≡ self.old.host) × (self.new.pending ≡ self.old.pending)) }
+        // After an error nothing has changed, nor was anything written; `out` had less room than for the name and 100 bytes.
         ensures err { OnErr result ((self.new ≡ self.old) × (out.new.items ≡ out.old.items)) }
         ensures full { OnErr result (vec_capacity out.old < vec_len out.old + length self.old.host + NAMED_ROOM) }
     {
@@ -132,17 +138,24 @@ impl LmtpMachine {
         directory: &Directory,
         out: &mut Vec<u8>,
     ) -> Result<Fed, AllocError>
+        // No verdicts are awaited: a message that was submitted was answered.
         requires { self.old.pending ≡ [] }
+        // It uses no more than the piece, and, unless it answers Quit, something where there is something.
         ensures used { IfOk result (λ fed. fed.used ≤ length piece.now) }
         ensures moves { IfOk result (λ fed. Moves fed.used fed.what piece.now) }
+        // After Submit the verdicts on one message are awaited, and else none; it has at most 100 copies, each with its mailbox.
         ensures awaits { IfOk result (λ fed. Awaits fed.what self.new.pending) }
         ensures most { OnOk result (All (λ s. length s.keys ≤ MOST_RECIPIENTS) self.new.pending) }
         ensures paired { OnOk result (All (λ s. length s.mailboxes ≡ length s.keys) self.new.pending) }
+        // From each conversation for which it stood the bytes used lead to one for which it stands, and what is said on the way is written.
         ensures ok { IfOk result (λ fed. (c : Conversation) → StandsFor self.old c
             → Follows (StandsFor self.new) self.old.setting self.old.host directory.now c piece.now fed
             out.old.items out.new.items self.new.pending) }
+        // Seat, serial, limit and name stay.
         ensures same { OnOk result ((self.new.setting ≡ self.old.setting) × (self.new.host ≡ self.old.host)) }
+        // After an error nothing has changed, nor was anything written.
         ensures err { OnErr result ((self.new ≡ self.old) × (out.new.items ≡ out.old.items)) }
+        // An error comes only where `out` had less room than for the name and `ANSWER_ROOM` bytes, and where the connection had not ended.
         ensures full { OnErr result (vec_capacity out.old < vec_len out.old + length self.old.host + ANSWER_ROOM) }
         ensures asks { OnErr result (self.old.commands.stage ≡ Stage.Ended → ⊥) }
     {
@@ -192,12 +205,17 @@ impl LmtpMachine {
     /// Errors: `AllocError` where `out` has no room for the replies, 40 bytes each at most, and memory was refused; then nothing was
     /// written and the same answer is awaited.
     pub fn answer(&mut self, verdicts: &[Verdict], out: &mut Vec<u8>) -> Result<(), AllocError>
+        // There is one verdict for each key of the message that was submitted.
         requires { (s : dialogue.Submission) → self.old.pending ≡ s ∷ [] → length verdicts.now ≡ length s.keys }
+        // From each conversation for which it stood the answer leads to one for which it stands, and what the dialogue says to it is written.
         ensures ok { OnOk result ((d : Directory) (c : Conversation) → StandsFor self.old c
             → Happens (StandsFor self.new) self.old.setting self.old.host d c (dialogue.Answered verdicts.now) out.old.items out.new.items) }
+        // Seat, serial, limit and name stay, and no verdicts are awaited any more.
         ensures same { OnOk result ((self.new.setting ≡ self.old.setting) × (self.new.host ≡ self.old.host)) }
         ensures pending { OnOk result (self.new.pending ≡ []) }
+        // After an error nothing has changed, nor was anything written.
         ensures err { OnErr result ((self.new ≡ self.old) × (out.new.items ≡ out.old.items)) }
+        // An error comes only where `out` had less room than for `ANSWER_ROOM` bytes, and where verdicts were awaited.
         ensures full { OnErr result (vec_capacity out.old < vec_len out.old + ANSWER_ROOM) }
         ensures asks { OnErr result (self.old.pending ≡ [] → ⊥) }
     {
@@ -215,10 +233,13 @@ impl LmtpMachine {
     ///
     /// Errors: `AllocError` where `out` has no room for that and memory was refused; then nothing was written and nothing changed.
     pub fn shut(&mut self, out: &mut Vec<u8>) -> Result<(), AllocError>
+        // From each conversation for which it stood the shutdown leads to one for which it stands, and what is said of it is written.
         ensures ok { OnOk result ((d : Directory) (c : Conversation) → StandsFor self.old c
             → Happens (StandsFor self.new) self.old.setting self.old.host d c dialogue.Shut out.old.items out.new.items) }
+        // Seat, serial, limit and name stay, and no verdicts are awaited any more.
         ensures same { OnOk result ((self.new.setting ≡ self.old.setting) × (self.new.host ≡ self.old.host)) }
         ensures pending { OnOk result (self.new.pending ≡ []) }
+        // After an error nothing has changed, nor was anything written; `out` had less room than for 40 bytes.
         ensures err { OnErr result ((self.new ≡ self.old) × (out.new.items ≡ out.old.items)) }
         ensures full { OnErr result (vec_capacity out.old < vec_len out.old + 40) }
     {

@@ -42,10 +42,13 @@ pub fn keys_of(
 /// Where DATA was accepted, what comes of the data is to stand behind the line that says who sent it (RFC 5321, section 4.4), and
 /// only there is memory taken for it.
 pub fn begin_data(commands: &Commands, unstuffer: &mut Unstuffer)
+    // Where DATA was not accepted nothing has changed.
     ensures stays { (commands.now.stage ≡ Stage.Data → ⊥) → unstuffer.new ≡ unstuffer.old }
+    // The most bytes of a text stay the same; an unstuffer at the start of data, without an outcome, is so still.
     ensures max { unstuffer.new.collected.max ≡ unstuffer.old.collected.max }
     ensures live { unstuffer.old.outcome ≡ None → unstuffer.new.outcome ≡ None }
     ensures stands { StandsFor unstuffer.old [] → StandsFor unstuffer.new [] }
+    // Where it was accepted the text is to stand behind the Return-Path line, unless memory for that was refused.
     ensures behind { commands.now.stage ≡ Stage.Data → IsBehind unstuffer.new.collected (return_path commands.now.sender) }
 {
     if let Stage::Data = commands.stage() {
@@ -94,7 +97,9 @@ pub fn say_verdicts(out: &mut Vec<u8>, host: &[u8], verdicts: &[Verdict])
 /// Writes the same reply to so many recipients, in room that was reserved.
 #[tactic(auto, using(crate::proofs::Replies::told_more))]
 pub fn say_to_each(out: &mut Vec<u8>, host: &[u8], reply: Reply, recipients: usize)
+    // There is room for 40 bytes a recipient.
     requires room { vec_len out.old + recipients * 40 ≤ vec_capacity out.old }
+    // The reply doesn't name the server.
     requires brief { IsBrief reply }
     ensures { out.new.items ≡ out.old.items ++ wire host.now (replicate recipients reply) }
 {

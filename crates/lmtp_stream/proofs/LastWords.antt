@@ -1,5 +1,5 @@
 -- Where a dialogue stands by its machine's stage, and what is said last there.
-use Rattle.std.proofs.Common.{◌≡◌, ◌≢◌, ◌∙◌, ◌++◌, ap, refl, sym, subst, List, ℕ, [], ◌∷◌, true, false, append-nil}
+use Rattle.std.proofs.Common.{◌≡◌, ◌≢◌, ◌∙◌, ◌++◌, ap, refl, sym, subst, List, ℕ, [], ◌∷◌, true, false}
 use Rattle.envelope.specs.Directory.{Directory}
 use Rattle.lmtp_machine.specs.declared.commands.Stage.{Stage}
 use Rattle.lmtp_machine.specs.declared.commands.Stage.TheVariants as stages
@@ -33,17 +33,6 @@ goes_on m c not s over = go m.commands.stage refl s.here where
   go stages.Data e h = let x : Data m.commands.sender m.commands.recipients h.lines ≡ Ended = sym h.phase ∙ over in cc
   go stages.Ended e h = not e
 
-pub ended_says_nothing : (phase : Phase) → phase ≡ Ended → last_words phase ≡ []
-ended_says_nothing phase e = ap last_words e
-
-pub data_says_nothing : (phase : Phase) → is_data phase ≡ true → last_words phase ≡ []
-data_says_nothing Start e = absurd (let x : false ≡ true = e in cc)
-data_says_nothing Ready e = absurd (let x : false ≡ true = e in cc)
-data_says_nothing (Transaction sender recipients) e = absurd (let x : false ≡ true = e in cc)
-data_says_nothing (Data sender recipients lines) e = refl
-data_says_nothing (Waiting count) e = absurd (let x : false ≡ true = e in cc)
-data_says_nothing Ended e = refl
-
 pub others_say_it : (phase : Phase) → is_data phase ≡ false → phase ≢ Ended → last_words phase ≡ ShuttingDown ∷ []
 others_say_it Start d e = refl
 others_say_it Ready d e = refl
@@ -51,10 +40,6 @@ others_say_it (Transaction sender recipients) d e = refl
 others_say_it (Data sender recipients lines) d e = absurd (let x : true ≡ false = d in cc)
 others_say_it (Waiting count) d e = refl
 others_say_it Ended d e = absurd (e refl)
-
--- nothing is said
-pub nothing_said : (host out : List ℕ) (phase : Phase) → last_words phase ≡ [] → out ≡ out ++ wire host (last_words phase)
-nothing_said host out phase e = sym (append-nil out) ∙ ap (λ l. out ++ wire host l) (sym e)
 
 nowhere : Directory
 nowhere = record { domains = []; homes = []; shards = 0; shut = [] }

@@ -44,24 +44,37 @@ pub(crate) fn take_piece<R: Wait, G: Gate, S: Summons, N: Notebook>(
     stop: &AtomicBool,
     out: &mut Vec<u8>,
 ) -> Result<Next, Stop>
+    // The desk has its own permit on each lane, over only where the office marks the shard as shut; its receiver is of `channel`.
     requires permits { AreInForce office.now.directory office.now.lanes.items desk.old.number desk.old.permits.items }
     requires receiver { IsReceiver channel.now desk.old.receiver }
     requires lanes { office.now.directory.shards ≡ length office.now.lanes.items }
+
+    // No message of the connection waits for its verdicts.
     requires quiet { machine.old.pending ≡ [] }
+
+    // The same holds after; no end was counted that wasn't heard.
     ensures permits { AreInForce office.now.directory office.now.lanes.items desk.old.number desk.new.permits.items }
     ensures receiver { IsReceiver channel.now desk.new.receiver }
     ensures number { desk.new.number ≡ desk.old.number }
     ensures ends { CountsEnds desk.old desk.new }
+
+    // What was heard before stands in front of what was heard since; after `Torn` something was.
     ensures grew { IsStartOf (received desk.old.receiver) (received desk.new.receiver) }
     ensures torn { result ≡ Err Stop.Torn → length (received desk.old.receiver) < length (received desk.new.receiver) }
+
+    // The book stays its owner's; without an error no message waits, and the connection's setting and host are the same.
     ensures owner { N.owner book.new ≡ N.owner book.old }
     ensures quiet { OnOk result (machine.new.pending ≡ []) }
     ensures same { OnOk result ((machine.new.setting ≡ machine.old.setting) × (machine.new.host ≡ machine.old.host)) }
+
+    // Without an error: where `told`, then `out`, was the replies to `bytes`, it is now with the front of the piece, all of it where `Read` goes on.
     ensures took { IfOk result (λ next. (done : List Judged) (bytes told : List ℕ)
         → Stands office.now.directory office.now.directory (rooms_of office.now.lanes.items) desk.old.number done bytes false machine.old (told
         ++ out.old.items) (N.tells book.old) (received desk.old.receiver) (map put_by desk.old.permits.items)
         → TookPiece office.now.directory (rooms_of office.now.lanes.items) desk.old.number done bytes piece.now next machine.new (told
         ++ out.new.items) (N.tells book.new) (received desk.new.receiver) (map put_by desk.new.permits.items)) }
+
+    // The same after `NoMemory`, of a front of the piece; and its messages are in the books.
     ensures no_memory { result ≡ Err Stop.NoMemory → (done : List Judged) (bytes told : List ℕ)
         → Stands office.now.directory office.now.directory (rooms_of office.now.lanes.items) desk.old.number done bytes false machine.old (told
         ++ out.old.items) (N.tells book.old) (received desk.old.receiver) (map put_by desk.old.permits.items)

@@ -45,8 +45,12 @@ pub(crate) fn shut_down<O: Sink>(
     out: &mut Vec<u8>,
 ) -> Result<Ending, TalkFault>
     requires live { O.failed output.old ≡ false }
+
+    // Its last words, by where the dialogue stands, were sent behind `out`; or not, for the sink's failure or for want of memory.
     ensures last { (c : Conversation) → StandsFor machine.old c →
         SaysLast (O.taken output.old) (O.taken output.new) (O.failed output.new) machine.old.host out.old.items c.standing.phase result }
+
+    // Without an error the sink hasn't failed; after `Write` it has.
     ensures live { OnOk result (O.failed output.new ≡ false) }
     ensures torn { result ≢ Err TalkFault.Torn }
     ensures failed { result ≡ Err TalkFault.Write → O.failed output.new ≡ true }

@@ -1,7 +1,7 @@
 //! One connection over a reader and a sink, from its greeting to its end. What is done with the bytes of
 //! one read stands in `piece`, what is said last in `shutting`.
 
-ghost use Rattle.std.specs.Prelude.{◌≡◌, ◌<◌, ◌++◌, ◌∷◌, ℕ, List, [], map, length, Err, IfOk, OnOk, false, true};
+ghost use Rattle.std.specs.Prelude.{◌≡◌, ◌<◌, ◌∷◌, List, [], map, length, Err, IfOk, OnOk, false, true};
 ghost use Rattle.lmtp_machine.specs.declared.reply.Reply.TheVariants.{Greeting};
 ghost use Rattle.lmtp_machine.specs.Conversation.{opened};
 ghost use Rattle.lmtp_machine.specs.LmtpMachine.{StandsFor};
@@ -138,9 +138,9 @@ fn go_on<R: Wait, G: Gate, S: Summons, N: Notebook, I: Read, O: Sink>(
 
 /// Plays one connection of a worker over a stream, from the greeting to its end: what was said is sent,
 /// bytes are read into `buffer` and taken turn by turn, over and over. Replies are collected in `out`, and
-/// all that one read leads to are sent together. Both buffers are the caller's, to be used for the next
-/// connection too; `buffer` has room for one byte or more, and what `out` has is dropped. The sink, which
-/// hasn't failed, is flushed by nobody here.
+/// all that one read leads to are sent together. Both buffers are lent by whoever calls it, to be used for
+/// the next connection too; `buffer` has room for one byte or more, and what `out` has is dropped. The
+/// sink, which hasn't failed, is flushed by nobody here.
 ///
 /// The messages that are submitted are put on the worker's lanes, and nothing behind a message is taken
 /// before its verdicts were said (`lane_work`).
@@ -169,22 +169,33 @@ pub fn converse<R: Wait, G: Gate, S: Summons, N: Notebook, I: Read, O: Sink>(
     buffer: &mut [u8],
     out: &mut Vec<u8>,
 ) -> Result<Ending, TalkFault>
+    // The desk has its own permit on each lane, over only where the office marks the shard as shut; its receiver is of `channel`.
     requires permits { AreInForce office.now.directory office.now.lanes.items desk.old.number desk.old.permits.items }
     requires receiver { IsReceiver channel.now desk.old.receiver }
     requires lanes { office.now.directory.shards ≡ length office.now.lanes.items }
     requires host { length office.now.host.items < 256 }
     requires live { O.failed output.old ≡ false }
     requires room { 0 < length buffer.old }
+
+    // The same holds after, so that the next connection may follow; no end was counted that wasn't heard.
     ensures permits { AreInForce office.now.directory office.now.lanes.items desk.old.number desk.new.permits.items }
     ensures receiver { IsReceiver channel.now desk.new.receiver }
     ensures number { desk.new.number ≡ desk.old.number }
     ensures ends { CountsEnds desk.old desk.new }
+
+    // What was heard before stands in front of what was heard since; after `Torn` something was.
     ensures grew { IsStartOf (received desk.old.receiver) (received desk.new.receiver) }
     ensures torn { result ≡ Err TalkFault.Torn → length (received desk.old.receiver) < length (received desk.new.receiver) }
+
+    // The book stays its owner's, and `buffer` as long as it was.
     ensures owner { N.owner book.new ≡ N.owner book.old }
     ensures len { length buffer.new ≡ length buffer.old }
+
+    // Without an error the sink hasn't failed; after `Write` it has.
     ensures live { OnOk result (O.failed output.new ≡ false) }
     ensures failed { result ≡ Err TalkFault.Write → O.failed output.new ≡ true }
+
+    // If the books told of `done`: what was taken is a conversation, its replies were sent as `result` says, and, unless `Torn`, it is booked.
     ensures played { (done : List Judged)
         → AreBooks office.now.directory (rooms_of office.now.lanes.items) desk.old.number done (N.tells book.old) (received desk.old.receiver)
         (map put_by desk.old.permits.items)

@@ -1,6 +1,6 @@
 -- A message that was just added, and its flags.
-use Rattle.std.proofs.Common.{◌≡◌, ℕ, suc, ◌+◌, ◌<◌, ◌≤◌, Bool, true, false, List, [], ◌∷◌, ◌++◌, length, map, refl, ap, ◌∙◌, arith, subst, append_assoc, inl, inr, eq-eqb}
-use Rattle.std.specs.Prelude.{Some, if◌then◌else◌, ◌||◌, ◌==◌, nat_le, nat_lt}
+use Rattle.std.proofs.Common.{◌≡◌, ℕ, ◌+◌, ◌<◌, ◌≤◌, Bool, true, false, List, [], ◌∷◌, ◌++◌, length, map, refl, ap, arith, subst, append_assoc, inl, inr, eq-eqb}
+use Rattle.std.specs.Prelude.{Some, ◌||◌, ◌==◌, nat_le, nat_lt}
 use Rattle.std.specs.List.{AllByRecursion}
 use Rattle.std.specs.List.Sorted.{IsStrictlyIncreasing}
 use Rattle.std.proofs.lemmas.Bool.Decides.{eqb_tells, nat_tests}
@@ -8,13 +8,13 @@ use Rattle.change_ring.specs.declared.change.Change.{Change}
 use Rattle.change_ring.specs.declared.change.Flags.{Flags}
 use Rattle.change_ring.specs.declared.flag_op.FlagOp.TheVariants.{Set}
 use Rattle.change_ring.specs.Log.{no_flags}
-use Rattle.change_ring.specs.Logged.{arrival, flags_differ, flags_logged, new_flags}
+use Rattle.change_ring.specs.Logged.{arrival, flags_logged, new_flags}
 use Rattle.change_ring.specs.Window.{total}
 use Rattle.cursor_set.proofs.Positions.{Rises, Rises-from}
 use Rattle.mailbox.specs.Events.{Logs}
 use Rattle.mailbox.specs.Mailbox.{Mailbox, Message, flagged, is_spent, message_with, next_uid, row_of, uids_of}
 use Rattle.mailbox.specs.Stands.{Stands}
-use Rattle.mailbox.proofs.MessageLaws.{length_new, logged_with}
+use Rattle.mailbox.proofs.MessageLaws.{logged_with}
 
 -- the message before its flags are set
 abbrev pub bare : ℕ → List ℕ → Message
@@ -54,11 +54,6 @@ arrived_logged uid flags text ms up = logged_with (Set flags) uid (ms ++ bare ui
 pub arrived_flagged : (uid : ℕ) (flags : Flags) (text : List ℕ) (ms : List Message) → IsStrictlyIncreasing (uids_of (ms ++ bare uid text ∷ []))
     → flagged uid (Set flags) (ms ++ bare uid text ∷ []) ≡ ms ++ record { uid = uid; flags = flags; text = text } ∷ []
 arrived_flagged uid flags text ms up = set_last uid flags text ms (Rises-from (uids_of (ms ++ bare uid text ∷ [])) up)
-
--- so many changes are logged
-pub arrival_length : (uid : ℕ) (flags : Flags) (differs : Bool) → flags_differ no_flags flags ≡ differs → length (arrival uid flags) ≡ (if differs then 2 else 1)
-arrival_length uid flags true e = ap suc (length_new uid no_flags flags true e)
-arrival_length uid flags false e = ap suc (length_new uid no_flags flags false e)
 
 -- one after the other
 pub Logs-append : (old middle new : Mailbox) (cs ds : List Change) → Logs old middle cs → Logs middle new ds → Logs old new (cs ++ ds)

@@ -444,16 +444,6 @@ module _ (P : List ℕ → Type 0) where
   pub all_reflagged : (uid : ℕ) (flags : Flags) (ms : List Message) → All (λ (m : Message). P m.text) ms → All (λ (m : Message). P m.text) (reflagged uid flags ms)
   all_reflagged uid flags ms h = All-from_recursion (λ (m : Message). P m.text) (reflagged uid flags ms) (texts_reflagged uid flags ms (recursion_from_All (λ (m : Message). P m.text) ms h))
 
--- ---- UIDs
-
-pub uids_reflagged : (uid : ℕ) (flags : Flags) (ms : List Message) → uids_of (reflagged uid flags ms) ≡ uids_of ms
-uids_reflagged uid flags [] = refl
-uids_reflagged uid flags (m ∷ ms) = by_case (m.uid == uid) (uids_reflagged uid flags ms)
-  where
-    by_case : (b : Bool) → uids_of (reflagged uid flags ms) ≡ uids_of ms → uids_of (if b then record m { flags = flags } ∷ ms else m ∷ reflagged uid flags ms) ≡ m.uid ∷ uids_of ms
-    by_case true h = refl
-    by_case false h = ap (λ (us : List ℕ). m.uid ∷ us) h
-
 -- ---- what is counted
 
 -- the texts are few

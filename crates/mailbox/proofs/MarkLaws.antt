@@ -1,5 +1,5 @@
 -- Which messages have \Deleted, by their UIDs, where flags are set and messages come and go.
-use Rattle.std.proofs.Common.{◌≡◌, ◌≢◌, ℕ, zero, suc, ◌<◌, ◌≤◌, Bool, true, false, cond, ◌==◌, List, [], ◌∷◌, ◌++◌, length, get_or, filter, Some, refl, sym, ap, subst, ◌∙◌, inl, inr, arith, eq-eqb, ltb, lt-ltb}
+use Rattle.std.proofs.Common.{◌≡◌, ◌≢◌, ℕ, zero, suc, ◌<◌, ◌≤◌, Bool, true, false, cond, ◌==◌, List, [], ◌∷◌, length, get_or, filter, Some, refl, sym, ap, subst, ◌∙◌, inl, inr, arith, eq-eqb, ltb, lt-ltb}
 use Rattle.std.specs.Prelude.{if◌then◌else◌, nat_lt, insert, remove, Result, Ok, Err, MatchResult}
 use Rattle.std.specs.List.{AllByRecursion}
 use Rattle.std.specs.List.Sorted.{IsBinarySearchResult, IsPartitionPoint, IsStrictlyIncreasing}
@@ -77,18 +77,6 @@ marked_rises (m ∷ ms) up = by_case m.flags.deleted (marked_rises ms up.1)
     by_case : (d : Bool) → Rises (marked_of ms) → Rises (uids_of (cond d (m ∷ filter (λ (y : Message). y.flags.deleted) ms) (filter (λ (y : Message). y.flags.deleted) ms)))
     by_case true rest = (marked_all (λ v. m.uid < v) ms up.0, rest)
     by_case false rest = rest
-
--- ---- one more is there, without \Deleted
-
-pub marked_more : (ms : List Message) (x : Message) → x.flags.deleted ≡ false → marked_of (ms ++ x ∷ []) ≡ marked_of ms
-marked_more [] x off = ap (λ (d : Bool). uids_of (cond d (x ∷ []) [])) off
-marked_more (m ∷ ms) x off = by_case m.flags.deleted (marked_more ms x off)
-  where
-    by_case : (d : Bool) → marked_of (ms ++ x ∷ []) ≡ marked_of ms →
-        uids_of (cond d (m ∷ filter (λ (y : Message). y.flags.deleted) (ms ++ x ∷ [])) (filter (λ (y : Message). y.flags.deleted) (ms ++ x ∷ [])))
-        ≡ uids_of (cond d (m ∷ filter (λ (y : Message). y.flags.deleted) ms) (filter (λ (y : Message). y.flags.deleted) ms))
-    by_case true h = ap (λ (us : List ℕ). m.uid ∷ us) h
-    by_case false h = h
 
 -- ---- flags are set
 

@@ -1,5 +1,5 @@
 -- What removing messages does to the messages, to the log and to the window.
-use Rattle.std.proofs.Common.{◌≡◌, ◌≢◌, ℕ, zero, suc, ◌+◌, ◌<◌, ◌≤◌, Bool, true, false, ◌==◌, List, [], ◌∷◌, ◌++◌, length, get_or, map, Contains, refl, sym, ap, ◌∙◌, inl, inr, subst, arith, eq-eqb, append_assoc, append-nil, length-append}
+use Rattle.std.proofs.Common.{◌≡◌, ◌≢◌, ℕ, zero, suc, ◌+◌, ◌<◌, ◌≤◌, Bool, true, false, ◌==◌, List, [], ◌∷◌, ◌++◌, length, get_or, map, Contains, refl, sym, ap, ◌∙◌, inl, inr, subst, arith, eq-eqb, append_assoc, length-append}
 use Rattle.std.specs.Prelude.{◌&&◌}
 use Rattle.std.specs.List.{AllByRecursion, list_any}
 use Rattle.std.proofs.lemmas.Bool.Decides.{eqb_tells}
@@ -138,14 +138,6 @@ pub record IsLogging (cursors : CursorSet) (old new : Window) (all left : List C
   pub goes_on : GoesOn old new done
   pub moves : Moves cursors old new done
 
-pub none_logged : (cursors : CursorSet) (w : Window) (all : List Change) → IsLogging cursors w w all all
-none_logged cursors w all = record {
-  done = [];
-  split = refl;
-  goes_on = λ log is. subst (IsWindowOf w) (sym (append-nil log)) is;
-  moves = refl;
-}
-
 pub one_logged : (cursors : CursorSet) (old middle new : Window) (all left : List Change) (c : Change) → IsLogging cursors old middle all (c ∷ left) →
     GoesOn middle new (c ∷ []) → Moves cursors middle new (c ∷ []) → IsLogging cursors old new all left
 one_logged cursors old middle new all left c h goes moves = record {
@@ -157,8 +149,3 @@ one_logged cursors old middle new all left c h goes moves = record {
 
 pub room_left : (cursors : CursorSet) (old middle : Window) (all left : List Change) (c : Change) (most : ℕ) → IsLogging cursors old middle all (c ∷ left) → total old + length all ≤ most → total middle < most
 room_left cursors old middle all left c most h room = omega (arith, room, moves_logged cursors old middle h.done h.moves, ap length h.split, length-append h.done (c ∷ left))
-
-pub all_logged : (cursors : CursorSet) (old new : Window) (all : List Change) → IsLogging cursors old new all [] → GoesOn old new all × Moves cursors old new all
-all_logged cursors old new all h =
-    let e : h.done ≡ all = sym (append-nil h.done) ∙ h.split in
-    (subst (GoesOn old new) e h.goes_on, subst (Moves cursors old new) e h.moves)

@@ -4,7 +4,7 @@ use Rattle.std.specs.Prelude.{option_to_list}
 use Rattle.std.proofs.lemmas.Bool.{cases_lt, eq-eqb, ne_eqb}
 use Rattle.change_ring.specs.declared.change.Change.{Change}
 use Rattle.change_ring.specs.Window.{Window, BaseAfter, capacity_after, total}
-use Rattle.change_ring.proofs.WindowLaws.{BaseAfter-less, BaseAfter-rises}
+use Rattle.change_ring.proofs.WindowLaws.{BaseAfter-less}
 use Rattle.cursor_set.specs.Cursors.{CursorSet, open_numbers}
 use Rattle.mailbox.specs.Events.{Takes, has_room, grows, drops, Moves}
 
@@ -89,9 +89,6 @@ moves_base cursors old new (c ∷ cs) h =
       | inl stays ↦ inl (subst (λ (b : ℕ). BaseAfter old.capacity (suc (total old)) b cs new.base) stays later)
       | inr rises ↦ inr (rises.0, subst (λ (b : ℕ). BaseAfter old.capacity (suc (total old)) b cs new.base) rises.1 later)
     ]
-
-pub moves_rises : (cursors : CursorSet) (old new : Window) (cs : List Change) → Moves cursors old new cs → old.base ≤ new.base
-moves_rises cursors old new cs h = BaseAfter-rises old.capacity (total old) old.base cs new.base (moves_base cursors old new cs h)
 
 pub moves_grows : (cursors : CursorSet) (old new : Window) (cs : List Change) → Moves cursors old new cs → old.capacity ≤ new.capacity
 moves_grows cursors old new [] h = omega (arith, ap (λ (w : Window). w.capacity) h)

@@ -1,7 +1,7 @@
 //! What a mailbox's clients do: each holds a cursor, is shown changes by it, reads messages and sets
 //! their flags. Which messages go, and how a client leaves, is told in `removal`.
 
-ghost use Rattle.std.specs.Prelude.{◌≡◌, ◌≢◌, ◌+◌, ◌-◌, ◌^◌, ◌<◌, ◌≤◌, ◌↔◌, ◌⊎◌, ℕ, List, [], ◌∷◌, ◌++◌, length, min, Some, None, Err, OnOk, OnErr, IfOk, IfErr, IfSome, IsErr, IsSome, IsTrue, option_map, if◌then◌else◌, vec_capacity};
+ghost use Rattle.std.specs.Prelude.{◌≡◌, ◌≢◌, ◌+◌, ◌-◌, ◌^◌, ◌<◌, ◌≤◌, ◌↔◌, ◌⊎◌, List, ◌++◌, length, min, Some, None, Err, OnOk, OnErr, IfOk, IfErr, IfSome, IsErr, IsSome, IsTrue, option_map, if◌then◌else◌, vec_capacity};
 ghost use Rattle.std.specs.List.Sorted.{IsStrictlyIncreasing};
 ghost use Rattle.change_ring.specs.Log.{view_at};
 ghost use Rattle.change_ring.specs.Logged.{flags_logged, seen_logged};
@@ -67,11 +67,13 @@ impl From<AllocError> for MailFault {
 /// A message as it was read.
 #[derive(Drop)]
 pub struct Row {
+    /// The UID of the message.
     pub uid: u32,
     /// Its flags, after \Seen was set where that was asked for.
     pub flags: Flags,
     /// Whether this read set \Seen.
     pub newly_seen: bool,
+    /// The text of the message, whose bytes are shared.
     pub text: Text,
 }
 
@@ -107,7 +109,9 @@ impl Mailbox {
     /// there, and is to be shown what happens from now on (RFC 9051, 6.3.2). An error where memory is
     /// refused; nothing is then changed.
     pub fn open_cursor(&mut self) -> Result<(CursorHandle, Opening), AllocError>
+        // A serial is left for the cursor, as `can_open` tells.
         requires { self.old.cursors.next < 2 ^ 64 - 1 }
+        // After an error nothing has changed. Nothing is logged, and of the mailbox nothing but its cursors changes.
         ensures err { OnErr result (self.new ≡ self.old) }
         ensures logged { KeepsLog self.old self.new }
         ensures rest { self.new ≡ record self.old { cursors = self.new.cursors } }
@@ -121,9 +125,13 @@ impl Mailbox {
         }) }
         ensures vacant { IfOk result (λ r. in_slot self.old.cursors r.0.slot ≡ None) }
         ensures known { IfOk result (λ r. IsSome (held self.new.cursors r.0)) }
+
+        // Its client counts the messages that are there, and is to be shown what comes next; no other slot has changed.
         ensures opened { IfOk result (λ r. Updates self.old.cursors self.new.cursors r.0.slot
             (Some (record { serial = self.old.cursors.next; at = total self.old.window; view = uids_of self.old.messages }))) }
         ensures next { OnOk result (self.new.cursors.next ≡ self.old.cursors.next + 1) }
+
+        // The client is told how many messages are there, the UID of the next one, and the UIDVALIDITY.
         ensures opening { IfOk result (λ r. r.1 ≡ record {
           count = length self.old.messages;
           uidnext = next_uid self.old;
@@ -144,7 +152,9 @@ impl Mailbox {
     /// The UIDs that a client counts, in their order, which rise: what it was shown of the log.
     /// Stranger where the handle has no cursor here. It takes no memory.
     pub fn view(&self, handle: &CursorHandle) -> Result<View<'_>, Stranger>
+        // Stranger exactly where the handle has no cursor here.
         ensures stranger { IsErr result ↔ IsStranger self.now handle.now }
+        // The view is what the handle's client counts, and its UIDs rise.
         ensures shown { IfOk result (λ view. option_map (λ o. o.view) (held self.now.cursors handle.now) ≡ Some view) }
         ensures rising { IfOk result (λ view. IsStrictlyIncreasing view) }
     {
@@ -162,8 +172,10 @@ impl Mailbox {
         limit: usize,
         out: &mut Vec<u8>,
     ) -> Result<usize, FeedFault>
+        // Stranger exactly where the handle has no cursor here, Lapped exactly where it has and the next change was overwritten.
         ensures stranger { (result ≡ Err FeedFault.Stranger) ↔ IsStranger self.old handle.old }
         ensures lapped { (result ≡ Err FeedFault.Lapped) ↔ IsLapped self.old handle.old }
+        // NoMemory only where there is something to show. After an error nothing has changed, nor was anything written.
         ensures memory { (result ≡ Err FeedFault.NoMemory) → 0 < min limit (total self.old.window - handle.old.at) }
         ensures err { OnErr result ((self.new ≡ self.old) × (handle.new ≡ handle.old) × (out.new.items ≡ out.old.items)) }
 
@@ -171,9 +183,11 @@ impl Mailbox {
         ensures count { IfOk result (λ n. n ≡ min limit (total self.old.window - handle.old.at)) }
         ensures shown { IfOk result (λ n. (log : List Change) → Stands self.old log →
             out.new.items ≡ out.old.items ++ lines (view_at log handle.old.at) (next_of log handle.old.at n)) }
+        // The handle goes on by as many. Nothing is logged, and of the mailbox nothing but its cursors changes.
         ensures handle { IfOk result (λ n. handle.new ≡ record handle.old { at = handle.old.at + n }) }
         ensures logged { KeepsLog self.old self.new }
         ensures rest { self.new ≡ record self.old { cursors = self.new.cursors } }
+        // Its cursor goes on by as many, and its view with them; no other slot has changed.
         ensures moved { IfOk result (λ n. Updates self.old.cursors self.new.cursors handle.old.slot
             (option_map (after_showing (next_changes self.old.window handle.old.at n)) (held self.old.cursors handle.old))) }
         ensures next { self.new.cursors.next ≡ self.old.cursors.next }
@@ -181,6 +195,7 @@ impl Mailbox {
         // The lines as the client counts.
         ensures written { IfOk result (λ n. IfSome (held self.old.cursors handle.old) (λ o.
             out.new.items ≡ out.old.items ++ lines o.view (next_changes self.old.window handle.old.at n))) }
+        // `out` keeps its room or has more.
         ensures room { vec_capacity out.old ≤ vec_capacity out.new }
     {
         let count = self.cursors.feed(&self.ring, handle, limit, out)?;
@@ -252,16 +267,22 @@ impl Mailbox {
         uid: u32,
         op: FlagOp,
     ) -> Result<Option<Flags>, MailFault>
+        // Stranger, Lapped and Spent come exactly where they hold, in this order, and NoMemory never.
         ensures stranger { (result ≡ Err MailFault.Stranger) ↔ IsStranger self.old handle.now }
         ensures lapped { (result ≡ Err MailFault.Lapped) ↔ IsLapped self.old handle.now }
         ensures spent { (result ≡ Err MailFault.Spent) ↔ (IsCurrent self.old handle.now × IsTooMany self.old (flags_logged (rows self.old) uid op)) }
         ensures memory { result ≢ Err MailFault.NoMemory }
+        // After an error nothing has changed.
         ensures err { OnErr result (self.new ≡ self.old) }
 
+        // The new flags are logged, on every log for which the mailbox stood, where a message has the UID and they are others.
         ensures logged { OnOk result (Logs self.old self.new (flags_logged (rows self.old) uid op)) }
+        // What is logged goes into the window; a full one drops its oldest change, or grows where a client is still to be shown it.
         ensures window { OnOk result (Moves self.old.cursors self.old.window self.new.window (flags_logged (rows self.old) uid op)) }
+        // The message of this UID has the new flags; nothing but the messages and the window changes.
         ensures messages { OnOk result (self.new.messages ≡ flagged uid op self.old.messages) }
         ensures rest { self.new ≡ record self.old { messages = self.new.messages; window = self.new.window } }
+        // The answer is the flags that the message has now, or None where no message has the UID.
         ensures flags { IfOk result (λ flags. flags ≡ option_map (λ m. m.flags) (message_with uid self.new.messages)) }
     {
         self.admit(handle)?;
@@ -314,17 +335,23 @@ impl Mailbox {
         uid: u32,
         mark_seen: bool,
     ) -> Result<Option<Row>, MailFault>
+        // Stranger, Lapped and Spent come exactly where they hold, in this order; NoMemory only where a message has the UID.
         ensures stranger { (result ≡ Err MailFault.Stranger) ↔ IsStranger self.old handle.now }
         ensures lapped { (result ≡ Err MailFault.Lapped) ↔ IsLapped self.old handle.now }
         ensures spent { (result ≡ Err MailFault.Spent) ↔ (IsCurrent self.old handle.now ×
             IsTooMany self.old (seen_logged mark_seen (rows self.old) uid)) }
         ensures memory { (result ≡ Err MailFault.NoMemory) → IsSome (message_with uid self.old.messages) }
+        // After an error nothing has changed.
         ensures err { OnErr result (self.new ≡ self.old) }
 
+        // \Seen is logged, on every log for which the mailbox stood, where it is asked for and the message is there without it.
         ensures logged { OnOk result (Logs self.old self.new (seen_logged mark_seen (rows self.old) uid)) }
+        // What is logged goes into the window; a full one drops its oldest change, or grows where a client is still to be shown it.
         ensures window { OnOk result (Moves self.old.cursors self.old.window self.new.window (seen_logged mark_seen (rows self.old) uid)) }
+        // Where it is asked for, the message has \Seen now; nothing but the messages and the window changes.
         ensures messages { OnOk result (self.new.messages ≡ seen_after mark_seen uid self.old.messages) }
         ensures rest { self.new ≡ record self.old { messages = self.new.messages; window = self.new.window } }
+        // The answer is the message as it is now, and whether this call set \Seen; None where no message has the UID.
         ensures row { IfOk result (λ row. row ≡ option_map (λ m. record {
           uid = m.uid;
           flags = m.flags;

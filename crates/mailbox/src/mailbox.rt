@@ -1,7 +1,7 @@
 //! The mailbox, and what is delivered to it. Each call that changes it is one event on every log for
 //! which it stands; the log itself is kept nowhere. What its clients do is told in `clients`.
 
-ghost use Rattle.std.specs.Prelude.{◌≡◌, ◌+◌, ◌^◌, ◌⊎◌, ◌<◌, ◌↔◌, [], ◌∷◌, ◌++◌, length, map, max, true, false, Err, OnOk, OnErr, IfOk, IfErr};
+ghost use Rattle.std.specs.Prelude.{◌≡◌, ◌^◌, ◌⊎◌, ◌<◌, ◌↔◌, [], ◌∷◌, ◌++◌, length, map, max, true, false, Err, OnOk, OnErr, IfOk, IfErr};
 ghost use Rattle.change_ring.specs.Log.{no_flags};
 ghost use Rattle.change_ring.specs.Logged.{arrival};
 ghost use Rattle.change_ring.specs.Window.{total};
@@ -74,7 +74,7 @@ pub struct Mailbox {
 }
 
 impl Model for Mailbox {
-    ghost use Rattle.std.specs.Prelude.{◌≡◌, ◌+◌, ◌≤◌, ◌<◌, length};
+    ghost use Rattle.std.specs.Prelude.{◌≡◌, ◌≤◌, ◌<◌, length};
     ghost use Rattle.mailbox.specs.Mailbox.{Mailbox, next_uid};
     ghost use Rattle.mailbox.specs.inner.Stands.{IsSound};
 
@@ -129,11 +129,15 @@ impl Mailbox {
         limits: Limits,
         history: History,
     ) -> Result<Mailbox, AllocError>
+        // The window has room for one change at least.
         requires { 0 < limits.ring }
+        // It stands for the empty log: nothing has happened yet.
         ensures stands { IfOk result (λ m. Stands m []) }
+        // It has what it was given, no message, and no client.
         ensures settings { IfOk result (λ m. (m.number ≡ number) × (m.uidvalidity ≡ uidvalidity) × (m.first_uid ≡ first_uid) ×
             (m.limit ≡ limits.messages) × (m.history ≡ history)) }
         ensures empty { IfOk result (λ m. (m.messages ≡ []) × (m.accepted ≡ []) × (m.cursors ≡ record { number = number; next = 0; slots = [] })) }
+        // Its window is empty, with room for `limits.ring` changes, and may grow to `limits.ring_max` where that is more.
         ensures window { IfOk result (λ m. m.window ≡ record {
           base = 0;
           changes = [];
@@ -225,20 +229,26 @@ impl Mailbox {
     /// 2^62 changes at most, has no room for all of them, as MailboxFull where as many messages are
     /// there as may be, and as NoMemory where memory is refused. The mailbox is then unchanged.
     pub fn deliver(&mut self, job: &Job) -> Result<Receipt, Refusal>
+        // UidSpent exactly where no UID is left or the log lacks room for the arrival; else MailboxFull exactly where it is full.
         ensures spent { (result ≡ Err Refusal.UidSpent) ↔ (is_spent job.now.flags self.old ≡ true) }
         ensures full { (result ≡ Err Refusal.MailboxFull) ↔ ((is_spent job.now.flags self.old ≡ false) × (is_full self.old ≡ true)) }
+        // The refusals of a lane never come. After a refusal nothing has changed.
         ensures not_queued { (result ≡ Err Refusal.Full) → ⊥ }
         ensures not_shut { (result ≡ Err Refusal.Shut) → ⊥ }
         ensures err { OnErr result (self.new ≡ self.old) }
 
         // One event more, on every log for which the mailbox stood.
         ensures logged { OnOk result (Logs self.old self.new (arrival (next_uid self.old) job.now.flags)) }
+        // The copy is noted under the next UID, and its message is the last one, with this UID, its flags and its text.
         ensures accepted { OnOk result (self.new.accepted ≡ self.old.accepted ++ (job.now.key, next_uid self.old) ∷ []) }
         ensures message { OnOk result (self.new.messages ≡ self.old.messages ++
             record { uid = next_uid self.old; flags = job.now.flags; text = job.now.text } ∷ []) }
+        // What is logged goes into the window; a full one drops its oldest change, or grows where a client is still to be shown it.
         ensures window { OnOk result (Moves self.old.cursors self.old.window self.new.window (arrival (next_uid self.old) job.now.flags)) }
+        // Cursors stay, and so does what no call changes: number, UIDVALIDITY, first UID, limit, and whether copies are kept.
         ensures cursors { OnOk result (self.new.cursors ≡ self.old.cursors) }
         ensures same { OnOk result (SameMailbox self.old self.new) }
+        // The receipt tells the mailbox, the key, the UID, and the position among the copies that were accepted.
         ensures receipt { IfOk result (λ r. r ≡ record {
           mailbox = self.old.number;
           key = job.now.key;

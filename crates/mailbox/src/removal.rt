@@ -1,7 +1,7 @@
 //! Which messages go: those with \Deleted, at an expunge or as a client leaves. All of a call's
 //! removals are one event, logged in the order of the UIDs. Those with \Deleted alone are passed.
 
-ghost use Rattle.std.specs.Prelude.{◌≡◌, ◌≢◌, ◌+◌, ◌^◌, ◌≤◌, ◌<◌, ◌↔◌, ◌⊎◌, ◌==◌, ℕ, true, List, [], ◌∷◌, ◌++◌, length, filter, count_by, None, Err, OnOk, OnErr, IfOk, IfErr, IsTrue, option_map, drop, IsSome, IfSome, if◌then◌else◌, vec_capacity};
+ghost use Rattle.std.specs.Prelude.{◌≡◌, ◌+◌, ◌^◌, ◌≤◌, ◌<◌, ◌↔◌, ◌⊎◌, ◌==◌, true, List, ◌++◌, length, count_by, None, Err, OnOk, OnErr, IfOk, IfErr, IsTrue, option_map, drop, IsSome, IfSome, if◌then◌else◌, vec_capacity};
 ghost use Rattle.change_ring.specs.Log.{view_at};
 ghost use Rattle.change_ring.specs.Logged.{removals, removals_if};
 ghost use Rattle.change_ring.specs.Window.{changes_from, total};
@@ -19,7 +19,7 @@ use crate::clients::MailFault;
 use crate::logging::log_change;
 use crate::mailbox::Mailbox;
 use change_ring::{Change, ChangeRing, MOST_CHANGES};
-use cursor_set::{CursorHandle, CursorSet, FeedFault};
+use cursor_set::{CursorHandle, CursorSet};
 
 // How many of the UIDs the choice has.
 fn count_taken(uids: &[u32], choice: Choice) -> usize
@@ -89,36 +89,44 @@ impl Mailbox {
         set: Option<&[u32]>,
         out: &mut Vec<u8>,
     ) -> Result<usize, MailFault>
+        // Stranger, Lapped and Spent come exactly where they hold, in this order; NoMemory only where something is pending.
         ensures stranger { (result ≡ Err MailFault.Stranger) ↔ IsStranger self.old handle.old }
         ensures lapped { (result ≡ Err MailFault.Lapped) ↔ IsLapped self.old handle.old }
         ensures spent { (result ≡ Err MailFault.Spent) ↔ (IsCurrent self.old handle.old ×
             IsTooMany self.old (removals (in_set (option_map (λ uids. uids.now) set.entry)) (rows self.old))) }
         ensures memory { (result ≡ Err MailFault.NoMemory) → handle.old.at < total self.old.window }
+        // After an error nothing has changed, nor was anything written.
         ensures err { OnErr result ((self.new ≡ self.old) × (handle.new ≡ handle.old) × (out.new.items ≡ out.old.items)) }
 
         // All that was pending is shown, and nothing of what goes now.
         ensures shown { OnOk result ((log : List Change) → Stands self.old log →
             out.new.items ≡ out.old.items ++ lines (view_at log handle.old.at) (drop handle.old.at log)) }
+        // Handle and cursor stand where the log ended before the removals; no other slot has changed.
         ensures handle { OnOk result (handle.new ≡ record handle.old { at = total self.old.window }) }
         ensures within { OnOk result (handle.old.at ≤ total self.old.window) }
         ensures moved { OnOk result (Updates self.old.cursors self.new.cursors handle.old.slot
             (option_map (after_showing (changes_from handle.old.at self.old.window)) (held self.old.cursors handle.old))) }
 
+        // That they are gone is logged, in the order of the messages, on every log for which the mailbox stood.
         ensures logged { OnOk result (Logs self.old self.new (removals (in_set (option_map (λ uids. uids.now) set.entry)) (rows self.old))) }
+        // What is logged goes into the window; a full one drops its oldest change, or grows where a client is still to be shown it.
         ensures window { OnOk result (Moves self.new.cursors self.old.window self.new.window
             (removals (in_set (option_map (λ uids. uids.now) set.entry)) (rows self.old))) }
+        // The messages with \Deleted go, of the set where there is one; nothing but messages, window and cursors changes.
         ensures messages { OnOk result (self.new.messages ≡ remaining (in_set (option_map (λ uids. uids.now) set.entry)) self.old.messages) }
         ensures rest { OnOk result (self.new ≡ record self.old {
           messages = self.new.messages;
           window = self.new.window;
           cursors = self.new.cursors;
         }) }
+        // The serial of the next cursor stays, and the answer is how many messages went.
         ensures next { self.new.cursors.next ≡ self.old.cursors.next }
         ensures count { IfOk result (λ n. n ≡ length (removals (in_set (option_map (λ uids. uids.now) set.entry)) (rows self.old))) }
 
         // The lines as the client counts.
         ensures written { OnOk result (IfSome (held self.old.cursors handle.old) (λ o.
             out.new.items ≡ out.old.items ++ lines o.view (changes_from handle.old.at self.old.window))) }
+        // `out` keeps its room or has more.
         ensures room { vec_capacity out.old ≤ vec_capacity out.new }
     {
         self.admit(handle)?;
@@ -182,20 +190,27 @@ impl Mailbox {
         handle: CursorHandle,
         remove: bool,
     ) -> Result<usize, (CursorHandle, MailFault)>
+        // Stranger exactly where the handle has no cursor here; Spent exactly where it has and the log has no room for what goes.
         ensures stranger { (result ≡ Err (handle, MailFault.Stranger)) ↔ IsStranger self.old handle }
         ensures spent { (result ≡ Err (handle, MailFault.Spent)) ↔ (IsSome (held self.old.cursors handle) ×
             IsTooMany self.old (removals_if remove (rows self.old))) }
+        // After an error the handle comes back, it is one of these two, and nothing has changed.
         ensures only { IfErr result (λ e. (e.0 ≡ handle) × ((e.1 ≡ MailFault.Stranger) ⊎ (e.1 ≡ MailFault.Spent)) × (self.new ≡ self.old)) }
 
+        // Where `remove`, what goes is logged, in the order of the messages, on every log for which the mailbox stood.
         ensures logged { OnOk result (Logs self.old self.new (removals_if remove (rows self.old))) }
+        // What is logged goes into the window, which grows only for clients that stay: the cursor is closed first.
         ensures window { OnOk result (Moves self.new.cursors self.old.window self.new.window (removals_if remove (rows self.old))) }
+        // Where `remove`, the messages with \Deleted go; else all stay.
         ensures messages { OnOk result (self.new.messages ≡ (if remove then remaining (λ uid. true) self.old.messages else self.old.messages)) }
+        // The slot is vacant, and no other slot has changed; nothing but messages, window and cursors changes.
         ensures closed { OnOk result (Updates self.old.cursors self.new.cursors handle.slot None) }
         ensures rest { OnOk result (self.new ≡ record self.old {
           messages = self.new.messages;
           window = self.new.window;
           cursors = self.new.cursors;
         }) }
+        // The serial of the next cursor stays, and the answer is how many messages went.
         ensures next { self.new.cursors.next ≡ self.old.cursors.next }
         ensures count { IfOk result (λ n. n ≡ length (removals_if remove (rows self.old))) }
     {

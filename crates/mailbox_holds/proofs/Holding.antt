@@ -5,7 +5,7 @@ use Rattle.change_ring.specs.declared.change.Change.{Change}
 use Rattle.change_ring.specs.Log.{view_at}
 use Rattle.change_ring.specs.Logged.{removals}
 use Rattle.change_ring.specs.Window.{Window, changes_from, total}
-use Rattle.cursor_set.specs.Cursors.{CursorSet, Open, CursorHandle, Updates, after_showing, held, next_changes}
+use Rattle.cursor_set.specs.Cursors.{Open, CursorHandle, Updates, after_showing, held, next_changes}
 use Rattle.cursor_set.specs.Lines.{lines}
 use Rattle.cursor_set.specs.declared.set.FeedFault.{FeedFault}
 use Rattle.cursor_set.specs.declared.set.FeedFault.TheVariants as lapse
@@ -77,10 +77,6 @@ event m n changes before after logs rest = record {
   same = same_mailbox m n (ap (λ (z : Mailbox). z.number) rest) (ap (λ (z : Mailbox). z.uidvalidity) rest) (ap (λ (z : Mailbox). z.first_uid) rest) (ap (λ (z : Mailbox). z.limit) rest) (ap (λ (z : Mailbox). z.history) rest);
   accepted = ap (λ (z : Mailbox). z.accepted) rest;
 }
-
--- the messages and the window alone changed
-with_cursors : (m n : Mailbox) → n ≡ record m { messages = n.messages; window = n.window } → n ≡ record m { messages = n.messages; window = n.window; cursors = n.cursors }
-with_cursors m n rest = rest ∙ ap (λ (s : CursorSet). let z : Mailbox = record m { messages = n.messages; window = n.window; cursors = s } in z) (sym (ap (λ (z : Mailbox). z.cursors) rest))
 
 -- the cursors alone changed
 only_cursors : (m n : Mailbox) → n ≡ record m { cursors = n.cursors } → n ≡ record m { messages = n.messages; window = n.window; cursors = n.cursors }

@@ -24,6 +24,11 @@ use Rattle.mailbox.specs.declared.clients.MailFault.TheVariants.{Stranger, Lappe
 use Rattle.mailbox.specs.declared.clients.Opening.{Opening}
 use Rattle.mailbox.specs.declared.clients.Row.{Row}
 
+-- A lock was taken: this mailbox was found, this was done to it, it was left like that, and the lock was let go. Of what one hold leaves and the next
+-- one finds nothing is said.
+abbrev pub UnderLock : (Mailbox → Mailbox → Type 0) → Type 0
+UnderLock P = (found : Mailbox) × (left : Mailbox) × P found left
+
 -- The mailbox that was found and the one that was left: both keep what every mailbox keeps, and the log went on by these changes, on every
 -- log for which the mailbox stood. No copy was delivered.
 pub record IsEvent (found left : Mailbox) (changes : List Change) : Type 0 where

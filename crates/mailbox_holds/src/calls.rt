@@ -52,8 +52,10 @@ pub fn enter(mailbox: &mut Mailbox) -> Result<(CursorHandle, Opening), MailFault
 ///
 /// Stranger where the handle has no cursor here.
 pub fn view<'a>(mailbox: &'a Mailbox, handle: &CursorHandle) -> Result<View<'a>, Stranger>
+    // The mailbox keeps what every mailbox keeps, and the view is what the handle's client counts; its UIDs rise.
     ensures looks { IfOk result (λ view. DoesLook mailbox.now handle.now (Ok view)) }
     ensures rising { IfOk result (λ view. IsStrictlyIncreasing view) }
+    // After an error the handle has no cursor here.
     ensures stranger { OnErr result (DoesLook mailbox.now handle.now (Err MailFault.Stranger)) }
 {
     every_mailbox_keeps(mailbox);
@@ -132,9 +134,12 @@ pub fn feed(
     limit: usize,
     out: &mut Vec<u8>,
 ) -> Result<usize, MailFault>
+    // After Ok it is one event: the lines of the next changes are written, and the handle goes on by as many. Else nothing has changed.
     ensures event { DoesFeed mailbox.old handle.old limit out.old.items out.new.items result mailbox.new handle.new }
+    // It shows no more than were asked for, and is never refused as Spent, since it logs nothing.
     ensures few { IfOk result (λ n. n ≤ limit) }
     ensures faults { IfErr result (λ f. f ≢ MailFault.Spent) }
+    // `out` keeps its room or has more.
     ensures room { vec_capacity out.old ≤ vec_capacity out.new }
 {
     every_mailbox_keeps(mailbox);

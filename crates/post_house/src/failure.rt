@@ -60,16 +60,28 @@ pub fn device_or_memory(fault: RunFault) -> Failure
     }
 }
 
+/// The exit status where the settings are wrong.
+const WRONG_SETTINGS: u8 = 3;
+
+/// Where the input or the output failed, a listener could not be made, or a thread.
+const DEVICE: u8 = 4;
+
+/// Where memory was refused.
+const NO_MEMORY: u8 = 5;
+
+/// Where a server's house could not be closed as it should, or somebody heard what wasn't awaited.
+const TORN: u8 = 6;
+
 impl Failure {
     /// The exit status: 3 for wrong settings, 4 for a device, 5 for memory, 6 for a server that was torn.
     pub fn status(self) -> u8
         ensures { result ≡ status_of self }
     {
         match self {
-            Failure::Config(_) => 3,
-            Failure::Device => 4,
-            Failure::NoMemory => 5,
-            Failure::Torn => 6,
+            Failure::Config(_) => WRONG_SETTINGS,
+            Failure::Device => DEVICE,
+            Failure::NoMemory => NO_MEMORY,
+            Failure::Torn => TORN,
         }
     }
 }

@@ -1,14 +1,12 @@
 -- What `open` and `run_threads` promise is what a run that came to nothing is abandoned by.
-use Rattle.std.proofs.Common.{◌≡◌, ◌≤◌, ◌<◌, ◌+◌, ◌∙◌, ℕ, suc, List, [], ◌∷◌, All, length, subst, sym, vec_len, arith}
+use Rattle.std.proofs.Common.{◌≡◌, ◌≤◌, ◌+◌, ℕ, suc, List, [], ◌∷◌, All, length, vec_len, arith}
 use Rattle.std.proofs.lemmas.List.Elements.{All-cons, All-nil}
 use Rattle.lane_permits.proofs.RowLaws as lanes
 use Rattle.lane_permits.proofs.SenderRowLaws as channels
 use Rattle.lane_work.specs.declared.consumer.Consumed.{Consumed}
 use Rattle.lane_work.specs.declared.worker.Worked.{Worked}
 use Rattle.house_floor.specs.Crew.{AllAt, IsHouse}
-use Rattle.house_floor.specs.Opening.{AreBaskets}
 use Rattle.house_floor.specs.declared.floor.Floor.{Floor}
-use Rattle.house_floor.specs.declared.opening.Baskets.{Baskets}
 use Rattle.house_floor.specs.declared.floor.Guest.{Guest}
 use Rattle.house_threads.specs.Crew.{IsProduceOf, IsServiceOf, IsSpendable, Plans}
 use Rattle.house_threads.specs.declared.run.Ran.{Ran}
@@ -35,21 +33,6 @@ senders_lengths floor n (c ∷ cs) all few =
 
 -- The clauses of `abandon`, in their order, in a house with so many producers.
 module _ (floor : Floor) (producers : ℕ) (house : IsHouse floor producers) where
-  pub some_lanes : 0 < floor.office.directory.shards → 0 < length floor.office.lanes.items
-  some_lanes some = let e = house.shards in omega (arith, e, some)
-
-  pub some_channels : 0 < producers → 0 < length floor.depot.channels.items
-  some_channels some = let e = house.channels in omega (arith, e, some)
-
-  pub baskets_for : (shards : ℕ) (baskets : Baskets) → floor.office.directory.shards ≡ shards → AreBaskets producers shards baskets
-      → AreBaskets (length floor.depot.channels.items) (length floor.office.lanes.items) baskets
-  baskets_for shards baskets is are =
-      subst (λ n. AreBaskets n (length floor.office.lanes.items) baskets) (sym house.channels)
-      (subst (λ n. AreBaskets producers n baskets) (sym is ∙ house.shards) are)
-
-  pub left_for : (ran : Ran) → IsSpendable floor producers ran → IsSpendable floor (length floor.depot.channels.items) ran
-  left_for ran left = subst (λ n. IsSpendable floor n ran) (sym house.channels) left
-
   pub worked_for : (plans : Plans) (guests : List Guest) (ran : Ran) → AllAt (IsProduceOf floor plans guests) 0 ran.worked.items
       → All (λ (w : Worked). vec_len w.ended ≡ length floor.office.lanes.items) ran.worked.items
   worked_for plans guests ran all = ended_lengths floor plans guests 0 ran.worked.items all

@@ -1,7 +1,7 @@
 -- Parts laid one behind another: what was laid, and what is still to be, is all.
 use Rattle.std.proofs.Common.{◌≡◌, ◌++◌, ◌∙◌, List, [], ◌∷◌, Option, length, map, ap, sym, append-nil, append_assoc}
 use Rattle.std.proofs.lemmas.List.{map-append}
-use Rattle.reckoning.specs.Gathered.{graver, gravest}
+use Rattle.reckoning.specs.Gathered.{gravest}
 use Rattle.reckoning.specs.declared.gather.Fault.{Fault}
 
 pub laid : {A B : Type 0} (f : A → B) (done new : List B) (all : List B) (left rest : List A) (x : A)
@@ -15,11 +15,6 @@ pub laid_items : {A B C : Type 0} (items : C → B) (f : A → B) (done new : Li
 laid_items items f done new all left rest x y before first more same =
     laid f (map items done) (map items new) all left rest x before first
     (ap (λ ys. map items ys) more ∙ map-append items done (y ∷ []) ∙ ap (λ b. map items done ++ b ∷ []) same)
-
-pub graver_next : {A : Type 0} (f : A → Option Fault) (worst : Option Fault) (one : Option Fault) (all : Option Fault) (left rest : List A) (x : A)
-    → gravest worst (map f left) ≡ all → left ≡ x ∷ rest → one ≡ f x → gravest (graver worst one) (map f rest) ≡ all
-graver_next f worst one all left rest x before first same =
-    ap (λ (o : Option Fault). gravest (graver worst o) (map f rest)) same ∙ ap (λ xs. gravest worst (map f xs)) (sym first) ∙ before
 
 -- where nothing is left, what was laid is all
 pub all_laid : {A B : Type 0} (f : A → B) (done all : List B) (left : List A) → length left ≡ 0 → done ++ map f left ≡ all → done ≡ all

@@ -1,7 +1,6 @@
 -- A whole account beside lists that agree, as the laws take them: one worker's one connection, on which a message for alice was handed over and stored.
 use Rattle.std.proofs.Common.{◌≡◌, inl, inr, ℕ, zero, suc, ◌<◌, true, false, List, [], ◌∷◌, refl, subst, Contains, arith}
 use Rattle.std.specs.Prelude.{codes, slice_index_or, ◌||◌}
-use Rattle.std.proofs.lemmas.Bool.{false≢true}
 use Rattle.std.proofs.lemmas.List.Elements.{All-cons, All-nil}
 use Rattle.change_ring.specs.Log.{no_flags}
 use Rattle.delivery_token.specs.declared.CopyKey.{CopyKey}
@@ -23,7 +22,7 @@ use Rattle.account_laws.specs.Conversing.{AreDialogues, IsConnection}
 use Rattle.account_laws.specs.Storing.{AreVerdicts, IsFull, WasPut, WasSubmitted}
 use Rattle.account_laws.specs.Woven.{IsWholeDialogue, line, none, submits}
 use Rattle.account_laws.specs.rows.Rows.{alice}
-use Rattle.account_laws.proofs.ListLaws.{contains_cases, contains_none, first_of, later_of}
+use Rattle.account_laws.proofs.ListLaws.{contains_cases, contains_none, first_of}
 use Rattle.agreement.specs.Lists.{IsOfCopy, IsTold, ListsAgree, MailboxAgrees}
 use Rattle.relay_accounts.specs.Concluding.{RelaysConclude, key_at}
 use Rattle.relay_accounts.specs.Laws.{AccountsConclude, TakenIsItsOwn}
@@ -183,46 +182,3 @@ own (suc lane) c there seat = absurd (contains_none there)
 
 worked : AccountsConclude → RelaysConclude alice 0 (one_message ∷ []) (replied ∷ []) accepted texts
 worked conclude = conclude house 0 (one_message ∷ []) (replied ∷ []) heard (entries ∷ []) true ((note ∷ []) ∷ []) ((copy ∷ []) ∷ []) accepted texts refl (omega arith) account agree own
-
--- ---- lists that agree where two copies share a UID: so a text is tied to a copy only where no other has its UID
-
-abbrev later_key : CopyKey
-later_key = key_at 0 0 1 0
-
-abbrev later_note : Noted
-later_note = record { key = later_key; mailbox = 0; verdict = Stored 7 }
-
-abbrev later_copy : Job
-later_copy = record { key = later_key; mailbox = 0; text = codes "Return-Path: <s@a.example>\r\nho\r\n"; flags = no_flags }
-
-abbrev both : List (CopyKey × ℕ)
-both = (key, 7) ∷ (later_key, 7) ∷ []
-
-abbrev both_logs : List (List Noted)
-both_logs = (note ∷ later_note ∷ []) ∷ []
-
-abbrev both_copies : List Job
-both_copies = copy ∷ later_copy ∷ []
-
--- the message is the later one's, and the first copy is under its UID too
-shared_uid : ListsAgree alice false both_logs (both_copies ∷ []) (both ∷ []) (((7, later_copy.text) ∷ []) ∷ [])
-shared_uid = record { mailboxes = (refl, refl); mailbox = mailbox }
-  where
-    told : (p : ℕ) → p < 1 → IsTold 0 both p (slice_index_or both_logs p [])
-    told zero under = record { stored = refl; rising = ((refl, inr (refl, inl (omega arith))), tt) }
-    told (suc p) under = absurd (omega (arith, under))
-
-    mailbox : (m : ℕ) → m < 1
-        → MailboxAgrees false both_logs (slice_index_or (both_copies ∷ []) (shard_of alice m) []) m (slice_index_or (both ∷ []) m []) (slice_index_or (((7, later_copy.text) ∷ []) ∷ []) m [])
-    mailbox zero under = record {
-      told = record {
-        told = told;
-        owned = All-cons (λ (pair : CopyKey × ℕ). pair.0.seat < 1) (key, 7) ((later_key, 7) ∷ []) (omega arith)
-            (All-cons (λ (pair : CopyKey × ℕ). pair.0.seat < 1) (later_key, 7) [] (omega arith) (All-nil (λ (pair : CopyKey × ℕ). pair.0.seat < 1)));
-      };
-      there = All-cons (IsOfCopy 0 both both_copies) (7, later_copy.text) []
-          (record { copy = later_copy; taken = later_of later_copy copy (later_copy ∷ []) (first_of later_copy []); here = refl; pair = later_of (later_key, 7) (key, 7) ((later_key, 7) ∷ []) (first_of (later_key, 7) []); text = refl })
-          (All-nil (IsOfCopy 0 both both_copies));
-      each = λ w. absurd (false≢true w);
-    }
-    mailbox (suc m) under = absurd (omega (arith, under))

@@ -5,7 +5,7 @@ use Rattle.delivery_token.specs.declared.log.Noted.{Noted}
 use Rattle.shard_queue.specs.At.{set_at}
 use Rattle.shard_queue.proofs.AtLaws.{at_cases, set_at-same}
 use Rattle.world.specs.World as world
-use Rattle.world.specs.World.{World, shard_of}
+use Rattle.world.specs.World.{shard_of}
 use Rattle.lmtp_machine.specs.Replies.{wire}
 use Rattle.house_connection.specs.Caller.{Caller, greeted, more_waits, unread}
 use Rattle.house.specs.Printing.{ConnectionGoes}

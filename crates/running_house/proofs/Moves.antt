@@ -1,5 +1,5 @@
 -- Lists that were mapped, and accounts that say the same of equal things.
-use Rattle.std.proofs.Common.{◌≡◌, ◌<◌, ◌≤◌, ◌+◌, ◌++◌, ◌∙◌, append-nil, length-drop, ℕ, zero, suc, List, [], ◌∷◌, None, Some, Result, Ok, Err, IfOk, Vec, length, map, take, drop, slice_get, slice_index_or, refl, sym, ap, subst, arith}
+use Rattle.std.proofs.Common.{◌≡◌, ◌<◌, ◌≤◌, ◌+◌, ◌++◌, ◌∙◌, length-drop, ℕ, zero, suc, List, [], ◌∷◌, None, Some, Result, Ok, Err, IfOk, Vec, length, map, take, drop, slice_get, slice_index_or, refl, sym, ap, subst, arith}
 use Rattle.std.specs.Global.{Global}
 use Rattle.delivery_token.specs.declared.Job.{Job}
 use Rattle.delivery_token.specs.declared.log.Noted.{Noted}
@@ -7,7 +7,6 @@ use Rattle.shard_queue.specs.declared.lane.Entry.{Entry}
 use Rattle.shard_queue.specs.Lane.{of}
 use Rattle.lane_work.specs.Account.{Premises}
 use Rattle.lane_work.proofs.CopyLaws.{take_next}
-use Rattle.reckoning.proofs.Parts.{past_all}
 use Rattle.running_house.specs.inner.Agree.{AreTexts}
 
 pub map_twice : {A B C : Type 0} (g : B → C) (f : A → B) (xs : List A) → map g (map f xs) ≡ map (λ x. g (f x)) xs
@@ -103,18 +102,6 @@ parted_more w i k old now new one ts more t there under so taken left are said t
       subst (λ (ss : List (Vec (Vec ℕ Global) Global)). AreTexts ss more) (sym (take_next (drop w old) k one (omega (arith, there, under, l)) own))
           (subst (AreTexts (take k (drop w old) ++ one ∷ [])) (sym said) (texts_more (take k (drop w old)) ts one t are text)),
     )
-
--- all were parted
-pub parted_all : (w k : ℕ) (old now : List (Vec (Vec ℕ Global) Global)) (ts : List (Vec ℕ Global)) → w + k ≡ length old → now ≡ take w old ++ drop (length old) old → AreTexts (take k (drop w old)) ts
-    → (now ≡ take w old) × AreTexts (drop w old) ts
-parted_all w k old now ts all so are =
-    let l = length-drop w old in
-    let many : length (drop w old) ≡ k = omega (arith, all, l) in
-    (so ∙ ap (λ (xs : List (Vec (Vec ℕ Global) Global)). take w old ++ xs) (past_all old (length old) refl) ∙ append-nil (take w old), subst (λ (ss : List (Vec (Vec ℕ Global) Global)). AreTexts ss ts) (ap (λ (n : ℕ). take n (drop w old)) (sym many) ∙ take_whole (drop w old)) are)
-  where
-    take_whole : {A : Type 0} (xs : List A) → take (length xs) xs ≡ xs
-    take_whole [] = refl
-    take_whole (x ∷ xs) = ap (λ l. x ∷ l) (take_whole xs)
 
 pub text_at : (ss : List (Vec (Vec ℕ Global) Global)) (ts : List (Vec ℕ Global)) (k : ℕ) (s : Vec (Vec ℕ Global) Global) (text : List ℕ) → AreTexts ss ts → slice_get ss k ≡ Some s → map (λ b. b.items) s.items ≡ text ∷ []
     → slice_index_or (map (λ b. b.items) ts) k [] ≡ text

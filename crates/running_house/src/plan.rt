@@ -9,7 +9,7 @@ ghost use Rattle.running_house.specs.Plan.{IsFaultOf, after_settings, are_too_ma
 use delivery_token::{CopyKey, Text, WorkerLog};
 use envelope::Directory;
 use house::{Config, ConfigFault, directory_of};
-use house_floor::{Guest, is_nobody};
+use house_floor::{Guest, MOST_PRODUCERS, is_nobody};
 use lane_work::Closing;
 use reckoning::{Closes, Fault};
 use std::alloc::{AllocError, Global};
@@ -17,9 +17,6 @@ use thiserror::Error;
 
 /// The most workers of a running house.
 const MOST_WORKERS: usize = 8;
-
-/// The most producers: workers, and behind them sessions, whose seats a lane tells apart by a byte.
-const MOST_PRODUCERS: usize = 255;
 
 /// What is to be run.
 #[derive(Drop)]

@@ -1,9 +1,8 @@
 -- From what the house promises of its calls to what a run promises of a line, of a turn and of all its turns.
-use Rattle.std.proofs.Common.{◌≡◌, ℕ, zero, suc, ◌+◌, ◌*◌, ◌<◌, ◌≤◌, ◌⊎◌, inl, inr, List, [], ◌∷◌, ◌++◌, length, take, get_or, set, length-set, refl, sym, ap, ◌∙◌, subst, arith, append_assoc, append-nil, length-append, Option, Some, None, Result, Ok, Err}
+use Rattle.std.proofs.Common.{◌≡◌, ℕ, zero, suc, ◌+◌, ◌*◌, ◌<◌, ◌≤◌, ◌⊎◌, inl, inr, List, [], ◌∷◌, ◌++◌, length, take, get_or, length-set, refl, sym, ap, ◌∙◌, subst, arith, append_assoc, append-nil, length-append, Option, Some, None, Result, Ok, Err}
 use Rattle.std.proofs.Math.Seq.{take-append-add, take-suc}
 use Rattle.std.proofs.lemmas.Int.Digits.{digits_value_push}
 use Rattle.std.specs.Char.{digit_value}
-use Rattle.std.specs.List.{list_all}
 use Rattle.std.specs.Str.Parse.{digits_value}
 use Rattle.std.proofs.lemmas.List.{length-replicate}
 use Rattle.std.proofs.KnownBytes.{Appends-trans, Appends-nil}
@@ -31,7 +30,7 @@ use Rattle.house.specs.Steps.{FollowsInPart, IsEmptySeat, IsNoSeat, IsSpent, IsU
 use Rattle.house.specs.Settled.{HappenedFrom, SettledFrom, is_held}
 use Rattle.house.specs.Settling.{Settles}
 use Rattle.house.specs.Window.{PrintsWindow}
-use Rattle.script.specs.Script.{IsAway, IsNoConnection, IsOwing, LinePlays, NobodyThere, Script, ScriptLine, Asks, Enters, Leaves, Sends, Vanishes, Hold, Free, Closes, Tail, Skip, Bad, asked, brought, closes, closes_again, closes_nobody, goes_again, goes_nobody, held_after, is_bad, is_digit, line_of, none_held, refusal, script_of, sends, sends_to_nobody, sends_to_owing, skips, stands_nobody, stands_still, tails, tails_nobody, vanishes, vanishes_again, vanishes_away}
+use Rattle.script.specs.Script.{IsAway, IsNoConnection, IsOwing, LinePlays, NobodyThere, Script, ScriptLine, Asks, Enters, Leaves, Sends, Vanishes, Hold, Free, Closes, Tail, Skip, Bad, asked, brought, closes, closes_again, closes_nobody, goes_again, goes_nobody, held_after, is_bad, line_of, none_held, refusal, script_of, sends, sends_to_nobody, sends_to_owing, skips, stands_nobody, stands_still, tails, tails_nobody, vanishes, vanishes_again, vanishes_away}
 use Rattle.script.specs.Leaving.{Writes, WritesBeginning, WritesFirst, unwritten, LineBegins, LineWanting, undone, begun, PlayWanting, settling}
 use Rattle.std.specs.Prelude.{Bool, IfNone, IfSome, codes, false, true}
 use Rattle.script.specs.inner.Running.{HasRun, IsClipped, IsOver, IsUnread as IsUnreadTurn, IsUnwritten, LineCut, LineDone, LinePlayed, LineWritten, SetsHeld, TurnTells, held_by, sets, sets_nobody}
@@ -159,17 +158,6 @@ closed_nobody k number s shard h old new st l e =
 pub closed_again : (k : Setup) (number : ℕ) (s : Scene) (shard : ℕ) (h : House) (old new : List ℕ) → StandsFor k h s → is_shut h.directory shard ≡ true → new ≡ old ++ refusal number (codes "Busy") → LineDone k number (Closes shard) s h old new
 closed_again k number s shard h old new st shut e = record { after = s; printed = _; does = closes_again shard (sym (ap (λ (d : Directory). is_shut d shard) st.directory) ∙ shut) refl refl; stands = st; out = e }
 
-set_beyond : (held : List Bool) (i : ℕ) (v : Bool) → length held ≤ i → set held i v ≡ held
-set_beyond [] zero v l = refl
-set_beyond [] (suc i) v l = refl
-set_beyond (x ∷ xs) zero v l = absurd (omega arith)
-set_beyond (x ∷ xs) (suc i) v l = ap (λ (ys : List Bool). x ∷ ys) (set_beyond xs i v (omega arith))
-
--- what is held after a line that holds or frees
-pub held_is_set : (held : List Bool) (number shard : ℕ) (is : Bool) (now : List Bool) (old new : List ℕ) → SetsHeld held number shard is now old new → now ≡ set held shard is
-held_is_set held number shard is now old new (sets l e f) = e
-held_is_set held number shard is now old new (sets_nobody l e f) = e ∙ sym (set_beyond held shard is l)
-
 pub shown_tail : (k : Setup) (number : ℕ) (s : Scene) (word : List ℕ) (h : House) (old new : List ℕ) → StandsFor k h s → PrintsWindow k s word old new → LineDone k number (Tail word) s h old new
 shown_tail k number s word h old new st p = record { after = s; printed = _; does = tails word p.mailbox p.named refl refl; stands = st; out = p.out }
 
@@ -238,20 +226,6 @@ one_more n i ds l h =
     let s : i + 1 ≡ suc i = omega arith in
     let e = ap (λ (j : ℕ). take j ds) s ∙ take-suc ds i 0 l in
     subst (λ (x : ℕ). IsClipped n x) (sym (ap (digits_value 10) e ∙ digits_value_push 10 (take i ds) (get_or ds i 0))) h
-
--- the digit at a position is one
-pub digit_at : (ds : List ℕ) (i : ℕ) → list_all is_digit ds ≡ true → i < length ds → is_digit (get_or ds i 0) ≡ true
-digit_at [] i e l = absurd (omega arith)
-digit_at (d ∷ ds) zero e l = first (is_digit d) refl e
-  where
-    first : (b : Bool) → is_digit d ≡ b → list_all is_digit (d ∷ ds) ≡ true → is_digit d ≡ true
-    first true f g = f
-    first false f g = absurd (let x : false ≡ true = rw f at g in cc)
-digit_at (d ∷ ds) (suc i) e l = digit_at ds i (others (is_digit d) refl e) (omega arith)
-  where
-    others : (b : Bool) → is_digit d ≡ b → list_all is_digit (d ∷ ds) ≡ true → list_all is_digit ds ≡ true
-    others true f g = rw f at g
-    others false f g = absurd (let x : false ≡ true = rw f at g in cc)
 
 -- no shard has a number that is clipped to one behind them all
 pub beyond_all : (c n shards : ℕ) → IsClipped c n → shards ≤ c → shards < 256 → shards ≤ n

@@ -1,5 +1,5 @@
 -- From what the house promises of a session's events to what a run promises of the lines of sessions.
-use Rattle.std.proofs.Common.{◌≡◌, ◌∙◌, ℕ, zero, suc, ◌+◌, ◌<◌, ◌≤◌, ◌⊎◌, inl, inr, List, ◌++◌, length, refl, sym, ap, arith, Option, Some, None, false, true}
+use Rattle.std.proofs.Common.{◌≡◌, ◌∙◌, ℕ, zero, suc, ◌<◌, ◌⊎◌, inl, inr, List, ◌++◌, length, refl, sym, ap, arith, Option, Some, None, false, true}
 use Rattle.std.specs.Prelude.{IsSome, codes}
 use Rattle.std.specs.Borrow.{Bor}
 use Rattle.envelope.specs.Directory.{Directory}

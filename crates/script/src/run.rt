@@ -1,7 +1,7 @@
 //! A script's run: line after line is read and done, the house settles, and what the line printed is written. How a line is read and
 //! how things are printed is told elsewhere.
 
-ghost use Rattle.std.specs.Prelude.{false, true, ◌≡◌, ◌≢◌, ◌↔◌, ◌++◌, ◌∷◌, ◌<◌, ◌≤◌, ◌+◌, ◌*◌, ◌^◌, ℕ, List, Option, Some, None, Ok, Err, IfNone, IfOk, IfSome, OnOk, OnErr, length, replicate, []};
+ghost use Rattle.std.specs.Prelude.{false, true, ◌≡◌, ◌≢◌, ◌↔◌, ◌++◌, ◌∷◌, ◌<◌, ◌≤◌, ◌+◌, ◌*◌, ◌^◌, ℕ, List, Some, Ok, Err, IfNone, IfOk, IfSome, OnOk, OnErr, length, replicate, []};
 ghost use Rattle.std.specs.Io.BufRead.{take_through, drop_through};
 ghost use Rattle.hex.specs.Hex.{decode_of};
 ghost use Rattle.hex.specs.declared.error.FromHexError.TheVariants.{OutOfMemory};
@@ -505,7 +505,7 @@ fn take_turn<R: BufRead, W: Sink>(
 ///
 /// The house that is left is what the lines made of it that were played: nothing else was done.
 ///
-/// `Read`: the reader failed, or 2^32 lines were read; `NoMemory`: memory was wanting, and the line at hand was done in part or not at all. What
+/// `Read`: the reader failed, or 2^32 lines were read; `NoMemory`: memory was wanting, and the line at hand was played in part or not at all. What
 /// the lines before printed was then written, and nothing of the line at hand. `Write`: the writer failed; the first `sent` bytes of what the
 /// script prints were written, and not all that its last line printed.
 pub fn drive<R: BufRead, W: Sink>(
@@ -514,18 +514,29 @@ pub fn drive<R: BufRead, W: Sink>(
     reader: &mut R,
     writer: &mut W,
 ) -> Result<(), RunFault>
+    // The writer hasn't failed.
     requires { W.failed writer.old ≡ false }
+
+    // In a house that was new, all that the script prints was written, and the house stands for the scene to which its lines lead.
     ensures ok { OnOk result ((k : Setup) (input : List ℕ) → StandsFor k house.old (empty_scene k) → R.remaining reader.old ≡ Some input →
         Writes k (script_of input) house.new (W.taken writer.old) (W.taken writer.new)) }
+
+    // In such a house: of what some of the first lines print the first `sent` bytes were written, not all; it stands for where these lead.
     ensures write { (sent : ℕ) → result ≡ Err (RunFault.Write sent) → (k : Setup) (input : List ℕ) → StandsFor k house.old (empty_scene k) →
         R.remaining reader.old ≡ Some input →
         WritesFirst k (script_of input) sent house.new (W.taken writer.old) (W.taken writer.new) }
     ensures failed { (sent : ℕ) → result ≡ Err (RunFault.Write sent) → W.failed writer.new ≡ true }
+
+    // In such a house: all that some of the first lines print was written, and nothing of the next, played in part or not at all.
     ensures no_memory { result ≡ Err RunFault.NoMemory → (k : Setup) (input : List ℕ) → StandsFor k house.old (empty_scene k) →
         R.remaining reader.old ≡ Some input →
         WritesBeginning k (script_of input) (IsLeftWanting k house.new) (W.taken writer.old) (W.taken writer.new) }
+
+    // In such a house, whatever the result: what some of the first lines print delivers exactly once; a beginning of it was written.
     ensures once { (k : Setup) (input : List ℕ) → StandsFor k house.old (empty_scene k) → R.remaining reader.old ≡ Some input →
         WroteOnce k (script_of input) (W.taken writer.old) (W.taken writer.new) }
+
+    // In such a house: all that some of the first lines print was written, and nothing was done since.
     ensures read { result ≡ Err RunFault.Read → (k : Setup) (input : List ℕ) → StandsFor k house.old (empty_scene k) →
         R.remaining reader.old ≡ Some input →
         WritesBeginning k (script_of input) (IsLeft k house.new) (W.taken writer.old) (W.taken writer.new) }

@@ -3,7 +3,7 @@ use Rattle.std.specs.Prelude.{ℕ, ◌+◌, ◌++◌, ◌∷◌, [], List, codes
 use Rattle.envelope.specs.Directory.{Home}
 use Rattle.house_floor.specs.Users.{is_inbox}
 use Rattle.serving.specs.declared.server.Uidvalidity.{Uidvalidity}
-use Rattle.serving.specs.declared.server.Uidvalidity.TheVariants.{Given, Standing}
+use Rattle.serving.specs.declared.server.Uidvalidity.TheVariants.{Given, Default}
 
 -- the users of these mailboxes, in the order of their numbers: each has one INBOX
 abbrev pub users_of : List Home → List (List ℕ)
@@ -24,7 +24,7 @@ imap_lines port (user ∷ users) = imap_line port user ++ imap_lines (port + 1) 
 -- UIDs begin anew at each start, so a client may take new messages for old ones where the UIDVALIDITY is the same (RFC 9051, 2.3.1.1)
 abbrev pub warning : Uidvalidity → List ℕ
 warning Given = []
-warning Standing = codes "UIDVALIDITY is the same at each start: give --uidvalidity a number that grows, as the time in seconds\n"
+warning Default = codes "UIDVALIDITY is the same at each start: give --uidvalidity a number that grows, as the time in seconds\n"
 
 abbrev pub announcement : (lmtp imap : ℕ) → List Home → Uidvalidity → List ℕ
 announcement lmtp imap homes uidvalidity = lmtp_line lmtp ++ imap_lines imap (users_of homes) ++ warning uidvalidity

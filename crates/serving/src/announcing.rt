@@ -93,7 +93,7 @@ pub(crate) fn announce(
     announce_users(directory, usize::from(imap_port), &mut out)?;
     match uidvalidity {
         Uidvalidity::Given => {}
-        Uidvalidity::Standing => out.extend_from_slice(WARNING)?,
+        Uidvalidity::Default => out.extend_from_slice(WARNING)?,
     }
     Ok(out)
 }

@@ -17,7 +17,7 @@ use crate::run::run_house_in;
 use crate::sockets::{Sockets, open_sockets};
 use envelope::Directory;
 use house::{Config, ConfigFault, directory_of};
-use house_floor::{Guest, Opened, Sizes, open};
+use house_floor::{Guest, MOST_PRODUCERS, Opened, Sizes, open};
 use line_io::{Sink, send};
 use mailbox::{History, Limits};
 use std::alloc::Global;
@@ -32,12 +32,9 @@ use std::thread::Threads;
 pub enum Uidvalidity {
     /// It was said: nothing is told of it.
     Given,
-    /// It is the one that stands where none is given, and a line warns of that.
-    Standing,
+    /// It is the default, and a line warns of that.
+    Default,
 }
-
-/// The most producers of a server: workers, and behind them berths, whose seats a lane tells apart by a byte.
-const MOST_PRODUCERS: usize = 255;
 
 // How large the parts of a house of these settings are, which has so many berths.
 fn sizes_of(config: &Config, berths: usize) -> Sizes<'_>

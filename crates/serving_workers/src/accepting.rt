@@ -2,14 +2,11 @@
 //! said on a connection stands in `lmtp_stream`.
 
 ghost use Rattle.std.specs.Prelude.{◌≡◌, ◌≤◌, ◌<◌, [], length, vec_capacity};
-ghost use Rattle.delivery_token.specs.declared.log.Noted.{Noted};
-ghost use Rattle.shard_queue.specs.declared.ends.ReplyChannel.{ReplyChannel};
 ghost use Rattle.shard_queue.specs.Reply.{IsReceiver};
 ghost use Rattle.lane_work.specs.Permits.{AreEnded, AreInForce};
 
 use crate::door::Door;
 use delivery_token::{Job, Noted};
-use house_floor::Post;
 use lane_work::{Desk, Office, Summons, Unkept, end_all};
 use line_io::Watched;
 use lmtp_stream::{TalkFault, converse};

@@ -1,5 +1,5 @@
 -- What the layer above takes from a call of the session: where the core stood for a world, it is that session's call there.
-use Rattle.std.proofs.Common.{◌≡◌, ℕ, List, [], ◌∷◌, ◌∙◌, refl, sym, subst}
+use Rattle.std.proofs.Common.{◌≡◌, ℕ, List, [], ◌∷◌, ◌∙◌, sym, subst}
 use Rattle.imap_connection.proofs.Carried.{Carries}
 use Rattle.imap_session.specs.Exchange.{Event}
 use Rattle.imap_session.specs.Store.{Met}
@@ -10,7 +10,7 @@ use Rattle.delivery_core.specs.Stands.{StandsFor}
 use Rattle.session_store.specs.declared.core_store.CoreStore.{CoreStore}
 use Rattle.session_store.specs.CoreStore.{Serves}
 use Rattle.session_store.specs.Meets.{Meets}
-use Rattle.session_store.proofs.Serving.{same_counts, same_delivery}
+use Rattle.session_store.proofs.Serving.{same_delivery}
 
 -- a store that serves session n, and stands for a world
 pub record IsServing (k : Config) (n : ℕ) (store : CoreStore) (w : World) : Type 0 where
@@ -47,11 +47,3 @@ counts_then a b c p q = record {
 pub met_delivery : (old new : CoreStore) (events : List Event) → Met Serves old events new → SameDelivery old.core new.core
 met_delivery old new [] met = subst (λ (d : CoreStore). SameDelivery old.core d.core) (sym met) (same_delivery old.core)
 met_delivery old new (e ∷ events) met = delivery_then old.core met.0.core new.core met.1.rest (met_delivery met.0 new events met.2)
-
-pub met_counts : (old new : CoreStore) (events : List Event) → Met Serves old events new → SameCounts old.core new.core
-met_counts old new [] met = subst (λ (d : CoreStore). SameCounts old.core d.core) (sym met) (same_counts old.core)
-met_counts old new (e ∷ events) met = counts_then old.core met.0.core new.core met.1.counts (met_counts met.0 new events met.2)
-
-pub met_session : (old new : CoreStore) (events : List Event) → Met Serves old events new → new.session ≡ old.session
-met_session old new [] met = subst (λ (d : CoreStore). d.session ≡ old.session) (sym met) refl
-met_session old new (e ∷ events) met = met_session met.0 new events met.2 ∙ met.1.same

@@ -4,7 +4,6 @@ use Rattle.std.specs.Prelude.{◌↔◌, ◌+◌, OnOk, OnErr, IfOk, min, option
 use Rattle.change_ring.specs.declared.change.Change.{Change}
 use Rattle.change_ring.specs.declared.change.Flags.{Flags}
 use Rattle.change_ring.specs.declared.flag_op.FlagOp.{FlagOp}
-use Rattle.std.proofs.lemmas.Bool.{cases_lt}
 use Rattle.change_ring.specs.Log.{rows_of, view_at}
 use Rattle.change_ring.specs.Logged.{flags_logged, removals, removals_if, seen_logged}
 use Rattle.mailbox.specs.Events.{in_set}
@@ -295,19 +294,6 @@ counted core n m status l is validity = record {
   view = refl;
   behind = tt;
 }
-
-pub not_counted : (core : DeliveryCore) (n m : ℕ) → (m < length core.boxes → ⊥) → Serves (serving core n) (Count m) (Refused Stranger) (serving core n)
-not_counted core n m l = record {
-  same = refl;
-  meets = λ k w S. (w, (refl, beyond k w S, refl), S);
-  rest = same_delivery core;
-  counts = same_counts core;
-  view = refl;
-  behind = tt;
-}
-  where
-    beyond : (k : Config) (w : World) → StandsFor k core w → k.mailboxes ≤ m
-    beyond k w S = elim (cases_lt m (length core.boxes)) [ inl h ↦ absurd (l h) | inr h ↦ omega (arith, h, S.mailboxes) ]
 
 -- ---- Feed, Expunge
 

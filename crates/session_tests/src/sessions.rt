@@ -4,10 +4,7 @@
 use crate::stores::{deliver, store};
 use change_ring::{Flags, NO_FLAGS};
 use delivery_token::{Refusal, Verdict};
-use imap_session::{
-    After, Folder, Selected, Session, SessionFault, changes_are_shown_in_order,
-    done_shows_in_order, literals_may_be_cut, rest_shows_none, verdicts_show_in_order,
-};
+use imap_session::{After, Folder, Selected, Session, SessionFault};
 use session_store::CoreStore;
 use std::alloc::{AllocError, Global};
 
@@ -292,15 +289,6 @@ fn a_session_idles(rt: HostRuntime) {
 fn a_session_takes_messages_or_none(rt: HostRuntime) {
     assert_eq!(rt; played(rt.alloc(), Some(10), APPENDS), Ok(None));
     assert_eq!(rt; played(rt.alloc(), None, TAKES_NONE), Ok(None));
-}
-
-#[test]
-fn laws_of_what_is_shown(_rt: HostRuntime) {
-    changes_are_shown_in_order();
-    done_shows_in_order();
-    literals_may_be_cut();
-    rest_shows_none();
-    verdicts_show_in_order();
 }
 
 // Whether the line is answered, and where memory is refused nothing is said and it is answered the next time.

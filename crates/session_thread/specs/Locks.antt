@@ -10,7 +10,7 @@ use Rattle.mailbox.specs.Mailbox.{Mailbox, message_with, rows}
 use Rattle.mailbox.specs.Stands.{IsKept, Stands, next_of}
 use Rattle.mailbox.specs.declared.clients.MailFault.{MailFault}
 use Rattle.mailbox.specs.declared.clients.MailFault.TheVariants.{Stranger}
-use Rattle.mailbox_holds.specs.Holds.{Alters, Counts, DoesLook, Enters, EntersNot, Expunges, Feeds, IsRefused, HasCursor, Leaves, LeavesNot, Reads}
+use Rattle.mailbox_holds.specs.Holds.{Alters, Counts, DoesLook, Enters, EntersNot, Expunges, Feeds, IsRefused, HasCursor, Leaves, LeavesNot, Reads, UnderLock}
 use Rattle.imap_session.specs.Exchange.{Call, Answer, Enter, Look, Read, Count, Alter, Expunge, Feed, Leave, Entered, Looked, Found, Counted, Altered, Expunged, Fed, Left, Refused}
 use Rattle.session_thread.specs.declared.locked_store.Entry.{Entry}
 
@@ -18,10 +18,6 @@ use Rattle.session_thread.specs.declared.locked_store.Entry.{Entry}
 pub record LockedStore : Type 0 where
   pub mailboxes : ℕ
   pub entered : Option Entry
-
--- A lock was taken: this mailbox was found, this was done to it, it was left like that, and the lock was let go.
-abbrev pub UnderLock : (Mailbox → Mailbox → Type 0) → Type 0
-UnderLock P = (found : Mailbox) × (left : Mailbox) × P found left
 
 -- The session is in a mailbox, and this holds of its handle there.
 abbrev pub In : LockedStore → (Entry → Type 0) → Type 0

@@ -32,6 +32,8 @@ pub enum Step {
 /// Whether the client may send more: its session goes on, and awaits no verdict on a message.
 pub fn takes_more(connection: &ImapConnection) -> bool
     ensures is { result ≡ takes_more connection.now.session }
+
+    // Where it may, the session hasn't ended, and no message of it waits for a verdict.
     ensures goes { result ≡ true → connection.now.session.ended ≡ false }
     ensures unsent { result ≡ true → connection.now.session.mailing.sent ≡ None }
 {
@@ -147,13 +149,18 @@ pub fn live<R: Wait, G: Gate, C: Courier>(
     turns: u64,
     out: &mut Vec<u8>,
 ) -> Result<(), Lost>
+    // The courier may carry a message; it may after, and is what it may have become by carrying.
     requires ready { C.ready courier.old }
     ensures ready { C.ready courier.new }
     ensures kept { (first : C) → C.kept first courier.old → C.kept first courier.new }
+
+    // Without an error the greeting and what all steps say stand behind `out`, their messages were carried, and leaving was tried.
     ensures ok { OnOk result ((carried : List Carried) ×
         ((done : List Carried) → C.carried courier.old done → C.carried courier.new (done ++ carried))
         × ((last : Moment) × Lives turns (greeted_at most folders.items store.old (out.old.items ++ greeting)) steps.now carried last
         × (out.new.items ≡ last.text) × Departs last.selection store.new)) }
+
+    // After an error nothing was said or done; or it was greeted, made its first steps, stopped in the next, and leaving was tried.
     ensures err { IfErr result (λ why. (store.new ≡ store.old) × (out.new.items ≡ out.old.items) × (why ≡ Lost.NoMemory)
         ⊎ (last : Moment) × LivesInPart turns (vec_capacity out.new) (greeted_at most folders.items store.old (out.old.items ++ greeting))
         steps.now why last

@@ -6,8 +6,7 @@ ghost use Rattle.imap_grammar.specs.Sets.{messages_in};
 ghost use Rattle.std.specs.Option.{option_copied};
 ghost use Rattle.std.specs.Vec.{vec_capacity};
 ghost use Rattle.mailbox.specs.Mailbox.{Mailbox};
-ghost use Rattle.mailbox_holds.specs.Holds.{Counts, DoesAlter, DoesEnter, DoesExpunge, DoesFeed, DoesLeave, DoesLook, DoesRead};
-ghost use Rattle.session_thread.specs.Locks.{UnderLock};
+ghost use Rattle.mailbox_holds.specs.Holds.{Counts, DoesAlter, DoesEnter, DoesExpunge, DoesFeed, DoesLeave, DoesLook, DoesRead, UnderLock};
 
 use change_ring::{FlagOp, Flags};
 use cursor_set::CursorHandle;

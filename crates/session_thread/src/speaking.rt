@@ -70,15 +70,22 @@ pub fn answer<R: Wait, G: Gate, C: Courier>(
     bytes: &[u8],
     out: &mut Vec<u8>,
 ) -> Result<(), Lost>
+    // The session hasn't ended, no message of it waits for a verdict, and the courier may carry one.
     requires going { connection.old.session.ended ≡ false }
     requires unsent { connection.old.session.mailing.sent ≡ None }
     requires ready { C.ready courier.old }
+
+    // The courier may carry a message still, and is what it may have become by carrying.
     ensures ready { C.ready courier.new }
     ensures kept { (first : C) → C.kept first courier.old → C.kept first courier.new }
+
+    // Without an error the bytes were taken and answered, to their end or the session's, and the courier carried their messages and no others.
     ensures ok { OnOk result ((carried : List Carried) ×
         ((done : List Carried) → C.carried courier.old done → C.carried courier.new (done ++ carried))
         × ((d : Dialogue) → StandsFor connection.old d → (next : Dialogue) × StandsFor connection.new next
         × Says bytes.now carried (moment d store.old out.old.items) (moment next store.new out.new.items))) }
+
+    // After an error some bytes were taken and answered, and it was short of room or memory (`NoMemory`), or no verdict came on its message.
     ensures err { IfErr result (λ why. (d : Dialogue) → StandsFor connection.old d → (next : Dialogue) × StandsFor connection.new next
         × SaysInPart (vec_capacity out.new) bytes.now why (moment d store.old out.old.items) (moment next store.new out.new.items)) }
 {

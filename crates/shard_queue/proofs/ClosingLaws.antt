@@ -16,7 +16,7 @@ use Rattle.shard_queue.specs.declared.shared.View.TheVariants.{Consumer, Produce
 use Rattle.shard_queue.specs.Lane.{producer, of, has_end, Lane, IsMerge, EndsLast}
 use Rattle.shard_queue.specs.Shared.{consumer, sender, spent, list_of, seen_of, IsSharedBy, Saw, IsStartOf, Takes, Puts, heard_out}
 use Rattle.shard_queue.specs.Closing.{HasAllEnds, IsWhole}
-use Rattle.shard_queue.specs.Permits.{AreMarks, numbers, WasFull, WasEmpty}
+use Rattle.shard_queue.specs.Permits.{AreMarks, numbers, WasEmpty}
 use Rattle.shard_queue.proofs.LaneLaws.{of_append, of_own, of_other, closed_is_empty}
 use Rattle.shard_queue.proofs.SharedLaws.{hears}
 
@@ -50,12 +50,7 @@ module _ {T : Type 0} where
       let t : Takes (consumer n m got heard seen) e w = subst (λ x. Takes x e w) is new in
       let r = t.1 in (r.1 ∙ (λ i. consumer n m (sym (ap list_of r.1) i) heard (sym (ap seen_of r.1) i)), ap list_of r.1, t.0, (r.0, ap seen_of r.1, r.2))
 
-  -- what a full lane and an empty one tell
-  pub was_full : (n room p : ℕ) (sent seen : List (Entry T)) (v : View T) (waiting : List (Entry T)) → v ≡ sender n p sent seen → length waiting ≡ room → Saw v waiting → WasFull n room p sent seen
-  was_full n room p sent seen v waiting is full saw =
-      let s : Saw (sender n p sent seen) waiting = subst (λ x. Saw x waiting) is saw in
-      (s.2, subst (λ k. IsMerge k room s.2) (sym s.5.0) (subst (λ k. IsMerge s.0 k s.2) full s.4), ap length s.3 ∙ full, sym s.5.1, s.5.2)
-
+  -- what an empty lane tells
   none : (xs : List (Entry T)) → length xs ≡ 0 → xs ≡ []
   none [] e = refl
   none (x ∷ xs) e = absurd (omega arith)
@@ -113,11 +108,6 @@ module _ {T : Type 0} where
       s.5.3.0 ∙ sent_is_taken s.0 (length waiting) s.2 got p s.4 s.5.2 (empty_now n k got s.0 s.2 (length waiting) all.0 all.1 s.4 s.5.0 s.5.2)
   told n (Producer k q more seen) i p said late waiting u w all is new saw = absurd all
   told n Spent i p said late waiting u w all is new saw = absurd all
-
-  pub still_all : (n : ℕ) (v : View T) (i p : ℕ) (said late : List (Entry T)) (u w : View T) → HasAllEnds n v → u ≡ sender i p said late → w ≡ heard_out v u → HasAllEnds n w × (list_of w ≡ list_of v)
-  still_all n (Consumer k made got heard seen) i p said late u w all is new = let e : w ≡ consumer k made got (Some (p, said)) seen = new ∙ ap (heard_out (consumer k made got heard seen)) is in (subst (HasAllEnds n) (sym e) all, ap list_of e)
-  still_all n (Producer k q more seen) i p said late u w all is new = absurd all
-  still_all n Spent i p said late u w all is new = absurd all
 
   pub whole : (n room : ℕ) (v : View T) (waiting es : List (Entry T)) → HasAllEnds n v → list_of v ≡ es → Saw v waiting → IsWhole n room es
   whole n room (Consumer k made got heard seen) waiting es all is saw =

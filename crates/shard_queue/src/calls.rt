@@ -1,6 +1,6 @@
 //! What a lane does. No call but `new` takes memory.
 
-ghost use Rattle.std.specs.Prelude.{◌≡◌, ◌≢◌, ◌<◌, ◌≤◌, ◌++◌, ◌∷◌, [], true, false, Some, None, Ok, IfOk, OnOk, MatchResult, length, replicate, slice_set, ◌↔◌};
+ghost use Rattle.std.specs.Prelude.{◌≡◌, ◌≢◌, ◌<◌, ◌≤◌, ◌++◌, ◌∷◌, [], true, false, None, IfOk, OnOk, MatchResult, length, replicate, slice_set, ◌↔◌};
 ghost use Rattle.shard_queue.specs.declared.lane.Entry.TheVariants as entries;
 ghost use Rattle.shard_queue.specs.Lane.{Puts, Takes, empty_lane};
 ghost use Rattle.shard_queue.specs.Plain.{Makes, MayPutMore, StandsForLane, before_taking, taken_entry, starts_with_item};
@@ -55,11 +55,14 @@ impl<T: Drop> PlainLane<T> {
     /// Puts an item behind all that waits. Full exactly where as many entries wait as there is
     /// room for; the lane is then unchanged, and the item comes back.
     pub fn put(&mut self, p: u8, item: T) -> Result<(), Full<T>>
+        // It is a producer of the lane that has not ended.
         requires live { MayPutMore self.old.live p }
+        // Ok where there is room: the item waits behind all others. Else it comes back, and nothing has changed.
         ensures put { MatchResult result
             (λ _. (length self.old.waiting < self.old.capacity)
             × (self.new ≡ record self.old { waiting = self.old.waiting ++ entries.Item p item ∷ [] }))
             (λ back. (back.0 ≡ item) × (length self.old.waiting ≡ self.old.capacity) × (self.new ≡ self.old)) }
+        // After Ok: from each lane for which it stood, a legal move leads to one for which it stands.
         ensures moves { OnOk result (Makes self.old (Puts (entries.Item p item)) self.new) }
     {
         if self.entries.len() == self.capacity {
@@ -72,11 +75,14 @@ impl<T: Drop> PlainLane<T> {
     /// Puts the producer's end behind all that waits, after which it may put nothing more. Full as
     /// for an item; the lane is then unchanged.
     pub fn end(&mut self, p: u8) -> Result<(), Full<()>>
+        // It is a producer of the lane that has not ended.
         requires live { MayPutMore self.old.live p }
+        // Ok where there is room: the end waits behind all others, and the producer may put no more. Else nothing has changed.
         ensures put { MatchResult result
             (λ _. (length self.old.waiting < self.old.capacity)
             × (self.new ≡ record self.old { waiting = self.old.waiting ++ entries.End p ∷ []; live = slice_set self.old.live p false }))
             (λ _. (length self.old.waiting ≡ self.old.capacity) × (self.new ≡ self.old)) }
+        // After Ok: from each lane for which it stood, a legal move leads to one for which it stands.
         ensures moves { OnOk result (Makes self.old (Puts (entries.End p)) self.new) }
     {
         if self.entries.len() == self.capacity {
@@ -91,8 +97,11 @@ impl<T: Drop> PlainLane<T> {
 
     /// Takes the first entry that waits. Empty exactly where nothing waits.
     pub fn take(&mut self) -> Taken<T>
+        // What was taken stood before all that waits now; nothing else has changed.
         ensures taken { self.old ≡ record self.new { waiting = before_taking result self.new.waiting } }
+        // Empty only where nothing waited.
         ensures empty { taken_entry result ≡ None → self.old.waiting ≡ [] }
+        // Where something was taken: from each lane for which it stood, a legal move leads to one for which it stands.
         ensures moves { taken_entry result ≢ None → Makes self.old Takes self.new }
     {
         match self.entries.pop_front() {

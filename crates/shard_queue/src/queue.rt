@@ -1,7 +1,7 @@
 //! A lane that threads share: a queue, a permit for each producer and one for the consumer. Whoever
 //! holds a permit acts for it, and no other.
 
-ghost use Rattle.std.specs.Prelude.{◌≡◌, ◌≢◌, ◌⊎◌, ◌↔◌, ◌==◌, ℕ, ◌+◌, ◌<◌, ◌≤◌, ◌++◌, ◌∷◌, [], true, false, Some, None, IfOk, IfErr, MatchResult, MatchOption, vec_len, map, All};
+ghost use Rattle.std.specs.Prelude.{◌≡◌, ◌==◌, ◌+◌, ◌<◌, ◌++◌, ◌∷◌, [], true, false, Some, None, IfOk, IfErr, MatchResult, MatchOption, vec_len, map, All};
 ghost use Rattle.std.specs.List.{list_any};
 ghost use Rattle.crossbeam_queue.specs.Passes.{view, IsPassOf};
 ghost use Rattle.shard_queue.specs.declared.lane.Entry.TheVariants as entries;
@@ -55,8 +55,11 @@ pub struct Closed<T> {
 
 /// All that `close` was given, unchanged.
 pub struct NotAll<T> {
+    /// The queue, which stays open.
     pub queue: ShardQueue<T>,
+    /// What is left of the producers that have ended.
     pub ended: Vec<Ended<T>>,
+    /// The consumer's permit.
     pub permit: ConsumerPermit<T>,
 }
 
@@ -87,10 +90,13 @@ impl<T: Drop> ShardQueue<T> {
         producers: u8,
     ) -> Result<(ShardQueue<T>, Vec<ProducerPermit<T>>, ConsumerPermit<T>), AllocError>
         requires { 0 < capacity }
+        // The queue has so much room, and so many producers.
         ensures queue { IfOk result (λ r. (capacity_of r.0 ≡ capacity) × (producers_of r.0 ≡ producers)) }
+        // There is a permit for each producer, in the order of their numbers, by which nothing was sent.
         ensures numbers { IfOk result (λ r. map number_of r.1.items ≡ numbers 0 producers) }
         ensures len { IfOk result (λ r. vec_len r.1 ≡ producers) }
         ensures permits { IfOk result (λ r. All (λ s. IsProducer r.0 s × (sent s ≡ [])) r.1.items) }
+        // The last is the consumer's, by which nothing was taken.
         ensures consumer { IfOk result (λ r. IsConsumer r.0 r.2 × (got r.2 ≡ [])) }
     {
         let (queue, mut pass) = Lane::ruled(alloc, capacity)?;
@@ -117,8 +123,11 @@ impl<T: Drop> ShardQueue<T> {
         permit: &mut ProducerPermit<T>,
         item: T,
     ) -> Result<(), Full<T>>
+        // The permit is of a producer of this queue that has not ended.
         requires permit { IsProducer self.now permit.old }
+        // So it is afterwards, of the same producer.
         ensures permit { IsProducer self.now permit.new × (number_of permit.new ≡ number_of permit.old) }
+        // Ok: it has sent the item, last. Full: the item comes back, it has sent no more, and at one moment since it last put there was no room.
         ensures put { MatchResult result
             (λ _. (sent permit.new ≡ sent permit.old ++ entries.Item (number_of permit.old) item ∷ [])
             × IsPutBehind (put_seen permit.old) (entries.Item (number_of permit.old) item) (put_seen permit.new))
@@ -140,10 +149,13 @@ impl<T: Drop> ShardQueue<T> {
         rt: &R,
         permit: ProducerPermit<T>,
     ) -> Result<Ended<T>, ProducerPermit<T>>
+        // The permit is of a producer of this queue that has not ended.
         requires permit { IsProducer self.now permit }
+        // Ok: it has sent its end, last, and what is left of the permit says all that it sent.
         ensures ended { IfOk result (λ e. IsEnded self.now e × (ended_number e ≡ number_of permit)
             × (said e ≡ sent permit ++ entries.End (number_of permit) ∷ [])
             × IsPutBehind (put_seen permit) (entries.End (number_of permit)) (end_seen e)) }
+        // Else the permit comes back, it has sent no more, and at one moment since it last put there was no room.
         ensures full { IfErr result (λ s. IsProducer self.now s × (number_of s ≡ number_of permit)
             × (sent s ≡ sent permit) × (put_seen s ≡ put_seen permit)
             × WasFull (producers_of self.now) (capacity_of self.now) (number_of permit) (sent permit) (put_seen permit)) }
@@ -163,8 +175,11 @@ impl<T: Drop> ShardQueue<T> {
     /// Empty only where at one moment of the call nothing waited, so that all is taken that stood behind the
     /// entry before (a mere look doesn't give that); nothing was taken then.
     pub fn take_as<R: Wait>(&self, rt: &R, permit: &mut ConsumerPermit<T>) -> Taken<T>
+        // The permit is that of this queue's consumer.
         requires permit { IsConsumer self.now permit.old }
+        // So it is afterwards.
         ensures permit { IsConsumer self.now permit.new }
+        // Empty: nothing was taken, and at one moment since the last take nothing waited. Else a producer's entry is the last that was taken.
         ensures taken { MatchOption (taken_entry result)
             ((got permit.new ≡ got permit.old) × (take_seen permit.new ≡ take_seen permit.old)
             × WasEmpty (producers_of self.now) (capacity_of self.now) (got permit.old) (take_seen permit.old))
@@ -189,12 +204,16 @@ impl<T: Drop> ShardQueue<T> {
         ended: Vec<Ended<T>>,
         permit: ConsumerPermit<T>,
     ) -> Result<Closed<T>, NotAll<T>>
+        // The permit is that of this queue's consumer, and each Ended is of a producer of this queue.
         requires permit { IsConsumer self permit }
         requires ended { All (IsEnded self) ended.items }
+        // Ok: what is left tells all that was taken, and that is, of each producer, all that it sent.
         ensures history { IfOk result (λ c. history c ≡ got permit) }
         ensures each { IfOk result (λ _. All (λ e. said e ≡ of (ended_number e) (got permit)) ended.items) }
+        // Ok: each producer has ended, its end was taken, and nobody else has sent anything.
         ensures all { IfOk result (λ _. IsAll ended_number (producers_of self) ended.items (got permit)) }
         ensures whole { IfOk result (λ _. IsWhole (producers_of self) (capacity_of self) (got permit)) }
+        // NotAll: all comes back as it was given; an Ended is missing, or an end was not taken.
         ensures back { IfErr result (λ n. (n.queue ≡ self) × (n.ended ≡ ended) × (n.permit ≡ permit)
             × IsNotAll ended_number (producers_of self) ended.items (got permit)) }
     {

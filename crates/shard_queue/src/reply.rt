@@ -1,7 +1,7 @@
 //! The calls of a reply channel: a shard queue with the roles exchanged, in which many shards answer
 //! one worker, and the worker may wait.
 
-ghost use Rattle.std.specs.Prelude.{◌≡◌, ◌≢◌, ◌⊎◌, ◌==◌, ℕ, ◌+◌, ◌<◌, ◌≤◌, ◌++◌, ◌∷◌, [], true, false, None, IfOk, IfErr, MatchResult, vec_len, map, All};
+ghost use Rattle.std.specs.Prelude.{◌≡◌, ◌==◌, ◌+◌, ◌<◌, ◌++◌, ◌∷◌, [], true, false, None, IfOk, IfErr, MatchResult, vec_len, map, All};
 ghost use Rattle.std.specs.List.{list_any};
 ghost use Rattle.crossbeam_channel.specs.Claims.{view, IsSeatAt};
 ghost use Rattle.crossbeam_channel.specs.Ends.{sends_on};
@@ -50,8 +50,11 @@ pub struct ReplyClosed<T> {
 
 /// All that `close` was given, unchanged.
 pub struct ReplyNotAll<T: Drop> {
+    /// The channel, which stays open.
     pub channel: ReplyChannel<T>,
+    /// What is left of the senders that have ended.
     pub ended: Vec<SenderEnded<T>>,
+    /// The receiver's permit.
     pub permit: ReceiverPermit<T>,
 }
 
@@ -82,10 +85,13 @@ impl<T: Drop> ReplyChannel<T> {
         senders: u8,
     ) -> Result<(ReplyChannel<T>, Vec<SenderPermit<T>>, ReceiverPermit<T>), AllocError>
         requires { 0 < capacity }
+        // The channel has so much room, and so many senders.
         ensures channel { IfOk result (λ r. (room_of r.0 ≡ capacity) × (senders_of r.0 ≡ senders)) }
+        // There is a permit for each sender, in the order of their numbers, by which nothing was sent.
         ensures numbers { IfOk result (λ r. map sender_number r.1.items ≡ numbers 0 senders) }
         ensures len { IfOk result (λ r. vec_len r.1 ≡ senders) }
         ensures permits { IfOk result (λ r. All (λ s. IsSender r.0 s × (sent_on s ≡ [])) r.1.items) }
+        // The last is the receiver's, by which nothing was received.
         ensures receiver { IfOk result (λ r. IsReceiver r.0 r.2 × (received r.2 ≡ [])) }
     {
         let (sender, receiver, mut pass) = bounded_with(alloc, capacity)?;
@@ -115,8 +121,11 @@ impl<T: Drop> ReplyChannel<T> {
         permit: &mut SenderPermit<T>,
         item: T,
     ) -> Result<(), Full<T>>
+        // The permit is of a sender of this channel that has not ended.
         requires permit { IsSender self.now permit.old }
+        // So it is afterwards, of the same sender.
         ensures permit { IsSender self.now permit.new × (sender_number permit.new ≡ sender_number permit.old) }
+        // Ok: it has sent the item, last. Full: the item comes back, it has sent no more, and at one moment since it last sent there was no room.
         ensures sent { MatchResult result
             (λ _. (sent_on permit.new ≡ sent_on permit.old ++ entries.Item (sender_number permit.old) item ∷ [])
             × IsPutBehind (send_seen permit.old) (entries.Item (sender_number permit.old) item) (send_seen permit.new))
@@ -146,10 +155,13 @@ impl<T: Drop> ReplyChannel<T> {
         rt: &R,
         permit: SenderPermit<T>,
     ) -> Result<SenderEnded<T>, SenderPermit<T>>
+        // The permit is of a sender of this channel that has not ended.
         requires permit { IsSender self.now permit }
+        // Ok: it has sent its end, last, and what is left of the permit says all that it sent.
         ensures ended { IfOk result (λ e. IsSenderEnded self.now e × (sender_ended_number e ≡ sender_number permit)
             × (said_on e ≡ sent_on permit ++ entries.End (sender_number permit) ∷ [])
             × IsPutBehind (send_seen permit) (entries.End (sender_number permit)) (last_seen e)) }
+        // Else the permit comes back, it has sent no more, and at one moment since it last sent there was no room.
         ensures full { IfErr result (λ s. IsSender self.now s × (sender_number s ≡ sender_number permit) × (sent_on s ≡ sent_on permit)
             × (send_seen s ≡ send_seen permit)
             × WasFull (senders_of self.now) (room_of self.now) (sender_number permit) (sent_on permit) (send_seen permit)) }
@@ -172,8 +184,11 @@ impl<T: Drop> ReplyChannel<T> {
     /// Takes the first entry that waits, which is of one of the channel's senders; where nothing waits,
     /// it waits for an entry. Takes no memory.
     pub fn recv_as<R: Wait>(&self, rt: &R, permit: &mut ReceiverPermit<T>) -> Entry<T>
+        // The permit is that of this channel's receiver.
         requires permit { IsReceiver self.now permit.old }
+        // So it is afterwards.
         ensures permit { IsReceiver self.now permit.new }
+        // The entry is the last that was received, and one of the channel's senders sent it.
         ensures received { (received permit.new ≡ received permit.old ++ result ∷ []) × (producer result < senders_of self.now)
             × IsLeftBy (receive_seen permit.old) (received permit.new) (receive_seen permit.new) }
     {
@@ -198,12 +213,16 @@ impl<T: Drop> ReplyChannel<T> {
         ended: Vec<SenderEnded<T>>,
         permit: ReceiverPermit<T>,
     ) -> Result<ReplyClosed<T>, ReplyNotAll<T>>
+        // The permit is that of this channel's receiver, and each Ended is of a sender of this channel.
         requires permit { IsReceiver self permit }
         requires ended { All (IsSenderEnded self) ended.items }
+        // Ok: what is left tells all that was received, and that is, of each sender, all that it sent.
         ensures history { IfOk result (λ c. reply_history c ≡ received permit) }
         ensures each { IfOk result (λ _. All (λ e. said_on e ≡ of (sender_ended_number e) (received permit)) ended.items) }
+        // Ok: each sender has ended, its end was received, and nobody else has sent anything.
         ensures all { IfOk result (λ _. IsAll sender_ended_number (senders_of self) ended.items (received permit)) }
         ensures whole { IfOk result (λ _. IsWhole (senders_of self) (room_of self) (received permit)) }
+        // NotAll: all comes back as it was given; an Ended is missing, or an end was not received.
         ensures back { IfErr result (λ n. (n.channel ≡ self) × (n.ended ≡ ended) × (n.permit ≡ permit)
             × IsNotAll sender_ended_number (senders_of self) ended.items (received permit)) }
     {

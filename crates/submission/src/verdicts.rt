@@ -1,6 +1,6 @@
 //! A message that was submitted, where it lies, and the verdicts on its copies. No reply, no lane and no session is known here.
 
-ghost use Rattle.std.specs.Prelude.{◌≡◌, ◌<◌, ◌≤◌, ◌∷◌, [], ◌++◌, ℕ, List, length, true, false, None, Some, Ok, OnErr, IfOk, IfSome, vec_capacity};
+ghost use Rattle.std.specs.Prelude.{◌≡◌, ◌<◌, ◌≤◌, ◌∷◌, [], List, length, true, false, None, Some, Ok, OnErr, IfOk, IfSome, vec_capacity};
 ghost use Rattle.std.specs.List.{list_all};
 ghost use Rattle.std.specs.Option.{is_some};
 ghost use Rattle.delivery_token.specs.declared.Job.{Job};
@@ -13,22 +13,30 @@ use delivery_token::{CopyKey, Noted, Text, Verdict};
 use std::alloc::{AllocError, Global};
 use std::marker::Model;
 
-/// A message that was submitted for its recipients. Its text lies where the message does; its keys and mailboxes may be lent for one call: the i-th key and the i-th mailbox are those of its i-th copy, and all
-/// have this text and these flags.
+/// A message that was submitted for its recipients. Its text lies where the message does; its keys and mailboxes may be lent for one call:
+/// the i-th key and the i-th mailbox are those of its i-th copy, and all have this text and these flags.
 #[derive(Clone, Copy)]
 pub struct Submitted<'k, 'a> {
+    /// The key of each copy, in the order of the recipients.
     pub keys: &'k [CopyKey],
+    /// The number of the mailbox that each copy is for, at the position of its key.
     pub mailboxes: &'k [u8],
+    /// The text of all copies.
     pub text: &'a Text,
+    /// The flags that all copies are to have as they arrive.
     pub flags: Flags,
 }
 
 /// The next copy of a message, whose text lies where the message does.
 #[derive(Clone, Copy)]
 pub struct NextCopy<'a> {
+    /// The key of the copy.
     pub key: CopyKey,
+    /// The number of the mailbox that it is for.
     pub mailbox: u8,
+    /// The text of the message.
     pub text: &'a Text,
+    /// The flags that it is to have as it arrives.
     pub flags: Flags,
 }
 
@@ -113,10 +121,14 @@ impl Verdicts {
     /// The strict form of `hear`, for whoever awaits nothing else: notes a verdict that was heard only where it is on a copy of the message, with
     /// its key and its mailbox, that was put and is still awaited, and tells whether it did. Any other changes nothing. It takes no memory.
     pub fn hear_awaited(&mut self, keys: &[CopyKey], mailboxes: &[u8], noted: &Noted) -> bool
+        // No verdict that was known has changed.
         ensures fills { Fills self.old.slots self.new.slots }
+        // After true the verdict is filled in, at the position of its copy, where none was known; after false nothing has changed.
         ensures noted { result ≡ true → FillsIn keys.now mailboxes.now noted.now self.old.slots self.new.slots }
         ensures same { result ≡ false → self.new.slots ≡ self.old.slots }
+        // False only where the verdict is on no copy that was put and is still awaited.
         ensures passes { result ≡ false → IsStillAwaited keys.now mailboxes.now self.old.slots noted.now → ⊥ }
+        // There is room for as many copies as before.
         ensures room { self.new.most ≡ self.old.most }
     {
         let position = usize::from(noted.key.recipient);
@@ -149,8 +161,10 @@ impl Verdicts {
     ///
     /// Errors: `AllocError` where memory was refused, and only where each verdict is known.
     pub fn known(&self, count: usize) -> Result<Option<Vec<Verdict>>, AllocError>
+        // Some has the verdict on each copy, of which so many were put; None only where there are no such verdicts.
         ensures known { IfOk result (λ o. IfSome o (λ vs. AreKnown count self.now.slots vs.items)) }
         ensures unknown { result ≡ Ok None → (vs : List Verdict) → AreKnown count self.now.slots vs → ⊥ }
+        // An error only where each verdict is known.
         ensures asks { OnErr result ((vs : List Verdict) × AreKnown count self.now.slots vs) }
     {
         // Only then memory is asked for: this is called after each verdict that was heard.
@@ -170,8 +184,11 @@ impl Verdicts {
     /// The verdicts, in the order of their copies, where each is known, in `room`, which is empty and has room for them. It takes no memory, for
     /// whoever must ask for none once a copy was put.
     pub fn known_in(&self, room: Vec<Verdict>) -> Vec<Verdict>
+        // The verdict on each copy that was put is known.
         requires known { list_all is_some self.now.slots ≡ true }
+        // `room` is empty, and has room for as many verdicts as copies were put.
         requires room { (room.items ≡ []) × (length self.now.slots ≤ vec_capacity room) }
+        // The answer has the verdict on each of them, in their order.
         ensures { AreKnown (length self.now.slots) self.now.slots result.items }
     {
         let mut known = room;

@@ -186,9 +186,6 @@ kept_take k w s e others K empty front = record {
 
 -- Deliver
 
-shard_same : (k : Config) (m s t : ℕ) → IsShardOf k m s → IsShardOf k m t → s ≡ t
-shard_same k m s t a b = sym a.1 ∙ b.1
-
 -- a reply for another mailbox, and one that refuses, are none of mailbox m's
 held_other : (p m : ℕ) (r : Noted) → r.mailbox ≢ m → stored_in m (held p (Done r)) ≡ []
 held_other p m r other = go (r.key.seat == p) r.verdict refl

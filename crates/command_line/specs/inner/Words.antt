@@ -1,5 +1,5 @@
 -- What bodies and proofs say besides: how a command grows to what the program takes.
-use Rattle.std.specs.Prelude.{◌≡◌, ◌++◌, List}
+use Rattle.std.specs.Prelude.{◌≡◌, ◌++◌, List, length}
 use Rattle.clap.specs.Words.{App, Rule, app_of}
 use Rattle.clap.specs.declared.builder.command.Command.TheViews.{out-Command as fields_of}
 use Rattle.clap.specs.declared.builder.command.Command.{Command}
@@ -17,3 +17,9 @@ pub record HasMore (rules : List Rule) (old new : Command) : Type 0 where
 -- the rule of an option
 abbrev pub rule_for : NumberOption → Rule
 rule_for option = number_rule option.name.now option.number.least option.number.most
+
+-- there is a help for each name, each option of a house and each of a server
+pub record AreThere {A : Type 0} (names house server : List A) : Type 0 where
+  pub names : length names ≡ 2
+  pub house : length house ≡ 8
+  pub server : length server ≡ 4

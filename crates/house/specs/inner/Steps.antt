@@ -120,10 +120,6 @@ MayNotPut old due = (due ≡ []) ⊎ ((c : Job) × (others : List Job) × (due �
 
 -- ---- sessions
 
--- a session's seat is that of its place, whatever was settled of the house
-abbrev pub IsSeatOf : Setup → (seat place : ℕ) → Type 0
-IsSeatOf k seat place = seat ≡ session_seat k place
-
 -- who may be at a place, and for whom
 abbrev pub StandsForSomebody : (seat : ℕ) → CopyKey → List Noted → Option SeatedSession → Option SeatedVisitor → Type 0
 StandsForSomebody seat next heard None None = Unit {0}

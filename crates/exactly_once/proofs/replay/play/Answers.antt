@@ -9,12 +9,12 @@ loop-event-init c k s st = none_tried k s _ _ st
 pub loop-event-preserved : goal.loop-event-preserved
 loop-event-preserved c k s st =
     let a = c.loop-event.invariant k s st in
-    one_more_tried k s _ _ _ _ _ _ _ _ _ c.loop-event-test.true a (c.in-Ok.ensures.tried k a.after a.stands)
+    one_more_tried k s _ _ _ _ _ _ _ _ _ c.loop-event-test.true a (c.in_ok-try_event.ensures.tried k a.after a.stands)
 
-pub returns-in_default-clause-once : goal.returns-in_default-clause-once
-returns-in_default-clause-once c k st =
+pub returns-in_err-try_event-clause-once : goal.returns-in_err-try_event-clause-once
+returns-in_err-try_event-clause-once c k st =
     let a = tried_happened k (empty_scene k) _ _ _ _ _ (c.loop-event.invariant k (empty_scene k) st) in
-    came_once k _ _ _ (happened_both k (empty_scene k) _ _ _ _ _ a (c.in_default.ensures.wanting k a.after a.stands))
+    came_once k _ _ _ (happened_both k (empty_scene k) _ _ _ _ _ a (c.in_err-try_event.ensures.wanting k a.after a.stands))
 
 pub returns-clause-tried : goal.returns-clause-tried
 returns-clause-tried c k s st = all_tried k s _ _ _ _ _ _ (let x = c.loop-event-test.false in omega (arith, x)) (c.loop-event.invariant k s st)

@@ -1,4 +1,4 @@
-use Rattle.std.proofs.Common.{◌≡◌, subst, sym}
+use Rattle.std.proofs.Common.{subst, sym}
 use Rattle.house_floor.specs.Crew.{IsPost}
 use Rattle.house_threads.proofs.Lives.{stood_down}
 use Rattle.house_threads.proofs.producers.produce_there.Goals as goal

@@ -1,4 +1,4 @@
-use Rattle.std.proofs.Common.{rules, ◌≡◌, ◌∙◌, ℕ, [], ◌∷◌, Vec, ap, subst, map}
+use Rattle.std.proofs.Common.{rules, ◌≡◌, ◌∙◌, ℕ, [], Vec, ap, subst, map}
 use Rattle.std.specs.Global.{Global}
 use Rattle.delivery_token.specs.WorkerLog.{WorkerLog}
 use Rattle.lane_work.specs.Copies.{rooms_of}

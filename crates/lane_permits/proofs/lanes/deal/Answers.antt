@@ -1,4 +1,4 @@
-use Rattle.std.proofs.Common.{rules, ◌≡◌, ◌+◌, ◌∷◌, sym, subst, length, map, slice_set, arith}
+use Rattle.std.proofs.Common.{rules, ◌≡◌, ◌+◌, sym, subst, length, map, slice_set, arith}
 use Rattle.std.proofs.lemmas.List.{length-map}
 use Rattle.lane_permits.proofs.StepLaws.{StepTo, list, step_length}
 use Rattle.lane_permits.proofs.RowLaws.{Dealt, dealt, row_dealt, row_there, rows_length}

@@ -1,4 +1,4 @@
-use Rattle.std.proofs.Common.{◌≡◌, ◌≤◌, ◌∷◌, length, vec_len, vec_capacity}
+use Rattle.std.proofs.Common.{◌≡◌, ◌≤◌, length, vec_len, vec_capacity}
 use Rattle.lane_permits.proofs.StepLaws.{StepTo, list}
 use Rattle.lane_permits.proofs.RowLaws.{Dealt}
 use Rattle.lane_permits.proofs.lanes.deal.Given as goal

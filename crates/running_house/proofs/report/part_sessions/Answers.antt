@@ -1,4 +1,4 @@
-use Rattle.std.proofs.Common.{rules, ◌≡◌, ◌<◌, ◌+◌, ◌∙◌, length, vec_len, take, drop, sym, subst, ℕ, arith}
+use Rattle.std.proofs.Common.{rules, ◌<◌, length, vec_len, take, drop, sym, subst, ℕ, arith}
 use Rattle.running_house.specs.inner.Agree.{AreTexts}
 use Rattle.running_house.proofs.Moves.{parted_more}
 use Rattle.running_house.proofs.report.part_sessions.Goals as goal

@@ -1,4 +1,4 @@
-use Rattle.std.proofs.Common.{◌≡◌, ◌≤◌, ◌+◌, ◌++◌, drop, take, vec_len, vec_capacity}
+use Rattle.std.proofs.Common.{◌≡◌, ◌+◌, ◌++◌, drop, take, vec_len, vec_capacity}
 use Rattle.running_house.specs.inner.Agree.{AreTexts}
 use Rattle.running_house.proofs.report.part_sessions.Given as goal
 

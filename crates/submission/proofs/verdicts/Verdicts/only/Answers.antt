@@ -1,4 +1,4 @@
-use Rattle.std.proofs.Common.{◌≡◌, ◌∙◌, ap, arith, length, map, slice_index_or, List, [], ◌∷◌, ℕ, Option, Some, None}
+use Rattle.std.proofs.Common.{◌≡◌, ◌∙◌, ap, arith, length, map, slice_index_or, List, [], ◌∷◌, Option, Some, None}
 use Rattle.delivery_token.specs.declared.Verdict.{Verdict}
 use Rattle.submission.specs.Verdicts.{AreKnown, Verdicts}
 use Rattle.submission.proofs.verdicts.Verdicts.only.Goals as goal
