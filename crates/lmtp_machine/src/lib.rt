@@ -9,8 +9,8 @@ mod machine;
 mod message;
 mod reply;
 
-pub use envelope::MOST_RECIPIENTS;
 pub use connection::{Fed, Limits, Submission, What};
+pub use envelope::MOST_RECIPIENTS;
 pub use laws::{any_pieces, lines_are_heard_in_time, messages_are_numbered};
 pub use machine::LmtpMachine;
 pub use reply::{ANSWER_ROOM, Reply};
