@@ -1,15 +1,10 @@
 -- Lists that are gone over, an element at a time.
-use Rattle.std.proofs.Common.{◌≡◌, inl, inr, ℕ, zero, suc, ◌+◌, ◌<◌, ◌++◌, ap, sym, subst, List, [], ◌∷◌, length, map, take, slice_index_or, arith, Bool}
+use Rattle.std.proofs.Common.{◌≡◌, inl, inr, ℕ, zero, suc, ◌+◌, ◌<◌, ap, sym, subst, List, [], ◌∷◌, length, map, slice_index_or, arith, Bool}
 use Rattle.std.proofs.lemmas.Bool.{cases_lt}
 use Rattle.delivery_token.specs.declared.CopyKey.{CopyKey}
 use Rattle.delivery_token.specs.declared.Job.{Job}
 use Rattle.delivery_token.specs.declared.log.Noted.{Noted}
 use Rattle.agreement.specs.Walk.{MailboxMet}
-
-take_suc : {A : Type 0} (xs : List A) (i : ℕ) (x : A) → i < length xs → x ≡ slice_index_or xs i x → take (suc i) xs ≡ take i xs ++ x ∷ []
-take_suc [] i x under is = absurd (omega arith)
-take_suc (y ∷ ys) zero x under is = ap (λ z. z ∷ []) (sym is)
-take_suc (y ∷ ys) (suc i) x under is = ap (λ l. y ∷ l) (take_suc ys i x (omega arith) is)
 
 -- what holds of each number below n, and of n, holds of each below n + 1
 pub up_to : (P : ℕ → Type 0) (n : ℕ) → ((m : ℕ) → m < n → P m) → P n → (m : ℕ) → m < n + 1 → P m

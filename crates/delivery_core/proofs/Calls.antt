@@ -24,11 +24,6 @@ use Rattle.delivery_core.proofs.MailBoxes.{Told, box_still, flagged_part, no_str
 use Rattle.delivery_core.proofs.Follow.{reached_step}
 use Rattle.delivery_core.proofs.Mailed.{known_at, still_done, still_follow, with_memory}
 
--- of an Ok alone
-on_ok : {T E : Type 0} (P : Type 0) (r : Result T E) → OnOk r P → (t : T) → r ≡ Ok t → P
-on_ok P (Ok x) h t e = h
-on_ok P (Err x) h t e = cc
-
 ok_map : {T E : Type 0} (P Q : Type 0) (r : Result T E) → (P → Q) → OnOk r P → OnOk r Q
 ok_map P Q (Ok x) f h = f h
 ok_map P Q (Err x) f h = tt

@@ -3,11 +3,9 @@ use Rattle.std.proofs.Common.{◌≡◌, ◌≢◌, ◌⊎◌, inl, inr, true, f
 use Rattle.std.proofs.lemmas.Bool.Decides.{eqb_tells}
 use Rattle.shard_queue.specs.At.{set_at}
 use Rattle.shard_queue.proofs.AtLaws.{at_cases}
-use Rattle.world.specs.World.{Config, World, Event, Step, Steps, IsWorld, empty_world}
-use Rattle.world.proofs.Always.{steps_join, always}
-use Rattle.delivery_core.specs.DeliveryCore.{DeliveryCore}
-use Rattle.delivery_core.specs.Stands.{EachAt, StandsFor, IsNext, Reached, Follows}
-use Rattle.delivery_core.specs.inner.Stands.{Lives}
+use Rattle.world.specs.World.{Config, World, Event, Step, empty_world}
+use Rattle.world.proofs.Always.{steps_join}
+use Rattle.delivery_core.specs.Stands.{EachAt, IsNext, Reached}
 use Rattle.delivery_token.specs.declared.CopyKey.{CopyKey}
 
 -- an element is changed, and what is said of its position holds of it
@@ -58,13 +56,6 @@ pub next_same : (w v : World) (ys : List CopyKey) → ((t p : ℕ) → (v.lane t
 next_same w v ys sent heard all p d l =
     let n : IsNext w p (get_or ys p d) = all p d l in
     record { own = n.own; sent = λ t. rw (sent t p) (n.sent t); heard = rw (heard p) n.heard }
-
--- a call that follows some events lives on under the law
-pub lives : (k : Config) (a b : DeliveryCore) (es : List Event) → Follows k a es b → Lives k a b
-lives k a b es f events w world S =
-    let more : (v : World) × Steps k w es v × StandsFor k b v = f w S in
-    let whole : IsWorld k (events ++ es) more.0 = steps_join k empty_world events w es more.0 world more.1 in
-    (es, more.0, whole, more.2, always k (events ++ es) more.0 whole)
 
 pub each_push : {A : Type 0} (P : ℕ → A → Type 0) (xs : List A) (x : A) → EachAt P xs → P (length xs) x → EachAt P (xs ++ x ∷ [])
 each_push P [] x all here zero d l = here

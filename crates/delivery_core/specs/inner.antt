@@ -2,4 +2,3 @@ pub mod Boxes
 pub mod Clients
 pub mod DeliveryCore
 pub mod Puts
-pub mod Stands

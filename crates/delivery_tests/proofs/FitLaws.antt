@@ -1,8 +1,8 @@
 -- Changes that were looked at one by one may be shown to a client: no UID comes again, and each is of a message that is there.
-use Rattle.std.proofs.Common.{◌≡◌, ℕ, zero, suc, ◌<◌, Bool, true, false, ◌==◌, List, [], ◌∷◌, ◌++◌, length, get_or, sym, subst, ap, ◌∙◌, refl, arith, append_assoc}
+use Rattle.std.proofs.Common.{◌≡◌, ℕ, zero, suc, ◌<◌, Bool, true, false, ◌==◌, List, [], ◌∷◌, ◌++◌, length, get_or, sym, ap, ◌∙◌, refl, arith, append_assoc}
 use Rattle.std.specs.Prelude.{remove, if◌then◌else◌}
 use Rattle.change_ring.specs.declared.change.Change.{Change}
-use Rattle.change_ring.specs.Log.{FitsView, Names, added, shown, without}
+use Rattle.change_ring.specs.Log.{added, without}
 use Rattle.change_ring.proofs.LogLaws.{added-append}
 
 step : (b : Bool) (u : ℕ) (uids rest : List ℕ) → b ≡ false → u ∷ rest ≡ (if b then uids else u ∷ rest)
@@ -22,11 +22,6 @@ removed_first uid (u ∷ uids) (suc i) l e f =
     ∙ step (u == uid) u uids (without uid uids) (f 0 (omega arith))
 
 module _ (x : Change) (all rest : List Change) (split : all ≡ x ∷ rest) where
-  -- one change more was looked at
-  pub fits_after : (view new uids : List ℕ) (changes : List Change) → Names view x → new ≡ shown view x → (FitsView view all → FitsView uids changes) → FitsView new rest → FitsView uids changes
-  fits_after view new uids changes names now was h =
-      was (subst (FitsView view) (sym split) (names, subst (λ (v : List ℕ). FitsView v rest) now h))
-
   -- its UID was noted, if it adds one
   pub added_after : (seen new whole : List ℕ) → new ≡ seen ++ added (x ∷ []) → seen ++ added all ≡ whole → new ++ added rest ≡ whole
   added_after seen new whole now was =

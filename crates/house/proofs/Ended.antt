@@ -1,8 +1,7 @@
 -- Ends of seats, and who stands at a seat.
-use Rattle.std.proofs.Common.{◌≡◌, ℕ, if◌then◌else◌, ◌+◌, ◌-◌, ◌<◌, inl, inr, ◌++◌, Option, None, Some, Bool, true, false, List, [], ◌∷◌, length, refl, ap, sym, ◌∙◌, subst, arith, get_or}
-use Rattle.std.specs.Prelude.{◌↔◌, IsTrue, nat_lt}
+use Rattle.std.proofs.Common.{◌≡◌, ℕ, if◌then◌else◌, ◌+◌, ◌-◌, ◌<◌, ◌++◌, Option, None, Some, Bool, true, false, List, [], ◌∷◌, length, refl, ap, sym, ◌∙◌, subst, arith, get_or}
+use Rattle.std.specs.Prelude.{nat_lt}
 use Rattle.std.specs.Option.{is_some}
-use Rattle.std.proofs.lemmas.Bool.{cases_lt}
 use Rattle.std.proofs.lemmas.Bool.Decides.{nat_tests}
 use Rattle.world.specs.World.{Config}
 use Rattle.delivery_core.specs.DeliveryCore.{DeliveryCore}
@@ -19,7 +18,7 @@ use Rattle.house_session.specs.SeatedSession.{SeatedSession}
 use Rattle.house.specs.Scene.{Moves, Scene, with_world}
 use Rattle.house.specs.Stands.{StandsFor, StandsForOne, StandsForVisit}
 use Rattle.house_connection.specs.Taking.{due}
-use Rattle.house.specs.Steps.{IsNoNumber, due_at, due_by, due_of, is_taken}
+use Rattle.house.specs.Steps.{due_at, due_by, due_of, is_taken}
 use Rattle.house.proofs.Worldly.{moves}
 
 -- nobody stands at this seat, neither a connection nor a session
@@ -65,12 +64,6 @@ pub data Whose (h : House) (seat : ℕ) : Type 0 where
   of_connection : seat < length h.callers → Whose h seat
   of_session : (place : ℕ) → place < length h.visitors → seat ≡ length h.callers + place → Whose h seat
 
-pub whose : (h : House) (seat : ℕ) → seat < length h.callers + length h.visitors → Whose h seat
-whose h seat l = elim (cases_lt seat (length h.callers)) [
-  | inl a ↦ of_connection a
-  | inr a ↦ of_session (seat - length h.callers) (omega (arith, a, l)) (omega (arith, a))
-]
-
 not_some : {A : Type 0} (o : Option A) → is_some o ≡ false → o ≡ None
 not_some None e = refl
 not_some (Some x) e = absurd (let f : true ≡ false = e in cc)
@@ -82,12 +75,6 @@ taken_behind : (h : House) (seat place : ℕ) → seat ≡ length h.callers + pl
 taken_behind h seat place e =
     ap (λ (b : Bool). if b then is_some (get_or h.callers seat None) else is_some (get_or h.visitors (seat - length h.callers) None)) (let f : nat_lt seat (length h.callers) ≡ false = grind (arith, nat_tests, e) in f)
     ∙ ap (λ (n : ℕ). is_some (get_or h.visitors n None)) (let x : seat - length h.callers ≡ place = omega (arith, e) in x)
-
-pub same_as : {P Q R : Type 0} → P ↔ Q → Q ↔ R → P ↔ R
-same_as a b = (λ p. b.0 (a.0 p), λ r. a.1 (b.1 r))
-
-pub is_number : (h : House) (n : ℕ) (b : Bool) → (IsTrue b) ↔ IsNoNumber h n → b ≡ false → IsNoNumber h n → ⊥
-is_number h n b iff e none = let t : b ≡ true = iff.1 none in let f : true ≡ false = sym t ∙ e in cc
 
 -- what is due at a seat
 pub due_first : (h : House) (seat : ℕ) (g : HouseConnection) → seat < length h.callers → get_or h.callers seat None ≡ Some g → due_at h seat ≡ due g

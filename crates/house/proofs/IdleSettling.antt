@@ -20,9 +20,6 @@ use Rattle.house.proofs.Settlement.{All-one, Often, joined, led_or_not, often_ha
 abbrev pub Turns : ℕ → House → List ℕ → House → List ℕ → Type 0
 Turns n h o h1 o1 = Goes (λ k. IsAmong k (Idle n)) (λ k s t printed. Often k (Idle n ∷ []) s t printed) h o h1 o1
 
-pub no_turn : (n : ℕ) (h : House) (o : List ℕ) → Turns n h o h o
-no_turn n h o k s q st = record { after = s; printed = []; goes = (0, (refl, refl)); stands = st; out = sym (append-nil o) }
-
 pub turn_again : (n : ℕ) (h : House) (o : List ℕ) (h1 : House) (o1 : List ℕ) (h2 : House) (o2 : List ℕ) → Turns n h o h1 o1 → Follows h1 (Idle n) h2 o1 o2 → Turns n h o h2 o2
 turn_again n h o h1 o1 h2 o2 f g k s q st =
     let w = f k s q st in
@@ -57,9 +54,6 @@ turns_want n h o h1 o1 h2 o2 f g = record {
 -- the turns of the first sessions, of so many
 abbrev pub FirstTurns : (count : ℕ) → (first : ℕ) → House → List ℕ → House → List ℕ → Type 0
 FirstTurns count first h o h1 o1 = Goes (λ k. k.config.sessions ≡ count) (λ k s t printed. Stints k (idle_turns first) s t printed) h o h1 o1
-
-pub no_session : (count : ℕ) (h : House) (o : List ℕ) → FirstTurns count 0 h o h o
-no_session count h o k s q st = record { after = s; printed = []; goes = (refl, refl); stands = st; out = sym (append-nil o) }
 
 among : (k : Setup) (count n : ℕ) → n < count → k.config.sessions ≡ count → IsAmong k (Idle (n + 1))
 among k count n l e = (omega arith, omega (arith, l, e))

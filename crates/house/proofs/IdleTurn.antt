@@ -73,10 +73,6 @@ in_mailbox s now (Expunged view changes gone ∷ more) t e = cc
 in_mailbox s now (Left gone ∷ more) t e = cc
 in_mailbox s now (Starved n ∷ more) t e = cc
 
-in_none : (idling : Bool) (now : Standing) (answers : List Answer) (t : Turn) → idle_turn_in None idling now answers ≡ Some t → (answers ≡ []) × (t ≡ nothing_more afters.Idle now)
-in_none idling now [] t e = (refl, sym (some_is _ t e))
-in_none idling now (a ∷ more) t e = cc
-
 chosen : (o : Option Chosen) → IsSome o → (s : Chosen) × (o ≡ Some s)
 chosen None h = cc
 chosen (Some s) h = (s, refl)

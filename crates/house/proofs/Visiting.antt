@@ -105,10 +105,6 @@ parted k number next heard b old mid new answer w p before after some at stands 
 
 -- ---- one that may be gone
 
-gone_is : (seat : ℕ) (next : CopyKey) (heard : List Noted) (o : Option SeatedSession) (p : SeatedSession) (b : SeatedVisitor) → o ≡ Some p → StandsForSomebody seat next heard o (Some b) → b.gone ≡ p.gone
-gone_is seat next heard None p b e s = absurd s
-gone_is seat next heard (Some q) p b e s = sym s.gone ∙ (let f : q ≡ p = cc in ap (λ (x : SeatedSession). x.gone) f)
-
 -- one that talks went on
 pub visited_there : (k : Setup) (whole : Bool) (place : ℕ) (next : CopyKey) (heard : List Noted) (w : World) (b : SeatedVisitor) (p : Option SeatedSession) (new : DeliveryCore) (before after : List ℕ) → b.gone ≡ false → PlaceTalked k whole place next heard w b p new before after
     → PlaceVisited k whole place next heard w b p new before after

@@ -9,14 +9,6 @@ use Rattle.envelope.specs.Bytes.{is_not_slash}
 use Rattle.envelope.specs.Grammar.{Many}
 use Rattle.imap_answers.specs.Answers.{Glob, end, any, level, same, some_rest, after_byte, matches, is_listed, name_answer, listed, asks_for_root, root_answer, list_answer}
 
--- ---- one byte of a pattern
-
-at_end : (s t : Bool) (p : ℕ) (test : List ℕ → Bool)
-    → cond s (some_rest (λ b. true) test []) (cond t (some_rest is_not_slash test []) (after_byte p test [])) ≡ ((s || t) && test [])
-at_end true t p test = refl
-at_end false true p test = refl
-at_end false false p test = refl
-
 -- ---- the relation and its test
 
 class_rest : (class : ℕ → Bool) (test : List ℕ → Bool) (front rest : List ℕ) → Many class front → test rest ≡ true → some_rest class test (front ++ rest) ≡ true

@@ -180,18 +180,6 @@ in_length (e ∷ es) (r ∷ rs) h = ap suc (in_length es rs h.1)
 
 -- ---- actors that are taken one by one, and what they leave
 
--- the first hand of those that are left
-pub first_hand : (qs : List (ReplyChannel Noted)) (k : ℕ) (hands rest : List (List (SenderPermit Noted))) (h : List (SenderPermit Noted)) → hands ≡ h ∷ rest → AreSenderHands qs k hands
-    → (AreSenders qs k h × All (λ s. sent_on s ≡ []) h) × AreSenderHands qs (suc k) rest
-first_hand qs k hands rest h e are = subst (AreSenderHands qs k) e are
-
--- one more sender's ended permits
-pub ended_hands_next : (qs : List (ReplyChannel Noted)) (k n : ℕ) (hs : List (List (SenderEnded Noted))) (h : List (SenderEnded Noted)) → AreSenderEndedHands qs k hs → n ≡ k + length hs → AreSendersEnded qs n h → AreSenderEndedHands qs k (hs ++ h ∷ [])
-ended_hands_next qs k n [] h are e is =
-    let same : n ≡ k = omega (arith, e) in
-    (subst (λ i. AreSendersEnded qs i h) same is, tt)
-ended_hands_next qs k n (x ∷ hs) h are e is = (are.0, ended_hands_next qs (suc k) n hs h are.1 (omega (arith, e)) is)
-
 pub ended_hand_length : (qs : List (ReplyChannel Noted)) (p : ℕ) (es : List (SenderEnded Noted)) → AreSendersEnded qs p es → length es ≡ length qs
 ended_hand_length [] p [] h = refl
 ended_hand_length [] p (e ∷ es) h = absurd h

@@ -1,9 +1,8 @@
 -- Which shards are marked before which connection.
-use Rattle.std.proofs.Common.{◌≡◌, ℕ, zero, suc, ◌+◌, ◌<◌, ◌∙◌, ◌⊎◌, inl, inr, ◌≢◌, eqb, Bool, true, false, List, [], ◌∷◌, length, refl, ap, sym, subst, arith, take, slice_index_or, slice_set, ◌==◌, ◌&&◌, ◌||◌}
+use Rattle.std.proofs.Common.{◌≡◌, ℕ, zero, suc, ◌+◌, ◌∙◌, Bool, true, false, List, [], ◌∷◌, length, refl, ap, sym, subst, arith, take, ◌==◌, ◌&&◌, ◌||◌}
 use Rattle.std.specs.Prelude.{nat_lt, nat_le}
 use Rattle.std.specs.List.{list_any}
-use Rattle.std.proofs.lemmas.Bool.Decides.{eqb_tells, nat_tests}
-use Rattle.std.proofs.lemmas.List.{get_or-set_same, get_or-set_other}
+use Rattle.std.proofs.lemmas.Bool.Decides.{nat_tests}
 use Rattle.envelope.specs.Directory.{Directory, is_shut, marked}
 use Rattle.lane_work.specs.declared.desk.Closing.{Closing}
 use Rattle.lane_work.specs.Account.{IsMarkedBy, is_closed_by}
@@ -80,28 +79,6 @@ marked_next closings i house old new was now =
     }
 
 -- ---- one after another
-
--- one more closing was looked at: where it is for this connection its shard was marked
-any_next : (i shard : ℕ) (cs : List Closing) (k : ℕ) (c : Closing) → k < length cs → c ≡ slice_index_or cs k c
-    → list_any (is_closed_at i shard) (take (k + 1) cs) ≡ (list_any (is_closed_at i shard) (take k cs) || is_closed_at i shard c)
-any_next i shard [] k c under is = absurd (omega arith)
-any_next i shard (x ∷ cs) zero c under is = or_none (is_closed_at i shard x) ∙ ap (is_closed_at i shard) (sym is)
-any_next i shard (x ∷ cs) (suc k) c under is =
-    let e : suc k + 1 ≡ suc (k + 1) = omega arith in
-    ap (λ n. list_any (is_closed_at i shard) (take n (x ∷ cs))) e
-    ∙ ap (λ b. is_closed_at i shard x || b) (any_next i shard cs k c (omega arith) is)
-    ∙ sym (or_assoc (is_closed_at i shard x) (list_any (is_closed_at i shard) (take k cs)) (is_closed_at i shard c))
-
-one_marked : (d : Directory) (s shard : ℕ) → s < length d.shut → is_shut (marked (slice_set d.shut s true) d) shard ≡ (is_shut d shard || (s == shard))
-one_marked d s shard under = go (eqb_tells s shard) where
-  or_true : (b : Bool) → true ≡ (b || true)
-  or_true true = refl
-  or_true false = refl
-
-  go : ((eqb s shard ≡ true) × (s ≡ shard)) ⊎ ((eqb s shard ≡ false) × (s ≢ shard)) → slice_index_or (slice_set d.shut s true) shard false ≡ (slice_index_or d.shut shard false || (s == shard))
-  go (inl (is, here)) =
-      ap (λ n. slice_index_or (slice_set d.shut s true) n false) (sym here) ∙ get_or-set_same d.shut s true false under ∙ or_true (slice_index_or d.shut shard false) ∙ ap (λ b. slice_index_or d.shut shard false || b) (sym is)
-  go (inr (is, there)) = get_or-set_other d.shut s shard true false (λ same. there (sym same)) ∙ sym (or_none (slice_index_or d.shut shard false)) ∙ ap (λ b. slice_index_or d.shut shard false || b) (sym is)
 
 pub none_marked : (i : ℕ) (d : Directory) → Marks i [] d d
 none_marked i d = (refl, refl, λ shard within. sym (or_none (is_shut d shard)))

@@ -305,9 +305,6 @@ nil_front : {X : Type 0} → (xs ys : List X) → xs ++ ys ≡ [] → xs ≡ []
 nil_front [] ys e = refl
 nil_front (x ∷ xs) ys e = absurd (let k : x ∷ (xs ++ ys) ≡ [] = e in cc)
 
-lines_of : List (List ℕ) → List Event
-lines_of ls = map Line ls
-
 heard_lines : (ls : List (List ℕ)) → Heard ls (map Line ls)
 heard_lines [] = none
 heard_lines (l ∷ ls) = line l (heard_lines ls)

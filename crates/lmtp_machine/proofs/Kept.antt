@@ -24,7 +24,7 @@ use Rattle.lmtp_machine.specs.Message.{outcome, plain, sender_text}
 use Rattle.lmtp_machine.specs.Dialogue.{Phase, Start, Ready, Transaction, Data, Waiting, Ended, Standing, Setting, Submission, Event, Opened, Line, Starved, Answered, Shut, Turn, turn, dialogue, fresh, last_number, keys_from, cleared, is_dot, on_event, on_mail, on_recipient, on_rcpt, on_data, on_command, on_reading, on_command_line, on_outcome, at_end, on_data_line, on_line, on_starved, on_verdicts, fault_reply}
 use Rattle.lmtp_machine.specs.Conversation.{Conversation, Leads}
 use Rattle.lmtp_machine.specs.inner.Calls.{Taken}
-use Rattle.lmtp_machine.specs.Kept.{IsKeptAt, Kept, AreMessages, Numbered, KeptAfter}
+use Rattle.lmtp_machine.specs.Kept.{IsKeptAt, Kept, AreMessages, KeptAfter}
 
 -- ---- a look-up finds a mailbox of the directory
 
@@ -274,9 +274,3 @@ pub taken_keeps : (S : Conversation → Type 0) (setting : Setting) (host : List
     → Kept (length directory.homes) before.standing → (t : Taken S setting host directory before bytes old new what pending) → KeptAfter setting (length directory.homes) before.standing pending t.after.standing
 taken_keeps S setting host directory before bytes old new what pending h t =
     subst (λ (ss : List Submission). KeptAfter setting (length directory.homes) before.standing ss t.after.standing) (sym t.submits) (leads_keeps setting directory before bytes t.turn t.after t.leads h)
-
--- where no message was submitted
-pub none_numbered : (setting : Setting) (directory : Directory) (before after : Standing) (pending : List Submission) → pending ≡ [] → Numbered setting (length directory.homes) before pending after
-    → after.submitted ≡ before.submitted
-none_numbered setting directory before after pending e n =
-    let k : before.submitted ≡ after.submitted = subst (λ (ss : List Submission). AreMessages setting (length directory.homes) before.submitted ss after.submitted) e n.are in sym k

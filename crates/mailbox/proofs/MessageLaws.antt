@@ -24,14 +24,6 @@ eqb_above a b l = elim (eqb_tells a b) [
 
 -- ---- the message of a UID
 
--- it has the UID
-pub with_uid : (uid : ℕ) (ms : List Message) (x : Message) → message_with uid ms ≡ Some x → x.uid ≡ uid
-with_uid uid [] x e = cc
-with_uid uid (m ∷ ms) x e = elim (eqb_tells m.uid uid) [
-  | inl t ↦ let e = rw t.0 at e in ap (λ (y : Message). y.uid) (sym (same_some e)) ∙ t.1
-  | inr t ↦ let e = rw t.0 at e in with_uid uid ms x e
-]
-
 -- the view has it
 pub with_contains : (uid : ℕ) (ms : List Message) (x : Message) → message_with uid ms ≡ Some x → Contains (uids_of ms) uid
 with_contains uid [] x e = cc

@@ -94,12 +94,6 @@ on_some : (P : Open → Type 0) (x : Option Open) (o : Open) → x ≡ Some o �
 on_some P (Some y) o e h = subst P (same_open e) h
 on_some P None o e h = cc
 
-back_stranger : (r : Result ℕ FeedFault) → answer_of r ≡ Err Stranger → r ≡ Err lapse.Stranger
-back_stranger (Ok n) e = cc
-back_stranger (Err lapse.Stranger) e = refl
-back_stranger (Err lapse.Lapped) e = cc
-back_stranger (Err lapse.NoMemory) e = cc
-
 -- as many were shown as the call answers
 fed_length : (w : Window) (at n limit : ℕ) → w.base ≤ at → n ≡ min limit (total w - at) → length (next_changes w at n) ≡ n
 fed_length w at n limit low count = omega (arith, length-take n (changes_from at w), length-drop (at - w.base) w.changes, count, low)

@@ -30,10 +30,6 @@ in_of_contains {A} x xs c = All-contains (λ y. IsIn y xs) xs x (all_of_every (�
     itself [] = tt
     itself (y ∷ ys) = (inl refl, every_weaker (λ z. IsIn z ys) (λ z. IsIn z (y ∷ ys)) (λ z i. inr i) ys (itself ys))
 
-every_both : {A : Type 0} (P Q : A → Type 0) (xs : List A) → Every P xs → Every Q xs → Every (λ x. P x × Q x) xs
-every_both P Q [] h k = tt
-every_both P Q (x ∷ xs) h k = ((h.0, k.0), every_both P Q xs h.1 k.1)
-
 every_front : {A : Type 0} (P : A → Type 0) (xs ys : List A) → Every P (xs ++ ys) → Every P xs
 every_front P [] ys h = tt
 every_front P (x ∷ xs) ys h = (h.0, every_front P xs ys h.1)

@@ -4,7 +4,7 @@ use Rattle.imap_connection.proofs.Carried.{Carries}
 use Rattle.imap_session.specs.Exchange.{Event}
 use Rattle.imap_session.specs.Store.{Met}
 use Rattle.world.specs.World.{Config, World}
-use Rattle.delivery_core.specs.Changes.{SameCounts, SameDelivery}
+use Rattle.delivery_core.specs.Changes.{SameDelivery}
 use Rattle.delivery_core.specs.DeliveryCore.{DeliveryCore}
 use Rattle.delivery_core.specs.Stands.{StandsFor}
 use Rattle.session_store.specs.declared.core_store.CoreStore.{CoreStore}
@@ -31,17 +31,6 @@ delivery_then a b c p q = record {
   replies = q.replies ∙ p.replies;
   heard = q.heard ∙ p.heard;
   next = q.next ∙ p.next;
-}
-
-counts_then : (a b c : DeliveryCore) → SameCounts a b → SameCounts b c → SameCounts a c
-counts_then a b c p q = record {
-  lanes = q.lanes ∙ p.lanes;
-  hands = q.hands ∙ p.hands;
-  replies = q.replies ∙ p.replies;
-  heard = q.heard ∙ p.heard;
-  boxes = q.boxes ∙ p.boxes;
-  next = q.next ∙ p.next;
-  clients = q.clients ∙ p.clients;
 }
 
 pub met_delivery : (old new : CoreStore) (events : List Event) → Met Serves old events new → SameDelivery old.core new.core

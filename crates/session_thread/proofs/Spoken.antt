@@ -8,8 +8,7 @@ use Rattle.courier.specs.Carried.{Carried}
 use Rattle.courier.specs.declared.Lost.{Lost}
 use Rattle.courier.specs.declared.Lost.TheVariants as lost
 use Rattle.imap_session.specs.declared.standing.After.{After}
-use Rattle.imap_session.specs.declared.standing.After.TheVariants.{Bye, Go, Submit}
-use Rattle.imap_session.specs.declared.standing.After.TheVariants as afters
+use Rattle.imap_session.specs.declared.standing.After.TheVariants.{Bye, Submit}
 use Rattle.imap_session.specs.declared.standing.Append.{Append}
 use Rattle.imap_session.specs.Exchange.{Appending, Sent, Standing, kept_tag, may_send, waits_begun, waits_idling, waits_sent}
 use Rattle.imap_session.specs.Store.{AnswersVerdict}
@@ -44,17 +43,6 @@ follows false None (Some a) idling going unsent = refl
 -- one that has not ended, and awaits no verdict, takes more
 pub takes_more_now : (now : Standing) → now.ended ≡ false → now.mailing.sent ≡ None → takes_more now ≡ true
 takes_more_now now going unsent = follows now.ended now.mailing.sent now.mailing.begun now.idling going unsent
-
-submits : (ended : Bool) (sent : Option Sent) (begun : Option Appending) (idling : Option (List ℕ)) → sends ended sent begun idling ≡ Submit → (ended ≡ false) × ((s : Sent) × (sent ≡ Some s))
-submits true sent begun idling is = absurd (let x : Bye ≡ Submit = is in cc)
-submits false (Some s) begun idling is = (refl, (s, refl))
-submits false None None None is = absurd (let x : Go ≡ Submit = is in cc)
-submits false None None (Some tag) is = absurd (let x : afters.Idle ≡ Submit = is in cc)
-submits false None (Some a) idling is = absurd (let x : afters.Literal a.due ≡ Submit = is in cc)
-
--- one that waits for a verdict has not ended, and submitted a message
-pub submitted : (now : Standing) → may_send now ≡ Submit → (now.ended ≡ false) × ((s : Sent) × (now.mailing.sent ≡ Some s))
-submitted now is = submits now.ended now.mailing.sent now.mailing.begun now.idling is
 
 stops : (ended : Bool) (sent : Option Sent) (begun : Option Appending) (idling : Option (List ℕ)) → sends ended sent begun idling ≢ Submit → (may_follow (sends ended sent begun idling) ≡ true) ⊎ (ended ≡ true)
 stops true sent begun idling not = inr refl

@@ -3,9 +3,8 @@ use Rattle.std.proofs.Common.{None, ◌≡◌, ◌≢◌, ◌⊎◌, inl, inr, �
 use native.Mathlib.Decide.{ℕ_discrete, dec_le}
 use Rattle.std.specs.List.{list_any}
 use Rattle.std.proofs.lemmas.List.{map-append}
-use Rattle.std.proofs.lemmas.Bool.{eq-eqb}
 use Rattle.std.proofs.lemmas.Bool.Decides.{eqb_tells}
-use Rattle.std.proofs.lemmas.List.Folds.{Any-from_list_any, list_any_at}
+use Rattle.std.proofs.lemmas.List.Folds.{Any-from_list_any}
 use Rattle.std.proofs.Math.ListN.{get_or-append}
 use Rattle.std.proofs.Math.Seq.{get_or-set_other}
 use Rattle.crossbeam_queue.specs.Fifo.{Merges}
@@ -147,9 +146,6 @@ module _ {S : Type 0} (number : S → ℕ) where
       same : {i : ℕ} → ((eqb i p ≡ true) × (i ≡ p)) ⊎ ((eqb i p ≡ false) × (i ≢ p)) → eqb i p ≡ true → i ≡ p
       same (inl (t, e)) k = e
       same (inr (t, e)) k = absurd (true≢false (sym k ∙ t))
-
-  pub none_numbered : (p : ℕ) (xs : List S) → list_any (λ x. number x == p) xs ≡ false → All (λ x. number x ≢ p) xs
-  none_numbered p xs h k d less same = true≢false (sym (list_any_at (λ x. number x == p) xs k d less (eq-eqb (number (slice_index_or xs k d)) p same)) ∙ h)
 
   pub one_more_number : (permits more : List S) (s : S) (n : ℕ) → map number permits ≡ numbers 0 n → number s ≡ n → more ≡ permits ++ s ∷ [] → map number more ≡ numbers 0 (n + 1)
   one_more_number permits more s n h is new =
