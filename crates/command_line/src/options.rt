@@ -192,8 +192,14 @@ fn name_helps(alloc: Global) -> Result<Vec<String>, AllocError>
     ensures { IfOk result (λ helps. length helps.items ≡ 2) }
 {
     let mut helps = Vec::new(alloc);
-    helps.push(format!(in alloc; "The name that the house greets with: {} where it is not given", HOST)?)?;
-    helps.push(format!(in alloc; "The domain that mail comes for: {} where it is not given", DOMAIN)?)?;
+    helps.push(format!(in alloc;
+        "The name that the house greets with: {} where it is not given",
+        HOST
+    )?)?;
+    helps.push(format!(in alloc;
+        "The domain that mail comes for: {} where it is not given",
+        DOMAIN
+    )?)?;
     Ok(helps)
 }
 

@@ -23,7 +23,9 @@ ghost use Rattle.mailbox.specs.Mailbox.{Mailbox, SameMailbox};
 use crate::client::Client;
 use crate::make::{empty_hands, first_keys, new_boxes, new_lanes, new_logs, no_clients};
 use change_ring::{Change, Flags};
-use delivery_token::{CopyKey, Job, Noted, REPLY_ROOM, Refusal, Text, Verdict, WorkerLog, precedes};
+use delivery_token::{
+    CopyKey, Job, Noted, REPLY_ROOM, Refusal, Text, Verdict, WorkerLog, precedes,
+};
 use mailbox::{Limits, Mailbox, Receipt};
 use shard_queue::{PlainLane, Taken};
 use std::alloc::{AllocError, Global};
@@ -177,6 +179,7 @@ pub struct Settings {
     /// So many sessions may have entered a mailbox at a time, each at a place of its own.
     pub sessions: usize,
 }
+
 impl DeliveryCore {
     /// At the start of all: nothing was put, and the mailboxes are empty. An error where memory is
     /// refused.

@@ -4,15 +4,15 @@
 #![tactic(auto)]
 
 mod abandoning;
+mod balancing;
 mod close;
 mod gather;
 mod remains;
-mod balancing;
 mod shelves;
 
 pub use abandoning::abandon;
+pub use balancing::{Books, Closes, Closings, Gathered, balance, close_queues, gather_all};
 pub use close::{close_all_channels, close_all_lanes};
 pub use gather::{Fault, FromConsumers, FromWorkers};
 pub use remains::{Remains, remains_of};
-pub use balancing::{Books, Closes, Closings, Gathered, close_queues, gather_all, balance};
 pub use shelves::{Shelves, take_out};

@@ -16,7 +16,7 @@ use envelope::Directory;
 use house_floor::{Baskets, Floor};
 use house_threads::Ran;
 use mailbox::Mailbox;
-use reckoning::{Books, Fault, Remains, Shelves, remains_of, balance, take_out};
+use reckoning::{Books, Fault, Remains, Shelves, balance, remains_of, take_out};
 use std::alloc::{AllocError, Global};
 use std::sync::Mutex;
 
