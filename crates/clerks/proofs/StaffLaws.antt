@@ -1,5 +1,5 @@
 -- Clerks in a row.
-use Rattle.std.proofs.Common.{◌≡◌, ◌≢◌, ◌⊎◌, inl, inr, ◌<◌, ◌+◌, ◌++◌, ℕ, suc, Bool, true, false, ◌&&◌, eqb, sym, subst, List, [], ◌∷◌, All, length, drop, map, slice_get, slice_index_or, Some, zero, ap, refl, arith}
+use Rattle.std.proofs.Common.{◌≡◌, ◌≢◌, ◌⊎◌, inl, inr, ◌<◌, ◌+◌, ◌++◌, ℕ, suc, Bool, true, false, ◌&&◌, eqb, sym, subst, List, [], ◌∷◌, All, length, drop, map, slice_get, Some, zero, ap, refl, arith}
 use Rattle.std.proofs.lemmas.Bool.Decides.{eqb_tells}
 use Rattle.std.proofs.lemmas.List.Elements.{All-append}
 use Rattle.delivery_token.specs.declared.Job.{Job}
@@ -10,21 +10,6 @@ use Rattle.lane_work.specs.declared.consumer.Consumed.{Consumed}
 use Rattle.lane_work.specs.declared.consumer.Depot.{Depot}
 use Rattle.house_floor.specs.Crew.{AllAt}
 use Rattle.clerks.specs.Staff.{IsService}
-
-module _ {A : Type 0} (P : ℕ → A → Type 0) where
-  -- one more at the end
-  pub more_at : (n : ℕ) (xs new : List A) (x : A) (k : ℕ) → new ≡ xs ++ x ∷ [] → AllAt P n xs → k ≡ n + length xs → P k x → AllAt P n new
-  more_at n xs new x k is all at here = subst (AllAt P n) (sym is) (by_cases n xs all at) where
-    by_cases : (n : ℕ) (xs : List A) → AllAt P n xs → k ≡ n + length xs → AllAt P n (xs ++ x ∷ [])
-    by_cases n [] all at = (subst (λ i. P i x) (let e : k ≡ n = omega (arith, at) in e) here, tt)
-    by_cases n (y ∷ ys) all at = (all.0, by_cases (suc n) ys all.1 (omega (arith, at)))
-
-  -- the first is taken away
-  pub first_at : (n : ℕ) (xs rest : List A) (x : A) → 0 < length xs → x ≡ slice_index_or xs 0 x → rest ≡ drop 1 xs → AllAt P n xs → P n x × AllAt P (n + 1) rest
-  first_at n [] rest x some is less all = absurd (omega (arith, some))
-  first_at n (y ∷ ys) rest x some is less all =
-      let e : suc n ≡ n + 1 = omega arith in
-      (subst (P n) (sym is) all.0, subst (AllAt P (n + 1)) (sym less) (subst (λ i. AllAt P i ys) e all.1))
 
 -- one more that has a property
 pub one_more : {A : Type 0} (P : A → Type 0) (xs new : List A) (x : A) → new ≡ xs ++ x ∷ [] → All P xs → All P (x ∷ []) → All P new

@@ -1,5 +1,5 @@
 -- No message is counted twice: UIDs rise as they are given.
-use Rattle.std.proofs.Common.{◌≡◌, ◌⊎◌, inl, inr, eq-eqb, ℕ, suc, ◌+◌, ◌<◌, ◌≤◌, ◌==◌, Bool, true, false, List, [], ◌∷◌, ◌++◌, get_or, refl, sym, subst, ◌∙◌, arith, append_assoc, append-nil}
+use Rattle.std.proofs.Common.{◌≡◌, ◌⊎◌, inl, inr, eq-eqb, ℕ, suc, ◌≤◌, ◌==◌, Bool, true, false, List, [], ◌∷◌, ◌++◌, refl, sym, subst, ◌∙◌, arith, append_assoc, append-nil}
 use Rattle.std.specs.Prelude.{if◌then◌else◌}
 use Rattle.std.specs.List.Sorted.{IsStrictlyIncreasing}
 use Rattle.std.proofs.lemmas.Bool.{eqb-true, false≢true}
@@ -7,6 +7,7 @@ use Rattle.change_ring.specs.declared.change.Change.{Change}
 use Rattle.change_ring.specs.declared.change.Change.TheVariants.{Add, Gone, Flags as SetFlags}
 use Rattle.change_ring.specs.Log.{added, replay, without}
 use Rattle.change_ring.proofs.LogLaws.{added-append}
+use Rattle.imap_grammar.proofs.Rising.{RisesFrom, rises_behind}
 use Rattle.client_list.proofs.Each.{IsIn}
 
 -- no number is there twice
@@ -15,16 +16,6 @@ Distinct [] = Unit {0}
 Distinct (x ∷ xs) = (IsIn x xs → ⊥) × Distinct xs
 
 -- ---- numbers that rise
-
-abbrev RisesFrom : ℕ → List ℕ → Type 0
-RisesFrom a [] = Unit {0}
-RisesFrom a (x ∷ xs) = (a ≤ x) × RisesFrom (suc x) xs
-
-rises_behind : (x : ℕ) (xs : List ℕ) → IsStrictlyIncreasing (x ∷ xs) → RisesFrom (suc x) xs
-rises_behind x [] h = tt
-rises_behind x (y ∷ ys) h =
-    let first : x < y = h 0 (omega arith) in
-    (omega arith, rises_behind y ys (λ k within. let e : suc k + 1 ≡ suc (k + 1) = omega arith in subst (λ n. get_or (y ∷ ys) k 0 < get_or (x ∷ y ∷ ys) n 0) e (h (suc k) (omega arith))))
 
 at_least : (a x : ℕ) (xs : List ℕ) → RisesFrom a xs → IsIn x xs → a ≤ x
 at_least a x [] h is = absurd is

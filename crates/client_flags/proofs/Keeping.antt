@@ -1,10 +1,9 @@
 -- The clients of a house know flags.
-use Rattle.std.proofs.Common.{ℕ, List, [], ◌∷◌}
+use Rattle.std.proofs.Common.{ℕ, List, []}
 use Rattle.std.specs.Prelude.{None}
-use Rattle.house.specs.Scene.{Scene, empty_scene}
-use Rattle.house.specs.Setup.{Setup}
-use Rattle.exactly_once.specs.Promise.{IsRecord}
-use Rattle.script.specs.Promise.{AreParts, OfHouse, Part, Refusal, Window, entries_of}
+use Rattle.house.specs.Scene.{empty_scene}
+use Rattle.script.specs.Promise.{entries_of}
+use Rattle.script.proofs.Parts.{parts_record}
 use Rattle.client_records.specs.Clients.{hears_all}
 use Rattle.client_records.specs.Records.{first_standing, user_by_then}
 use Rattle.client_records.specs.Sizes.{HasShortTexts}
@@ -30,13 +29,6 @@ clients_know_flags k entries t place v printable is there read =
 
 pub clients_of_houses_know_flags : ClientsOfHousesKnowFlags
 clients_of_houses_know_flags k events t printed once place v printable there read = clients_know_flags k once.entries t place v printable once.leads there read
-
--- the house's entries among the parts of a script are a record
-parts_record : (k : Setup) (parts : List Part) (s t : Scene) → AreParts k parts s t → IsRecord k (entries_of parts) s t
-parts_record k [] s t h = h
-parts_record k (OfHouse entry ∷ parts) s t h = (h.0, parts_record k parts entry.after t h.1)
-parts_record k (Refusal number why ∷ parts) s t h = parts_record k parts s t h.1
-parts_record k (Window word box ∷ parts) s t h = parts_record k parts s t h.1
 
 pub clients_of_scripts_know_flags : ClientsOfScriptsKnowFlags
 clients_of_scripts_know_flags k count t printed once place v printable there read =

@@ -9,28 +9,14 @@ use Rattle.change_ring.specs.declared.change.Flags.{Flags}
 use Rattle.change_ring.specs.declared.flag_op.FlagOp.TheVariants.{Insert}
 use Rattle.imap_grammar.specs.Reading.{read}
 use Rattle.imap_session.specs.declared.standing.After.TheVariants.{Go}
-use Rattle.imap_session.specs.Exchange.{Alter, Altered, Enter as EnterCall, Entered, Fed, Feed as FeedCall, Look, Looked, Turn}
-use Rattle.imap_session.specs.Commands.{unlimited}
+use Rattle.imap_session.specs.Exchange.{Alter, Altered, Entered, Fed, Look, Looked, Turn}
 use Rattle.world.specs.World.{Box, Put, Take, Deliver, Answer as AnswerEvent, Hear, put_joins, takes, delivers, answers, hears_one, enters, mails}
 use Rattle.world.specs.First.{one_copy, one_reply}
 use Rattle.client_list.specs.Talks.{Line}
 use Rattle.client_records.specs.Lives.{comes, turns, others}
 use Rattle.client_records.specs.One.{one_last}
+use Rattle.client_records.proofs.OneLife.{box, selects, shows_it}
 use Rattle.client_flags.specs.One.{OneLifeKnowsFlags}
-
-abbrev box : Box
-box = record { log = Add 1 ∷ []; base = 0; accepted = (one_copy, 1) ∷ [] }
-
-selects : Turn
-selects = record {
-  events = record { call = EnterCall 0; answer = Entered (record { count = 0; uidvalidity = 1; uidnext = 1 }) } ∷ [];
-  bytes = codes "* FLAGS (\\Answered \\Flagged \\Deleted \\Seen \\Draft)\r\n* 0 EXISTS\r\n* OK [UIDVALIDITY 1] UIDs valid\r\n* OK [UIDNEXT 1] Predicted next UID\r\n* OK [PERMANENTFLAGS (\\Answered \\Flagged \\Deleted \\Seen \\Draft)] Flags kept\r\n* LIST () \"/\" INBOX\r\na1 OK [READ-WRITE] SELECT completed\r\n";
-  after = Go;
-  standing = one_last;
-}
-
-shows_it : Turn
-shows_it = record { events = record { call = FeedCall unlimited; answer = Fed [] (Add 1 ∷ []) } ∷ []; bytes = codes "* 1 EXISTS\r\na2 OK NOOP completed\r\n"; after = Go; standing = one_last }
 
 abbrev flagged : Flags
 flagged = record no_flags { flagged = true }

@@ -17,7 +17,7 @@ mod Entries
 pub mod Keeping
 mod Refuted
 mod Onward
-mod OneLife
+pub mod OneLife
 mod Dialogues
 mod Texts
 mod Mailed

@@ -14,10 +14,10 @@ use Rattle.client_list.specs.Talks.{Line}
 use Rattle.client_records.specs.Lives.{comes, turns, others}
 use Rattle.client_records.specs.One.{OneLifeIsLived, one_last}
 
-abbrev box : Box
+abbrev pub box : Box
 box = record { log = Add 1 ∷ []; base = 0; accepted = (one_copy, 1) ∷ [] }
 
-selects : Turn
+unfoldable pub selects : Turn
 selects = record {
   events = record { call = EnterCall 0; answer = Entered (record { count = 0; uidvalidity = 1; uidnext = 1 }) } ∷ [];
   bytes = codes "* FLAGS (\\Answered \\Flagged \\Deleted \\Seen \\Draft)\r\n* 0 EXISTS\r\n* OK [UIDVALIDITY 1] UIDs valid\r\n* OK [UIDNEXT 1] Predicted next UID\r\n* OK [PERMANENTFLAGS (\\Answered \\Flagged \\Deleted \\Seen \\Draft)] Flags kept\r\n* LIST () \"/\" INBOX\r\na1 OK [READ-WRITE] SELECT completed\r\n";
@@ -25,7 +25,7 @@ selects = record {
   standing = one_last;
 }
 
-shows_it : Turn
+unfoldable pub shows_it : Turn
 shows_it = record { events = record { call = FeedCall unlimited; answer = Fed [] (Add 1 ∷ []) } ∷ []; bytes = codes "* 1 EXISTS\r\na2 OK NOOP completed\r\n"; after = Go; standing = one_last }
 
 pub one_life_is_lived : OneLifeIsLived

@@ -1,4 +1,3 @@
-pub mod Positions
 pub mod Lives
 pub mod Leaving
 pub mod Attending

@@ -7,7 +7,7 @@ use Rattle.imap_grammar.specs.declared.set.SeqRange.{SeqRange}
 use Rattle.imap_grammar.specs.declared.view.Named.{Named}
 
 -- each number is above the one before, and the first is not below this
-abbrev RisesFrom : ℕ → List ℕ → Type 0
+abbrev pub RisesFrom : ℕ → List ℕ → Type 0
 RisesFrom a [] = Unit {0}
 RisesFrom a (x ∷ xs) = (a ≤ x) × RisesFrom (suc x) xs
 
@@ -15,7 +15,7 @@ lower : (a b : ℕ) (xs : List ℕ) → a ≤ b → RisesFrom b xs → RisesFrom
 lower a b [] le h = tt
 lower a b (x ∷ xs) le h = (omega (arith, h.0), h.1)
 
-rises_behind : (x : ℕ) (xs : List ℕ) → IsStrictlyIncreasing (x ∷ xs) → RisesFrom (suc x) xs
+pub rises_behind : (x : ℕ) (xs : List ℕ) → IsStrictlyIncreasing (x ∷ xs) → RisesFrom (suc x) xs
 rises_behind x [] h = tt
 rises_behind x (y ∷ ys) h =
     let first : x < y = h 0 (omega arith) in

@@ -113,7 +113,7 @@ none_left f (q ∷ qs) p (r ∷ rs) h all =
 
 -- ---- ended permits that are collected
 
-still_contains : {A : Type 0} (xs : List A) (x y : A) → Contains xs x → Contains (xs ++ y ∷ []) x
+pub still_contains : {A : Type 0} (xs : List A) (x y : A) → Contains xs x → Contains (xs ++ y ∷ []) x
 still_contains [] x y (k, under, is) = absurd (omega (arith, under))
 still_contains (z ∷ xs) x y (zero, under, is) = (0, omega arith, is)
 still_contains (z ∷ xs) x y (suc k, under, is) =

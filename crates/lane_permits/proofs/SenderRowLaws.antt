@@ -11,6 +11,7 @@ use Rattle.shard_queue.specs.Permits.{numbers}
 use Rattle.lane_work.specs.Permits.{AreSenders, AreSendersEnded}
 use Rattle.lane_permits.specs.rows.SenderRows.{AreSendersLeft, AreSenderHands, SenderRows, AreReceivers, SenderEndedRows, AreSendersIn, AllSendersIn, AreSenderEndedHands, KeepSenders}
 use Rattle.lane_permits.proofs.StepLaws.{StepTo, ahead}
+use Rattle.lane_permits.proofs.RowLaws.{still_contains}
 
 -- ---- channels that are made
 
@@ -98,13 +99,6 @@ none_left f (q ∷ qs) p (r ∷ rs) h all =
       empty (s ∷ ss) left e = absurd (let less = left.0 in omega (arith, less, e))
 
 -- ---- ended permits that are collected
-
-still_contains : {A : Type 0} (xs : List A) (x y : A) → Contains xs x → Contains (xs ++ y ∷ []) x
-still_contains [] x y (k, under, is) = absurd (omega (arith, under))
-still_contains (z ∷ xs) x y (zero, under, is) = (0, omega arith, is)
-still_contains (z ∷ xs) x y (suc k, under, is) =
-    let c = still_contains xs x y (k, (let u = under in omega (arith, u)), is) in
-    (suc c.0, (let u = c.1 in omega (arith, u)), c.2)
 
 pub are_in : {V : Type 0} (f : V → List (SenderEnded Noted)) (olds news : List V) (es : List (SenderEnded Noted)) → StepTo (λ o n e. f n ≡ f o ++ e ∷ []) (length olds) olds news es → AreSendersIn es (map f news)
 are_in f [] [] [] h = tt

@@ -5,8 +5,7 @@ use Rattle.delivery_token.specs.declared.Verdict.{Verdict}
 use Rattle.envelope.specs.Directory.{Directory, marked}
 use Rattle.lane_work.specs.Account.{setting_at}
 use Rattle.lane_work.specs.Talk.{Judged}
-use Rattle.line_io.specs.Wire.{joined, wire_lines, wire_rest}
-use Rattle.line_io.specs.inner.WireLaws.{reading_cut, wire_join, wire_joined}
+use Rattle.line_io.specs.Wire.{wire_lines, wire_rest}
 use Rattle.lmtp_machine.specs.declared.reply.Reply.{Reply}
 use Rattle.lmtp_machine.specs.declared.reply.Reply.TheVariants.{Greeting}
 use Rattle.lmtp_machine.specs.Conversation.{MayHear}
@@ -20,6 +19,7 @@ use Rattle.relay_replies.specs.Handed.{handed_over}
 use Rattle.relay_replies.specs.Fates.{MayHappen, answers_of, lines_of}
 use Rattle.relay_replies.specs.Moments.{Moment, EachMomentMayHappen, dialogue_over, events_of}
 use Rattle.relay_replies.specs.Conclusions.{MayForget, RelaysMayForgetWhileShardsAreShut}
+use Rattle.relay_replies.proofs.Fronts.{lines_of_front}
 use Rattle.relay_accounts.specs.Laws.{ConnectionsAreKnown}
 
 -- ---- the same lines and answers
@@ -78,18 +78,6 @@ woven_may told setting directory shut {s = s} {last = last} (submits {lines = li
     submits l event message verdicts is may one many h in
     let awaited = (told setting (marked shut directory) s last _ _ _ all).awaited (event ∷ []) verdicts events refl in
     (may_happen s.phase event may, (awaited, woven_may told setting directory shut h))
-
--- ---- bytes
-
--- the lines of a front are the first of all lines
-lines_of_front : (front back : List ℕ) → wire_lines (front ++ back) ≡ wire_lines front ++ wire_lines (wire_rest front ++ back)
-lines_of_front front back =
-    let cut = reading_cut front in
-    let whole = wire_joined (wire_lines front) cut.each in
-    ap (λ (l : List ℕ). wire_lines (l ++ back)) cut.whole
-    ∙ ap wire_lines (append_assoc (joined (wire_lines front)) (wire_rest front) back)
-    ∙ (wire_join (joined (wire_lines front)) (wire_rest front ++ back) whole.1).0
-    ∙ ap (λ (ls : List (List ℕ)). ls ++ wire_lines (wire_rest front ++ back)) whole.0
 
 -- ---- a whole dialogue
 

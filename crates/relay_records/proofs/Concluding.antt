@@ -1,13 +1,12 @@
 -- What a relay may conclude, by the record of a house.
-use Rattle.std.proofs.Common.{◌≡◌, ℕ, ◌<◌, ◌≤◌, ◌⊎◌, inl, inr, false, List, [], ◌∷◌, ◌++◌, refl, subst, ◌∙◌, arith, Some}
+use Rattle.std.proofs.Common.{◌≡◌, ℕ, ◌<◌, ◌≤◌, ◌⊎◌, inl, inr, false, List, [], ◌++◌, refl, subst, ◌∙◌, arith, Some}
 use Rattle.std.specs.Prelude.{Contains}
 use Rattle.std.proofs.lemmas.Bool.{cases_lt}
 use Rattle.delivery_token.specs.declared.Job.{Job}
-use Rattle.house.specs.Scene.{Scene, empty_scene}
-use Rattle.house.specs.Setup.{Setup}
+use Rattle.house.specs.Scene.{empty_scene}
 use Rattle.shard_queue.specs.declared.lane.Entry.TheVariants.{Item}
-use Rattle.exactly_once.specs.Promise.{IsRecord}
-use Rattle.script.specs.Promise.{AreParts, OfHouse, Part, Refusal, Window, entries_of}
+use Rattle.script.specs.Promise.{entries_of}
+use Rattle.script.proofs.Parts.{parts_record}
 use Rattle.world.specs.World.{shard_of}
 use Rattle.world.proofs.Always.{always, kept_always}
 use Rattle.world.proofs.Kept.{Kept}
@@ -82,13 +81,6 @@ pub of_all_events : OfAllEvents
 of_all_events k events after printed in_line once = by_the_record k once.entries after once.steps in_line once.leads once.came
 
 -- ---- of scripts
-
--- the house's entries among the parts are a record
-parts_record : (k : Setup) (parts : List Part) (s t : Scene) → AreParts k parts s t → IsRecord k (entries_of parts) s t
-parts_record k [] s t h = h
-parts_record k (OfHouse entry ∷ parts) s t h = (h.0, parts_record k parts entry.after t h.1)
-parts_record k (Refusal number why ∷ parts) s t h = parts_record k parts s t h.1
-parts_record k (Window word box ∷ parts) s t h = parts_record k parts s t h.1
 
 pub of_scripts : OfScripts
 of_scripts k count after printed in_line once =

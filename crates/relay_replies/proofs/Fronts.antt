@@ -10,7 +10,7 @@ use Rattle.relay_replies.specs.Laws.{IsInLine, last_line}
 use Rattle.relay_replies.proofs.Cuts.{replies_are_read}
 
 -- the lines of a front are the first of all lines
-lines_of_front : (front back : List ℕ) → wire_lines (front ++ back) ≡ wire_lines front ++ wire_lines (wire_rest front ++ back)
+pub lines_of_front : (front back : List ℕ) → wire_lines (front ++ back) ≡ wire_lines front ++ wire_lines (wire_rest front ++ back)
 lines_of_front front back =
     let cut = reading_cut front in
     let whole = wire_joined (wire_lines front) cut.each in

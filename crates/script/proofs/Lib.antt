@@ -3,4 +3,5 @@ pub mod ScriptLaws
 pub mod RunLaws
 pub mod SessionLaws
 pub mod Once
+pub mod Parts
 pub mod Refuted

@@ -5,7 +5,8 @@ use Rattle.shard_queue.specs.declared.reply.SenderEnded.{SenderEnded}
 use Rattle.lane_permits.proofs.StepLaws.{removed}
 use Rattle.lane_work.specs.declared.consumer.Consumed.{Consumed}
 use Rattle.clerks.specs.Staff.{IsService}
-use Rattle.clerks.proofs.StaffLaws.{consumers_of, in_order, more_at, one_more, sender_hands_of}
+use Rattle.house_floor.proofs.Positions.{more_at}
+use Rattle.clerks.proofs.StaffLaws.{consumers_of, in_order, one_more, sender_hands_of}
 use Rattle.clerks.proofs.staff.dismiss_all.Goals as goal
 
 pub loop-position-preserved : goal.loop-position-preserved

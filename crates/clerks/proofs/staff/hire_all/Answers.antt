@@ -2,7 +2,8 @@ use Rattle.std.proofs.Common.{rules, ◌<◌, ◌≤◌, ◌≡◌, [], Vec, Glo
 use Rattle.delivery_token.specs.declared.log.Noted.{Noted}
 use Rattle.shard_queue.specs.declared.reply.SenderEnded.{SenderEnded}
 use Rattle.house_floor.specs.Crew.{IsStand}
-use Rattle.clerks.proofs.StaffLaws.{first_at, one_more}
+use Rattle.house_floor.proofs.Positions.{first_at}
+use Rattle.clerks.proofs.StaffLaws.{one_more}
 use Rattle.clerks.proofs.staff.hire_all.Goals as goal
 
 pub loop-position-preserved : goal.loop-position-preserved

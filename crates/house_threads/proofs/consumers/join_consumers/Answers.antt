@@ -3,7 +3,7 @@ use Rattle.std.specs.Vec.Iter.{into_iter_items}
 use Rattle.house_floor.specs.Crew.{AllAt}
 use Rattle.house_threads.specs.Crew.{IsServiceOf}
 use Rattle.house_threads.specs.inner.Crew.{IsKept}
-use Rattle.house_threads.proofs.Positions.{head_at, more_at}
+use Rattle.house_floor.proofs.Positions.{head_at, more_at}
 use Rattle.house_threads.proofs.consumers.join_consumers.Goals as goal
 
 pub loop-one-preserved : goal.loop-one-preserved

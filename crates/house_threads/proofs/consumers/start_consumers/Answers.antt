@@ -1,7 +1,7 @@
 use Rattle.std.proofs.Common.{rules, ◌≡◌, ◌<◌, ◌+◌, ◌∙◌, length, arith}
 use Rattle.house_floor.specs.Crew.{IsStand}
 use Rattle.house_threads.specs.inner.Crew.{IsKept}
-use Rattle.house_threads.proofs.Positions.{first_at, more_at}
+use Rattle.house_floor.proofs.Positions.{first_at, more_at}
 use Rattle.house_threads.proofs.consumers.start_consumers.Goals as goal
 
 pub loop-position-preserved : goal.loop-position-preserved

@@ -1,7 +1,7 @@
 use Rattle.std.proofs.Common.{rules, ◌≡◌, ◌<◌, ◌+◌, ◌∙◌, length, arith}
 use Rattle.house_floor.specs.Crew.{IsPost}
 use Rattle.house_threads.specs.inner.Crew.{IsHired}
-use Rattle.house_threads.proofs.Positions.{first_at, more_at}
+use Rattle.house_floor.proofs.Positions.{first_at, more_at}
 use Rattle.house_threads.proofs.producers.start_producers.Goals as goal
 
 pub loop-position-preserved : goal.loop-position-preserved
