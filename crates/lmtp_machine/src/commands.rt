@@ -11,8 +11,8 @@ ghost use Rattle.lmtp_machine.specs.Standing.{standing_of, IsOpen, Takes};
 
 use crate::reply::{NAMED_ROOM, Reply, put, say, say_any};
 use envelope::{
-    CommandFault, Directory, ForwardPath, LmtpCommand, NoSuch, Recipients, ReversePath,
-    read_command,
+    CommandFault, Directory, ForwardPath, LmtpCommand, MOST_RECIPIENTS, NoSuch, Recipients,
+    ReversePath, read_command,
 };
 use std::alloc::{AllocError, Global};
 use std::marker::Model;
