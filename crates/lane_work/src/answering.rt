@@ -102,7 +102,7 @@ pub fn serve_copy<R: Wait, G: Gate>(
     // `true` is said of just the copies whose producer has a channel and whose mailbox is there.
     ensures known { result ≡ is_ours (length depot.now.mailboxes.items) (length depot.now.channels.items) producer job.now }
 
-    // The copy's producer was told its one verdict, and nobody else anything; where that has no channel, nobody was.
+    // Its producer was told one verdict on it (a refusal, where its mailbox isn't there), and nobody else anything; without a channel nobody was.
     ensures served { Serves (length depot.now.mailboxes.items) (length depot.now.channels.items) shard producer job.now
         (map sent_on senders.old.items) (map sent_on senders.new.items) }
 {

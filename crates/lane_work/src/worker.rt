@@ -153,7 +153,7 @@ pub fn turn<R: Wait, G: Gate, S: Summons, N: Notebook>(
     // No message of the connection waits for its verdicts.
     requires quiet { machine.old.pending ≡ [] }
 
-    // Desk and book stay whose they were, and no end was counted that wasn't heard.
+    // The permits are as required still; desk and book stay whose they were, and no end was counted that wasn't heard.
     ensures permits { AreInForce directory.now office.now.lanes.items desk.old.number desk.new.permits.items }
     ensures receiver { IsReceiver channel.now desk.new.receiver }
     ensures number { desk.new.number ≡ desk.old.number }
@@ -168,14 +168,14 @@ pub fn turn<R: Wait, G: Gate, S: Summons, N: Notebook>(
     ensures used { IfOk result (λ fed. fed.used ≤ length piece.now) }
     ensures moves { IfOk result (λ fed. Moves fed.used fed.what piece.now) }
 
-    // Without an error: where `told`, then `out`, was the replies to `bytes`, and the books told of them, both are so with what was taken.
+    // Without an error: if `told`, then `out`, was the replies to `bytes`, with their messages booked behind `done`, so it is with what was taken.
     ensures stands { IfOk result (λ fed. (done : List Judged) (bytes told : List ℕ)
         → Stands directory.now office.now.directory (rooms_of office.now.lanes.items) desk.old.number done bytes false machine.old (told
         ++ out.old.items) (N.tells book.old) (received desk.old.receiver) (map put_by desk.old.permits.items)
         → Stands directory.now office.now.directory (rooms_of office.now.lanes.items) desk.old.number done (bytes ++ take fed.used piece.now)
         (is_quit fed.what) machine.new (told ++ out.new.items) (N.tells book.new) (received desk.new.receiver) (map put_by desk.new.permits.items)) }
 
-    // After an error, if they were so before: what stood in `out` stands there still, in front.
+    // After an error, where it stood so before: what was in `out` stands there still, in front.
     ensures kept { OnErr result ((done : List Judged) (bytes told : List ℕ)
         → Stands directory.now office.now.directory (rooms_of office.now.lanes.items) desk.old.number done bytes false machine.old (told
         ++ out.old.items) (N.tells book.old) (received desk.old.receiver) (map put_by desk.old.permits.items)

@@ -67,14 +67,14 @@ pub(crate) fn take_piece<R: Wait, G: Gate, S: Summons, N: Notebook>(
     ensures quiet { OnOk result (machine.new.pending ≡ []) }
     ensures same { OnOk result ((machine.new.setting ≡ machine.old.setting) × (machine.new.host ≡ machine.old.host)) }
 
-    // Without an error: where `told`, then `out`, was the replies to `bytes`, it is now with the front of the piece, all of it where `Read` goes on.
+    // Without an error: as it stood for `bytes`, so it does with a front of the piece, which is all of it at `Read` unless the dialogue ended.
     ensures took { IfOk result (λ next. (done : List Judged) (bytes told : List ℕ)
         → Stands office.now.directory office.now.directory (rooms_of office.now.lanes.items) desk.old.number done bytes false machine.old (told
         ++ out.old.items) (N.tells book.old) (received desk.old.receiver) (map put_by desk.old.permits.items)
         → TookPiece office.now.directory (rooms_of office.now.lanes.items) desk.old.number done bytes piece.now next machine.new (told
         ++ out.new.items) (N.tells book.new) (received desk.new.receiver) (map put_by desk.new.permits.items)) }
 
-    // The same after `NoMemory`, of a front of the piece; and its messages are in the books.
+    // After `NoMemory`: `told`, then `out`, is the replies to `bytes` and a front of the piece, whose messages are in the books.
     ensures no_memory { result ≡ Err Stop.NoMemory → (done : List Judged) (bytes told : List ℕ)
         → Stands office.now.directory office.now.directory (rooms_of office.now.lanes.items) desk.old.number done bytes false machine.old (told
         ++ out.old.items) (N.tells book.old) (received desk.old.receiver) (map put_by desk.old.permits.items)
