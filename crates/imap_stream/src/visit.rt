@@ -228,7 +228,7 @@ impl<'a, R: Wait, G: Gate, W: Sink> Visit<'a, R, G, W> {
     /// ends the session. A message that is submitted in it is given to `courier`, and the verdict on it
     /// is answered before anything more is taken. Where the session idles behind the piece, it has turns
     /// until one shows nothing. What was said is sent, all at once, and no mailbox is held meanwhile.
-    /// Answers what the client may send next; a visit that is over does nothing.
+    /// Answers what the client may send next; a visit that is over does nothing, nor does one whose session awaits a verdict.
     ///
     /// Whether the session idles is stored in `idles` before its first turn: a change that this turn
     /// doesn't meet was logged by someone who can read there that it idles.

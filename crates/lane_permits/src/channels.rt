@@ -18,7 +18,7 @@ use std::alloc::{AllocError, Global};
 
 /// The reply channels of a house, with all their permits.
 pub struct Channels {
-    /// The channel of each worker.
+    /// The channel of each producer.
     pub channels: Vec<ReplyChannel<Noted>>,
     /// For each channel the permits of its senders, in the order of their numbers.
     pub permits: Vec<Vec<SenderPermit<Noted>>>,
@@ -205,7 +205,7 @@ pub fn collect_all_senders(
     hands.destroy_empty();
 }
 
-/// Closes each channel with the ended permits of its senders and with its receiver's. None just where
+/// Closes each channel with the ended permits of its senders and with its receiver's. None only where
 /// some channel is torn: one of its senders' ended permits is missing, or that one's end wasn't
 /// received. It spends all that it was given then too. `closed`, which is empty, has room for all.
 pub fn close_channels(

@@ -200,7 +200,7 @@ pub fn collect_all(lists: &mut Vec<Vec<Ended<Job>>>, mut hands: Vec<Vec<Ended<Jo
     hands.destroy_empty();
 }
 
-/// Closes each lane with the ended permits of its producers and with its consumer's. None just where
+/// Closes each lane with the ended permits of its producers and with its consumer's. None only where
 /// some lane is torn: one of its producers' ended permits is missing, or that one's end wasn't taken.
 /// It spends all that it was given then too. `closed`, which is empty, has room for all.
 pub fn close_lanes(

@@ -85,7 +85,7 @@ fn answer<R: Wait, G: Gate>(
 
 /// What becomes of one copy: it is delivered, and its producer is told. Whether it was a copy of this
 /// house: of a producer that has a channel, and for a mailbox that is there. One of a producer without
-/// a channel isn't delivered.
+/// a channel isn't delivered, and one for a mailbox that isn't there is refused as NoMemory.
 pub fn serve_copy<R: Wait, G: Gate>(
     rt: &R,
     pace: &mut Pace<'_, G>,

@@ -137,7 +137,7 @@ fn serve_all<R: Wait, G: Gate>(
 /// producer's channel and kept; where the list of those that are kept can't grow, it goes on without
 /// keeping.
 ///
-/// `ended` has room for all channels, and `copies` is empty. It sleeps where nothing waits, so whoever
+/// `ended` is empty and has room for all channels, and `copies` is empty. It sleeps where nothing waits, so whoever
 /// puts on the lane, or ends there, has to ring its bell.
 pub fn consume<R: Wait, G: Gate>(
     rt: &R,

@@ -90,8 +90,8 @@ pub fn end_all<R: Wait, G: Gate, S: Summons>(
     ended
 }
 
-/// Receives until the ends of so many shards came, of which `heard` came before. Answers whether nothing
-/// else came.
+/// Receives until the ends of so many shards came, of which `heard` came before. True is answered only
+/// where nothing else came.
 pub fn hear_ends<R: Wait, G: Gate>(
     rt: &R,
     pace: &mut Pace<'_, G>,

@@ -101,9 +101,9 @@ pub fn gather_all(worked: Vec<Worked>, consumed: Vec<Consumed>, baskets: Baskets
 /// What came of all queues, and the rest of what the threads left, by their numbers.
 #[derive(Drop)]
 pub struct Closings {
-    /// What was taken of each shard's lane; None just where some lane is torn.
+    /// What was taken of each shard's lane; None only where some lane is torn.
     pub lanes: Option<Vec<Closed<Job>>>,
-    /// What was taken of each producer's reply channel; None just where some channel is torn.
+    /// What was taken of each producer's reply channel; None only where some channel is torn.
     pub channels: Option<Vec<ReplyClosed<Noted>>>,
     /// For each producer, what it said.
     pub replies: Vec<Vec<Vec<u8>>>,

@@ -16,7 +16,7 @@ use shard_queue::{
 use std::alloc::Global;
 
 /// Closes each lane with what is left of all producers' permits, a hand for each producer, and with its
-/// consumer's. None just where some lane is torn. `lists` has an empty list for each lane with room for
+/// consumer's. None only where some lane is torn. `lists` has an empty list for each lane with room for
 /// all producers, `closed` has room for all lanes.
 pub fn close_all_lanes(
     alloc: Global,
@@ -43,7 +43,7 @@ pub fn close_all_lanes(
 }
 
 /// Closes each reply channel with what is left of all consumers' permits, a hand for each consumer, and
-/// with its producer's. None just where some channel is torn. `lists` has an empty list for each
+/// with its producer's. None only where some channel is torn. `lists` has an empty list for each
 /// channel with room for all consumers, `closed` has room for all channels.
 pub fn close_all_channels(
     alloc: Global,

@@ -54,7 +54,7 @@ pub struct Report {
     pub closed: Closes,
 }
 
-/// Why there is no report. Of several causes the first in this order is told.
+/// Why there is no report. Of several causes the first in this order is told, but that want of memory may be told in place of any.
 #[derive(Clone, Copy, Debug, PartialEq, Eq, Error)]
 pub enum WorkFault {
     /// The settings are wrong, or there are too many workers or sessions, or a shard that is to be

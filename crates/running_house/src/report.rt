@@ -125,7 +125,7 @@ fn report_on(
 
 /// The report of a run whose threads have all been there.
 ///
-/// Errors: `Spawn` never; `NoMemory` where an actor wanted memory, or where it is refused here; `Torn`
+/// Errors: `NoMemory` where an actor wanted memory, or where it is refused here; `Torn`
 /// where what they left doesn't agree.
 pub(crate) fn report_of(
     alloc: Global,

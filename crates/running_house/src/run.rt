@@ -50,8 +50,8 @@ fn sizes_of(plan: &Plan) -> Sizes<'_>
 /// Where the answer is Ok the report agrees with the plan and in itself; that is compared after the
 /// joins, when each queue is closed.
 ///
-/// Errors, the first that holds: `Config`, before anything runs, of the first fault of the settings, in
-/// the order of `House::new`; `TooMany` for more than 8 workers, more than 255 workers and sessions
+/// Errors, the first that holds, but that want of memory may be told in place of any: `Config`, before
+/// anything runs, of the first fault of the settings, in the order of `House::new`; `TooMany` for more than 8 workers, more than 255 workers and sessions
 /// together, more sessions of one user than `config.sessions`, or a shard that is to be closed and
 /// isn't there; `BadName` for a session whose user isn't there. `Spawn`
 /// where a thread can't be made: no actor behind it begins. `NoMemory` where memory is refused, to an

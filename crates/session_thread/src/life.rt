@@ -135,7 +135,7 @@ fn make_all<R: Wait, G: Gate, C: Courier>(
 ///
 /// Errors: `NoMemory` where memory was refused to the session itself, or to the courier. Before the
 /// greeting nothing was done then. `Torn` where the courier met something else than the verdict that was
-/// awaited. After the greeting the session stops, and leaves its mailbox all the same: what was said by
+/// awaited. After the greeting the session stops, and leaves its mailbox all the same, where that isn't refused: what was said by
 /// then stands behind `out`, and is what the steps say that were made, and of the next what was answered
 /// or the turns that were had. What a command was refused memory for is told to the client and is no
 /// error.
