@@ -84,7 +84,7 @@ pub struct Opened {
     pub crew: Crew,
     /// Room for what they leave.
     pub baskets: Baskets,
-    /// The sessions' own ends of their bells, on which none of them waits.
+    /// The sessions' own ends of their bells, on which nobody waits yet.
     pub sleepers: Vec<Sleeper>,
 }
 

@@ -1,6 +1,6 @@
 //! The users of a directory, by their numbers. Names are compared and words are read elsewhere.
 
-ghost use Rattle.std.specs.Prelude.{◌≡◌, ◌<◌, None, Some, IfSome, is_none, length, slice_get};
+ghost use Rattle.std.specs.Prelude.{◌≡◌, ◌<◌, true, None, Some, IfSome, is_none, length, slice_get};
 ghost use Rattle.house_floor.specs.Users.{is_inbox, user_numbered};
 
 use envelope::Directory;
@@ -18,6 +18,8 @@ fn is_inbox(directory: &Directory, mailbox: u8) -> bool
 pub fn inbox_numbered(directory: &Directory, user: u8) -> Option<u8>
     ensures inbox { IfSome result (λ inbox. (inbox < length directory.now.homes)
         × IfSome (slice_get directory.now.homes inbox) (λ home. user_numbered user directory.now.homes ≡ Some home.user)) }
+    // It is an INBOX, and no folder.
+    ensures folder { IfSome result (λ inbox. IfSome (slice_get directory.now.homes inbox) (λ home. is_inbox home.folder ≡ true)) }
     ensures none { result ≡ None → user_numbered user directory.now.homes ≡ None }
 {
     let mut left = user;
