@@ -60,13 +60,13 @@ one_change : (uid : ℕ) (op : FlagOp) (now : Mailbox) (old new : Flags) (differ
 one_change uid op now old new differs f is tells other =
     change_logged uid op now.messages old f (ap (flags_differ old) (sym is) ∙ sym tells ∙ other) ∙ ap (λ (g : Flags). SetFlags uid g ∷ []) (sym is)
 
-pub returns-in_default-clause-spent : goal.returns-in_default-clause-spent
-returns-in_default-clause-spent c =
+pub returns-in_err-log_change-clause-spent : goal.returns-in_err-log_change-clause-spent
+returns-in_err-log_change-clause-spent c =
     let f = found c.self.inside c.args.self.now c.args.uid c.args.op c.args.old c.self.view_is c.self.invariant.2 c.requires.there in
     let one = ap length (one_change c.args.uid c.args.op c.args.self.now c.args.old c.after-flags.result c.differ_from.result f c.after-flags.ensures c.differ_from.ensures c.if-not-differ_from.false) in
-    let full : total c.self.inside.ring ≡ 2 ^ 62 = c.in_default.ensures.spent.0 (search rules) in
+    let full : total c.self.inside.ring ≡ 2 ^ 62 = c.in_err-log_change.ensures.spent.0 (search rules) in
     let same : total c.self.inside.ring ≡ total c.args.self.now.window = ap (λ (m : Mailbox). total m.window) c.self.view_is in
-    (λ e. omega (arith, one, full, same), λ many. refl)
+    (λ e. omega (arith, one, full, same), λ many. c.from_residual.ensures.0)
 
 -- the mailbox as it is left
 abbrev after : goal.After-set_flags → Mailbox
