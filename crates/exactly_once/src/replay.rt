@@ -29,9 +29,9 @@ fn try_event(house: &mut House, event: Event<'_>, out: &mut Vec<u8>) -> Result<(
 /// tried.
 ///
 /// Where the house was new, each recipient copy that was answered 250 on the way stands in its mailbox's history exactly once, under one
-/// UID, and the copies of each connection in the order in which it sent them; no copy was taken from a shard after its close; and what a
-/// session was shown since its SELECT is exactly the mailbox's changes up to its cursor, in order. So it is whatever the events were and
-/// however they were mixed, and also after an error.
+/// UID, and the copies of each connection in the order in which it sent them; no copy was taken from a shard after its close, which is when
+/// the end of each of its producers was taken; and what a session was shown since its SELECT is exactly the mailbox's changes up to its
+/// cursor, in order. So it is whatever the events were and however they were mixed, and also after an error.
 ///
 /// Errors: `AllocError` where memory was wanting; what happened by then stands, and the events that were left weren't tried.
 pub fn play(house: &mut House, events: &[Event<'_>], out: &mut Vec<u8>) -> Result<(), AllocError>

@@ -501,7 +501,8 @@ fn take_turn<R: BufRead, W: Sink>(
 ///
 /// Where the house was new, whatever the result: each recipient copy that was answered 250 in what was written stands in its mailbox's
 /// history exactly once, under one UID, and the copies of each connection in the order in which it sent them; no copy was taken from a
-/// shard after its close; and what a session was shown since its SELECT is exactly the mailbox's changes up to its cursor, in order.
+/// shard after its close, which is when the end of each of its producers was taken; and what a session was shown since its SELECT is exactly
+/// the mailbox's changes up to its cursor, in order.
 ///
 /// The house that is left is what the lines made of it that were played: nothing else was done.
 ///

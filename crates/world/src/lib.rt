@@ -15,8 +15,9 @@ ghost use Rattle.world.specs.World.{Allowed, Config, Event, IsWorld, Step, World
 /// Over every list of events, so over every interleaving of the actors: each copy that was heard as
 /// stored stands in its mailbox's history exactly once, under one UID, with the text that was put,
 /// and each seat's copies in the order it sent them; a copy that was heard as refused stands in no
-/// history, and no copy has two verdicts; nothing is taken from a shard after its close; and what a
-/// session was shown since it selected is exactly the mailbox's changes up to its cursor, in order.
+/// history, and no copy has two verdicts; nothing is taken from a shard after its close, which is when
+/// the end of each of its producers was taken; and what a session was shown since it selected is exactly
+/// the mailbox's changes up to its cursor, in order.
 pub fn in_every_world()
     ensures { Always Headline }
 {}
