@@ -127,7 +127,7 @@ put_was_told d room seat lane heard (were.elsewhere {told = ts} job verdict ther
 put_was_told d room seat lane heard (were.refused {told = ts} job verdict here why others) copy c =
     let r = put_was_told d room seat lane heard others copy c in (r.0, later_of (copy, r.0) (job, verdict) ts r.1, r.2, r.3)
 
-only_end : (seat p : ℕ) (copy : Job) → Contains (End seat ∷ []) (Item p copy) → ⊥
+pub only_end : (seat p : ℕ) (copy : Job) → Contains (End seat ∷ []) (Item p copy) → ⊥
 only_end seat p copy c = elim (contains_cases (Item p copy) (End seat) [] c) [
   | inl e ↦ (let k : ◌≡◌ {A = Entry Job} (End seat) (Item p copy) = e in cc)
   | inr h ↦ contains_none h

@@ -1,6 +1,6 @@
 -- A turn of a session, and its whole life, as they tell its client flags.
 use Rattle.std.proofs.Common.{◌≡◌, ℕ, true, false, List, refl, sym, subst, ap, ap₂}
-use Rattle.std.specs.Prelude.{Option, Some, None, IfSome, Result, Ok, Err, codes, not}
+use Rattle.std.specs.Prelude.{Option, Some, None, Result, Ok, Err, codes, not}
 use Rattle.world.specs.World.{Config, World}
 use Rattle.imap_grammar.specs.Reading.{read}
 use Rattle.imap_grammar.specs.declared.command.Command.{Command}
@@ -10,13 +10,13 @@ use Rattle.imap_session.specs.Exchange.{Answer as StoreAnswer, Appending, Standi
 use Rattle.imap_session.specs.Commands.{on_command, on_read, turn_behind, turn_of, turn_of_long_line, turn_while, with_bytes}
 use Rattle.imap_session.specs.Store.{Met}
 use Rattle.client_list.specs.Client.{Client}
-use Rattle.client_list.specs.Commands.{IsFollowed, MayAnswer, stays}
+use Rattle.client_list.specs.Commands.{MayAnswer, stays}
 use Rattle.client_list.specs.Fetches.{IsNumbered}
 use Rattle.client_list.specs.Talks.{Happening, Line, LongLine, Turned, Literal, Heard, MayCome, MayHappen, leads_to}
 use Rattle.client_list.specs.Turns.{AreTags, IsTag}
 use Rattle.client_list.proofs.Commands.{long_line_tells_nothing}
 use Rattle.client_list.proofs.Tags.{Tagged, read_tagged}
-use Rattle.client_list.proofs.Talking.{kept_is_tag}
+use Rattle.client_list.proofs.Talking.{kept_is_tag, may_follow}
 use Rattle.client_list.proofs.Turns.{the_turn}
 use Rattle.client_records.specs.Clients.{Told, answered, asked, asked_by, hears, hears_all, reads_on}
 use Rattle.client_records.specs.Lives.{Lives, comes, turns, others}
@@ -40,10 +40,6 @@ use Rattle.client_flags.proofs.Turning.{leaves, rests_in}
 use Rattle.client_flags.proofs.Worlds.{counted_of, others_flags, sees_all_flags}
 
 -- ---- what may happen
-
-may_follow : (idling : Option (List ℕ)) (now : Standing) (view line : List ℕ) → IfSome idling IsTag → MayCome idling now view line → IsFollowed idling now view line
-may_follow None now view line k may = may
-may_follow (Some tag) now view line k may = k
 
 long_tells : (now : Standing) (p : Point) (turn : Turn) (q : Point) → AreTags now → Some (turn_of_long_line now) ≡ Some turn → SeesAllFlags p turn.events q → LeadsFlags p turn.bytes q
 long_tells now p turn q k e sees =

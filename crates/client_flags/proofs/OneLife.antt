@@ -15,7 +15,8 @@ use Rattle.world.specs.First.{one_copy, one_reply}
 use Rattle.client_list.specs.Talks.{Line}
 use Rattle.client_records.specs.Lives.{comes, turns, others}
 use Rattle.client_records.specs.One.{one_last}
-use Rattle.client_records.proofs.OneLife.{box, selects, shows_it}
+use Rattle.client_records.proofs.OneLife.{selects, shows_it}
+use Rattle.world.proofs.FirstRun.{box}
 use Rattle.client_flags.specs.One.{OneLifeKnowsFlags}
 
 abbrev flagged : Flags

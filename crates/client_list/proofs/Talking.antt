@@ -53,7 +53,7 @@ pub kept_is_tag : (begun : Option Appending) (idling : Option (List ℕ)) → If
 kept_is_tag None idling b i = i
 kept_is_tag (Some a) idling b i = b
 
-may_follow : (idling : Option (List ℕ)) (now : Standing) (view line : List ℕ) → IfSome idling IsTag → MayCome idling now view line → IsFollowed idling now view line
+pub may_follow : (idling : Option (List ℕ)) (now : Standing) (view line : List ℕ) → IfSome idling IsTag → MayCome idling now view line → IsFollowed idling now view line
 may_follow None now view line k may = may
 may_follow (Some tag) now view line k may = k
 

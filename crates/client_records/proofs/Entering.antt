@@ -10,8 +10,7 @@ use Rattle.mailbox.specs.declared.clients.MailFault.TheVariants.{Stranger, Lappe
 use Rattle.mailbox.specs.declared.clients.Opening.{Opening}
 use Rattle.world.specs.World.{Config, World}
 use Rattle.imap_session.specs.declared.standing.After.{After}
-use Rattle.imap_session.specs.declared.standing.After.TheVariants.{Go, Bye}
-use Rattle.imap_session.specs.declared.standing.After.TheVariants as afters
+use Rattle.imap_session.specs.declared.standing.After.TheVariants.{Go}
 use Rattle.imap_session.specs.declared.standing.Selected.{Selected}
 use Rattle.imap_session.specs.Exchange.{Answer, Entered, Looked, Found, Counted, Altered, Expunged, Fed, Left, Refused, Starved, Event, Exchange, Done, Write, Put, Enter, Leave, Folder, Standing, Turn, closed, having, played, refusal_after, refusal_text, refused, saying, tagged}
 use Rattle.imap_session.specs.Commands.{closing, entering, folder_of, on_folder, on_found, opened, says, selecting, wanting, wrong_state}
@@ -24,7 +23,7 @@ use Rattle.client_list.specs.Turns.{is_inner, IsPlain, IsTag}
 use Rattle.client_list.proofs.Bytes.{first_of, reads-append, rest_of}
 use Rattle.client_list.proofs.Ends.{plain_words, refusal_tells_nothing, tagged_tells_nothing}
 use Rattle.client_list.proofs.Opening.{opening_is_followed}
-use Rattle.client_list.proofs.Turns.{the_turn}
+use Rattle.client_list.proofs.Turns.{the_turn, closed_silent, closed_quiet}
 use Rattle.client_list.proofs.Untold.{folder_plain}
 use Rattle.client_records.specs.Clients.{IsRightAbout, begins, has_ok, reads_on}
 use Rattle.client_records.specs.Sizes.{HasSmallNumbers}
@@ -84,20 +83,6 @@ refusal_has_none tag Spent t = tagged_has tag (codes "NO Mailbox is spent") t
 refusal_has_none tag NoMemory t = tagged_has tag (codes "NO Out of memory") t
 
 -- ---- turns
-
-closed_silent : (now : Standing) (how : After) → (closed now how).bytes ≡ []
-closed_silent now Go = refl
-closed_silent now Bye = refl
-closed_silent now afters.Idle = refl
-closed_silent now (afters.Literal due) = refl
-closed_silent now afters.Submit = refl
-
-closed_quiet : (now : Standing) (how : After) → (closed now how).events ≡ []
-closed_quiet now Go = refl
-closed_quiet now Bye = refl
-closed_quiet now afters.Idle = refl
-closed_quiet now (afters.Literal due) = refl
-closed_quiet now afters.Submit = refl
 
 -- a turn that is this text and no event
 pub record Only (text : List ℕ) (turn : Turn) : Type 0 where

@@ -1,11 +1,11 @@
 -- A session's call comes to one event of that session in the world, or to none.
-use Rattle.std.proofs.Common.{◌≡◌, ◌≢◌, ℕ, ◌<◌, ◌^◌, ◌++◌, List, [], ◌∷◌, length, subst, ap}
+use Rattle.std.proofs.Common.{◌≡◌, ◌≢◌, ℕ, ◌<◌, ◌^◌, List, [], ◌∷◌, length, subst, ap}
 use Rattle.delivery_token.specs.declared.Job.{Job}
 use Rattle.mailbox.specs.Events.{in_set}
 use Rattle.world.specs.World as world
 use Rattle.world.specs.World.{Config, World, Event, Step}
 use Rattle.world.proofs.Base.{Every, all_of_every, every_of_all}
-use Rattle.world.proofs.Always.{kept_step}
+use Rattle.world.proofs.Always.{kept_step, every_front}
 use Rattle.imap_session.specs.Exchange.{Call, Answer, Event as Happened, Look, Read as ReadCall, Count, Alter, Expunge as ExpungeCall, Feed as FeedCall, Leave as LeaveCall, Enter as EnterCall, Entered, Looked, Found, Counted, Altered, Expunged, Fed, Left, Refused, Starved}
 use Rattle.imap_session.specs.Store.{Met}
 use Rattle.session_store.specs.Meets.{Meets}
@@ -112,10 +112,6 @@ sound_step k w e v S step = record { kept = kept_step k w e v S.kept step; small
 pub sound_moved : (k : Config) (n : ℕ) (w v : World) → Moved k n w v → Sound k w → Sound k v
 sound_moved k n w v (rested e) S = rw e S
 sound_moved k n w v (stepped e step own short) S = sound_step k w e v S step
-
-every_front : {A : Type 0} (P : A → Type 0) (xs ys : List A) → Every P (xs ++ ys) → Every P xs
-every_front P [] ys h = tt
-every_front P (x ∷ xs) ys h = (h.0, every_front P xs ys h.1)
 
 -- texts that are short stay so backwards: a history only grows
 pub short_before : (w v : World) → ((m : ℕ) → Extends (w.box m) (v.box m)) → HasShortTexts v → HasShortTexts w

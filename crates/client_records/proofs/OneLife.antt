@@ -8,14 +8,12 @@ use Rattle.imap_grammar.specs.Reading.{read}
 use Rattle.imap_session.specs.declared.standing.After.TheVariants.{Go}
 use Rattle.imap_session.specs.Exchange.{Enter as EnterCall, Entered, Fed, Feed as FeedCall, Turn}
 use Rattle.imap_session.specs.Commands.{unlimited}
-use Rattle.world.specs.World.{Box, Put, Take, Deliver, Answer as AnswerEvent, Hear, put_joins, takes, delivers, answers, hears_one, enters, mails}
+use Rattle.world.specs.World.{Put, Take, Deliver, Answer as AnswerEvent, Hear, put_joins, takes, delivers, answers, hears_one, enters, mails}
 use Rattle.world.specs.First.{one_copy, one_reply}
 use Rattle.client_list.specs.Talks.{Line}
 use Rattle.client_records.specs.Lives.{comes, turns, others}
 use Rattle.client_records.specs.One.{OneLifeIsLived, one_last}
-
-abbrev pub box : Box
-box = record { log = Add 1 ∷ []; base = 0; accepted = (one_copy, 1) ∷ [] }
+use Rattle.world.proofs.FirstRun.{box}
 
 unfoldable pub selects : Turn
 selects = record {

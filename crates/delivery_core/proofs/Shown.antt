@@ -30,7 +30,7 @@ use Rattle.delivery_core.proofs.Looks.{pending_here, saw}
 use Rattle.delivery_core.proofs.Follow.{reached_step}
 use Rattle.delivery_core.proofs.Mailed.{BoxMails, CursorMoves, known_at, moved_done, moved_follow, cursor_moves, cursor_same, with_memory}
 
-take_self : {A : Type 0} (l : ℕ) (xs : List A) → take (length (take l xs)) xs ≡ take l xs
+pub take_self : {A : Type 0} (l : ℕ) (xs : List A) → take (length (take l xs)) xs ≡ take l xs
 take_self zero [] = refl
 take_self zero (x ∷ xs) = refl
 take_self (suc l) [] = refl

@@ -9,17 +9,13 @@ use Rattle.lmtp_machine.specs.Kept.{AreMessages}
 use Rattle.house_connection.specs.Caller.{keys_of}
 use Rattle.submission.specs.Heard.{HeardFor}
 use Rattle.world.proofs.Base.{Every, Rising, every_append, every_weaker}
+use Rattle.world.proofs.Always.{every_front}
 
 -- ---- lists in order
 
 pub rising_append : {A : Type 0} (R : A → A → Type 0) (xs ys : List A) → Rising R xs → Rising R ys → Every (λ x. Every (R x) ys) xs → Rising R (xs ++ ys)
 rising_append R [] ys h k all = k
 rising_append R (x ∷ xs) ys h k all = (every_append (R x) xs ys h.0 all.0, rising_append R xs ys h.1 k all.1)
-
--- the front of a list
-pub every_front : {A : Type 0} (P : A → Type 0) (xs ys : List A) → Every P (xs ++ ys) → Every P xs
-every_front P [] ys h = tt
-every_front P (x ∷ xs) ys h = (h.0, every_front P xs ys h.1)
 
 pub rising_front : {A : Type 0} (R : A → A → Type 0) (xs ys : List A) → Rising R (xs ++ ys) → Rising R xs
 rising_front R [] ys h = tt
@@ -33,7 +29,7 @@ rising_of_map : {A B : Type 0} (R : B → B → Type 0) (f : A → B) (xs : List
 rising_of_map R f [] h = tt
 rising_of_map R f (x ∷ xs) h = (every_of_map (R (f x)) f xs h.0, rising_of_map R f xs h.1)
 
-every_both : {A : Type 0} (P Q : A → Type 0) (xs : List A) → Every P xs → Every Q xs → Every (λ x. P x × Q x) xs
+pub every_both : {A : Type 0} (P Q : A → Type 0) (xs : List A) → Every P xs → Every Q xs → Every (λ x. P x × Q x) xs
 every_both P Q [] h k = tt
 every_both P Q (x ∷ xs) h k = ((h.0, k.0), every_both P Q xs h.1 k.1)
 

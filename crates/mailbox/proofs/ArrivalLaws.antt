@@ -1,9 +1,9 @@
 -- A message that was just added, and its flags.
-use Rattle.std.proofs.Common.{◌≡◌, ℕ, ◌+◌, ◌<◌, ◌≤◌, Bool, true, false, List, [], ◌∷◌, ◌++◌, length, map, refl, ap, arith, subst, append_assoc, inl, inr, eq-eqb}
-use Rattle.std.specs.Prelude.{Some, ◌||◌, ◌==◌, nat_le, nat_lt}
+use Rattle.std.proofs.Common.{◌≡◌, ℕ, ◌+◌, ◌<◌, ◌≤◌, Bool, true, false, List, [], ◌∷◌, ◌++◌, length, map, refl, ap, arith, subst, append_assoc, eq-eqb}
+use Rattle.std.specs.Prelude.{Some, ◌||◌, nat_le, nat_lt}
 use Rattle.std.specs.List.{AllByRecursion}
 use Rattle.std.specs.List.Sorted.{IsStrictlyIncreasing}
-use Rattle.std.proofs.lemmas.Bool.Decides.{eqb_tells, nat_tests}
+use Rattle.std.proofs.lemmas.Bool.Decides.{nat_tests}
 use Rattle.change_ring.specs.declared.change.Change.{Change}
 use Rattle.change_ring.specs.declared.change.Flags.{Flags}
 use Rattle.change_ring.specs.declared.flag_op.FlagOp.TheVariants.{Set}
@@ -14,17 +14,11 @@ use Rattle.cursor_set.proofs.Positions.{Rises, Rises-from}
 use Rattle.mailbox.specs.Events.{Logs}
 use Rattle.mailbox.specs.Mailbox.{Mailbox, Message, flagged, is_spent, message_with, next_uid, row_of, uids_of}
 use Rattle.mailbox.specs.Stands.{Stands}
-use Rattle.mailbox.proofs.MessageLaws.{logged_with}
+use Rattle.mailbox.proofs.MessageLaws.{eqb_less, logged_with}
 
 -- the message before its flags are set
 abbrev pub bare : ℕ → List ℕ → Message
 bare uid text = record { uid = uid; flags = no_flags; text = text }
-
-eqb_less : (a b : ℕ) → a < b → (a == b) ≡ false
-eqb_less a b l = elim (eqb_tells a b) [
-  | inl t ↦ absurd (omega (arith, t.1))
-  | inr t ↦ t.0
-]
 
 -- what all are, the last one is
 last_is : (P : ℕ → Type 0) (ms : List Message) (x : Message) → AllByRecursion P (uids_of (ms ++ x ∷ [])) → P x.uid

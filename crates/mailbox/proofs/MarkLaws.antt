@@ -18,6 +18,7 @@ use Rattle.mailbox.specs.Counts.{deleted_count}
 use Rattle.mailbox.specs.inner.Letters.{reflagged}
 use Rattle.mailbox.specs.Mailbox.{Message, message_with, remaining, uids_of}
 use Rattle.mailbox.specs.inner.Marks.{marked_of, put_in, remarked}
+use Rattle.mailbox.proofs.MessageLaws.{eqb_less}
 
 same_message : {x y : Message} → Some x ≡ Some y → x ≡ y
 same_message e = cc
@@ -203,12 +204,6 @@ pub not_falling : (us : List ℕ) → IsStrictlyIncreasing us → (i j d : ℕ) 
 not_falling us up i j d l m = elim (cases_lt i j) [
   | inl before ↦ omega (arith, AllPairs-from_increasing us up i j d before m)
   | inr same ↦ let e : i ≡ j = omega (arith, l, same) in omega (arith, ap (λ (k : ℕ). get_or us k d) e)
-]
-
-eqb_less : (a b : ℕ) → a < b → (a == b) ≡ false
-eqb_less a b l = elim (eqb_tells a b) [
-  | inl t ↦ absurd (omega (arith, t.1))
-  | inr t ↦ t.0
 ]
 
 taken_at : (uid : ℕ) (us : List ℕ) (index : ℕ) → Rises us → index < length us → get_or us index 0 ≡ uid → remove us index ≡ without uid us

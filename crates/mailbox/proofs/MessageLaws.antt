@@ -22,6 +22,12 @@ eqb_above a b l = elim (eqb_tells a b) [
   | inr t ↦ t.0
 ]
 
+pub eqb_less : (a b : ℕ) → a < b → (a == b) ≡ false
+eqb_less a b l = elim (eqb_tells a b) [
+  | inl t ↦ absurd (omega (arith, t.1))
+  | inr t ↦ t.0
+]
+
 -- ---- the message of a UID
 
 -- the view has it

@@ -14,6 +14,7 @@ use Rattle.mailbox.specs.Events.{Moves}
 use Rattle.mailbox.specs.inner.Events.{GoesOn}
 use Rattle.mailbox.proofs.WindowMoves.{Moves-append, moves_logged}
 use Rattle.mailbox.specs.Mailbox.{Message, row_of, uids_of, remaining}
+use Rattle.mailbox.proofs.MessageLaws.{eqb_less}
 
 -- ---- a list of UIDs has one
 
@@ -45,12 +46,6 @@ all_others P (k ∷ ks) r rs h = (h.0, all_others P ks r rs h.1)
 others_rise : (ks : List Message) (r : Message) (rs : List Message) → Rises (uids_of (ks ++ r ∷ rs)) → Rises (uids_of (ks ++ rs))
 others_rise [] r rs h = h.1
 others_rise (k ∷ ks) r rs h = (all_others (λ u. k.uid < u) ks r rs h.0, others_rise ks r rs h.1)
-
-eqb_less : (a b : ℕ) → a < b → (a == b) ≡ false
-eqb_less a b l = elim (eqb_tells a b) [
-  | inl t ↦ absurd (omega (arith, t.1))
-  | inr t ↦ t.0
-]
 
 without_middle : (ks : List Message) (r : Message) (rs : List Message) → Rises (uids_of (ks ++ r ∷ rs)) → without r.uid (uids_of (ks ++ r ∷ rs)) ≡ uids_of (ks ++ rs)
 without_middle [] r rs h = rw (eq-eqb r.uid r.uid refl) refl

@@ -1,8 +1,7 @@
 -- What taking out those with \Deleted by their UIDs does to the messages, and what is logged of it.
-use Rattle.std.proofs.Common.{◌≡◌, ℕ, ◌<◌, Bool, true, false, cond, ◌==◌, not, List, [], ◌∷◌, ◌++◌, length, map, filter, refl, sym, ap, ◌∙◌, inl, inr, arith, eq-eqb}
+use Rattle.std.proofs.Common.{◌≡◌, ℕ, ◌<◌, Bool, true, false, cond, not, List, [], ◌∷◌, ◌++◌, length, map, filter, refl, sym, ap, ◌∙◌, eq-eqb}
 use Rattle.std.specs.Prelude.{if◌then◌else◌, ◌&&◌, count_by}
 use Rattle.std.specs.List.{AllByRecursion}
-use Rattle.std.proofs.lemmas.Bool.Decides.{eqb_tells}
 use Rattle.std.proofs.lemmas.List.{length-map}
 use Rattle.std.proofs.lemmas.List.Sums.{length-filter}
 use Rattle.change_ring.specs.declared.change.Change.{Change}
@@ -14,12 +13,7 @@ use Rattle.mailbox.specs.inner.Letters.{without_message}
 use Rattle.mailbox.specs.Mailbox.{Message, remaining, row_of, uids_of}
 use Rattle.mailbox.specs.inner.Marks.{gone_of, marked_of, without_each}
 use Rattle.mailbox.proofs.MarkLaws.{first_no, first_yes, marked_all}
-
-eqb_less : (a b : ℕ) → a < b → (a == b) ≡ false
-eqb_less a b l = elim (eqb_tells a b) [
-  | inl t ↦ absurd (omega (arith, t.1))
-  | inr t ↦ t.0
-]
+use Rattle.mailbox.proofs.MessageLaws.{eqb_less}
 
 module _ (test : ℕ → Bool) where
   -- a message whose UID is below all of them stays

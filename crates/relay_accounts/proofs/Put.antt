@@ -12,6 +12,7 @@ use Rattle.shard_queue.specs.declared.lane.Entry.{Entry}
 use Rattle.shard_queue.specs.declared.lane.Entry.TheVariants.{Item, End}
 use Rattle.account_laws.proofs.ListLaws.{contains_cases, contains_none, first_of, later_of, unmapped}
 use Rattle.relay_accounts.proofs.Positions.{at_contains, contains_at, none_at, same_some, unmade_at}
+use Rattle.account_laws.proofs.LogLaws.{only_end}
 
 -- an item that was taken was put by somebody
 item_is : (e : Entry Job) (copy : Job) → item_of e ≡ Some copy → (p : ℕ) × (e ≡ Item p copy)
@@ -37,12 +38,6 @@ put_told d room seat lane heard (were.elsewhere {told = ts} job verdict there ot
     let r = put_told d room seat lane heard others copy c in (r.0, later_of (copy, r.0) (job, verdict) ts r.1)
 put_told d room seat lane heard (were.refused {told = ts} job verdict here why others) copy c =
     let r = put_told d room seat lane heard others copy c in (r.0, later_of (copy, r.0) (job, verdict) ts r.1)
-
-only_end : (seat p : ℕ) (copy : Job) → Contains (End seat ∷ []) (Item p copy) → ⊥
-only_end seat p copy c = elim (contains_cases (Item p copy) (End seat) [] c) [
-  | inl e ↦ (let k : ◌≡◌ {A = Entry Job} (End seat) (Item p copy) = e in cc)
-  | inr h ↦ contains_none h
-]
 
 -- of a list that is these copies and then the end
 pub put_one_told : (d : Directory) (room : Room) (seat lane : ℕ) (heard : List (Entry Noted)) (jobs : List Job) (ts : List (Job × Verdict)) (entries : List (Entry Job))

@@ -21,6 +21,7 @@ use Rattle.relay_replies.specs.Moments.{Moment, EachMomentMayHappen, dialogue_ov
 use Rattle.relay_replies.specs.Conclusions.{MayForget, RelaysMayForgetWhileShardsAreShut}
 use Rattle.relay_replies.proofs.Fronts.{lines_of_front}
 use Rattle.relay_accounts.specs.Laws.{ConnectionsAreKnown}
+use Rattle.relay_replies.proofs.Connected.{moments_at, events_at}
 
 -- ---- the same lines and answers
 
@@ -41,14 +42,6 @@ same_answers (Answered verdicts ∷ events) = ap (λ (vs : List (List Verdict)).
 same_answers (Shut ∷ events) = same_answers events
 
 -- ---- events while the same shards are shut
-
-abbrev moments_at : List Bool → List Event → List Moment
-moments_at shut [] = []
-moments_at shut (e ∷ es) = record { shut = shut; event = e } ∷ moments_at shut es
-
-events_at : (shut : List Bool) (events : List Event) → events_of (moments_at shut events) ≡ events
-events_at shut [] = refl
-events_at shut (e ∷ es) = ap (λ (l : List Event). e ∷ l) (events_at shut es)
 
 -- one turn before others
 abbrev led : Turn → Turn → Turn

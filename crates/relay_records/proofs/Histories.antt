@@ -10,7 +10,7 @@ use Rattle.shard_queue.specs.declared.lane.Entry.TheVariants.{Item, End}
 use Rattle.shard_queue.specs.Lane.{producer}
 use Rattle.world.specs.World.{Config, World, shard_of}
 use Rattle.world.specs.Law.{accepted_of, copies, copy_for, taken_copies}
-use Rattle.world.proofs.Always.{accepted_taken}
+use Rattle.world.proofs.Always.{accepted_taken, every_front}
 use Rattle.world.proofs.Base.{Every, all_of_every, every_weaker, part_every}
 use Rattle.world.proofs.Kept.{Kept, OwnCopy}
 use Rattle.world.proofs.Mails.{IsIn}
@@ -29,10 +29,6 @@ in_of_contains {A} x xs c = All-contains (λ y. IsIn y xs) xs x (all_of_every (�
     itself : (ys : List A) → Every (λ y. IsIn y ys) ys
     itself [] = tt
     itself (y ∷ ys) = (inl refl, every_weaker (λ z. IsIn z ys) (λ z. IsIn z (y ∷ ys)) (λ z i. inr i) ys (itself ys))
-
-every_front : {A : Type 0} (P : A → Type 0) (xs ys : List A) → Every P (xs ++ ys) → Every P xs
-every_front P [] ys h = tt
-every_front P (x ∷ xs) ys h = (h.0, every_front P xs ys h.1)
 
 in_map : {A B : Type 0} (f : A → B) (x : A) (xs : List A) → IsIn x xs → IsIn (f x) (map f xs)
 in_map f x [] i = absurd i

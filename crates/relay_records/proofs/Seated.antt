@@ -32,6 +32,7 @@ use Rattle.relay_replies.specs.Connections.{HasCome}
 use Rattle.relay_replies.specs.Numbers.{no_submission}
 use Rattle.relay_replies.proofs.Connected.{begins, takes_bytes, tells_verdicts}
 use Rattle.relay_replies.proofs.Keyed.{numbers_messages}
+use Rattle.exactly_once.proofs.Told.{every_both}
 
 -- ---- terms
 
@@ -135,10 +136,6 @@ all_serial setting homes first (s ∷ ss) h =
     every_append (λ (job : Job). job.key.serial ≡ setting.serial) (copies s.keys s.mailboxes s.text no_flags) (copies_of ss)
     (one_serial setting.serial s.keys s.mailboxes s.text (subst (Every (λ (key : CopyKey). key.serial ≡ setting.serial)) (sym h.0.keys) (keys_serial setting first 0 s.mailboxes)))
     (all_serial setting homes (first + 1) ss h.1)
-
-every_both : {A : Type 0} (P Q : A → Type 0) (xs : List A) → Every P xs → Every Q xs → Every (λ x. P x × Q x) xs
-every_both P Q [] h k = tt
-every_both P Q (x ∷ xs) h k = ((h.0, k.0), every_both P Q xs h.1 k.1)
 
 every_back : {A : Type 0} (P : A → Type 0) (xs ys : List A) → Every P (xs ++ ys) → Every P ys
 every_back P [] ys h = h

@@ -47,11 +47,11 @@ answers-append (e ∷ es) more = ap (λ (l : List (List Verdict)). answers_in e 
 
 -- ---- events while the same shards are shut
 
-abbrev moments_at : List Bool → List Event → List Moment
+abbrev pub moments_at : List Bool → List Event → List Moment
 moments_at shut [] = []
 moments_at shut (e ∷ es) = record { shut = shut; event = e } ∷ moments_at shut es
 
-events_at : (shut : List Bool) (events : List Event) → events_of (moments_at shut events) ≡ events
+pub events_at : (shut : List Bool) (events : List Event) → events_of (moments_at shut events) ≡ events
 events_at shut [] = refl
 events_at shut (e ∷ es) = ap (λ (l : List Event). e ∷ l) (events_at shut es)
 

@@ -1,6 +1,6 @@
 -- A life that was led with what lies at one's own position.
 use Rattle.std.proofs.Common.{◌≡◌, ◌<◌, ◌∙◌, ℕ, sym, ap, subst, List, Some, length, slice_get, slice_index_or}
-use Rattle.std.proofs.lemmas.Option.{get_or_from_slice_get, slice_get-get_or}
+use Rattle.std.proofs.lemmas.Option.{slice_get-get_or}
 use Rattle.delivery_token.specs.declared.log.Noted.{Noted}
 use Rattle.shard_queue.specs.declared.ends.ReplyChannel.{ReplyChannel}
 use Rattle.shard_queue.specs.Reply.{IsReceiver}
@@ -8,12 +8,10 @@ use Rattle.lane_work.specs.Permits.{AreEnded}
 use Rattle.house_floor.specs.declared.floor.Floor.{Floor}
 use Rattle.serving_workers.specs.declared.accepting.Served.{Served}
 use Rattle.serving_workers.specs.Leaving.{IsServed}
+use Rattle.house_threads.proofs.Lives.{found_at}
 
 pub here_at : {A : Type 0} (xs : List A) (i n : ℕ) (d : A) → i ≡ n → n < length xs → slice_get xs n ≡ Some (slice_index_or xs i d)
 here_at xs i n d same under = slice_get-get_or xs n d under ∙ ap (λ k. Some (slice_index_or xs k d)) (sym same)
-
-found_at : {A : Type 0} (xs : List A) (i n : ℕ) (d x : A) → i ≡ n → slice_get xs n ≡ Some x → slice_index_or xs i d ≡ x
-found_at xs i n d x same is = ap (λ k. slice_index_or xs k d) same ∙ get_or_from_slice_get xs n x d is
 
 pub served_by : (floor : Floor) (i n number : ℕ) (c : ReplyChannel Noted) (s r : Served) → i ≡ n → number ≡ n → r ≡ s
     → AreEnded floor.office.lanes.items number s.ended.items → IsReceiver (slice_index_or floor.depot.channels.items i c) s.receiver → IsServed floor n r

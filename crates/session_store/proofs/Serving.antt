@@ -29,6 +29,7 @@ use Rattle.session_store.specs.declared.core_store.CoreStore.{CoreStore}
 use Rattle.session_store.specs.CoreStore.{Serves}
 use Rattle.session_store.specs.Meets.{IsDone, IsRefused, IsTurnedAway, Mails, Shows}
 use Rattle.session_store.proofs.Places.{no_session}
+use Rattle.delivery_core.proofs.Shown.{take_self}
 
 -- the core that serves this session
 abbrev pub serving : DeliveryCore → ℕ → CoreStore
@@ -296,12 +297,6 @@ counted core n m status l is validity = record {
 }
 
 -- ---- Feed, Expunge
-
-take_self : {A : Type 0} (l : ℕ) (xs : List A) → take (length (take l xs)) xs ≡ take l xs
-take_self zero [] = refl
-take_self zero (x ∷ xs) = refl
-take_self (suc l) [] = refl
-take_self (suc l) (x ∷ xs) = ap (λ ys. x ∷ ys) (take_self l xs)
 
 -- what the core has of a session is what its world has
 seen : (k : Config) (w : World) (old : DeliveryCore) (n : ℕ) (s : Session) → StandsFor k old w → IsSome (client_of old n) → w.session n ≡ Some s → (w.box s.mailbox).base ≤ s.cursor

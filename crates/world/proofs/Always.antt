@@ -113,7 +113,7 @@ taken_part k s p m (End q ∷ es) h = go (q == p) (taken_part k s p m es h.1)
     go true part = part
     go false part = part
 
-every_front : {A : Type 0} (P : A → Type 0) (xs ys : List A) → Every P (xs ++ ys) → Every P xs
+pub every_front : {A : Type 0} (P : A → Type 0) (xs ys : List A) → Every P (xs ++ ys) → Every P xs
 every_front P [] ys h = tt
 every_front P (x ∷ xs) ys h = (h.0, every_front P xs ys h.1)
 
