@@ -4,9 +4,9 @@ use Rattle.session_thread.specs.Locks.{LockedStore, not_let_in}
 use Rattle.session_thread.proofs.Shown.{is_nowhere}
 use Rattle.session_thread.proofs.locked_store.LockedStoreStore.enter.Goals as goal
 
-pub returns-in_err-enter : goal.returns-in_err-enter
-returns-in_err-enter g c =
-    let u = c.in_err-enter.ensures in
+pub returns-in_err-handle : goal.returns-in_err-handle
+returns-in_err-handle g c =
+    let u = c.in_err-handle.ensures in
     let p = err_from_is_err_and c.from_residual.result c.from_residual.ensures.1 in
     rw (p.1, p.2) (
       c.self.view_is,
