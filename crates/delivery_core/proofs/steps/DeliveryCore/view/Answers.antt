@@ -24,11 +24,11 @@ returns-clause-shown c =
     let i = c.self.inside in
     let h : DeliveryCore = record { lanes = i.lanes.items; hands = i.hands.items; replies = i.replies.items; heard = i.heard.items; boxes = i.boxes.items; next = i.next.items; clients = i.clients.items } in
     let here = client_here i.clients.items c.from-place.result c.args.session c.index.result.now c.in-Some.client c.from-place.ensures (omega (arith, c.if-place-len.false, c.len.ensures)) c.index.ensures c.in-Some.is in
-    view_shown h c.args.session c.from.result c.in-Some.client c.index-2.result.now c.in_ok-view.view c.self.invariant.3 here c.from.ensures c.index-2.ensures c.in_ok-view.ensures.shown ∙ ap (λ (x : DeliveryCore). view_of x c.args.session) c.self.view_is
+    view_shown h c.args.session c.from.result c.in-Some.client c.index-2.result.now c.in_ok-view.field-0 c.self.invariant.3 here c.from.ensures c.index-2.ensures c.in_ok-view.ensures.shown ∙ ap (λ (x : DeliveryCore). view_of x c.args.session) c.self.view_is
 
 pub returns-clause-log : goal.returns-clause-log
 returns-clause-log c k w S =
     let i = c.self.inside in
     let h : DeliveryCore = record { lanes = i.lanes.items; hands = i.hands.items; replies = i.replies.items; heard = i.heard.items; boxes = i.boxes.items; next = i.next.items; clients = i.clients.items } in
     let here = client_here i.clients.items c.from-place.result c.args.session c.index.result.now c.in-Some.client c.from-place.ensures (omega (arith, c.if-place-len.false, c.len.ensures)) c.index.ensures c.in-Some.is in
-    view_log k w h c.args.session c.from.result c.in-Some.client c.index-2.result.now c.in_ok-view.view (subst (λ (x : DeliveryCore). StandsFor k x w) (sym c.self.view_is) S) here c.from.ensures c.index-2.ensures c.in_ok-view.ensures.shown
+    view_log k w h c.args.session c.from.result c.in-Some.client c.index-2.result.now c.in_ok-view.field-0 (subst (λ (x : DeliveryCore). StandsFor k x w) (sym c.self.view_is) S) here c.from.ensures c.index-2.ensures c.in_ok-view.ensures.shown
