@@ -153,8 +153,8 @@ impl HouseSession {
         let progress = self.connection.take(alloc, waits, store, &mut self.unsaid);
         self.incoming.take(progress.used);
         match progress.after {
-            Some(_) => Ok(()),
-            None => Err(AllocError),
+            Some(_) => return Ok(()),
+            None => return Err(AllocError),
         }
     }
 

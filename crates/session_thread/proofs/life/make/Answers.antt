@@ -24,16 +24,16 @@ returns-in-Say-clause-err g c =
     said_in_part a.result c.args.turns (vec_capacity a.new.out) c.args.step.now c.in-Say.bytes c.deref.result.now c.args.store.now a.new.store c.args.out.now.items a.new.out.items c.args.connection.now a.new.connection
     (sym c.takes_more.ensures.is ∙ c.if-not-takes_more.false) c.in-Say.is c.deref.ensures.value a.ensures.err
 
-pub returns-in-Await-clause-ok : goal.returns-in-Await-clause-ok
-returns-in-Await-clause-ok g c =
+pub returns-in_ok-wait_for-in-Await-clause-ok : goal.returns-in_ok-wait_for-in-Await-clause-ok
+returns-in_ok-wait_for-in-Await-clause-ok g c =
     let w = c.wait_for.new in (
       [],
       none_more (g.C.Courier.carried c.args.courier.now),
       awaited_step c.args.turns c.args.step.now c.in-Await.count c.args.store.now w.store c.args.out.now.items w.out.items c.args.connection.now w.connection (sym c.takes_more.ensures.is ∙ c.if-not-takes_more.false) c.in-Await.is c.in_ok-wait_for.ensures.ok,
     )
 
-pub returns-in_err-wait_for-clause-err : goal.returns-in_err-wait_for-clause-err
-returns-in_err-wait_for-clause-err g c =
+pub returns-in_err-wait_for-in-Await-clause-err : goal.returns-in_err-wait_for-in-Await-clause-err
+returns-in_err-wait_for-in-Await-clause-err g c =
     let w = c.wait_for.new in
     handed_on c.from_residual.result lost.NoMemory _ c.from_residual.ensures.1
     (awaited_in_part c.args.turns (vec_capacity w.out) c.args.step.now c.in-Await.count c.args.store.now w.store c.args.out.now.items w.out.items c.args.connection.now w.connection (sym c.takes_more.ensures.is ∙ c.if-not-takes_more.false) c.in-Await.is
