@@ -29,7 +29,7 @@ returns-in_ok-wait_for-in-Await-clause-ok g c =
     let w = c.wait_for.new in (
       [],
       none_more (g.C.Courier.carried c.args.courier.now),
-      awaited_step c.args.turns c.args.step.now c.in-Await.count c.args.store.now w.store c.args.out.now.items w.out.items c.args.connection.now w.connection (sym c.takes_more.ensures.is ∙ c.if-not-takes_more.false) c.in-Await.is c.in_ok-wait_for.ensures.ok,
+      awaited_step c.args.turns c.args.step.now c.in-Await.count c.args.store.now w.store c.args.out.now.items w.out.items c.args.connection.now w.connection (sym c.takes_more.ensures.is ∙ c.if-not-takes_more.false) c.in-Await.is c.in_ok-wait_for-in-Await.ensures.ok,
     )
 
 pub returns-in_err-wait_for-in-Await-clause-err : goal.returns-in_err-wait_for-in-Await-clause-err
@@ -37,4 +37,4 @@ returns-in_err-wait_for-in-Await-clause-err g c =
     let w = c.wait_for.new in
     handed_on c.from_residual.result lost.NoMemory _ c.from_residual.ensures.1
     (awaited_in_part c.args.turns (vec_capacity w.out) c.args.step.now c.in-Await.count c.args.store.now w.store c.args.out.now.items w.out.items c.args.connection.now w.connection (sym c.takes_more.ensures.is ∙ c.if-not-takes_more.false) c.in-Await.is
-    c.in_err-wait_for.ensures.err)
+    c.in_err-wait_for-in-Await.ensures.err)
