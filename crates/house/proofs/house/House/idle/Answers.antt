@@ -1,4 +1,4 @@
-use Rattle.std.proofs.Common.{◌<◌, ◌∙◌, ap, arith, false, inl, inr, length, ℕ, None, Option, Some, subst, sym, true}
+use Rattle.std.proofs.Common.{◌≡◌, ◌<◌, ◌∙◌, ap, arith, false, inl, inr, length, ℕ, None, Option, Some, subst, sym, true}
 use Rattle.std.specs.Prelude.{slice_index_or}
 use Rattle.delivery_core.proofs.Follow.{get_or-any}
 use Rattle.house.specs.House.{House}
