@@ -7,7 +7,8 @@ ghost use Rattle.std.specs.Thread.{IsSync};
 ghost use Rattle.shard_queue.specs.Reply.{IsReceiver};
 ghost use Rattle.shard_queue.specs.Permits.{IsProducer, number_of};
 ghost use Rattle.lane_work.specs.Permits.{ArePermits, IsPermit, permit_number};
-ghost use Rattle.lane_permits.specs.rows.Rows.{EndedRows};
+ghost use Rattle.lane_permits.specs.Rooms.{AreRooms};
+ghost use Rattle.lane_permits.specs.rows.Rows.{AreConsumers, EndedRows};
 ghost use Rattle.house_floor.specs.Crew.{AllAt, IsCrew, IsPost, IsStand};
 ghost use Rattle.house_floor.specs.Opening.{AreBaskets};
 ghost use Rattle.floor_tests.specs.inner.Rounds.{AreSomeones, IsOwnPost};
@@ -25,8 +26,8 @@ use lane_work::{Closing, Consumed, Depot, Desk, LanePermit, Office, end_all};
 use mailbox::{History, Limits, Mailbox};
 use pace::{Actor, Pace};
 use shard_queue::{
-    ConsumerPermit, Ended, Entry, Full, ProducerPermit, ReceiverPermit, ReplyChannel, SenderEnded,
-    ShardQueue,
+    Closed, ConsumerPermit, Ended, Entry, Full, ProducerPermit, ReceiverPermit, ReplyChannel,
+    SenderEnded, ShardQueue,
 };
 use std::alloc::{AllocError, AllocGlobal, Global};
 use std::marker::Brand;
@@ -352,6 +353,94 @@ fn work_all<H: Hall + Send, T: Threads + Wait + Sync + Abort>(
     .expect(rt, "memory")
 }
 
+// A clerk is hired for each stand, and each worker's life is led. The clerks, and what the workers leave.
+fn work_off<H: Hall + Send, T: Threads + Wait + Sync + Abort>(
+    rt: &T,
+    floor: &Floor,
+    stands: Vec<Stand>,
+    posts: Vec<Post>,
+) -> (Staff<H>, Vec<ManuallyDrop<Left>>)
+    requires lanes { H.lanes ≡ Some floor.now.office.lanes.items }
+    requires depot { H.depot ≡ Some floor.now.depot }
+    requires shards { floor.now.office.directory.shards ≡ length floor.now.office.lanes.items }
+    requires stands { AllAt (IsStand floor.now) 0 stands.items × (vec_len stands ≡ length floor.now.office.lanes.items) }
+    requires posts { AllAt (IsPost floor.now) 0 posts.items }
+    ensures clerks { vec_len result.0.clerks ≡ length floor.now.office.lanes.items }
+    ensures rooms { AreRooms (length floor.now.office.lanes.items) (length floor.now.depot.channels.items) result.0.rooms }
+    ensures stands { result.0.stands.items ≡ [] }
+    ensures left { All (λ l. AreSomeones floor.now.office.lanes.items (manually_drop_value {X = Left} l).ended.items) result.1.items }
+    ensures count { vec_len result.1 ≡ vec_len posts }
+{
+    let staff = Staff::<H>::with_room(floor.alloc, floor.office.lanes.len()).expect(rt, "memory");
+    let staff = hire_all(floor, stands, staff);
+    let parcels = Vec::with_capacity(floor.alloc, posts.len()).expect(rt, "memory");
+    let parcels = pack_all(floor, posts, parcels);
+    let left = work_all::<H, T>(rt, floor, &staff.clerks, parcels);
+    (staff, left)
+}
+
+// What the clerks leave, each of whom stood in its place.
+fn dismiss<H: Hall, T: Wait + Abort>(
+    rt: &T,
+    floor: &Floor,
+    staff: Staff<H>,
+    room: Vec<Consumed>,
+) -> Vec<Consumed>
+    requires lanes { H.lanes ≡ Some floor.now.office.lanes.items }
+    requires depot { H.depot ≡ Some floor.now.depot }
+    requires clerks { vec_len staff.clerks ≡ length floor.now.office.lanes.items }
+    requires rooms { AreRooms (length floor.now.office.lanes.items) (length floor.now.depot.channels.items) staff.rooms }
+    requires stands { staff.stands.items ≡ [] }
+    requires room { (room.items ≡ []) × (length floor.now.office.lanes.items ≤ vec_capacity room) }
+    ensures count { vec_len result ≡ length floor.now.office.lanes.items }
+    ensures permits { AreConsumers floor.now.office.lanes.items (map (λ c. c.permit) result.items) }
+{
+    let Dismissed { consumed, in_order } = dismiss_all(rt, &Unhindered, floor, staff, room);
+    if !in_order {
+        panic!(rt; "a clerk stood at another's position")
+    }
+    consumed
+}
+
+// Closes the lanes and spends the channels. Whether all lanes could be closed, and the mailboxes.
+fn close_all(
+    floor: Floor,
+    lists: Vec<Vec<Ended<Job>>>,
+    permits: Vec<ConsumerPermit<Job>>,
+    closed: Vec<Closed<Job>>,
+    hands: Vec<Vec<SenderEnded<Noted>>>,
+    receivers: Vec<ReceiverPermit<Noted>>,
+) -> (bool, Vec<Mutex<Mailbox>>)
+    requires lists { EndedRows floor.office.lanes.items (map (λ v. v.items) lists.items) }
+    requires permits { AreConsumers floor.office.lanes.items permits.items }
+    requires closed { (closed.items ≡ []) × (length floor.office.lanes.items ≤ vec_capacity closed) }
+    requires hands { vec_len hands ≤ length floor.depot.channels.items }
+    requires receivers { vec_len receivers ≡ length floor.depot.channels.items }
+{
+    let Floor {
+        office,
+        depot,
+        bells: _,
+        turns: _,
+        alloc,
+    } = floor;
+    let Office {
+        directory: _,
+        host: _,
+        max_message: _,
+        lanes,
+        closings: _,
+    } = office;
+    let Depot {
+        mailboxes,
+        channels,
+        sessions: _,
+    } = depot;
+    let are_closed = close_lanes(alloc, lanes, lists, permits, closed).is_some();
+    spend_channels(alloc, channels, hands, receivers);
+    (are_closed, mailboxes)
+}
+
 // The whole round over a house that was opened.
 fn run_in<H: Hall + Send, T: Threads + Wait + Sync + Abort>(
     rt: &T,
@@ -386,45 +475,18 @@ fn run_in<H: Hall + Send, T: Threads + Wait + Sync + Abort>(
         replies: _,
         logs: _,
         copies: _,
-        lanes: closed,
+        lanes,
         channels: _,
         spares,
     } = baskets;
     hands.destroy_empty();
     spend_lists(sender_lists);
     spares.spend();
-    let staff = Staff::<H>::with_room(alloc, floor.office.lanes.len()).expect(rt, "memory");
-    let staff = hire_all(&floor, stands, staff);
-    let parcels = Vec::with_capacity(alloc, posts.len()).expect(rt, "memory");
-    let parcels = pack_all(&floor, posts, parcels);
-    let left = work_all::<H, T>(rt, &floor, &staff.clerks, parcels);
+    let (staff, left) = work_off::<H, T>(rt, &floor, stands, posts);
     let told = collect_all(&floor, left, &mut lists, &mut receivers);
-    let Dismissed { consumed, in_order } = dismiss_all(rt, &Unhindered, &floor, staff, consumed);
-    if !in_order {
-        panic!(rt; "a clerk stood at another's position")
-    }
+    let consumed = dismiss(rt, &floor, staff, consumed);
     let permits = part(consumed, consumers, &mut sender_hands);
-    let Floor {
-        office,
-        depot,
-        bells: _,
-        turns: _,
-        alloc: _,
-    } = floor;
-    let Office {
-        directory: _,
-        host: _,
-        max_message: _,
-        lanes,
-        closings: _,
-    } = office;
-    let Depot {
-        mailboxes,
-        channels,
-        sessions: _,
-    } = depot;
-    let closed = close_lanes(alloc, lanes, lists, permits, closed).is_some();
-    spend_channels(alloc, channels, sender_hands, receivers);
+    let (closed, mailboxes) = close_all(floor, lists, permits, lanes, sender_hands, receivers);
     let accepted = accepted_by_all(alloc, mailboxes).expect(rt, "memory");
     Round {
         closed,

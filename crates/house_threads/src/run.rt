@@ -1,10 +1,11 @@
 //! The scope of all threads: consumers first, then workers, then sessions; each is joined. What is to
 //! be run, and what is compared afterwards, stands above.
 
-ghost use Rattle.std.specs.Prelude.{◌≡◌, ◌≤◌, ◌<◌, ◌+◌, [], All, IfOk, length, vec_len, vec_capacity};
+ghost use Rattle.std.specs.Prelude.{ℕ, ◌≡◌, ◌≤◌, ◌<◌, ◌+◌, [], All, IfOk, length, vec_len, vec_capacity};
 ghost use Rattle.std.specs.Mem.{manually_drop_value};
 ghost use Rattle.std.specs.Thread.{IsSync};
 ghost use Rattle.house_floor.specs.Crew.{AllAt, AreGuests, IsCrew, IsHouse, IsPost};
+ghost use Rattle.house_floor.specs.declared.floor.Floor.{Floor};
 ghost use Rattle.house_threads.specs.Crew.{IsPostLeft, IsProduceOf, IsServiceOf, IsSpendable, LeavesAll};
 
 use crate::aside::end_first;
@@ -88,6 +89,31 @@ fn handles_for<'a>(
     })
 }
 
+// No thread is started, for want of memory: all is left as it was dealt.
+fn none_started(crew: Crew) -> Ran
+    requires none { (crew.worked.items ≡ []) × (crew.consumed.items ≡ []) × (crew.unmanned.items ≡ []) }
+    ensures none { (result.worked.items ≡ []) × (result.consumed.items ≡ []) }
+    ensures left { (floor : Floor) (producers : ℕ) → length floor.depot.channels.items ≡ producers → IsCrew floor producers crew →
+        IsSpendable floor producers result }
+    ensures started { result.started ≡ Started.NoMemory }
+{
+    let Crew {
+        stands,
+        posts,
+        consumed,
+        worked,
+        unmanned,
+    } = crew;
+    unmanned.destroy_empty();
+    Ran {
+        worked,
+        consumed,
+        stands,
+        posts,
+        started: Started::NoMemory,
+    }
+}
+
 // All that is done in the scope. Where a consumer has no thread no worker begins, and the workers' permits
 // are ended on the lanes whose consumers run.
 fn in_scope<'s, E, R: Threads + Wait + Sync, G: Gate + Sync>(
@@ -110,25 +136,18 @@ fn in_scope<'s, E, R: Threads + Wait + Sync, G: Gate + Sync>(
 {
     let alloc = floor.alloc;
     let shards = floor.office.lanes.len();
+    let crew = ManuallyDrop::into_inner(crew);
+    let Ok(handles) = handles_for(alloc, shards, plans.len() + guests.len()) else {
+        return none_started(crew);
+    };
+    let Handles { kept, hired } = handles;
     let Crew {
         stands,
         posts,
         consumed,
         worked,
         unmanned,
-    } = ManuallyDrop::into_inner(crew);
-    let Ok(handles) = handles_for(alloc, shards, plans.len() + guests.len()) else {
-        unmanned.destroy_empty();
-        let started = Started::NoMemory;
-        return Ran {
-            worked,
-            consumed,
-            stands,
-            posts,
-            started,
-        };
-    };
-    let Handles { kept, hired } = handles;
+    } = crew;
     let (kept, first) = start_consumers(scope, rt, floor, gate, stands, kept, manned);
     let stands = Vec::new(alloc);
     if first < shards {

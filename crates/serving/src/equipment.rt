@@ -49,13 +49,34 @@ fn grips_for(alloc: Global, count: usize) -> Result<Vec<Grip>, AllocError>
     Ok(all)
 }
 
-/// What the threads use.
+/// A grip for each thread that serves connections.
+#[derive(Drop)]
+pub(crate) struct Grips {
+    /// The workers'.
+    pub(crate) mail: Vec<Grip>,
+    /// The berths'.
+    pub(crate) clients: Vec<Grip>,
+}
+
+/// The grips of so many workers and berths, with no connection. An error where memory is refused.
+pub(crate) fn grips_of_all(
+    alloc: Global,
+    workers: usize,
+    berths: usize,
+) -> Result<Grips, AllocError>
+    ensures { IfOk result (λ g. (vec_len g.mail ≡ workers) × (vec_len g.clients ≡ berths)) }
+{
+    Ok(Grips {
+        mail: grips_for(alloc, workers)?,
+        clients: grips_for(alloc, berths)?,
+    })
+}
+
+/// What the threads take in with what comes.
 #[derive(Drop)]
 pub(crate) struct Equipment {
     /// For each worker's connections.
     pub(crate) buffers: Vec<Buffers>,
-    pub(crate) mail_grips: Vec<Grip>,
-    pub(crate) client_grips: Vec<Grip>,
     /// For each berth's clients.
     pub(crate) client_buffers: Vec<Vec<u8>>,
 }
@@ -71,16 +92,13 @@ fn client_buffers_for(alloc: Global, berths: usize) -> Result<Vec<Vec<u8>>, Allo
     Ok(all)
 }
 
-/// What so many workers and berths use. An error where memory is refused.
+/// What so many workers and berths take in with. An error where memory is refused.
 pub(crate) fn equip(alloc: Global, workers: usize, berths: usize) -> Result<Equipment, AllocError>
     ensures buffers { IfOk result (λ e. All (λ b. 0 < length b.input.items) e.buffers.items × (vec_len e.buffers ≡ workers)) }
-    ensures grips { IfOk result (λ e. (vec_len e.mail_grips ≡ workers) × (vec_len e.client_grips ≡ berths)) }
     ensures clients { IfOk result (λ e. vec_len e.client_buffers ≡ berths) }
 {
     Ok(Equipment {
         buffers: buffers_for(alloc, workers)?,
-        mail_grips: grips_for(alloc, workers)?,
-        client_grips: grips_for(alloc, berths)?,
         client_buffers: client_buffers_for(alloc, berths)?,
     })
 }

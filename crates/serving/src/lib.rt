@@ -10,6 +10,7 @@ mod fault;
 mod run;
 mod server;
 mod sessions;
+mod site;
 mod sockets;
 mod stopping;
 

@@ -182,6 +182,6 @@ pub fn serve<
     )?;
     let workers = usize::from(config.workers);
     run_house_in::<Brand, R, &mut I>(
-        rt, floor, workers, crew, baskets, sleepers, &guests, &sockets, stop,
+        rt, floor, workers, crew, baskets, sleepers, guests, sockets, stop,
     )
 }

@@ -1,18 +1,21 @@
 //! The threads of a berth: one accepts a user's clients, one at a time, and answers them, and what they append goes by way of the lanes;
 //! the other sleeps until a change was logged. What is answered stands in `imap_stream`.
 
-ghost use Rattle.std.specs.Prelude.{◌≡◌, ◌≤◌, ◌<◌, ◌+◌, All, Some, length, true, vec_len, vec_capacity};
+ghost use Rattle.std.specs.Prelude.{◌≡◌, ◌≤◌, ◌<◌, ◌+◌, [], All, Some, length, true, vec_len, vec_capacity};
 ghost use Rattle.std.specs.List.{list_all};
 ghost use Rattle.std.specs.Mem.{manually_drop_value};
 ghost use Rattle.house_floor.specs.Crew.{AllAt, IsHouse, IsPost};
 ghost use Rattle.lane_work.specs.Couriers.{IsReady, IsSameDesk};
+ghost use Rattle.lane_work.specs.Permits.{AreEnded, ArePermits};
 ghost use Rattle.serving_workers.specs.Leaving.{IsHired, IsServed, has_thread};
 
 use crate::equipment::SharedBerth;
+use crate::site::Site;
 use crate::sockets::Sockets;
-use clerks::{Clerk, Clerks, Hall, Unhindered};
+use clerks::{Clerks, Hall, Unhindered};
 use courier::Courier;
-use house_floor::{Floor, Guest, Post, inbox_numbered};
+use delivery_token::Job;
+use house_floor::{Floor, Post, inbox_numbered};
 use house_session::folders_of;
 use house_threads::most_of;
 use imap_stream::{Berth, Hush, Visit};
@@ -23,9 +26,10 @@ use pace::{Actor, Pace};
 use serving_workers::{Door, Hired, Mark, Served, Serves, have_threads, packed};
 use session_bells::Sleeper;
 use session_thread::LockedStore;
+use shard_queue::Ended;
 use std::mem::ManuallyDrop;
 use std::net::TcpStream;
-use std::sync::{Arc, Mutex, Wait};
+use std::sync::{Arc, Wait};
 use std::thread;
 use std::thread::Threads;
 
@@ -45,9 +49,11 @@ impl Hush for AtHand<'_> {
     }
 }
 
-/// Where a berth's clients come in, and which berth it is.
+/// Where a berth's clients come in, which berth it is, and what they find there.
 #[derive(Clone, Copy)]
 pub(crate) struct Gateway<'s> {
+    pub(crate) floor: &'s Floor,
+    pub(crate) gate: &'s Unhindered,
     pub(crate) sockets: &'s Sockets,
     /// The house's mark, which is set once it stops.
     pub(crate) mark: &'s Mark,
@@ -59,21 +65,38 @@ pub(crate) struct Gateway<'s> {
     pub(crate) user: u8,
 }
 
+// The gateway of this berth.
+fn gateway_of<H: Hall>(site: &Site<H>, session: u8) -> Gateway<'_>
+    requires session { session < length site.now.guests.items }
+    requires grips { length site.now.grips.clients.items ≡ length site.now.guests.items }
+    requires imap { All (λ v. v.user < vec_len site.now.sockets.imap) site.now.guests.items }
+    ensures { result.user < vec_len result.sockets.now.imap }
+{
+    let berth = usize::from(session);
+    Gateway {
+        floor: &site.floor,
+        gate: &site.gate,
+        sockets: &site.sockets,
+        mark: &site.mark,
+        grip: &site.grips.clients[berth],
+        session,
+        user: site.guests[berth].user,
+    }
+}
+
 // Opens the visit of a client of this berth's user, who is greeted. None where memory or a handle is refused, or the client has gone.
 fn open_visit<'a, R: Wait>(
     rt: &'a R,
-    floor: &'a Floor,
-    gate: &'a Unhindered,
-    session: u8,
-    user: u8,
+    gateway: Gateway<'a>,
     stream: &TcpStream,
 ) -> Option<Visit<'a, R, Unhindered, Watched<TcpStream>>> {
+    let (floor, gate) = (gateway.floor, gateway.gate);
     let directory = &floor.office.directory;
-    let inbox = inbox_numbered(directory, user)?;
+    let inbox = inbox_numbered(directory, gateway.user)?;
     let bells = floor.depot.sessions.get(usize::from(inbox))?;
     let folders = folders_of(floor.alloc, directory, directory.user_of(inbox)).ok()?;
     let output = Watched::new(stream.try_clone().ok()?);
-    let store = LockedStore::new(rt, gate, session, &floor.depot.mailboxes, bells);
+    let store = LockedStore::new(rt, gate, gateway.session, &floor.depot.mailboxes, bells);
     let most = Some(most_of(floor.office.max_message));
     Visit::open(rt, floor.alloc, store, folders, most, output).ok()
 }
@@ -81,11 +104,9 @@ fn open_visit<'a, R: Wait>(
 // One client, from the greeting to its end.
 fn serve_client<'a, R: Wait, C: Courier>(
     rt: &'a R,
-    floor: &'a Floor,
-    gate: &'a Unhindered,
     berth: &ClientBerth<'a, R>,
     courier: &mut C,
-    gateway: Gateway<'_>,
+    gateway: Gateway<'a>,
     stream: &TcpStream,
     buffer: &mut [u8],
 )
@@ -96,15 +117,14 @@ fn serve_client<'a, R: Wait, C: Courier>(
     if prepare(stream, Patience::Endless).is_err() {
         return;
     }
-    let (session, user) = (gateway.session, gateway.user);
-    let Some(visit) = open_visit(rt, floor, gate, session, user, stream) else {
+    let Some(visit) = open_visit(rt, gateway, stream) else {
         return;
     };
     let mut input = stream;
     // The berth has no other client: this thread alone brings them here.
     let _ = berth.attend(
         rt,
-        floor.alloc,
+        gateway.floor.alloc,
         visit,
         courier,
         &mut input,
@@ -117,11 +137,9 @@ fn serve_client<'a, R: Wait, C: Courier>(
 // hand, so the mark is looked at behind that.
 fn receive<'a, R: Wait, C: Courier>(
     rt: &'a R,
-    floor: &'a Floor,
-    gate: &'a Unhindered,
     berth: &ClientBerth<'a, R>,
     courier: &mut C,
-    gateway: Gateway<'_>,
+    gateway: Gateway<'a>,
     door: &Door<'_>,
     stream: &TcpStream,
     buffer: &mut [u8],
@@ -131,7 +149,7 @@ fn receive<'a, R: Wait, C: Courier>(
     ensures kept { (first : C) → C.kept first courier.old → C.kept first courier.new }
 {
     if gateway.grip.hold(rt, stream) && !door.is_shut() {
-        serve_client(rt, floor, gate, berth, courier, gateway, stream, buffer);
+        serve_client(rt, berth, courier, gateway, stream, buffer);
         door.part(stream, buffer);
     }
     gateway.grip.clear(rt);
@@ -141,11 +159,9 @@ fn receive<'a, R: Wait, C: Courier>(
 // message: then nobody is served any more.
 fn answer_clients<'a, R: Wait, S: Summons>(
     rt: &'a R,
-    floor: &'a Floor,
-    gate: &'a Unhindered,
     berth: &ClientBerth<'a, R>,
     courier: &mut LaneCourier<'_, R, S, Unkept>,
-    gateway: Gateway<'_>,
+    gateway: Gateway<'a>,
     mut buffer: Vec<u8>,
 )
     requires ready { IsReady courier.old.office.now courier.old.channel.now courier.old.desk }
@@ -168,62 +184,27 @@ fn answer_clients<'a, R: Wait, S: Summons>(
             return;
         };
         let buffer = buffer.as_mut_slice();
-        receive(
-            rt, floor, gate, berth, courier, gateway, &door, &stream, buffer,
-        );
+        receive(rt, berth, courier, gateway, &door, &stream, buffer);
         courier.serial = courier.serial.saturating_add(1);
     }
 }
 
-// The life of the thread that answers: its clients, who append by way of the lanes, and then the end of its permits. It hears no end of its
-// channel: those come when all have ended.
-fn attend_there<'a, 'g, H: Hall, R: Wait>(
-    rt: &'a R,
-    floor: &'a Floor,
-    clerks: &'a [Mutex<Clerk<H>>],
-    gate: &'a Unhindered,
-    berth: Arc<ClientBerth<'a, R>>,
-    number: u8,
-    sockets: &'g Sockets,
-    mark: &'g Mark,
-    grip: &'g Grip,
+// Ends the permits of a berth that serves nobody any more. It hears no end of its channel: those come when all have ended.
+fn leave<R: Wait, S: Summons>(
+    courier: LaneCourier<'_, R, S, Unkept>,
+    gate: &Unhindered,
     session: u8,
-    user: u8,
-    post: ManuallyDrop<Post>,
-    buffer: Vec<u8>,
-) -> ManuallyDrop<Served>
-    requires lanes { H.lanes ≡ Some floor.now.office.lanes.items }
-    requires depot { H.depot ≡ Some floor.now.depot }
-    requires house { IsHouse floor.now (length floor.now.depot.channels.items) }
-    requires number { number < length floor.now.depot.channels.items }
-    requires post { IsPost floor.now number (manually_drop_value post) }
-    requires imap { user < vec_len sockets.now.imap }
-    ensures { IsServed floor.now number (manually_drop_value result) }
+    room: Vec<Ended<Job>>,
+) -> Served
+    requires permits { ArePermits courier.office.now.lanes.items courier.desk.number courier.desk.permits.items }
+    requires room { (room.items ≡ []) × (length courier.office.now.lanes.items ≤ vec_capacity room) }
+    ensures ended { AreEnded courier.entry.office.now.lanes.items courier.entry.desk.number result.ended.items }
+    ensures receiver { result.receiver ≡ courier.entry.desk.receiver }
 {
-    let gateway = Gateway {
-        sockets,
-        mark,
-        grip,
-        session,
-        user,
-    };
-    let Post { desk, room } = ManuallyDrop::into_inner(post);
-    let summons = Clerks::new(clerks, &floor.office.lanes, &floor.depot, gate);
-    let mut courier = LaneCourier {
-        rt,
-        office: &floor.office,
-        summons: &summons,
-        channel: &floor.depot.channels[usize::from(number)],
-        desk,
-        serial: 0,
-        book: Unkept,
-        is_torn: false,
-    };
-    answer_clients(rt, floor, gate, &berth, &mut courier, gateway, buffer);
     let LaneCourier {
-        rt: _,
-        office: _,
-        summons: _,
+        rt,
+        office,
+        summons,
         channel: _,
         desk,
         serial: _,
@@ -237,21 +218,51 @@ fn attend_there<'a, 'g, H: Hall, R: Wait>(
         ends,
     } = desk;
     let mut pace = Pace::new(gate, Actor::Session(session));
-    let ended = end_all(
-        rt,
-        &mut pace,
-        &floor.office,
-        &summons,
-        number,
-        permits,
-        room,
-    );
-    packed(Served {
+    let ended = end_all(rt, &mut pace, office, summons, number, permits, room);
+    Served {
         ended,
         receiver,
         ends,
         torn,
-    })
+    }
+}
+
+// The life of the thread that answers: its clients, who append by way of the lanes, and then the end of its permits.
+fn attend_there<'a, H: Hall, R: Wait>(
+    rt: &'a R,
+    site: &'a Site<H>,
+    berth: Arc<ClientBerth<'a, R>>,
+    session: u8,
+    number: u8,
+    post: ManuallyDrop<Post>,
+    buffer: Vec<u8>,
+) -> ManuallyDrop<Served>
+    requires lanes { H.lanes ≡ Some site.now.floor.office.lanes.items }
+    requires depot { H.depot ≡ Some site.now.floor.depot }
+    requires house { IsHouse site.now.floor (length site.now.floor.depot.channels.items) }
+    requires number { number < length site.now.floor.depot.channels.items }
+    requires post { IsPost site.now.floor number (manually_drop_value post) }
+    requires session { session < length site.now.guests.items }
+    requires grips { length site.now.grips.clients.items ≡ length site.now.guests.items }
+    requires imap { All (λ v. v.user < vec_len site.now.sockets.imap) site.now.guests.items }
+    ensures { IsServed site.now.floor number (manually_drop_value result) }
+{
+    let (floor, gate) = (&site.floor, &site.gate);
+    let Post { desk, room } = ManuallyDrop::into_inner(post);
+    let summons = Clerks::new(&site.clerks, &floor.office.lanes, &floor.depot, gate);
+    let mut courier = LaneCourier {
+        rt,
+        office: &floor.office,
+        summons: &summons,
+        channel: &floor.depot.channels[usize::from(number)],
+        desk,
+        serial: 0,
+        book: Unkept,
+        is_torn: false,
+    };
+    let gateway = gateway_of(site, session);
+    answer_clients(rt, &berth, &mut courier, gateway, buffer);
+    packed(leave(courier, gate, session, room))
 }
 
 // The life of the thread that shows a client what there is, until the house stops.
@@ -270,40 +281,31 @@ fn watch_clients<'a, R: Wait>(
 fn start_answering<'s, E, H: Hall + Send, R: Threads + Wait + Sync>(
     scope: &thread::Scope<'s, E>,
     rt: &'s R,
-    floor: &'s Floor,
-    clerks: &'s [Mutex<Clerk<H>>],
-    gate: &'s Unhindered,
+    site: &'s Site<H>,
     berth: Arc<ClientBerth<'s, R>>,
+    session: u8,
     number: u8,
-    gateway: Gateway<'s>,
     post: Post,
     buffer: Vec<u8>,
 ) -> Hired<'s>
-    requires lanes { H.lanes ≡ Some floor.now.office.lanes.items }
-    requires depot { H.depot ≡ Some floor.now.depot }
-    requires house { IsHouse floor.now (length floor.now.depot.channels.items) }
-    requires number { number < length floor.now.depot.channels.items }
-    requires post { IsPost floor.now number post }
-    requires imap { gateway.user < vec_len gateway.sockets.now.imap }
-    ensures { IsHired floor.now number result }
+    requires lanes { H.lanes ≡ Some site.now.floor.office.lanes.items }
+    requires depot { H.depot ≡ Some site.now.floor.depot }
+    requires house { IsHouse site.now.floor (length site.now.floor.depot.channels.items) }
+    requires number { number < length site.now.floor.depot.channels.items }
+    requires post { IsPost site.now.floor number post }
+    requires session { session < length site.now.guests.items }
+    requires grips { length site.now.grips.clients.items ≡ length site.now.guests.items }
+    requires imap { All (λ v. v.user < vec_len site.now.sockets.imap) site.now.guests.items }
+    ensures { IsHired site.now.floor number result }
 {
+    let floor = &site.floor;
     let parcel = packed(post);
-    let Gateway {
-        sockets,
-        mark,
-        grip,
-        session,
-        user,
-    } = gateway;
     match scope.spawn_with(Serves { floor, number }, move || {
-        attend_there::<H, R>(
-            rt, floor, clerks, gate, berth, number, sockets, mark, grip, session, user, parcel,
-            buffer,
-        )
+        attend_there::<H, R>(rt, site, berth, session, number, parcel, buffer)
     }) {
         Ok(child) => Hired::There(child),
         Err(refused) => {
-            mark.set();
+            site.mark.set();
             Hired::Here((refused.value)())
         }
     }
@@ -344,47 +346,36 @@ pub(crate) struct Furnishings<'s, R: Wait> {
 pub(crate) fn start_berths<'s, E, H: Hall + Send, R: Threads + Wait + Sync>(
     scope: &thread::Scope<'s, E>,
     rt: &'s R,
-    floor: &'s Floor,
-    clerks: &'s [Mutex<Clerk<H>>],
-    gate: &'s Unhindered,
-    guests: &'s [Guest],
-    sockets: &'s Sockets,
-    mark: &'s Mark,
-    grips: &'s [Grip],
+    site: &'s Site<H>,
     mut furnishings: Furnishings<'s, R>,
     mut posts: Vec<Post>,
     mut hired: Vec<Hired<'s>>,
 ) -> (Vec<Hired<'s>>, bool)
-    requires lanes { H.lanes ≡ Some floor.now.office.lanes.items }
-    requires depot { H.depot ≡ Some floor.now.depot }
-    requires house { IsHouse floor.now (length floor.now.depot.channels.items) }
-    requires berths { vec_len furnishings.berths ≡ length guests.now }
-    requires grips { length grips.now ≡ length guests.now }
-    requires bells { vec_len furnishings.bells ≡ length guests.now }
-    requires buffers { vec_len furnishings.buffers ≡ length guests.now }
-    requires posts { AllAt (IsPost floor.now) (vec_len hired) posts.items × (vec_len posts ≡ length guests.now) }
-    requires all { vec_len hired + length guests.now ≡ length floor.now.depot.channels.items }
-    requires hired { AllAt (IsHired floor.now) 0 hired.items × (length floor.now.depot.channels.items ≤ vec_capacity hired) }
-    requires imap { All (λ v. v.user < vec_len sockets.now.imap) guests.now }
-    ensures hired { AllAt (IsHired floor.now) 0 result.0.items }
-    ensures count { vec_len result.0 ≡ length floor.now.depot.channels.items }
+    requires lanes { H.lanes ≡ Some site.now.floor.office.lanes.items }
+    requires depot { H.depot ≡ Some site.now.floor.depot }
+    requires house { IsHouse site.now.floor (length site.now.floor.depot.channels.items) }
+    requires berths { vec_len furnishings.berths ≡ length site.now.guests.items }
+    requires grips { length site.now.grips.clients.items ≡ length site.now.guests.items }
+    requires bells { vec_len furnishings.bells ≡ length site.now.guests.items }
+    requires buffers { vec_len furnishings.buffers ≡ length site.now.guests.items }
+    requires posts { AllAt (IsPost site.now.floor) (vec_len hired) posts.items × (vec_len posts ≡ length site.now.guests.items) }
+    requires all { vec_len hired + length site.now.guests.items ≡ length site.now.floor.depot.channels.items }
+    requires hired { AllAt (IsHired site.now.floor) 0 hired.items × (length site.now.floor.depot.channels.items ≤ vec_capacity hired) }
+    requires imap { All (λ v. v.user < vec_len site.now.sockets.imap) site.now.guests.items }
+    ensures hired { AllAt (IsHired site.now.floor) 0 result.0.items }
+    ensures count { vec_len result.0 ≡ length site.now.floor.depot.channels.items }
     ensures all { result.1 ≡ true → list_all has_thread result.0.items ≡ true }
 {
     let mut are_watched = true;
-    for berth in 0..guests.len() {
-        let gateway = Gateway {
-            sockets,
-            mark,
-            grip: &grips[berth],
-            session: berth as u8,
-            user: guests[berth].user,
-        };
+    for berth in 0..site.guests.len() {
+        let session = berth as u8;
+        let gateway = gateway_of(site, session);
         let SharedBerth { reader, watch } = furnishings.berths.remove(0);
         let (bell, buffer) = (furnishings.bells.remove(0), furnishings.buffers.remove(0));
         let number = hired.len() as u8;
         let post = posts.remove(0);
         let one = start_answering::<E, H, R>(
-            scope, rt, floor, clerks, gate, reader, number, gateway, post, buffer,
+            scope, rt, site, reader, session, number, post, buffer,
         );
         hired.push_reserved(one);
         let is_watched = start_watching(scope, rt, watch, gateway, bell);

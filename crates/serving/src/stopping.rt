@@ -1,9 +1,10 @@
 //! How a house that serves is stopped: what stops it is waited for, then it is marked, and each thread that waits for a peer is woken.
 //! What a thread does then is its own matter.
 
+use crate::site::Site;
 use crate::sockets::Sockets;
+use clerks::Hall;
 use loopback::{Grip, Pause};
-use serving_workers::Mark;
 use session_bells::SessionBell;
 use std::io::{ErrorKind, Read};
 use std::sync::Wait;
@@ -75,20 +76,14 @@ fn give_grace<R: Wait>(rt: &R, pause: &Pause, workers: &[Grip], berths: &[Grip])
 
 /// Stops the house: it is marked, nothing is accepted any more, no thread hears its peer any more, each watch is woken; and what is at
 /// hand some five seconds later is cut.
-pub(crate) fn stop_all<R: Wait>(
-    rt: &R,
-    mark: &Mark,
-    sockets: &Sockets,
-    workers: &[Grip],
-    berths: &[Grip],
-    bells: &[Vec<SessionBell>],
-) {
-    mark.set();
-    shut_listeners(sockets);
+pub(crate) fn stop_all<H: Hall, R: Wait>(rt: &R, site: &Site<H>) {
+    let (workers, berths) = (site.grips.mail.as_slice(), site.grips.clients.as_slice());
+    site.mark.set();
+    shut_listeners(&site.sockets);
     hush_all(rt, workers);
     hush_all(rt, berths);
-    wake_all(bells);
-    give_grace(rt, &sockets.pause, workers, berths);
+    wake_all(&site.floor.depot.sessions);
+    give_grace(rt, &site.sockets.pause, workers, berths);
     cut_all(rt, workers);
     cut_all(rt, berths);
 }

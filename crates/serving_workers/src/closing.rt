@@ -96,6 +96,25 @@ fn are_quiet(worked: &[Worked]) -> bool {
     worked.iter().all(|one| one.fate == Fate::Whole)
 }
 
+// Spends a house of which a clerk stood at another's position, so that no lane and no channel can be closed.
+fn spend_house(floor: Floor, worked: Vec<Worked>, consumed: Vec<Consumed>, baskets: Baskets)
+    requires some { (0 < length floor.depot.channels.items) × (0 < length floor.office.lanes.items) }
+    requires each { (vec_len worked ≡ length floor.depot.channels.items) × (vec_len consumed ≡ length floor.office.lanes.items) }
+    requires ended { All (λ w. vec_len w.ended ≡ length floor.office.lanes.items) worked.items }
+    requires senders { All (λ c. vec_len c.senders ≡ length floor.depot.channels.items) consumed.items }
+    requires baskets { AreBaskets (length floor.depot.channels.items) (length floor.office.lanes.items) baskets }
+{
+    let alloc = floor.alloc;
+    let ran = Ran {
+        worked,
+        consumed,
+        stands: Vec::new(alloc),
+        posts: Vec::new(alloc),
+        started: Started::All,
+    };
+    abandon(alloc, floor, ran, baskets);
+}
+
 /// Closes the house that the producers and the clerks have left: each producer hears the end of each shard, and each queue is closed with what
 /// is left of all permits. Answers whether all went well: each clerk stood in its place, nobody met what he didn't await, and each queue
 /// could be closed. Where it didn't, all of the house is spent all the same.
@@ -126,14 +145,7 @@ pub fn close_house<R: Wait>(
     let worked = hear_all_out(rt, &floor, served, worked);
     let Dismissed { consumed, in_order } = dismissed;
     if !in_order {
-        let ran = Ran {
-            worked,
-            consumed,
-            stands: Vec::new(alloc),
-            posts: Vec::new(alloc),
-            started: Started::All,
-        };
-        abandon(alloc, floor, ran, baskets);
+        spend_house(floor, worked, consumed, baskets);
         return false;
     }
     let is_clerk_torn = is_clerk_torn(&consumed);

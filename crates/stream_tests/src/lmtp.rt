@@ -646,6 +646,18 @@ fn spend(
     channel.abandon(senders, Vec::new(alloc), receiver);
 }
 
+// The desk of the one producer, which has heard nothing yet.
+fn desk_of(permits: Vec<LanePermit>, receiver: ReceiverPermit<Noted>) -> Desk
+    ensures { (result.number ≡ 0) × (result.permits ≡ permits) × (result.receiver ≡ receiver) }
+{
+    Desk {
+        number: 0,
+        permits,
+        receiver,
+        ends: 0,
+    }
+}
+
 // A case is played in a house of these permits.
 fn play_in<R: Wait>(
     rt: &R,
@@ -690,12 +702,7 @@ fn play_in<R: Wait>(
         lanes,
         closings: Vec::new(alloc),
     };
-    let mut desk = Desk {
-        number: 0,
-        permits: hand,
-        receiver,
-        ends: 0,
-    };
+    let mut desk = desk_of(hand, receiver);
     let served = &office.lanes[0];
     let (permit, sender, told) = with_clerk(
         rt, alloc, &office, served, &channel, &mut desk, permit, sender, case,

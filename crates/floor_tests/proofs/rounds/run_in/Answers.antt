@@ -6,4 +6,4 @@ pub collect_all-told-requires-clause-lists : goal.collect_all-told-requires-clau
 collect_all-told-requires-clause-lists g c = none_yet c.args.floor.office.lanes.items _ _ c.args.baskets.lists c.requires.baskets.lists refl
 
 pub collect_all-told-requires-clause-room : goal.collect_all-told-requires-clause-room
-collect_all-told-requires-clause-room g c = is_room _ _ (vec_len c.work_all-left.result) c.args.baskets.lists c.requires.baskets.lists (search rules)
+collect_all-told-requires-clause-room g c = is_room _ _ (vec_len c.work_off-staff.result.1) c.args.baskets.lists c.requires.baskets.lists (search rules)

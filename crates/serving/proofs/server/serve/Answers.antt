@@ -1,5 +1,4 @@
-use Rattle.std.proofs.Common.{rules, ◌<◌, ℕ, All, List, refl, subst, sym, take, vec_len}
-use Rattle.house_floor.specs.declared.floor.Guest.{Guest}
+use Rattle.std.proofs.Common.{rules, ℕ, refl, subst, take, vec_len}
 use Rattle.std.specs.Io.KnownBytes.{Appends}
 use Rattle.house.specs.Settings.{setup_of}
 use Rattle.serving.specs.Announcing.{announcement}
@@ -31,9 +30,8 @@ returns-in_err-directory-clause-refused g c fault is = (
 )
 
 pub run_house_in-requires-clause-imap : goal.run_house_in-requires-clause-imap
-run_house_in-requires-clause-imap g c κs lives =
-    subst (λ (vs : List Guest). All (λ v. v.user < vec_len c.in_ok-sockets.sockets.imap) vs) (sym c.deref.ensures.value)
-    (each_there c.in_ok-directory.field-0.directory.homes (vec_len c.in_ok-sockets.sockets.imap) c.in_ok-sockets.ensures.imap c.in_ok-directory.field-0.guests.items c.in_ok-directory.ensures.named)
+run_house_in-requires-clause-imap g c =
+    each_there c.in_ok-directory.field-0.directory.homes (vec_len c.in_ok-sockets.sockets.imap) c.in_ok-sockets.ensures.imap c.in_ok-directory.field-0.guests.items c.in_ok-directory.ensures.named
 
 pub returns-clause-all : goal.returns-clause-all
 returns-clause-all g c =

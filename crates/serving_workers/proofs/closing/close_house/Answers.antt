@@ -10,8 +10,8 @@ use Rattle.serving_workers.proofs.Heard.{ended_of, lengths_of, receivers_of}
 use Rattle.serving_workers.proofs.Wholes.{whole_of}
 use Rattle.serving_workers.proofs.closing.close_house.Goals as goal
 
-pub abandon-requires-clause-worked : goal.abandon-requires-clause-worked
-abandon-requires-clause-worked g c = lengths_of c.args.floor 0 c.hear_all_out-worked.result.items c.hear_all_out-worked.ensures.worked
+pub spend_house-requires-clause-ended : goal.spend_house-requires-clause-ended
+spend_house-requires-clause-ended g c = lengths_of c.args.floor 0 c.hear_all_out-worked.result.items c.hear_all_out-worked.ensures.worked
 
 pub close_queues-lanes-requires-clause-hands : goal.close_queues-lanes-requires-clause-hands
 close_queues-lanes-requires-clause-hands g c =
