@@ -4,7 +4,7 @@ use Rattle.lane_work.specs.declared.consumer.Consumed.{Consumed}
 use Rattle.lane_work.specs.declared.worker.Worked.{Worked}
 use Rattle.lane_permits.specs.rows.Rows.{AreEndedHands}
 use Rattle.lane_permits.specs.rows.SenderRows.{AreReceivers}
-use Rattle.reckoning.proofs.Settled.{at_some}
+use Rattle.reckoning.proofs.Balanced.{at_some}
 use Rattle.serving_workers.specs.declared.accepting.Served.{Served}
 use Rattle.serving_workers.proofs.Heard.{ended_of, lengths_of, receivers_of}
 use Rattle.serving_workers.proofs.Wholes.{whole_of}
