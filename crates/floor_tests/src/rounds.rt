@@ -371,9 +371,10 @@ fn work_off<H: Hall + Send, T: Threads + Wait + Sync + Abort>(
     ensures left { All (λ l. AreSomeones floor.now.office.lanes.items (manually_drop_value {X = Left} l).ended.items) result.1.items }
     ensures count { vec_len result.1 ≡ vec_len posts }
 {
-    let staff = Staff::<H>::with_room(floor.alloc, floor.office.lanes.len()).expect(rt, "memory");
+    let alloc = floor.alloc;
+    let staff = Staff::<H>::with_room(alloc, floor.office.lanes.len()).expect(rt, "memory");
     let staff = hire_all(floor, stands, staff);
-    let parcels = Vec::with_capacity(floor.alloc, posts.len()).expect(rt, "memory");
+    let parcels = Vec::with_capacity(alloc, posts.len()).expect(rt, "memory");
     let parcels = pack_all(floor, posts, parcels);
     let left = work_all::<H, T>(rt, floor, &staff.clerks, parcels);
     (staff, left)

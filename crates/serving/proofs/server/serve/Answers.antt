@@ -30,7 +30,7 @@ returns-in_err-directory-clause-refused g c fault is = (
 )
 
 pub run_house_in-requires-clause-imap : goal.run_house_in-requires-clause-imap
-run_house_in-requires-clause-imap g c =
+run_house_in-requires-clause-imap g c κs lives =
     each_there c.in_ok-directory.field-0.directory.homes (vec_len c.in_ok-sockets.sockets.imap) c.in_ok-sockets.ensures.imap c.in_ok-directory.field-0.guests.items c.in_ok-directory.ensures.named
 
 pub returns-clause-all : goal.returns-clause-all
