@@ -83,8 +83,6 @@ impl Session {
     pub fn greet(&self, out: &mut Vec<u8>) -> Result<(), AllocError>
         ensures ok { OnOk result (out.new.items ≡ out.old.items ++ greeting) }
         ensures err { OnErr result (out.new.items ≡ out.old.items) }
-
-        // An error comes only where `out` had no room for the greeting.
         ensures memory { OnErr result (vec_capacity out.old < vec_len out.old + length greeting) }
     {
         out.reserve(GREETING.len())?;
@@ -442,20 +440,13 @@ impl Session {
         store: &mut S,
         out: &mut Vec<u8>,
     ) -> Result<After, SessionFault>
-        // No verdict is awaited.
         requires unsent { self.old.mailing.sent ≡ None }
-
         // What was asked of the store, what is said, and how the session stands then is what `turn_of` tells, by the store's answers.
         ensures answered { IfOk result (λ after. Answers S.step self.old line.now store.old store.new out.old.items out.new.items after self.new) }
-
-        // Ended exactly where the session has ended. A refusal leaves the session, the store and `out` as they were.
         ensures ended { (result ≡ Err SessionFault.Ended) ↔ (self.old.ended ≡ true) }
         ensures refused { OnErr result ((self.new ≡ self.old) × (store.new ≡ store.old) × (out.new.items ≡ out.old.items)) }
-
         // Where `out` had the room of `room_for`, NoMemory never comes.
         ensures memory { result ≡ Err SessionFault.NoMemory → vec_capacity out.old < vec_len out.old + room_for self.old line.now }
-
-        // The session keeps its mailboxes, and answers what its client may send from now on.
         ensures folders { self.new.folders ≡ self.old.folders }
         ensures sends { IfOk result (λ after. after ≡ may_send self.new) }
     {
@@ -672,24 +663,16 @@ impl Session {
         store: &mut S,
         out: &mut Vec<u8>,
     ) -> Result<After, SessionFault>
-        // A verdict is awaited.
         requires waits { is_some self.old.mailing.sent ≡ true }
-
         // What was asked of the store, what is said, and how the session stands then is what `turn_of_verdict` tells, by the store's answers.
         ensures answered { IfOk result (λ after. AnswersVerdict S.step self.old verdict
             store.old store.new out.old.items out.new.items after self.new) }
-
-        // Ended exactly where the session has ended. A refusal leaves the session, the store and `out` as they were.
         ensures ended { (result ≡ Err SessionFault.Ended) ↔ (self.old.ended ≡ true) }
         ensures refused { OnErr result ((self.new ≡ self.old) × (store.new ≡ store.old) × (out.new.items ≡ out.old.items)) }
-
         // Where `out` had the room that `verdict_room` tells, NoMemory never comes.
         ensures memory { result ≡ Err SessionFault.NoMemory → vec_capacity out.old < vec_len out.old + room_for_verdict self.old }
-
         // Once it is answered, neither a literal nor a verdict is waited for.
         ensures done { OnOk result ((self.new.mailing.begun ≡ None) × (self.new.mailing.sent ≡ None)) }
-
-        // The session keeps its mailboxes, and answers what its client may send from now on.
         ensures folders { self.new.folders ≡ self.old.folders }
         ensures sends { IfOk result (λ after. after ≡ may_send self.new) }
     {
@@ -711,12 +694,8 @@ impl Session {
         // One line is said, that of `long_line_text`, and a command may follow: an IDLE or APPEND that was begun is over.
         ensures answered { IfOk result (λ after. (after ≡ After.Go) × (out.new.items ≡ out.old.items ++ long_line_text self.old)) }
         ensures standing { OnOk result (self.new ≡ (turn_of_long_line self.old).standing) }
-
-        // Ended exactly where the session has ended. A refusal leaves the session and `out` as they were.
         ensures ended { (result ≡ Err SessionFault.Ended) ↔ (self.old.ended ≡ true) }
         ensures refused { OnErr result ((self.new ≡ self.old) × (out.new.items ≡ out.old.items)) }
-
-        // NoMemory comes only where `out` had no room for that line.
         ensures memory { result ≡ Err SessionFault.NoMemory → vec_capacity out.old < vec_len out.old + length (long_line_text self.old) }
     {
         if self.ended {
@@ -773,22 +752,16 @@ impl Session {
         ensures turned { IfOk result (λ count. IdleTurns S.step self.old store.old store.new out.old.items out.new.items count self.new) }
         ensures mailing { self.new.mailing ≡ self.old.mailing }
         ensures few { IfOk result (λ count. count ≤ 64) }
-
         // Where it shows nothing and the session goes on, nothing is changed and nothing said.
         ensures quiet { IfOk result (λ count. count ≡ 0 → self.new.ended ≡ false → (self.new ≡ self.old) × (out.new.items ≡ out.old.items)) }
-
         // Ended exactly where the session has ended, and the store is as it was.
         ensures ended { (result ≡ Err SessionFault.Ended) ↔ (self.old.ended ≡ true) }
         ensures over { result ≡ Err SessionFault.Ended → store.new ≡ store.old }
-
         // After NoMemory the store is as it was, or it refused memory itself.
         ensures starved { result ≡ Err SessionFault.NoMemory → Starves S.step store.old store.new }
-
         // Where `out` has room for a BYE line, the store was asked.
         ensures asked { result ≡ Err SessionFault.NoMemory → vec_len out.old + 48 ≤ vec_capacity out.old →
             S.step store.old (Feed most_changes) (Refused MailFault.NoMemory) store.new }
-
-        // A refusal leaves the session and `out` as they were.
         ensures refused { OnErr result ((self.new ≡ self.old) × (out.new.items ≡ out.old.items)) }
     {
         if self.ended {
