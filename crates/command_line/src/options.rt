@@ -149,7 +149,7 @@ pub(crate) struct Helps {
 impl Helps {
     /// The help of each. An error where memory is refused.
     pub(crate) fn new(alloc: Global) -> Result<Helps, AllocError>
-        ensures { IfOk result (λ h. AreThere h.names.items h.house.items h.server.items) }
+        ensures { IfOk result AreThere }
     {
         Ok(Helps {
             names: name_helps(alloc)?,
@@ -235,7 +235,7 @@ fn with_house<'a>(
     subcommand: Command<'a>,
     helps: &'a Helps,
 ) -> Result<Command<'a>, AllocError>
-    requires { AreThere helps.now.names.items helps.now.house.items helps.now.server.items }
+    requires { AreThere helps.now }
     ensures { IfOk result (HasMore words.house_rules subcommand.entry) }
 {
     let named = with_names_of(alloc, subcommand, &helps.names)?;
@@ -244,7 +244,7 @@ fn with_house<'a>(
 
 // `script`, with its options and its mailboxes.
 fn script_line<'a>(alloc: Global, helps: &'a Helps) -> Result<Command<'a>, AllocError>
-    requires { AreThere helps.now.names.items helps.now.house.items helps.now.server.items }
+    requires { AreThere helps.now }
     ensures shape { IfOk result (λ c. shape_of c ≡ words.script) }
     ensures local { IfOk result (λ c. (fields_of c).has_globals ≡ false) }
 {
@@ -256,7 +256,7 @@ fn script_line<'a>(alloc: Global, helps: &'a Helps) -> Result<Command<'a>, Alloc
 
 // `serve`, with its options and its mailboxes.
 fn serve_line<'a>(alloc: Global, helps: &'a Helps) -> Result<Command<'a>, AllocError>
-    requires { AreThere helps.now.names.items helps.now.house.items helps.now.server.items }
+    requires { AreThere helps.now }
     ensures shape { IfOk result (λ c. shape_of c ≡ words.serve) }
     ensures local { IfOk result (λ c. (fields_of c).has_globals ≡ false) }
 {
@@ -279,7 +279,7 @@ fn program<'a>(alloc: Global) -> Command<'a>
 
 // What the program takes: one of two subcommands.
 pub(crate) fn command_line<'a>(alloc: Global, helps: &'a Helps) -> Result<Command<'a>, AllocError>
-    requires { AreThere helps.now.names.items helps.now.house.items helps.now.server.items }
+    requires { AreThere helps.now }
     ensures { IfOk result (λ c. app_of c ≡ words.program) }
 {
     let with_script = program(alloc).subcommand(script_line(alloc, helps)?)?;

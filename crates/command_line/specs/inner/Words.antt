@@ -4,6 +4,7 @@ use Rattle.clap.specs.Words.{App, Rule, app_of}
 use Rattle.clap.specs.declared.builder.command.Command.TheViews.{out-Command as fields_of}
 use Rattle.clap.specs.declared.builder.command.Command.{Command}
 use Rattle.command_line.specs.Words.{number_rule}
+use Rattle.command_line.specs.declared.options.Helps.{Helps}
 use Rattle.command_line.specs.declared.options.NumberOption.{NumberOption}
 
 abbrev pub with_rules : App → List Rule → App
@@ -19,7 +20,7 @@ abbrev pub rule_for : NumberOption → Rule
 rule_for option = number_rule option.name.now option.number.least option.number.most
 
 -- there is a help for each name, each option of a house and each of a server
-pub record AreThere {A : Type 0} (names house server : List A) : Type 0 where
-  pub names : length names ≡ 2
-  pub house : length house ≡ 8
-  pub server : length server ≡ 4
+pub record AreThere (helps : Helps) : Type 0 where
+  pub names : length helps.names.items ≡ 2
+  pub house : length helps.house.items ≡ 8
+  pub server : length helps.server.items ≡ 4
