@@ -168,6 +168,22 @@ KeepsMarks (Leave session) old new = Unit {0}
 abbrev pub ChangesNothing : House → Event → Type 0
 ChangesNothing before event = (k : Setup) (s : Scene) → StandsFor k before s → HasNothing k s event
 
+-- An event that may find nothing to do: one of the house's own, or an idle turn. None that a peer or a client causes does, nor a shard's close.
+abbrev pub MayFindNothing : Event → Type 0
+MayFindNothing (Put number) = Unit {0}
+MayFindNothing (Take shard) = Unit {0}
+MayFindNothing (Deliver shard) = Unit {0}
+MayFindNothing (Answer shard) = Unit {0}
+MayFindNothing (Hear number) = Unit {0}
+MayFindNothing (End number shard) = Unit {0}
+MayFindNothing (Idle session) = Unit {0}
+MayFindNothing (Bytes connection piece) = ⊥
+MayFindNothing (Vanish connection) = ⊥
+MayFindNothing (Close shard) = ⊥
+MayFindNothing (Enter session user) = ⊥
+MayFindNothing (Say session piece) = ⊥
+MayFindNothing (Leave session) = ⊥
+
 -- the copies that are still to be put at a seat, by its connection or by its session
 abbrev pub due_by : Option HouseConnection → List Job
 due_by None = []

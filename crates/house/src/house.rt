@@ -17,8 +17,7 @@ ghost use Rattle.house.specs.Setup.{Setup};
 ghost use Rattle.house.specs.Stands.{StandsFor};
 ghost use Rattle.house.specs.Effort.{MakesLess, caller_effort};
 ghost use Rattle.delivery_core.specs.Load.{load};
-ghost use Rattle.std.specs.Borrow.{Bor};
-ghost use Rattle.house.specs.Steps.{CannotNote, CorePuts, Follows, FollowsInPart, HasNoRoom, IsBusy, IsEmptySeat, ChangesNothing, IsNoNumber, IsNobody, KeepsMarks, Led, MayWant, PutsNext, is_unread};
+ghost use Rattle.house.specs.Steps.{CannotNote, CorePuts, Follows, FollowsInPart, HasNoRoom, IsBusy, IsEmptySeat, ChangesNothing, IsNoNumber, IsNoSeat, IsNobody, KeepsMarks, Led, MayFindNothing, MayWant, PutsNext, is_unread};
 ghost use Rattle.house.specs.inner.Steps.{CallerWentOn, HasSeat, IsNoNext, IsOpen, IsRead, MayNotPut, StandsForMaybe, fault_of, job_of};
 ghost use Rattle.house.specs.declared.event.Event.TheVariants as events;
 
@@ -372,9 +371,9 @@ impl House {
     /// Nobody, Busy and Nothing come in this order, and after them nothing changed: Nobody where the connection, the shard, the session or
     /// the user isn't there (an end asks for its seat alone), and where a seat that is free takes nobody any more; Busy where bytes, a vanishing, an
     /// idle turn or a leave are for a seat that still waits for the verdicts of a peer that is gone, where a shard is shut that is shut already, and
-    /// where a user enters at a place that is taken; Nothing where the event would change nothing. After NoMemory, which no take, delivery, answer,
-    /// end, close, leave or vanishing answers, what was done by then stands, and the next event of the connection or session goes on from there;
-    /// bytes that came with it were taken up or weren't there at all.
+    /// where a user enters at a place that is taken; Nothing where an event of the house's own, or an idle turn, would change nothing. After
+    /// NoMemory, which no take, delivery, answer, end, close, leave or vanishing answers, what was done by then stands, and the next event of the
+    /// connection or session goes on from there; bytes that came with it were taken up or weren't there at all.
     pub fn step(&mut self, event: Event<'_>, out: &mut Vec<u8>) -> Result<(), HouseFault>
         // From each scene for which the house stood, an event that happened leads to one for which it stands; `out` gets what it prints.
         ensures follows { OnOk result (Follows self.old event.entry self.new out.old.items out.new.items) }
@@ -391,9 +390,9 @@ impl House {
         // Busy exactly for bytes, a vanishing, an idle turn or a leave where the peer is gone, a close of a shut shard, a user at a taken place.
         ensures busy { (result ≡ Err HouseFault.Busy) ↔ IsBusy self.old event.entry }
 
-        // Nothing comes only where the event would change and print nothing, and never to bytes of a connection.
+        // Nothing comes only where the event would change and print nothing, and to none that comes from outside but an idle turn.
         ensures changes_nothing { result ≡ Err HouseFault.Nothing → ChangesNothing self.old event.entry }
-        ensures bytes { (connection : ℕ) (piece : Bor (List ℕ)) → event.entry ≡ events.Bytes connection piece → result ≢ Err HouseFault.Nothing }
+        ensures finds_nothing { result ≡ Err HouseFault.Nothing → MayFindNothing event.entry }
 
         // From each such scene the event was cut short, or nothing happened, and the house stands for what came of it.
         ensures no_memory { result ≡ Err HouseFault.NoMemory → FollowsInPart self.old event.entry self.new out.old.items out.new.items }
@@ -428,6 +427,13 @@ impl House {
         self.directory.shards()
     }
 
+    // Whether there is no such connection.
+    fn has_no_seat(&self, connection: u8) -> bool
+        ensures { IsTrue result ↔ IsNoSeat self.now connection }
+    {
+        connection == 0 || usize::from(connection) > self.callers.len()
+    }
+
     // Bytes came from the peer of a connection.
     fn bytes(&mut self, connection: u8, piece: &[u8], out: &mut Vec<u8>) -> Result<(), HouseFault>
         ensures follows { OnOk result (Follows self.old (events.Bytes connection piece.entry) self.new out.old.items out.new.items) }
@@ -438,7 +444,7 @@ impl House {
             FollowsInPart self.old (events.Bytes connection piece.entry) self.new out.old.items out.new.items }
         ensures refused { result ≢ Err HouseFault.NoMemory → OnErr result ((self.new ≡ self.old) × (out.new.items ≡ out.old.items)) }
     {
-        if connection == 0 || usize::from(connection) > self.callers.len() {
+        if self.has_no_seat(connection) {
             return Err(HouseFault::Nobody);
         }
         let seat = index_of(connection);
@@ -463,7 +469,7 @@ impl House {
         ensures memory { result ≢ Err HouseFault.NoMemory }
         ensures refused { OnErr result ((self.new ≡ self.old) × (out.new.items ≡ out.old.items)) }
     {
-        if connection == 0 || usize::from(connection) > self.callers.len() {
+        if self.has_no_seat(connection) {
             return Err(HouseFault::Nobody);
         }
         let seat = index_of(connection);
@@ -525,10 +531,8 @@ impl House {
         if usize::from(shard) >= self.store.core.shards() {
             return Err(HouseFault::Nobody);
         }
-        match self.store.core.end(number - 1, shard) {
-            Ok(()) => {}
-            Err(Fault::Nothing) => return Err(HouseFault::Nothing),
-            Err(Fault::Nobody) => return Err(HouseFault::Nobody),
+        if let Err(fault) = self.store.core.end(number - 1, shard) {
+            return Err(fault_of(fault));
         }
         Ok(())
     }
@@ -576,6 +580,7 @@ impl House {
     }
 }
 
+// Why a step of the core that asks for no memory did nothing, as one of the house's faults.
 fn fault_of(fault: Fault) -> HouseFault
     ensures { result ≡ fault_of fault }
 {

@@ -108,35 +108,6 @@ busy_not_wanting f e x = wants_other (ap (λ (g : HouseFault). let r : Result (U
 pub is_busy : (f : HouseFault) → f ≡ faults.Busy → ◌≡◌ {A = Result (Unit {0}) HouseFault} (Err f) (Err faults.Busy)
 is_busy f e = ap (λ (g : HouseFault). let r : Result (Unit {0}) HouseFault = Err g in r) e
 
-pub heard_bytes : (k : Setup) (number : ℕ) (s : Scene) (connection : ℕ) (piece : Bor (List ℕ)) (h : House) (old new : List ℕ)
-    → Led k true s (events.Bytes connection piece) h old new → LineDone k number (Sends connection piece.now) s h old new
-heard_bytes k number s connection piece h old new led = record {
-  after = led.after;
-  printed = led.printed;
-  does = sends connection piece.now led.plays;
-  stands = led.stands;
-  out = led.out;
-}
-
-pub told_nobody : (k : Setup) (number : ℕ) (s : Scene) (connection : ℕ) (bytes : List ℕ) (h : House) (old new : List ℕ)
-    → StandsFor k h s → NobodyThere k s connection → new ≡ old ++ refusal number (codes "Nobody") → LineDone k number (Sends connection bytes) s h old new
-told_nobody k number s connection bytes h old new st nobody e = record { after = s; printed = _; does = sends_to_nobody connection bytes nobody refl refl; stands = st; out = e }
-
-pub told_owing : (k : Setup) (number : ℕ) (s : Scene) (connection : ℕ) (bytes : List ℕ) (h : House) (old new : List ℕ)
-    → StandsFor k h s → IsOwing s connection → new ≡ old ++ refusal number (codes "Busy") → LineDone k number (Sends connection bytes) s h old new
-told_owing k number s connection bytes h old new st owes e = record { after = s; printed = _; does = sends_to_owing connection bytes owes refl refl; stands = st; out = e }
-
-pub lost : (k : Setup) (number : ℕ) (s : Scene) (connection : ℕ) (h : House) (old new : List ℕ) → Led k true s (events.Vanish connection) h old new → LineDone k number (Vanishes connection) s h old new
-lost k number s connection h old new led = record { after = led.after; printed = led.printed; does = vanishes connection led.plays; stands = led.stands; out = led.out }
-
-pub lost_nobody : (k : Setup) (number : ℕ) (s : Scene) (connection : ℕ) (h : House) (old new : List ℕ)
-    → StandsFor k h s → IsAway k s connection → new ≡ old ++ refusal number (codes "Nobody") → LineDone k number (Vanishes connection) s h old new
-lost_nobody k number s connection h old new st nobody e = record { after = s; printed = _; does = vanishes_away connection nobody refl refl; stands = st; out = e }
-
-pub lost_again : (k : Setup) (number : ℕ) (s : Scene) (connection : ℕ) (h : House) (old new : List ℕ)
-    → StandsFor k h s → IsOwing s connection → new ≡ old ++ refusal number (codes "Busy") → LineDone k number (Vanishes connection) s h old new
-lost_again k number s connection h old new st owes e = record { after = s; printed = _; does = vanishes_again connection owes refl refl; stands = st; out = e }
-
 pub held_done : (k : Setup) (number : ℕ) (s : Scene) (held holds : List Bool) (shard : ℕ) (h : House) (old new : List ℕ)
     → StandsFor k h s → length held ≡ k.config.shards → SetsHeld held number shard true holds old new → LineDone k number (Hold shard) s h old new
 held_done k number s held holds shard h old new st many (sets l e f) = record { after = s; printed = []; does = stands_still shard (omega (arith, l, many)) refl refl; stands = st; out = f ∙ sym (append-nil old) }
@@ -147,16 +118,10 @@ pub freed_done : (k : Setup) (number : ℕ) (s : Scene) (held holds : List Bool)
 freed_done k number s held holds shard h old new st many (sets l e f) = record { after = s; printed = []; does = goes_again shard (omega (arith, l, many)) refl refl; stands = st; out = f ∙ sym (append-nil old) }
 freed_done k number s held holds shard h old new st many (sets_nobody l e f) = record { after = s; printed = _; does = goes_nobody shard (omega (arith, l, many)) refl refl; stands = st; out = f }
 
-pub closed : (k : Setup) (number : ℕ) (s : Scene) (shard : ℕ) (h : House) (old new : List ℕ) → Led k true s (events.Close shard) h old new → LineDone k number (Closes shard) s h old new
-closed k number s shard h old new led = record { after = led.after; printed = led.printed; does = closes shard led.plays; stands = led.stands; out = led.out }
-
 pub closed_nobody : (k : Setup) (number : ℕ) (s : Scene) (shard : ℕ) (h : House) (old new : List ℕ) → StandsFor k h s → h.directory.shards ≤ shard → new ≡ old ++ refusal number (codes "Nobody") → LineDone k number (Closes shard) s h old new
 closed_nobody k number s shard h old new st l e =
     let n = ap (λ (d : Directory). d.shards) st.directory ∙ st.shards in
     record { after = s; printed = _; does = closes_nobody shard (omega (arith, l, n)) refl refl; stands = st; out = e }
-
-pub closed_again : (k : Setup) (number : ℕ) (s : Scene) (shard : ℕ) (h : House) (old new : List ℕ) → StandsFor k h s → is_shut h.directory shard ≡ true → new ≡ old ++ refusal number (codes "Busy") → LineDone k number (Closes shard) s h old new
-closed_again k number s shard h old new st shut e = record { after = s; printed = _; does = closes_again shard (sym (ap (λ (d : Directory). is_shut d shard) st.directory) ∙ shut) refl refl; stands = st; out = e }
 
 pub shown_tail : (k : Setup) (number : ℕ) (s : Scene) (word : List ℕ) (h : House) (old new : List ℕ) → StandsFor k h s → PrintsWindow k s word old new → LineDone k number (Tail word) s h old new
 shown_tail k number s word h old new st p = record { after = s; printed = _; does = tails word p.mailbox p.named refl refl; stands = st; out = p.out }

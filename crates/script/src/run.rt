@@ -9,9 +9,10 @@ ghost use Rattle.line_io.specs.Wire.{crlf};
 ghost use Rattle.std.specs.List.{list_all};
 ghost use Rattle.std.specs.Char.{digit_value};
 ghost use Rattle.std.specs.Str.Parse.{digits_value};
-ghost use Rattle.script.specs.inner.Running.{IsClipped, LineDone, LinePlayed, SetsHeld, TurnTells};
+ghost use Rattle.script.specs.inner.Running.{IsClipped, line_for, LineDone, LinePlayed, SetsHeld, TurnTells};
 ghost use Rattle.house.specs.Scene as scene;
 ghost use Rattle.house.specs.Setup.{Setup};
+ghost use Rattle.house.specs.Steps.{MayFindNothing};
 ghost use Rattle.house.specs.Scene.{empty_scene};
 ghost use Rattle.script.specs.Script as spec;
 ghost use Rattle.script.specs.Script.{asked, brought, held_after, is_digit, line_of, refusal, script_of};
@@ -92,24 +93,24 @@ fn put_line(text: &[u8], piece: &mut Vec<u8>) -> Result<(), AllocError>
     piece.extend_from_slice(b"\r\n")
 }
 
-// Bytes come from the peer of a connection.
-fn hear_bytes(
+// Does the event that a line asks for, or prints that it can't be done: there is nobody there, or one who can't.
+fn do_event(
     house: &mut House,
     number: u64,
-    connection: u8,
-    bytes: &[u8],
+    event: Event<'_>,
     out: &mut Vec<u8>,
 ) -> Result<(), AllocError>
+    requires asked { MayFindNothing event → ⊥ }
     ensures done { OnOk result ((k : Setup) (s : scene.Scene) → StandsFor k house.old s →
-        LineDone k number (spec.Sends connection bytes.now) s house.new out.old.items out.new.items) }
-    ensures wanting { OnErr result ((k : Setup) (s : scene.Scene) → StandsFor k house.old s →
-        LineWanting k (spec.Sends connection bytes.now) s house.new) }
+        LineDone k number (line_for event.entry) s house.new out.old.items out.new.items) }
+    ensures wanting { OnErr result ((k : Setup) (s : scene.Scene) → StandsFor k house.old s → LineWanting k (line_for event.entry) s house.new) }
 {
-    match house.step(Event::Bytes(connection, bytes), out) {
+    match house.step(event, out) {
         Ok(()) => Ok(()),
         Err(HouseFault::Nobody) => refuse(number, b"Nobody", out),
         Err(HouseFault::Busy) => refuse(number, b"Busy", out),
-        Err(_) => Err(AllocError),
+        Err(HouseFault::Nothing) => unreachable!(),
+        Err(HouseFault::NoMemory) => Err(AllocError),
     }
 }
 
@@ -128,7 +129,7 @@ fn hear_line(
         LineWanting k (spec.Sends connection (text.now ++ crlf)) s house.new) }
 {
     put_line(text, piece)?;
-    hear_bytes(house, number, connection, piece, out)
+    do_event(house, number, Event::Bytes(connection, piece), out)
 }
 
 // Whether memory was wanting.
@@ -169,27 +170,8 @@ fn hear_hex(
         LineWanting k (brought (spec.Sends connection) (decode_of digits.now)) s house.new) }
 {
     match bytes_of(alloc, digits)? {
-        Some(bytes) => hear_bytes(house, number, connection, &bytes, out),
+        Some(bytes) => do_event(house, number, Event::Bytes(connection, &bytes), out),
         None => refuse(number, b"Line", out),
-    }
-}
-
-// The peer of a connection is gone.
-fn lose_peer(
-    house: &mut House,
-    number: u64,
-    connection: u8,
-    out: &mut Vec<u8>,
-) -> Result<(), AllocError>
-    ensures done { OnOk result ((k : Setup) (s : scene.Scene) → StandsFor k house.old s →
-        LineDone k number (spec.Vanishes connection) s house.new out.old.items out.new.items) }
-    ensures wanting { OnErr result ((k : Setup) (s : scene.Scene) → StandsFor k house.old s → LineWanting k (spec.Vanishes connection) s house.new) }
-{
-    match house.step(Event::Vanish(connection), out) {
-        Ok(()) => Ok(()),
-        Err(HouseFault::Nobody) => refuse(number, b"Nobody", out),
-        Err(HouseFault::Busy) => refuse(number, b"Busy", out),
-        Err(_) => Err(AllocError),
     }
 }
 
@@ -254,53 +236,7 @@ fn close_shard(
     if shard >= usize::from(house.shards()) {
         return refuse(number, b"Nobody", out);
     }
-    match house.step(Event::Close(shard as u8), out) {
-        Ok(()) => Ok(()),
-        Err(HouseFault::Busy) => refuse(number, b"Busy", out),
-        Err(_) => Err(AllocError),
-    }
-}
-
-// A session of this user begins.
-fn enter_session(
-    house: &mut House,
-    number: u64,
-    session: u8,
-    user: &[u8],
-    out: &mut Vec<u8>,
-) -> Result<(), AllocError>
-    ensures done { OnOk result ((k : Setup) (s : scene.Scene) → StandsFor k house.old s →
-        LineDone k number (spec.Enters session user.now) s house.new out.old.items out.new.items) }
-    ensures wanting { OnErr result ((k : Setup) (s : scene.Scene) → StandsFor k house.old s →
-        LineWanting k (spec.Enters session user.now) s house.new) }
-{
-    match house.step(Event::Enter(session, user), out) {
-        Ok(()) => Ok(()),
-        Err(HouseFault::Nobody) => refuse(number, b"Nobody", out),
-        Err(HouseFault::Busy) => refuse(number, b"Busy", out),
-        Err(_) => Err(AllocError),
-    }
-}
-
-// Bytes come from the client of a session.
-fn ask_bytes(
-    house: &mut House,
-    number: u64,
-    session: u8,
-    bytes: &[u8],
-    out: &mut Vec<u8>,
-) -> Result<(), AllocError>
-    ensures done { OnOk result ((k : Setup) (s : scene.Scene) → StandsFor k house.old s →
-        LineDone k number (spec.Asks session bytes.now) s house.new out.old.items out.new.items) }
-    ensures wanting { OnErr result ((k : Setup) (s : scene.Scene) → StandsFor k house.old s →
-        LineWanting k (spec.Asks session bytes.now) s house.new) }
-{
-    match house.step(Event::Say(session, bytes), out) {
-        Ok(()) => Ok(()),
-        Err(HouseFault::Nobody) => refuse(number, b"Nobody", out),
-        Err(HouseFault::Busy) => refuse(number, b"Busy", out),
-        Err(_) => Err(AllocError),
-    }
+    do_event(house, number, Event::Close(shard as u8), out)
 }
 
 // A line comes from the client of a session.
@@ -318,7 +254,7 @@ fn ask_line(
         LineWanting k (spec.Asks session (text.now ++ crlf)) s house.new) }
 {
     put_line(text, piece)?;
-    ask_bytes(house, number, session, piece, out)
+    do_event(house, number, Event::Say(session, piece), out)
 }
 
 // Bytes in hexadecimal digits come from it, unless the digits can't be read or there are none.
@@ -336,27 +272,8 @@ fn ask_hex(
         LineWanting k (brought (spec.Asks session) (decode_of digits.now)) s house.new) }
 {
     match bytes_of(alloc, digits)? {
-        Some(bytes) => ask_bytes(house, number, session, &bytes, out),
+        Some(bytes) => do_event(house, number, Event::Say(session, &bytes), out),
         None => refuse(number, b"Line", out),
-    }
-}
-
-// The client of a session is gone.
-fn leave_session(
-    house: &mut House,
-    number: u64,
-    session: u8,
-    out: &mut Vec<u8>,
-) -> Result<(), AllocError>
-    ensures done { OnOk result ((k : Setup) (s : scene.Scene) → StandsFor k house.old s →
-        LineDone k number (spec.Leaves session) s house.new out.old.items out.new.items) }
-    ensures wanting { OnErr result ((k : Setup) (s : scene.Scene) → StandsFor k house.old s → LineWanting k (spec.Leaves session) s house.new) }
-{
-    match house.step(Event::Leave(session), out) {
-        Ok(()) => Ok(()),
-        Err(HouseFault::Nobody) => refuse(number, b"Nobody", out),
-        Err(HouseFault::Busy) => refuse(number, b"Busy", out),
-        Err(_) => Err(AllocError),
     }
 }
 
@@ -368,7 +285,10 @@ fn show_tail(house: &House, number: u64, word: &[u8], out: &mut Vec<u8>) -> Resu
     match house.tail(word, out) {
         Ok(()) => Ok(()),
         Err(HouseFault::Nobody) => refuse(number, b"Nobody", out),
-        Err(_) => Err(AllocError),
+        Err(HouseFault::Busy) => unreachable!(),
+        // Nothing would be a mailbox that is named and isn't kept: of no house that a script has.
+        Err(HouseFault::Nothing) => Err(AllocError),
+        Err(HouseFault::NoMemory) => Err(AllocError),
     }
 }
 
@@ -395,13 +315,18 @@ fn do_line(
         ScriptLine::SaysInHex(connection, digits) => {
             hear_hex(*out.allocator(), house, number, connection, digits, out)
         }
-        ScriptLine::Vanishes(connection) => lose_peer(house, number, connection, out),
-        ScriptLine::Enters(session, user) => enter_session(house, number, session, user, out),
+        ScriptLine::Vanishes(connection) => do_event(house, number, Event::Vanish(connection), out),
+        ScriptLine::Enters(session, user) => do_event(
+            house,
+            number,
+            Event::Enter(session, user),
+            out,
+        ),
         ScriptLine::Asks(session, text) => ask_line(house, number, session, text, piece, out),
         ScriptLine::AsksInHex(session, digits) => {
             ask_hex(*out.allocator(), house, number, session, digits, out)
         }
-        ScriptLine::Leaves(session) => leave_session(house, number, session, out),
+        ScriptLine::Leaves(session) => do_event(house, number, Event::Leave(session), out),
         ScriptLine::Hold(digits) => set_held(held, number, digits, true, out),
         ScriptLine::Free(digits) => set_held(held, number, digits, false, out),
         ScriptLine::Closes(digits) => close_shard(house, number, digits, out),

@@ -2,13 +2,25 @@
 use Rattle.std.specs.Prelude.{◌≡◌, ℕ, ◌<◌, ◌≤◌, ◌⊎◌, Bool, List, [], ◌∷◌, ◌++◌, codes, length, slice_set, take, Option, Some, None, Result, Ok, Err}
 use Rattle.std.specs.Io.KnownBytes.{Appends}
 use Rattle.house.specs.House.{House}
+use Rattle.house.specs.declared.event.Event.{Event}
+use Rattle.house.specs.declared.event.Event.TheVariants.{Bytes, Vanish, Enter, Say, Leave, Close}
 use Rattle.house.specs.Setup.{Setup}
 use Rattle.house.specs.Scene.{Scene}
-use Rattle.script.specs.Script.{LineDoes, LinePlays, Script, ScriptLine, held_after, none_held, refusal, script_of}
+use Rattle.script.specs.Script.{LineDoes, LinePlays, Script, ScriptLine, Sends, Vanishes, Enters, Asks, Leaves, Closes, Bad, held_after, none_held, refusal, script_of}
 use Rattle.script.specs.Leaving.{IsLeftWanting}
 use Rattle.house.specs.Stands.{StandsFor}
 use Rattle.script.specs.declared.run.TurnFault.{TurnFault}
 use Rattle.script.specs.declared.run.TurnFault.TheVariants as faults
+
+-- the line that asks for an event of the house; none asks for one of the house's own, or for an idle turn
+abbrev pub line_for : Event → ScriptLine
+line_for (Bytes connection piece) = Sends connection piece.now
+line_for (Vanish connection) = Vanishes connection
+line_for (Enter session user) = Enters session user.now
+line_for (Say session piece) = Asks session piece.now
+line_for (Leave session) = Leaves session
+line_for (Close shard) = Closes shard
+line_for _ = Bad
 
 -- the line was done, the house stands for what it leads to, and this was printed
 pub record LineDone (k : Setup) (number : ℕ) (line : ScriptLine) (s : Scene) (h : House) (old new : List ℕ) : Type 0 where

@@ -17,5 +17,5 @@ pub returns-in-Some-clause-wanting : goal.returns-in-Some-clause-wanting
 returns-in-Some-clause-wanting c =
     let brings = if_some c.in_ok-bytes.field-0 (λ v. (brings : List ℕ → ScriptLine) → brought brings (decode_of c.args.digits.now) ≡ brings v.items) c.in-Some.bytes c.in-Some.is
     c.in_ok-bytes.ensures.some (λ x. Asks c.args.session x) in
-    on_err_weaker c.ask_bytes.result
-    (λ w k s st. subst (λ (l : ScriptLine). LineWanting k l s c.ask_bytes.new.house) (sym (brings ∙ ap (λ (x : List ℕ). Asks c.args.session x) (sym c.deref.ensures.value))) (w k s st)) c.ask_bytes.ensures.wanting
+    on_err_weaker c.do_event.result
+    (λ w k s st. subst (λ (l : ScriptLine). LineWanting k l s c.do_event.new.house) (sym (brings ∙ ap (λ (x : List ℕ). Asks c.args.session x) (sym c.deref.ensures.value))) (w k s st)) c.do_event.ensures.wanting

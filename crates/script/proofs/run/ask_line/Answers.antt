@@ -7,4 +7,4 @@ use Rattle.script.proofs.run.ask_line.Goals as goal
 pub returns-clause-wanting : goal.returns-clause-wanting
 returns-clause-wanting c =
     let said = c.deref.ensures.value ∙ c.in_ok-put_line.ensures in
-    on_err_weaker c.ask_bytes.result (λ w k s st. subst (λ (bytes : List ℕ). LineWanting k (Asks c.args.session bytes) s c.ask_bytes.new.house) said (w k s st)) c.ask_bytes.ensures.wanting
+    on_err_weaker c.do_event.result (λ w k s st. subst (λ (bytes : List ℕ). LineWanting k (Asks c.args.session bytes) s c.do_event.new.house) said (w k s st)) c.do_event.ensures.wanting

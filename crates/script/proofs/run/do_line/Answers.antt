@@ -72,11 +72,11 @@ returns-in-SaysInHex-clause-wanting c =
 
 pub returns-in-Vanishes-clause-wanting : goal.returns-in-Vanishes-clause-wanting
 returns-in-Vanishes-clause-wanting c =
-    on_err_weaker c.lose_peer.result (λ w k s st. subst (λ (l : ScriptLine). LineWanting k l s c.lose_peer.new.house) c.in-Vanishes.ensures.reads (w k s st)) c.lose_peer.ensures.wanting
+    on_err_weaker c.do_event.result (λ w k s st. subst (λ (l : ScriptLine). LineWanting k l s c.do_event.new.house) c.in-Vanishes.ensures.reads (w k s st)) c.do_event.ensures.wanting
 
 pub returns-in-Enters-clause-wanting : goal.returns-in-Enters-clause-wanting
 returns-in-Enters-clause-wanting c =
-    on_err_weaker c.enter_session.result (λ w k s st. subst (λ (l : ScriptLine). LineWanting k l s c.enter_session.new.house) c.in-Enters.ensures.reads (w k s st)) c.enter_session.ensures.wanting
+    on_err_weaker c.do_event-in-Enters.result (λ w k s st. subst (λ (l : ScriptLine). LineWanting k l s c.do_event-in-Enters.new.house) c.in-Enters.ensures.reads (w k s st)) c.do_event-in-Enters.ensures.wanting
 
 pub returns-in-Asks-clause-wanting : goal.returns-in-Asks-clause-wanting
 returns-in-Asks-clause-wanting c =
@@ -88,4 +88,4 @@ returns-in-AsksInHex-clause-wanting c =
 
 pub returns-in-Leaves-clause-wanting : goal.returns-in-Leaves-clause-wanting
 returns-in-Leaves-clause-wanting c =
-    on_err_weaker c.leave_session.result (λ w k s st. subst (λ (l : ScriptLine). LineWanting k l s c.leave_session.new.house) c.in-Leaves.ensures.reads (w k s st)) c.leave_session.ensures.wanting
+    on_err_weaker c.do_event-in-Leaves.result (λ w k s st. subst (λ (l : ScriptLine). LineWanting k l s c.do_event-in-Leaves.new.house) c.in-Leaves.ensures.reads (w k s st)) c.do_event-in-Leaves.ensures.wanting

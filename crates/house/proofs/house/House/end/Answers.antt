@@ -1,9 +1,10 @@
-use Rattle.std.proofs.Common.{◌-◌, ap, sym, subst, Err}
+use Rattle.std.proofs.Common.{◌≡◌, ◌∙◌, ◌-◌, ap, sym, subst, Err}
 use Rattle.world.specs.World as world
+use Rattle.house.specs.declared.event.HouseFault.TheVariants as house_faults
 use Rattle.house.specs.House.{House}
 use Rattle.house.specs.Stands.{StandsFor}
 use Rattle.house.proofs.Ended.{end_led}
-use Rattle.house.proofs.Worldly.{nothing_changes}
+use Rattle.house.proofs.Worldly.{nothing_changes, is_nothing}
 use Rattle.house.proofs.house.House.end.Goals as goal
 
 pub returns-clause-follows : goal.returns-clause-follows
@@ -12,12 +13,15 @@ returns-clause-follows c k s old st =
     let h : House = record { core = i.store.core; callers = i.callers.items; serials = i.serials.items; visitors = i.visitors.items; entered = i.entered.items; directory = i.directory; host = i.host.items; max_message = i.max_message } in
     let st1 = subst (λ (x : House). StandsFor k x s) (sym c.self.view_is) st in
     let seat = c.args.number - 1 in
-    let r = end_led k h s c.end.new.self seat c.args.shard old st1 c.in-Ok.ensures.follows c.in-Ok.ensures.heard c.in-Ok.ensures.next in
+    let e = c.in_default.ensures in
+    let r = end_led k h s c.end.new.self seat c.args.shard old st1 e.follows e.heard e.next in
     record { after = r.0; printed = r.1; plays = r.2; stands = r.3; out = r.4 }
 
-pub returns-in-Err-Nothing-clause-changes_nothing : goal.returns-in-Err-Nothing-clause-changes_nothing
-returns-in-Err-Nothing-clause-changes_nothing c x k s st t printed p =
+pub returns-in-Err-clause-changes_nothing : goal.returns-in-Err-clause-changes_nothing
+returns-in-Err-clause-changes_nothing c e k s st t printed p =
     let i = c.self.inside in
     let h : House = record { core = i.store.core; callers = i.callers.items; serials = i.serials.items; visitors = i.visitors.items; entered = i.entered.items; directory = i.directory; host = i.host.items; max_message = i.max_message } in
     let st1 = subst (λ (x : House). StandsFor k x s) (sym c.self.view_is) st in
-    nothing_changes k h s (world.PutEnd (c.args.number - 1) c.args.shard) st1 (c.in-Err-Nothing.ensures.changes_nothing (ap (λ x. Err x) c.in-Err-Nothing.field-0-is)) t printed p
+    let f : c.fault_of.result ≡ house_faults.Nothing = let e1 = e in cc in
+    let n = is_nothing c.in-Err.fault (sym c.fault_of.ensures ∙ f) in
+    nothing_changes k h s (world.PutEnd (c.args.number - 1) c.args.shard) st1 (c.in-Err.ensures.changes_nothing (ap (λ x. Err x) n)) t printed p
