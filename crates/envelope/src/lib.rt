@@ -1,6 +1,7 @@
 //! The envelope of a message: the commands of LMTP as a line spells them, and the directory that
 //! says which mailbox a path names. A line is told as what the written grammar of specs/Grammar.antt
-//! says of it. Connections, replies and messages are for the crates above.
+//! says of it. What stands behind a byte, a word or spaces at the front of a text is told for the grammar
+//! of IMAP too. Connections, replies and messages are for the crates above.
 #![tactic(auto)]
 
 mod command;
@@ -16,5 +17,5 @@ pub use command::{CommandFault, ForwardPath, LmtpCommand, Mailbox, ReversePath, 
 pub use directory::{Directory, DirectoryFault, MOST_MAILBOXES, NoSuch};
 pub use laws::words_have_their_positions;
 pub use names::{is_folder, is_name, is_user};
-pub use reading::read_command;
+pub use reading::{after_spaces, past_byte, past_keyword, read_command};
 pub use recipients::{MOST_RECIPIENTS, Recipients, TooMany};

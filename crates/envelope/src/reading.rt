@@ -136,7 +136,9 @@ fn domain_len(bytes: &[u8]) -> Option<usize>
     }
 }
 
-fn past_byte(b: u8, bytes: &[u8]) -> Option<&[u8]>
+/// What follows this byte at the front; `None` where the text doesn't begin with it.
+pub fn past_byte(b: u8, bytes: &[u8]) -> Option<&[u8]>
+    // What follows, exactly, and it is shorter.
     ensures value { option_copied result ≡ past_byte b bytes.now }
     ensures bound { IfSome result (λ rest. length rest.now < length bytes.now) }
 {
@@ -223,8 +225,10 @@ fn reverse_at(bytes: &[u8]) -> Option<(ReversePath<'_>, &[u8])>
     }
 }
 
+/// What follows this word at the front, in upper or lower case; `None` where the text doesn't begin with it.
 #[tactic(auto, using(crate::proofs::Case::shorter_differs))]
-fn past_keyword<'a>(keyword: &[u8], bytes: &'a [u8]) -> Option<&'a [u8]>
+pub fn past_keyword<'a>(keyword: &[u8], bytes: &'a [u8]) -> Option<&'a [u8]>
+    // What follows, exactly, and it is no longer.
     ensures value { option_copied result ≡ past_keyword keyword.now bytes.now }
     ensures bound { IfSome result (λ rest. length rest.now ≤ length bytes.now) }
 {
@@ -253,7 +257,9 @@ fn forward_at(bytes: &[u8]) -> Option<(ForwardPath<'_>, &[u8])>
     }
 }
 
-fn after_spaces(bytes: &[u8]) -> &[u8]
+/// What follows the spaces at the front, if there are any.
+pub fn after_spaces(bytes: &[u8]) -> &[u8]
+    // What follows, exactly.
     ensures value { result.now ≡ after_spaces bytes.now }
 {
     &bytes[run_len(Class::Space, bytes)..]

@@ -34,7 +34,6 @@ use Rattle.imap_grammar.specs.declared.bytes.Class.TheVariants as classes
 
 -- the bytes of a class
 abbrev pub is_of : Class → ℕ → Bool
-is_of classes.Space = is_space
 is_of classes.NotSpace = is_not_space
 is_of classes.Tag = is_tag
 is_of classes.Atom = is_atom

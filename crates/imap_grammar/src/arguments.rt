@@ -9,7 +9,7 @@ ghost use Rattle.imap_grammar.specs.Reading.{is_of, quoted_len, string_len, stri
 ghost use Rattle.imap_grammar.specs.Bytes.{is_special, is_quotable, is_digit};
 ghost use Rattle.imap_grammar.specs.declared.command.Command.TheVariants as say;
 
-use crate::bytes::{Class, is_blank, is_tight, past_byte, past_gap, run_len, word_at};
+use crate::bytes::{Class, is_blank, is_tight, past_gap, run_len, word_at};
 use crate::command::{Append, Command, Fetch, Literal, Store};
 use crate::cut::cut_at;
 use crate::items::{FetchItems, StatusItems};
@@ -18,6 +18,7 @@ use crate::number::capped_number;
 use crate::set::SeqSet;
 use crate::words::flags_in;
 use change_ring::{FlagOp, Flags};
+use envelope::past_byte;
 
 fn is_special(b: u8) -> bool
     ensures { result ≡ is_special b }

@@ -1,16 +1,16 @@
 //! Classes of bytes, and parts at the front of a text that are told by their bytes alone.
 //! What each answers is its namesake in specs/Reading.antt.
 
-ghost use Rattle.std.specs.Prelude.{◌≡◌, ◌≤◌, ◌<◌, length, IfSome};
+ghost use Rattle.std.specs.Prelude.{◌≡◌, ◌≤◌, length};
 ghost use Rattle.std.specs.List.{prefix_len};
 ghost use Rattle.std.specs.Option.{option_copied};
-ghost use Rattle.envelope.specs.Reading.{after_spaces, past_byte, past_keyword};
 ghost use Rattle.imap_grammar.specs.Reading.{is_of, past_gap, word_at, is_blank, is_tight};
+
+use envelope::after_spaces;
 
 /// Classes of bytes (RFC 9051, 9).
 #[derive(Clone, Copy)]
 pub enum Class {
-    Space,
     NotSpace,
     Tag,
     Atom,
@@ -24,7 +24,6 @@ pub fn is_of(class: Class, b: u8) -> bool
 {
     let graphic = matches!(b, b'!'..=b'~');
     match class {
-        Class::Space => b == b' ',
         Class::NotSpace => b != b' ',
         Class::Tag => {
             graphic && !matches!(b, b'(' | b')' | b'{' | b'%' | b'*' | b'"' | b'\\' | b'+')
@@ -47,40 +46,6 @@ pub fn run_len(class: Class, bytes: &[u8]) -> usize
         }
     }
     bytes.len()
-}
-
-/// What follows this byte at the front.
-pub fn past_byte(b: u8, bytes: &[u8]) -> Option<&[u8]>
-    ensures value { option_copied result ≡ past_byte b bytes.now }
-    ensures bound { IfSome result (λ rest. length rest.now < length bytes.now) }
-{
-    match bytes {
-        [first, rest @ ..] if *first == b => Some(rest),
-        _ => None,
-    }
-}
-
-/// What follows this word at the front, in upper or lower case.
-#[tactic(auto, using(envelope::proofs::Case::shorter_differs))]
-pub fn past_keyword<'a>(keyword: &[u8], bytes: &'a [u8]) -> Option<&'a [u8]>
-    ensures { option_copied result ≡ past_keyword keyword.now bytes.now }
-{
-    if bytes.len() < keyword.len() {
-        return None;
-    }
-    let (front, rest) = bytes.split_at(keyword.len());
-    if front.eq_ignore_ascii_case(keyword) {
-        Some(rest)
-    } else {
-        None
-    }
-}
-
-/// What follows the spaces at the front, if there are any.
-pub fn after_spaces(bytes: &[u8]) -> &[u8]
-    ensures { result.now ≡ after_spaces bytes.now }
-{
-    &bytes[run_len(Class::Space, bytes)..]
 }
 
 /// What follows the spaces at the front, one at least.

@@ -6,10 +6,10 @@ ghost use Rattle.std.specs.List.{list_all, list_any};
 ghost use Rattle.envelope.specs.Reading.{words};
 ghost use Rattle.imap_grammar.specs.Items.{section_of, span_between, span_of, partial_of, body_of, fetch_item_of, fetch_items_of, marks_seen, status_item_of, status_items_of};
 
-use crate::bytes::{past_byte, past_keyword};
 use crate::cut::cut_at;
 use crate::number::number_up_to;
 use crate::words::{count_words, next_word};
+use envelope::{past_byte, past_keyword};
 use std::alloc::{AllocError, Global};
 use std::marker::Model;
 

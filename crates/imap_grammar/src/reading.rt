@@ -9,11 +9,12 @@ ghost use Rattle.imap_grammar.specs.declared.command.ImapFault.{ImapFault};
 ghost use Rattle.imap_grammar.specs.Reading.{verb_alone, alone_at, second_at, verb_at, command_at, read, is_done};
 
 use crate::arguments::{append, examine, fetch, if_end, list, select, status, store, uid_expunge};
-use crate::bytes::{Class, after_spaces, is_blank, word_at};
+use crate::bytes::{Class, is_blank, word_at};
 use crate::command::{
     Command, ImapFault, Tag, Verb, alone, behind_uid, is_left_out, left_out, offered,
 };
 use crate::words::is_word_of;
+use envelope::after_spaces;
 
 fn verb_alone(word: &[u8]) -> Option<Verb>
     ensures { result ≡ verb_alone word.now }

@@ -7,8 +7,9 @@ ghost use Rattle.envelope.specs.Reading.{words};
 ghost use Rattle.imap_grammar.specs.Items.{is_word_of, is_flag, has_word};
 ghost use Rattle.imap_grammar.specs.Reading.{is_of, flags_in};
 
-use crate::bytes::{Class, after_spaces, past_byte, run_len, word_at};
+use crate::bytes::{Class, run_len, word_at};
 use change_ring::Flags;
+use envelope::{after_spaces, past_byte};
 
 /// How many words there are.
 pub fn count_words(text: &[u8]) -> usize
