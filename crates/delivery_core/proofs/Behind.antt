@@ -12,7 +12,7 @@ use Rattle.delivery_core.specs.declared.client.Client.{Client}
 use Rattle.delivery_core.specs.DeliveryCore.{DeliveryCore, behind, behind_in, window_at}
 use Rattle.delivery_core.specs.Attached.{client_at, cursors_of, AreAttached}
 use Rattle.delivery_core.specs.Stands.{StandsFor, StandsForBox, StandsForClient}
-use Rattle.delivery_core.specs.inner.Clients.{answer_of}
+use Rattle.mailbox.specs.Answers.{answer_of}
 use Rattle.delivery_core.proofs.Looks.{window_get}
 use Rattle.delivery_core.proofs.Mailed.{mailbox_within, session_at}
 use Rattle.delivery_core.proofs.AttachedLaws.{place_within}

@@ -26,7 +26,8 @@ use Rattle.world.specs.Law.{IsPart, pair_of, pairs}
 use Rattle.world.proofs.Base.{part_append}
 use Rattle.delivery_core.specs.inner.DeliveryCore.{AreKept}
 use Rattle.delivery_core.specs.Stands.{StandsForBox, text_of, accepted_text}
-use Rattle.delivery_core.specs.inner.Boxes.{verdict_of, BoxDelivers, stores, has_no_uid, has_no_space, has_no_memory}
+use Rattle.mailbox.specs.Answers.{verdict_of}
+use Rattle.delivery_core.specs.inner.Boxes.{BoxDelivers, stores, has_no_uid, has_no_space, has_no_memory}
 
 pub same_uid : (k : Config) (b : Mailbox) (w : Box) → StandsForBox k b w → mail_uid b ≡ next_uid k w
 same_uid k b w S = omega (arith, S.first_uid, ap length S.accepted, length-map w.accepted pair_of)

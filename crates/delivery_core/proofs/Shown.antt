@@ -24,7 +24,7 @@ use Rattle.delivery_core.specs.DeliveryCore.{DeliveryCore, pending_for}
 use Rattle.delivery_core.specs.Attached.{AreAttached, client_at, cursors_of}
 use Rattle.delivery_core.specs.Stands.{StandsFor, StandsForBox, text_of}
 use Rattle.delivery_core.specs.Clients.{Expunges, Feeds, Makes, Refuses, Sees}
-use Rattle.delivery_core.specs.inner.Clients.{answer_of}
+use Rattle.mailbox.specs.Answers.{answer_of}
 use Rattle.delivery_core.proofs.MailBoxes.{Becomes, Told, box_call, box_logs, remaining_part, same_rows, taken, turned_away}
 use Rattle.delivery_core.proofs.Looks.{pending_here, saw}
 use Rattle.delivery_core.proofs.Follow.{reached_step}

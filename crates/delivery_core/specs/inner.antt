@@ -1,4 +1,3 @@
 pub mod Boxes
-pub mod Clients
 pub mod DeliveryCore
 pub mod Puts

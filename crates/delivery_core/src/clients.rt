@@ -11,27 +11,13 @@ ghost use Rattle.mailbox.specs.Mailbox.{Mailbox, SameMailbox};
 ghost use Rattle.world.specs.World.{Config, World, Expunge, Feed, Leave, Read, Selected, Store, pending};
 ghost use Rattle.delivery_core.specs.Changes.{SameCounts, SameDelivery};
 ghost use Rattle.delivery_core.specs.Clients.{Alters, Does, Enters, Expunges, Feeds, IsStatus, Leaves, Makes, Reads, Sees};
-ghost use Rattle.delivery_core.specs.inner.Clients.{answer_of};
 ghost use Rattle.delivery_core.specs.DeliveryCore.{behind, client_of, pending_for, view_of};
 ghost use Rattle.delivery_core.specs.Stands.{StandsFor};
 
 use crate::client::Client;
 use crate::steps::DeliveryCore;
 use change_ring::{FlagOp, Flags};
-use cursor_set::FeedFault;
-use mailbox::{MailFault, Mailbox, Opening, Row, Status, View};
-
-// A feed's answer, with its fault as one of all calls.
-fn answer_of(fed: Result<usize, FeedFault>) -> Result<usize, MailFault>
-    ensures { result ≡ answer_of fed }
-{
-    match fed {
-        Ok(count) => Ok(count),
-        Err(FeedFault::Stranger) => Err(MailFault::Stranger),
-        Err(FeedFault::Lapped) => Err(MailFault::Lapped),
-        Err(FeedFault::NoMemory) => Err(MailFault::NoMemory),
-    }
-}
+use mailbox::{MailFault, Mailbox, Opening, Row, Status, View, answer_of};
 
 // How many changes a mailbox has logged.
 fn total(mailbox: &Mailbox) -> u128

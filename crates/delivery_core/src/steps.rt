@@ -13,7 +13,7 @@ ghost use Rattle.delivery_core.specs.Puts.{IsNextKey};
 ghost use Rattle.delivery_core.specs.inner.Puts.{LanePuts};
 ghost use Rattle.delivery_token.specs.Keys.{AtLeast, past};
 ghost use Rattle.delivery_core.specs.Stands.{EachAt, Follows, ChangesNothing, StandsFor, StandsForBox};
-ghost use Rattle.delivery_core.specs.inner.Boxes.{verdict_of, BoxDelivers};
+ghost use Rattle.delivery_core.specs.inner.Boxes.{BoxDelivers};
 ghost use Rattle.delivery_core.specs.Settled.{IsFor};
 ghost use Rattle.delivery_core.specs.New.{IsNewBox, first_key};
 ghost use Rattle.delivery_token.specs.WorkerLog.{WorkerLog};
@@ -26,8 +26,8 @@ use change_ring::{Change, Flags};
 use delivery_token::{
     CopyKey, Job, Noted, REPLY_ROOM, Refusal, Text, Verdict, WorkerLog, precedes,
 };
-use mailbox::{Limits, Mailbox, Receipt};
-use shard_queue::{PlainLane, Taken};
+use mailbox::{Limits, Mailbox, verdict_of};
+use shard_queue::{Full, PlainLane, Taken};
 use std::alloc::{AllocError, Global};
 use std::marker::Model;
 use world::hand::Hand;
@@ -97,16 +97,6 @@ fn is_ended(seat: u8, lane: &PlainLane<Job>) -> bool
     !lane.is_live(seat)
 }
 
-// What a mailbox's answer comes to.
-fn verdict_of(answer: Result<Receipt, Refusal>) -> Verdict
-    ensures { result ≡ verdict_of answer }
-{
-    match answer {
-        Ok(receipt) => Verdict::Stored { uid: receipt.uid() },
-        Err(refusal) => Verdict::Refused(refusal),
-    }
-}
-
 // Delivers a copy to a mailbox.
 fn deliver_to(mailbox: &mut Mailbox, job: &Job) -> Verdict
     ensures delivers { (k : Config) (w : Box) → StandsForBox k mailbox.old w → BoxDelivers k w job.now result mailbox.new }
@@ -155,7 +145,7 @@ fn put_in(
     };
     match lane.put(key.seat, job) {
         Ok(()) => None,
-        Err(_) => Some(Refusal::Full),
+        Err(Full(_)) => unreachable!(),
     }
 }
 
@@ -518,7 +508,7 @@ impl DeliveryCore {
         }
         let lane = &mut self.replies[at];
         let Taken::Item(_, noted) = lane.take() else {
-            return Err(HearFault::Nothing);
+            unreachable!()
         };
         let book = &mut self.heard[at];
         book.note(noted.key, noted.mailbox, noted.verdict);

@@ -15,7 +15,7 @@ use Rattle.delivery_token.specs.declared.log.Noted.{Noted}
 use Rattle.lmtp_machine.specs.Dialogue.{Submission}
 use Rattle.shard_queue.specs.Shared.{IsStartOf}
 use Rattle.lane_work.specs.Talk.{Judged}
-use Rattle.lane_work.specs.declared.worker.Stop.{Stop}
+use Rattle.lane_work.specs.declared.hearing.Torn.{Torn}
 use Rattle.std.specs.Prelude.{Result, Ok, Err, IfOk}
 use Rattle.lane_work.specs.Account.{AreBooks, AreBooksOf}
 use Rattle.lane_work.specs.Copies.{FoundFull, IsAtOnce, IsHeard, Room, WerePut, none, put, elsewhere, refused, copies, copies_of, note_of, room_at, told}
@@ -382,7 +382,7 @@ judged_at_once d rooms p copy slot verdict heard before after within len is put_
   told = refl;
 }
 
-pub judged_later : (d : Directory) (rooms : List Room) (p : ℕ) (copy : Job) (slot : Option Verdict) (r : Result Verdict Stop) (heard : List (Entry Noted)) (before after : List (List (Entry Job)))
+pub judged_later : (d : Directory) (rooms : List Room) (p : ℕ) (copy : Job) (slot : Option Verdict) (r : Result Verdict Torn) (heard : List (Entry Noted)) (before after : List (List (Entry Job)))
     → shard_of d copy.mailbox < length before → length after ≡ length before → slot ≡ None
     → MatchOption slot (after ≡ slice_set before (shard_of d copy.mailbox) (slice_index_or before (shard_of d copy.mailbox) [] ++ Item p copy ∷ []))
     (λ v. (after ≡ before) × IsAtOnce (FoundFull (room_at rooms (shard_of d copy.mailbox)) p (slice_index_or before (shard_of d copy.mailbox) [])) v)

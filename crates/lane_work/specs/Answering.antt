@@ -1,21 +1,17 @@
 -- What a consumer does with the copies that it takes: each is delivered under a lock, and its producer is told.
-use Rattle.std.specs.Prelude.{◌≡◌, ◌⊎◌, ℕ, ◌<◌, ◌≤◌, List, [], ◌∷◌, ◌++◌, map, slice_index_or, slice_set, Result, Ok, Err, Bool, false, not, nat_lt, ◌&&◌}
+use Rattle.std.specs.Prelude.{◌≡◌, ◌⊎◌, ℕ, ◌<◌, ◌≤◌, List, [], ◌∷◌, ◌++◌, map, slice_index_or, slice_set, Result, Bool, false, not, nat_lt, ◌&&◌}
 use Rattle.delivery_token.specs.declared.Job.{Job}
 use Rattle.delivery_token.specs.declared.Refusal.{Refusal}
 use Rattle.delivery_token.specs.declared.Refusal.TheVariants.{NoMemory}
 use Rattle.delivery_token.specs.declared.Verdict.{Verdict}
-use Rattle.delivery_token.specs.declared.Verdict.TheVariants.{Stored, Refused}
+use Rattle.delivery_token.specs.declared.Verdict.TheVariants.{Refused}
 use Rattle.delivery_token.specs.declared.log.Noted.{Noted}
+use Rattle.mailbox.specs.Answers.{verdict_of}
 use Rattle.mailbox.specs.Mailbox.{Mailbox}
 use Rattle.mailbox.specs.declared.mailbox.Receipt.{Receipt}
 use Rattle.mailbox_holds.specs.Holds.{DoesDeliver, UnderLock}
 use Rattle.shard_queue.specs.declared.lane.Entry.{Entry}
 use Rattle.shard_queue.specs.declared.lane.Entry.TheVariants.{Item, End}
-
--- a delivery's answer, as its producer is told
-abbrev pub verdict_of : Result Receipt Refusal → Verdict
-verdict_of (Ok receipt) = Stored receipt.uid
-verdict_of (Err why) = Refused why
 
 -- The copy was delivered, and nothing else was done; the verdict is that delivery's answer.
 pub record IsDelivered (job : Job) (verdict : Verdict) (found left : Mailbox) : Type 0 where

@@ -5,28 +5,18 @@ ghost use Rattle.std.specs.Prelude.{◌≡◌, ◌++◌, ◌∷◌, [], length, 
 ghost use Rattle.shard_queue.specs.declared.lane.Entry.TheVariants as entries;
 ghost use Rattle.shard_queue.specs.Reply.{IsSender, sender_number, sent_on};
 ghost use Rattle.lane_work.specs.Permits.{AreSenders};
-ghost use Rattle.lane_work.specs.Answering.{IsDelivered, IsVerdict, Serves, is_ours, verdict_of};
+ghost use Rattle.lane_work.specs.Answering.{IsDelivered, IsVerdict, Serves, is_ours};
 ghost use Rattle.mailbox_holds.specs.Holds.{UnderLock};
 
 use crate::bells::ring_sessions;
 use crate::consumer::Depot;
 use delivery_token::{Job, Noted, Refusal, Verdict};
-use mailbox::{Mailbox, Receipt};
+use mailbox::{Mailbox, verdict_of};
 use mailbox_holds::deliver;
 use pace::{Gate, Pace};
 use shard_queue::{ReplyChannel, SenderPermit};
 use std::sync::{Mutex, Wait};
 use std::thread;
-
-// A delivery's answer, as its producer is told.
-fn verdict_of(delivered: Result<Receipt, Refusal>) -> Verdict
-    ensures { result ≡ verdict_of delivered }
-{
-    match delivered {
-        Ok(receipt) => Verdict::Stored { uid: receipt.uid() },
-        Err(why) => Verdict::Refused(why),
-    }
-}
 
 // Delivers a copy to the mailbox that is held: one event.
 fn deliver_to(mailbox: &mut Mailbox, job: &Job) -> Verdict

@@ -12,10 +12,9 @@ ghost use Rattle.lane_work.specs.Permits.{AreLive, ArePermits, put_by};
 
 use crate::bells::Summons;
 use crate::desk::{Desk, Office};
-use crate::hearing::hear_one;
+use crate::hearing::{Torn, hear_one};
 use crate::notebook::Notebook;
 use crate::putting::put_copy;
-use crate::worker::Stop;
 use change_ring::Flags;
 use courier::{Courier, Lost};
 use delivery_token::{CopyKey, Noted, Text, Verdict};
@@ -56,7 +55,7 @@ fn judge<R: Wait, G: Gate, S: Summons>(
     mailbox: u8,
     text: &Text,
     flags: Flags,
-) -> Result<Verdict, Stop>
+) -> Result<Verdict, Torn>
     requires permits { ArePermits office.now.lanes.items desk.old.number desk.old.permits.items }
     requires receiver { IsReceiver channel.now desk.old.receiver }
     requires lanes { office.now.directory.shards ≡ length office.now.lanes.items }

@@ -26,7 +26,7 @@ use std::sync::{Mutex, Wait};
 pub struct Depot {
     /// The mailboxes, by their numbers.
     pub mailboxes: Vec<Mutex<Mailbox>>,
-    /// The workers' reply channels, by their numbers.
+    /// The producers' reply channels, by their numbers.
     pub channels: Vec<ReplyChannel<Noted>>,
     /// The bells of the sessions that may look at a mailbox, by its number: they are rung after a
     /// delivery to it. Where a mailbox has none nothing is rung.

@@ -1,7 +1,7 @@
 //! A worker's permits and a consumer's senders are ended, and a worker hears the ends of its reply
 //! channel. What stood on them before does not matter here.
 
-ghost use Rattle.std.specs.Prelude.{true, ◌≡◌, ◌≤◌, ◌+◌, ◌++◌, ◌∷◌, [], length, map, vec_capacity};
+ghost use Rattle.std.specs.Prelude.{true, ◌≡◌, ◌↔◌, ◌≤◌, ◌+◌, ◌++◌, ◌∷◌, [], length, map, vec_capacity};
 ghost use Rattle.shard_queue.specs.declared.lane.Entry.TheVariants as entries;
 ghost use Rattle.shard_queue.specs.Permits.{IsProducer, IsEnded, sent, said, number_of, ended_number};
 ghost use Rattle.shard_queue.specs.Reply.{IsReceiver, IsSender, IsSenderEnded, received, sender_number, sender_ended_number, sent_on, said_on};
@@ -90,8 +90,8 @@ pub fn end_all<R: Wait, G: Gate, S: Summons>(
     ended
 }
 
-/// Receives until the ends of so many shards came, of which `heard` came before. True is answered only
-/// where nothing else came.
+/// Receives until the ends of so many shards came, of which `heard` came before. Answers whether nothing
+/// else came.
 pub fn hear_ends<R: Wait, G: Gate>(
     rt: &R,
     pace: &mut Pace<'_, G>,
@@ -106,9 +106,9 @@ pub fn hear_ends<R: Wait, G: Gate>(
     ensures receiver { IsReceiver channel.now receiver.new }
     ensures grew { IsStartOf (received receiver.old) (received receiver.new) }
 
-    // `true` is answered only where nothing but ends came.
-    ensures quiet { result ≡ true → length (received receiver.new) + ends_in (received receiver.old) ≡ length
-        (received receiver.old) + ends_in (received receiver.new) }
+    // `true` is answered exactly where nothing but ends came: as many more were received as ends.
+    ensures quiet { (result ≡ true) ↔ (length (received receiver.new) + ends_in (received receiver.old)
+        ≡ length (received receiver.old) + ends_in (received receiver.new)) }
 
     // The ends that were heard before (`heard`) and those that came now are as many as `shards`, or more.
     ensures ends { shards + ends_in (received receiver.old) ≤ heard + ends_in (received receiver.new) }

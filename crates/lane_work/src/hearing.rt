@@ -15,13 +15,16 @@ ghost use Rattle.lane_work.specs.Ends.{CountsEnds, ends_in};
 ghost use Rattle.lane_work.specs.Permits.{AreLive, overs};
 
 use crate::desk::{Desk, LanePermit};
-use crate::worker::Stop;
 use delivery_token::{CopyKey, Noted, Verdict};
 use lmtp_machine::Submission;
 use pace::{Gate, Pace};
 use shard_queue::{Entry, ReplyChannel};
 use std::sync::Wait;
 use submission::Verdicts;
+
+/// Something came that wasn't awaited, or not what was.
+#[derive(Clone, Copy)]
+pub(crate) struct Torn;
 
 // Whether the permit on this shard's lane is over, so that the shard's end may come.
 fn is_over_at(permits: &[LanePermit], shard: u8) -> bool
@@ -42,7 +45,7 @@ pub(crate) fn hear_all<R: Wait, G: Gate>(
     desk: &mut Desk,
     message: &Submission,
     verdicts: &mut Verdicts,
-) -> Result<(), Stop>
+) -> Result<(), Torn>
     requires { IsReceiver channel.now desk.old.receiver }
     ensures receiver { IsReceiver channel.now desk.new.receiver }
     ensures same { SameButReceiver desk.old desk.new }
@@ -72,13 +75,13 @@ pub(crate) fn hear_all<R: Wait, G: Gate>(
         match channel.recv_as(rt, &mut desk.receiver) {
             Entry::Item(_, noted) => {
                 if !verdicts.hear_awaited(keys, mailboxes, &noted) {
-                    return Err(Stop::Torn);
+                    return Err(Torn);
                 }
             }
             Entry::End(shard) => {
                 desk.ends = desk.ends.saturating_add(1);
                 if !is_over_at(desk.permits.as_slice(), shard) {
-                    return Err(Stop::Torn);
+                    return Err(Torn);
                 }
             }
         }
@@ -94,7 +97,7 @@ pub(crate) fn hear_one<R: Wait, G: Gate>(
     desk: &mut Desk,
     key: CopyKey,
     mailbox: u8,
-) -> Result<Verdict, Stop>
+) -> Result<Verdict, Torn>
     requires { IsReceiver channel.now desk.old.receiver }
     ensures receiver { IsReceiver channel.now desk.new.receiver }
     ensures same { SameButReceiver desk.old desk.new }
@@ -109,16 +112,16 @@ pub(crate) fn hear_one<R: Wait, G: Gate>(
     match channel.recv_as(rt, &mut desk.receiver) {
         Entry::Item(_, noted) => {
             if noted.key != key {
-                return Err(Stop::Torn);
+                return Err(Torn);
             }
             if noted.mailbox != mailbox {
-                return Err(Stop::Torn);
+                return Err(Torn);
             }
             Ok(noted.verdict)
         }
         Entry::End(_) => {
             desk.ends = desk.ends.saturating_add(1);
-            Err(Stop::Torn)
+            Err(Torn)
         }
     }
 }

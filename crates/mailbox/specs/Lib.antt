@@ -3,4 +3,5 @@ pub mod Mailbox
 pub mod Stands
 pub mod Events
 pub mod Counts
+pub mod Answers
 pub mod inner

@@ -2,6 +2,7 @@
 //! cursors. Lanes, verdicts and commands stand in other crates.
 #![tactic(auto)]
 
+mod answers;
 mod choice;
 mod clients;
 mod history;
@@ -13,6 +14,7 @@ mod messages;
 mod removal;
 mod shown;
 
+pub use answers::{answer_of, verdict_of};
 pub use clients::{MailFault, Opening, Row};
 pub use history::History;
 pub use laws::every_mailbox_keeps;

@@ -15,7 +15,7 @@ ghost use Rattle.mailbox.specs.Stands.{Stands};
 use crate::history::{Accepted, History};
 use crate::logging::log_change;
 use crate::messages::Messages;
-use change_ring::{Change, ChangeRing, FlagOp, Flags, MOST_CHANGES, NO_FLAGS};
+use change_ring::{Change, ChangeRing, FlagOp, Flags, Lapped, MOST_CHANGES, NO_FLAGS};
 use cursor_set::CursorSet;
 use delivery_token::{CopyKey, Job, Refusal, Text};
 use std::alloc::{AllocError, Global};
@@ -312,7 +312,7 @@ impl Mailbox {
         let base = self.ring.base();
         match self.ring.lend(base) {
             Ok((first, rest)) => (base, first, rest),
-            Err(_) => (base, &[], &[]),
+            Err(Lapped) => unreachable!(),
         }
     }
 }

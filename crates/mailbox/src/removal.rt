@@ -135,6 +135,7 @@ impl Mailbox {
         if !self.has_room(count) {
             return Err(MailFault::Spent);
         }
+        // Whoever is admitted is no stranger and has missed nothing: only memory can be wanting.
         let Ok(_shown) = self.feed(handle, usize::MAX, out) else {
             return Err(MailFault::NoMemory);
         };

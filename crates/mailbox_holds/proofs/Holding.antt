@@ -15,7 +15,7 @@ use Rattle.mailbox.specs.Events.{IsCurrent, IsLapped, IsStranger, IsTooMany, Kee
 use Rattle.mailbox.specs.Mailbox.{Mailbox, Message, SameMailbox, remaining, rows}
 use Rattle.mailbox.specs.Stands.{IsKept, Stands, next_of}
 use Rattle.mailbox_holds.specs.Holds.{DoesExpunge, DoesFeed, IsEvent, IsRefused, HasCursor, Refuses}
-use Rattle.mailbox_holds.specs.inner.Holds.{answer_of}
+use Rattle.mailbox.specs.Answers.{answer_of}
 use Rattle.mailbox_holds.proofs.Cursors.{current, has_cursor, cursor_on, sets_on}
 
 -- ---- answers

@@ -6,12 +6,13 @@ ghost use Rattle.std.specs.List.Sorted.{IsStrictlyIncreasing};
 ghost use Rattle.std.specs.Option.{option_copied};
 ghost use Rattle.std.specs.Vec.{vec_capacity};
 ghost use Rattle.mailbox_holds.specs.Holds.{Counts, DoesAlter, DoesDeliver, DoesEnter, DoesExpunge, DoesFeed, DoesLeave, DoesLook, DoesRead};
-ghost use Rattle.mailbox_holds.specs.inner.Holds.{answer_of};
 
 use change_ring::{FlagOp, Flags};
 use cursor_set::{CursorHandle, FeedFault, Stranger};
 use delivery_token::{Job, Refusal};
-use mailbox::{MailFault, Mailbox, Opening, Receipt, Row, Status, View, every_mailbox_keeps};
+use mailbox::{
+    MailFault, Mailbox, Opening, Receipt, Row, Status, View, answer_of, every_mailbox_keeps,
+};
 
 /// Delivers a copy: its message is added under the next UID, with the copy's flags (RFC 9051,
 /// 2.3.1.1 and 6.3.12), which is one event, of one change or, where it has a flag, of two. This copy
@@ -108,18 +109,6 @@ pub fn alter(
     let flags = mailbox.store(handle, uid, op);
     every_mailbox_keeps(mailbox);
     flags
-}
-
-// A feed's answer, with its fault as one of all calls.
-fn answer_of(fed: Result<usize, FeedFault>) -> Result<usize, MailFault>
-    ensures { result ≡ answer_of fed }
-{
-    match fed {
-        Ok(count) => Ok(count),
-        Err(FeedFault::Stranger) => Err(MailFault::Stranger),
-        Err(FeedFault::Lapped) => Err(MailFault::Lapped),
-        Err(FeedFault::NoMemory) => Err(MailFault::NoMemory),
-    }
 }
 
 /// Shows a client its next changes, at most `limit`: a line for each behind `out` (RFC 9051, 7.4

@@ -1,21 +1,14 @@
 -- What delivering a copy does to a mailbox and to the box of the world that it stands for.
-use Rattle.std.specs.Prelude.{◌≡◌, ◌<◌, [], ◌∷◌, length, Result, Ok, Err}
+use Rattle.std.specs.Prelude.{◌≡◌, ◌<◌, [], ◌∷◌, length}
 use Rattle.delivery_token.specs.declared.Job.{Job}
 use Rattle.delivery_token.specs.declared.Verdict.{Verdict}
 use Rattle.delivery_token.specs.declared.Verdict.TheVariants.{Stored, Refused}
-use Rattle.delivery_token.specs.declared.Refusal.{Refusal}
 use Rattle.delivery_token.specs.declared.Refusal.TheVariants.{MailboxFull, NoMemory, UidSpent}
 use Rattle.change_ring.specs.Log.{rows_of}
 use Rattle.change_ring.specs.Logged.{arrival}
 use Rattle.mailbox.specs.Mailbox.{Mailbox}
-use Rattle.mailbox.specs.declared.mailbox.Receipt.{Receipt}
 use Rattle.world.specs.World.{Config, Box, HasUid, IsSpent, is_full, Logs, next_uid}
 use Rattle.delivery_core.specs.Stands.{StandsForBox}
-
--- the verdict that a mailbox's answer comes to
-abbrev pub verdict_of : Result Receipt Refusal → Verdict
-verdict_of (Ok receipt) = Stored receipt.uid
-verdict_of (Err why) = Refused why
 
 -- From this box a mailbox took the copy, or refused it, and stands for the box that the world allows.
 pub data BoxDelivers (k : Config) (w : Box) (c : Job) (verdict : Verdict) (new : Mailbox) : Type 0 where

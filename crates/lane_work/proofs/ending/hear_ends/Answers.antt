@@ -10,11 +10,13 @@ pub loop-preserved-in-Item : goal.loop-preserved-in-Item
 loop-preserved-in-Item g c =
     let old = received c.loop.receiver in
     let grew : received c.recv_as.new.permit ≡ old ++ c.recv_as.result ∷ [] = search rules in
-    let e = ap ends_in grew ∙ ends_next old c.recv_as.result in (
+    let e = ap ends_in grew ∙ ends_next old c.recv_as.result in
+    let none : ends_in (c.recv_as.result ∷ []) ≡ 0 = ap (λ entry. ends_in (entry ∷ [])) c.in-Item.is in (
       c.recv_as.ensures.permit,
       omega (arith, e, c.loop.invariant.1),
       start_on (received c.args.receiver.now) old (received c.recv_as.new.permit) c.loop.invariant.2 (c.recv_as.result ∷ [], grew),
-      λ q. absurd (let f : false ≡ true = q in cc),
+      (let n = ap length grew ∙ length-append old (c.recv_as.result ∷ []) in let k = c.loop.invariant.3 in omega (arith, n, e, none, k)),
+      ((λ q. absurd (let f : false ≡ true = q in cc)), λ same. absurd (let n = ap length grew ∙ length-append old (c.recv_as.result ∷ []) in let k = c.loop.invariant.3 in omega (arith, n, e, none, k, same))),
     )
 
 pub loop-preserved : goal.loop-preserved
@@ -25,8 +27,12 @@ loop-preserved g c =
       c.recv_as.ensures.permit,
       search rules,
       start_on (received c.args.receiver.now) old (received c.recv_as.new.permit) c.loop.invariant.2 (End c.in-End.field-0 ∷ [], grew),
-      λ q. let n = ap length grew ∙ length-append old (End c.in-End.field-0 ∷ []) in let k = c.loop.invariant.3 q in omega (arith, n, e, k),
+      (let n = ap length grew ∙ length-append old (End c.in-End.field-0 ∷ []) in let k = c.loop.invariant.3 in omega (arith, n, e, k)),
+      (
+        (λ q. let n = ap length grew ∙ length-append old (End c.in-End.field-0 ∷ []) in let k = c.loop.invariant.4.0 q in omega (arith, n, e, k)),
+        λ same. c.loop.invariant.4.1 (let n = ap length grew ∙ length-append old (End c.in-End.field-0 ∷ []) in omega (arith, n, e, same)),
+      ),
     )
 
 pub loop-init : goal.loop-init
-loop-init g c = (c.requires, omega arith, start_same (received c.args.receiver.now), λ q. refl)
+loop-init g c = (c.requires, omega arith, start_same (received c.args.receiver.now), omega arith, ((λ q. refl), λ same. refl))

@@ -1,7 +1,7 @@
 use Rattle.std.proofs.Common.{◌∙◌, ap, arith, subst, sym}
 use Rattle.std.specs.Prelude.{slice_index_or}
 use Rattle.mailbox.specs.Mailbox.{Mailbox}
-use Rattle.delivery_core.specs.inner.Clients.{answer_of}
+use Rattle.mailbox.specs.Answers.{answer_of}
 use Rattle.delivery_core.specs.DeliveryCore.{DeliveryCore}
 use Rattle.delivery_core.specs.Stands.{StandsFor}
 use Rattle.delivery_core.proofs.Calls.{not_strange}
