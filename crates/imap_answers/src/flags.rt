@@ -3,9 +3,9 @@
 ghost use Rattle.std.specs.Prelude.{◌≡◌, ◌++◌, ◌≤◌, OnOk, OnErr, vec_capacity};
 ghost use Rattle.imap_answers.specs.Answers.{flags_text};
 
-use crate::words::put;
 use change_ring::Flags;
 use cursor_set::{FLAGS_ROOM, put_flags};
+use line_io::put;
 use std::alloc::AllocError;
 
 /// Appends the flags that are set, or nothing where memory is refused.

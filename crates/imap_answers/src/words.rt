@@ -4,18 +4,8 @@ ghost use Rattle.std.specs.Prelude.{◌≡◌, ◌++◌, ◌+◌, ◌≤◌, dec
 ghost use Rattle.imap_answers.specs.inner.Joined.{lead};
 
 use itoa::Buffer;
-use line_io::append_parts;
+use line_io::{append_parts, put};
 use std::alloc::AllocError;
-
-// Writes text in room that was reserved.
-pub(crate) fn put(text: &[u8], out: &mut Vec<u8>)
-    requires { vec_len out.old + length text.now ≤ vec_capacity out.old }
-    ensures items { out.new.items ≡ out.old.items ++ text.now }
-    ensures len { vec_len out.new ≡ vec_len out.old + length text.now }
-    ensures room { vec_capacity out.old ≤ vec_capacity out.new }
-{
-    let _ = out.extend_from_slice(text);
-}
 
 // Writes what stands between two texts, and them, in room that was reserved.
 pub(crate) fn put_between(before: &[u8], text: &[u8], behind: &[u8], out: &mut Vec<u8>)

@@ -264,7 +264,7 @@ impl ImapConnection {
         ensures ok { IfOk result (λ fed. (d : Dialogue) → StandsFor self.old d →
             Takes S.step d piece.now store.old store.new out.old.items out.new.items fed self.new) }
         ensures err { OnErr result ((self.new ≡ self.old) × (store.new ≡ store.old) × (out.new.items ≡ out.old.items)) }
-        ensures full { OnErr result (vec_capacity out.new < vec_len out.new + (8282 + tag_len (kept_tag self.new.session))) }
+        ensures full { OnErr result (vec_capacity out.new < vec_len out.new + (ANSWER_ROOM + tag_len (kept_tag self.new.session))) }
         ensures sends { IfOk result (λ fed. fed.after ≡ may_send self.new.session) }
     {
         if self.session.ended() {
@@ -286,8 +286,8 @@ impl ImapConnection {
             What::Line => {
                 let after = match self.session.line(alloc, self.cutter.line(), store, out) {
                     Ok(after) => after,
-                    Err(SessionFault::Ended) => return Err(AllocError),
                     Err(SessionFault::NoMemory) => return Err(AllocError),
+                    Err(SessionFault::Ended) => unreachable!(),
                 };
                 Ok(Fed {
                     used: cut.used,
@@ -297,8 +297,8 @@ impl ImapConnection {
             What::TooLong => {
                 let after = match self.session.long_line(out) {
                     Ok(after) => after,
-                    Err(SessionFault::Ended) => return Err(AllocError),
                     Err(SessionFault::NoMemory) => return Err(AllocError),
+                    Err(SessionFault::Ended) => unreachable!(),
                 };
                 Ok(Fed {
                     used: cut.used,
@@ -330,7 +330,7 @@ impl ImapConnection {
         ensures all { IfSome result.after (λ after. may_follow after ≡ true → result.used ≡ length piece.now) }
 
         // Memory is refused (None) only where `out` has too little room behind what it has by then, and no message is submitted then.
-        ensures full { result.after ≡ None → vec_capacity out.new < vec_len out.new + (8282 + tag_len (kept_tag self.new.session)) }
+        ensures full { result.after ≡ None → vec_capacity out.new < vec_len out.new + (ANSWER_ROOM + tag_len (kept_tag self.new.session)) }
         ensures unsent { result.after ≡ None → self.new.session.mailing.sent ≡ None }
 
         // A message is submitted only by a byte that was taken. Whatever it stands for, the store was asked some calls in turn, or none.

@@ -9,10 +9,10 @@ ghost use Rattle.imap_session.specs.inner.Store.{Does, Plays};
 
 use crate::expunge::show_pending;
 use crate::response::{LastWords, Response};
-use crate::say::put;
 use crate::standing::{After, Selected};
 use crate::store::Store;
 use delivery_token::{Refusal, Verdict};
+use line_io::put;
 use mailbox::MailFault;
 
 /// Room for the line that tells where a message was stored, beside its tag.

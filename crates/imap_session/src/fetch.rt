@@ -37,17 +37,17 @@ fn write_fetched(
 fn fetch_one<S: Store>(
     fetch: &Fetch<'_>,
     items: &[FetchItem],
-    mark: bool,
+    mark_seen: bool,
     message: Named,
     store: &mut S,
     response: &mut Response<'_>,
 ) -> Result<bool, MailFault>
     requires items { items.now ≡ fetch.now.items }
     ensures { (view : List ℕ) (uid : ℕ) → message ≡ named_at view uid → (x y : Exchange) → Does S.step
-        (Read uid mark (on_found (λ row. Write (fetched fetch.now view uid row) x) y))
+        (Read uid mark_seen (on_found (λ row. Write (fetched fetch.now view uid row) x) y))
         (λ here. if here then x else y) store.old store.new response.old response.new result }
 {
-    let Some(row) = store.read(message.uid, mark)? else {
+    let Some(row) = store.read(message.uid, mark_seen)? else {
         return Ok(false);
     };
     write_fetched(fetch.by_uid, items, message.position, &row, response)?;
@@ -58,18 +58,18 @@ fn fetch_one<S: Store>(
 fn fetch_all<S: Store>(
     fetch: &Fetch<'_>,
     items: &[FetchItem],
-    mark: bool,
+    mark_seen: bool,
     messages: &[Named],
     store: &mut S,
     response: &mut Response<'_>,
 ) -> Result<bool, MailFault>
     requires items { items.now ≡ fetch.now.items }
     ensures { (view uids : List ℕ) → messages.now ≡ map (named_at view) uids → (done : Bool → Exchange) → Does S.step
-        (fetching fetch.now mark view done uids false) done store.old store.new response.old response.new result }
+        (fetching fetch.now mark_seen view done uids false) done store.old store.new response.old response.new result }
 {
     let mut gone = false;
     for message in messages {
-        let here = fetch_one(fetch, items, mark, *message, store, response)?;
+        let here = fetch_one(fetch, items, mark_seen, *message, store, response)?;
         if !here {
             gone = true;
         }
@@ -101,12 +101,12 @@ fn finish_fetch<S: Store>(
 pub(crate) fn fetch_messages<S: Store>(
     alloc: Global,
     fetch: &Fetch<'_>,
-    mark: bool,
+    mark_seen: bool,
     store: &mut S,
     response: &mut Response<'_>,
 ) -> Result<LastWords, MailFault>
     ensures { Does S.step
-        (on_set fetch.now.by_uid fetch.now.set (λ view uids. fetching fetch.now mark view
+        (on_set fetch.now.by_uid fetch.now.set (λ view uids. fetching fetch.now mark_seen view
         (messages_done (commands.Fetch fetch.now) fetch.now.by_uid) uids false))
         last store.old store.new response.old response.new result }
 {
@@ -115,6 +115,13 @@ pub(crate) fn fetch_messages<S: Store>(
     let Some(messages) = store.choose(alloc, &fetch.set, fetch.by_uid)? else {
         return Ok(LastWords(b"BAD Sequence number too high"));
     };
-    let gone = fetch_all(fetch, items, mark, messages.as_slice(), store, response)?;
+    let gone = fetch_all(
+        fetch,
+        items,
+        mark_seen,
+        messages.as_slice(),
+        store,
+        response,
+    )?;
     finish_fetch(fetch, gone, store, response)
 }

@@ -4,10 +4,11 @@
 ghost use Rattle.std.specs.Prelude.{◌≡◌, ◌+◌, ◌≤◌, ◌++◌, OnOk, OnErr, IfErr, vec_len, length, take, drop};
 ghost use Rattle.std.specs.Vec.{vec_capacity};
 
-use crate::say::{put, put_tagged};
+use crate::say::put_tagged;
 use crate::standing::After;
 use crate::store::Store;
 use imap_answers::{OPENING_ROOM, put_opening};
+use line_io::put;
 use mailbox::{MailFault, Opening};
 use std::marker::Model;
 use std::mem;

@@ -4,6 +4,8 @@ ghost use Rattle.std.specs.Prelude.{◌≡◌, ◌+◌, ◌≤◌, ◌++◌, vec
 ghost use Rattle.std.specs.Vec.{vec_capacity};
 ghost use Rattle.imap_session.specs.Exchange.{tagged};
 
+use line_io::put;
+
 pub(crate) const GREETING: &[u8] = b"* PREAUTH IMAP4rev2 server ready\r\n";
 
 pub(crate) const LONG_LINE: &[u8] = b"* BAD Line too long\r\n";
@@ -13,16 +15,6 @@ pub(crate) const IDLING: &[u8] = b"+ idling\r\n";
 pub(crate) const NOT_DONE: &[u8] = b"BAD Expected DONE";
 
 pub(crate) const READY: &[u8] = b"+ ready\r\n";
-
-// Writes text in room that was reserved.
-pub(crate) fn put(text: &[u8], out: &mut Vec<u8>)
-    requires fits { vec_len out.old + length text.now ≤ vec_capacity out.old }
-    ensures text { out.new.items ≡ out.old.items ++ text.now }
-    ensures len { vec_len out.new ≡ vec_len out.old + length text.now }
-    ensures room { vec_capacity out.old ≤ vec_capacity out.new }
-{
-    let _ = out.extend_from_slice(text);
-}
 
 // Writes the tag and the words behind it, as a line, in room that was reserved.
 pub(crate) fn put_tagged(tag: &[u8], words: &[u8], out: &mut Vec<u8>)

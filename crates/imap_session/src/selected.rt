@@ -59,8 +59,8 @@ pub(crate) fn fetch<S: Store>(
     match selected {
         None => Ok(LastWords(b"BAD Wrong state")),
         Some(mailbox) => {
-            let mark = sets_seen(command, mailbox);
-            fetch_messages(alloc, command, mark, store, response)
+            let mark_seen = sets_seen(command, mailbox);
+            fetch_messages(alloc, command, mark_seen, store, response)
         }
     }
 }

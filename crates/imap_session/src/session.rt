@@ -5,7 +5,7 @@ use crate::appended::{STORED, tell_verdict};
 use crate::folders::find_folder;
 use crate::mailing::{Appending, Mailing, Sent, begin_text, judge, refused_size};
 use crate::response::{LAST, LastWords, Response};
-use crate::say::{GREETING, IDLING, LONG_LINE, NOT_DONE, READY, put, put_tagged};
+use crate::say::{GREETING, IDLING, LONG_LINE, NOT_DONE, READY, put_tagged};
 use crate::standing::{After, Append, Folder, Selected, SessionFault};
 use crate::store::Store;
 use crate::tag::Tag;
@@ -14,6 +14,7 @@ use crate::turn::{
 };
 use delivery_token::{Text, Verdict};
 use imap_grammar::{Append as AppendCommand, Command, Name, read_line};
+use line_io::put;
 use mailbox::MailFault;
 use std::alloc::{AllocError, Global};
 use std::marker::Model;

@@ -11,12 +11,13 @@ ghost use Rattle.imap_session.specs.inner.Store.{Does, Moves, after_command, beh
 use crate::count::{count_mailbox, list_folders};
 use crate::expunge::show_pending;
 use crate::response::{LAST, LastWords, Response};
-use crate::say::{put, put_tagged};
+use crate::say::put_tagged;
 use crate::select::select_mailbox;
 use crate::selected::{close, expunge, fetch, store_flags, uid_expunge, unselect};
 use crate::standing::{After, Folder, Selected};
 use crate::store::Store;
 use imap_grammar::{Append, Command, ImapFault, is_done};
+use line_io::put;
 use mailbox::MailFault;
 use std::alloc::Global;
 

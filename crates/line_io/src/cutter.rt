@@ -5,6 +5,7 @@ ghost use Rattle.std.specs.Prelude.{◌≡◌, ◌≢◌, ℕ, ◌+◌, ◌<◌,
 ghost use Rattle.line_io.specs.Wire.{wire_lines};
 ghost use Rattle.line_io.specs.Cutting.{StandsFor, Tells};
 
+use crate::parts::put;
 use crate::{Cut, What};
 use memchr::memchr;
 use std::alloc::{AllocError, Global};
@@ -23,16 +24,6 @@ fn before_lf(piece: &[u8]) -> usize
         Some(i) => i,
         None => piece.len(),
     }
-}
-
-// Appends the bytes, for which there is room.
-fn extend_reserved(bytes: &mut Vec<u8>, more: &[u8])
-    requires { vec_len bytes.old + length more.now ≤ vec_capacity bytes.old }
-    ensures items { bytes.new.items ≡ bytes.old.items ++ more.now }
-    ensures len { vec_len bytes.new ≡ vec_len bytes.old + length more.now }
-    ensures capacity { vec_capacity bytes.old ≤ vec_capacity bytes.new }
-{
-    let _ = bytes.extend_from_slice(more);
 }
 
 /// Cuts a stream of bytes that comes in pieces into lines, each ended by CRLF (RFC 5321, section
@@ -160,7 +151,7 @@ impl LineCutter {
         }
         let room = self.max - self.bytes.len();
         let kept = if len < room { len } else { room };
-        extend_reserved(&mut self.bytes, &piece[..kept]);
+        put(&piece[..kept], &mut self.bytes);
         self.after_cr = piece[len - 1] == CR;
         len
     }

@@ -11,7 +11,7 @@ mod sink;
 pub use cutter::LineCutter;
 pub use laws::{each_stream_is_cut_in_one_way, whole_lines_may_be_taken_by_others};
 pub use marks::append_marked;
-pub use parts::{append_parts, drop_front};
+pub use parts::{append_parts, drop_front, put};
 pub use sink::{SendFault, Sink, Watched, send};
 
 /// What a take of a [`LineCutter`] found.

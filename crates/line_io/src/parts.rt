@@ -1,8 +1,19 @@
 //! Bytes that are appended in several parts, or go from the front. What they say is for the crates above.
 
-ghost use Rattle.std.specs.Prelude.{◌≡◌, ◌≤◌, ◌++◌, drop, flat_map, OnOk, OnErr, vec_len, vec_capacity};
+ghost use Rattle.std.specs.Prelude.{◌≡◌, ◌≤◌, ◌+◌, ◌++◌, length, drop, flat_map, OnOk, OnErr, vec_len, vec_capacity};
 
 use std::alloc::AllocError;
+
+/// Appends bytes for which there is room. It asks for no memory.
+pub fn put(bytes: &[u8], out: &mut Vec<u8>)
+    requires { vec_len out.old + length bytes.now ≤ vec_capacity out.old }
+    // They stand behind what was there, and `out` keeps its room or has more.
+    ensures items { out.new.items ≡ out.old.items ++ bytes.now }
+    ensures len { vec_len out.new ≡ vec_len out.old + length bytes.now }
+    ensures room { vec_capacity out.old ≤ vec_capacity out.new }
+{
+    let _ = out.extend_from_slice(bytes);
+}
 
 /// Appends the parts in their order, all of them or none.
 ///

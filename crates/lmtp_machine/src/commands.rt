@@ -9,7 +9,7 @@ ghost use Rattle.lmtp_machine.specs.Dialogue.{on_command_line, on_command, on_ma
 ghost use Rattle.lmtp_machine.specs.Message.{sender_text};
 ghost use Rattle.lmtp_machine.specs.Standing.{standing_of, IsOpen, Takes};
 
-use crate::reply::{NAMED_ROOM, Reply, put, say, say_any};
+use crate::reply::{BRIEF_ROOM, NAMED_ROOM, Reply, put, say, say_any};
 use envelope::{
     CommandFault, Directory, ForwardPath, LmtpCommand, MOST_RECIPIENTS, NoSuch, Recipients,
     ReversePath, read_command,
@@ -155,7 +155,7 @@ impl Commands {
     }
 
     fn mail(&mut self, path: ReversePath<'_>, host: &[u8], out: &mut Vec<u8>)
-        requires room { vec_len out.old + 40 ≤ vec_capacity out.old }
+        requires room { vec_len out.old + BRIEF_ROOM ≤ vec_capacity out.old }
         requires short { has_long_part (reverse_path path) ≡ false }
         ensures { Takes host.now (on_mail (standing_of self.old).phase self.old.submitted
             (reverse_path path.entry)) self.new out.old.items out.new.items }
@@ -175,7 +175,7 @@ impl Commands {
     }
 
     fn rcpt(&mut self, path: ForwardPath<'_>, directory: &Directory, host: &[u8], out: &mut Vec<u8>)
-        requires { vec_len out.old + 40 ≤ vec_capacity out.old }
+        requires { vec_len out.old + BRIEF_ROOM ≤ vec_capacity out.old }
         ensures { Takes host.now (on_rcpt directory.now (standing_of self.old).phase self.old.submitted
             (forward_path path.entry)) self.new out.old.items out.new.items }
     {
@@ -200,7 +200,7 @@ impl Commands {
     }
 
     fn data(&mut self, host: &[u8], out: &mut Vec<u8>)
-        requires { vec_len out.old + 40 ≤ vec_capacity out.old }
+        requires { vec_len out.old + BRIEF_ROOM ≤ vec_capacity out.old }
         ensures { Takes host.now (on_data (standing_of self.old).phase self.old.submitted) self.new out.old.items out.new.items }
     {
         match self.stage {

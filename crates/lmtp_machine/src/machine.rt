@@ -118,7 +118,7 @@ impl LmtpMachine {
             → Happens (StandsFor self.new) self.old.setting self.old.host d c dialogue.Opened out.old.items out.new.items) }
         // Seat, serial, limit and name stay, and so does the message whose verdicts are awaited.
         ensures same { OnOk result ((self.new.setting ≡ self.old.setting) × (self.new.host ≡ self.old.host) × (self.new.pending ≡ self.old.pending)) }
-        // After an error nothing has changed, nor was anything written; `out` had less room than for the name and 100 bytes.
+        // After an error nothing has changed, nor was anything written; `out` had less room than for the name and `NAMED_ROOM` bytes.
         ensures err { OnErr result ((self.new ≡ self.old) × (out.new.items ≡ out.old.items)) }
         ensures full { OnErr result (vec_capacity out.old < vec_len out.old + length self.old.host + NAMED_ROOM) }
     {
@@ -215,7 +215,8 @@ impl LmtpMachine {
         ensures pending { OnOk result (self.new.pending ≡ []) }
         // After an error nothing has changed, nor was anything written.
         ensures err { OnErr result ((self.new ≡ self.old) × (out.new.items ≡ out.old.items)) }
-        // An error comes only where `out` had less room than for `ANSWER_ROOM` bytes, and where verdicts were awaited.
+        // An error comes only where `out` had less room than for `BRIEF_ROOM` bytes a verdict (`ANSWER_ROOM` at most), and where verdicts were awaited.
+        ensures brief { OnErr result (vec_capacity out.old < vec_len out.old + length verdicts.now * BRIEF_ROOM) }
         ensures full { OnErr result (vec_capacity out.old < vec_len out.old + ANSWER_ROOM) }
         ensures asks { OnErr result (self.old.pending ≡ [] → ⊥) }
     {
@@ -239,9 +240,9 @@ impl LmtpMachine {
         // Seat, serial, limit and name stay, and no verdicts are awaited any more.
         ensures same { OnOk result ((self.new.setting ≡ self.old.setting) × (self.new.host ≡ self.old.host)) }
         ensures pending { OnOk result (self.new.pending ≡ []) }
-        // After an error nothing has changed, nor was anything written; `out` had less room than for 40 bytes.
+        // After an error nothing has changed, nor was anything written; `out` had less room than for `BRIEF_ROOM` bytes.
         ensures err { OnErr result ((self.new ≡ self.old) × (out.new.items ≡ out.old.items)) }
-        ensures full { OnErr result (vec_capacity out.old < vec_len out.old + 40) }
+        ensures full { OnErr result (vec_capacity out.old < vec_len out.old + BRIEF_ROOM) }
     {
         out.reserve(BRIEF_ROOM)?;
         say(out, self.host.as_slice(), Reply::ShuttingDown);
@@ -330,7 +331,7 @@ impl LmtpMachine {
     fn end_data(&mut self, outcome: Outcome, ended: Unstuffer, out: &mut Vec<u8>) -> What
         requires stage { self.old.commands.stage ≡ Stage.Data }
         requires outcome { ended.outcome ≡ Some outcome }
-        requires room { vec_len out.old + length self.old.commands.recipients * 40 ≤ vec_capacity out.old }
+        requires room { vec_len out.old + length self.old.commands.recipients * BRIEF_ROOM ≤ vec_capacity out.old }
         ensures awaits { Awaits result self.new.pending }
         ensures most { All (λ s. length s.keys ≤ MOST_RECIPIENTS) self.new.pending }
         ensures paired { All (λ s. length s.mailboxes ≡ length s.keys) self.new.pending }
@@ -360,7 +361,7 @@ impl LmtpMachine {
     ///
     /// Errors: `AllocError` where memory for it was refused.
     fn build(&self, text: Vec<u8>) -> Result<Submission, AllocError>
-        ensures few { length self.now.commands.recipients ≤ 100 }
+        ensures few { length self.now.commands.recipients ≤ MOST_RECIPIENTS }
         ensures made { IfOk result (λ s. submission_of s ≡ record {
           keys = keys_from self.now.setting self.now.commands.submitted 0 self.now.commands.recipients;
           mailboxes = self.now.commands.recipients;
@@ -380,7 +381,7 @@ impl LmtpMachine {
     fn fail(&mut self, reply: Reply, out: &mut Vec<u8>) -> What
         requires stage { self.old.commands.stage ≡ Stage.Data }
         requires brief { IsBrief reply }
-        requires room { vec_len out.old + length self.old.commands.recipients * 40 ≤ vec_capacity out.old }
+        requires room { vec_len out.old + length self.old.commands.recipients * BRIEF_ROOM ≤ vec_capacity out.old }
         ensures what { result ≡ What.More }
         ensures after { self.new ≡ record self.old { commands = record self.old.commands { stage = Stage.Ready } } }
         ensures quiet { self.new.pending ≡ [] }

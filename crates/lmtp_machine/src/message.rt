@@ -8,9 +8,10 @@ ghost use Rattle.lmtp_machine.specs.Replies.{wire, IsBrief};
 ghost use Rattle.lmtp_machine.specs.Dialogue.{keys_from, verdict_reply, refusal_reply};
 
 use crate::commands::{Commands, Stage};
-use crate::reply::{Reply, say};
+use crate::reply::{BRIEF_ROOM, Reply, say};
 use delivery_token::{CopyKey, Refusal, Verdict};
 use dot_stuffing::Unstuffer;
+use envelope::MOST_RECIPIENTS;
 use std::alloc::{AllocError, Global};
 
 /// The keys of a message's copies, one for each recipient.
@@ -23,7 +24,7 @@ pub fn keys_of(
     message: u32,
     recipients: &[u8],
 ) -> Result<Vec<CopyKey>, AllocError>
-    requires { length recipients.now ≤ 100 }
+    requires { length recipients.now ≤ MOST_RECIPIENTS }
     ensures { IfOk result (λ v. (most : ℕ)
         → v.items ≡ keys_from (record { seat = seat; serial = serial; max_message = most }) message 0 recipients.now) }
 {
@@ -86,7 +87,7 @@ fn verdict_reply(verdict: Verdict) -> Reply
 /// Writes a reply to each recipient by the verdict on its copy, in room that was reserved.
 #[tactic(auto, using(crate::proofs::Replies::answered_more))]
 pub fn say_verdicts(out: &mut Vec<u8>, host: &[u8], verdicts: &[Verdict])
-    requires { vec_len out.old + length verdicts.now * 40 ≤ vec_capacity out.old }
+    requires { vec_len out.old + length verdicts.now * BRIEF_ROOM ≤ vec_capacity out.old }
     ensures { out.new.items ≡ out.old.items ++ wire host.now (map verdict_reply verdicts.now) }
 {
     for verdict in verdicts {
@@ -97,8 +98,8 @@ pub fn say_verdicts(out: &mut Vec<u8>, host: &[u8], verdicts: &[Verdict])
 /// Writes the same reply to so many recipients, in room that was reserved.
 #[tactic(auto, using(crate::proofs::Replies::told_more))]
 pub fn say_to_each(out: &mut Vec<u8>, host: &[u8], reply: Reply, recipients: usize)
-    // There is room for 40 bytes a recipient.
-    requires room { vec_len out.old + recipients * 40 ≤ vec_capacity out.old }
+    // There is room for a brief reply a recipient.
+    requires room { vec_len out.old + recipients * BRIEF_ROOM ≤ vec_capacity out.old }
     // The reply doesn't name the server.
     requires brief { IsBrief reply }
     ensures { out.new.items ≡ out.old.items ++ wire host.now (replicate recipients reply) }

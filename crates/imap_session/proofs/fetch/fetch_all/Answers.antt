@@ -21,11 +21,11 @@ loop-message-preserved g c =
     λ view uids are done tag now.
     let within : i < length uids = subst (λ (n : ℕ). i < n) (as_many view uids c.args.messages.now are) c.loop-message-test.true in
     rw gone-is
-    (fetches_more g.S.Store.step tag now c.args.fetch.now c.args.mark view done uids i c.loop-message.gone c.in_ok-here.here
+    (fetches_more g.S.Store.step tag now c.args.fetch.now c.args.mark_seen view done uids i c.loop-message.gone c.in_ok-here.here
     _ _ _ _ _ _ _ within (c.loop-message.invariant view uids are done tag now)
     (c.in_ok-here.ensures view (get_or uids i 0) (message_at view uids c.args.messages.now i _ are c.loop-message-test.true)
-    (fetching c.args.fetch.now c.args.mark view done (drop (i + 1) uids) c.loop-message.gone)
-    (fetching c.args.fetch.now c.args.mark view done (drop (i + 1) uids) true) tag now))
+    (fetching c.args.fetch.now c.args.mark_seen view done (drop (i + 1) uids) c.loop-message.gone)
+    (fetching c.args.fetch.now c.args.mark_seen view done (drop (i + 1) uids) true) tag now))
 
 pub returns-in_err-here : goal.returns-in_err-here
 returns-in_err-here g c view uids are done =
@@ -33,13 +33,13 @@ returns-in_err-here g c view uids are done =
     let within : i < length uids = subst (λ (n : ℕ). i < n) (as_many view uids c.args.messages.now are) c.loop-message-test.true in
     let p = err_from_is_err_and c.from_residual.result c.from_residual.ensures.1 in
     rw (p.1, p.2) (λ tag now.
-    let P : Exchange → Type 0 = λ y. Reaches g.S.Store.step tag now now (fetching c.args.fetch.now c.args.mark view done uids false) y c.args.store.now c.loop-message.store c.args.response.now c.loop-message.response in
+    let P : Exchange → Type 0 = λ y. Reaches g.S.Store.step tag now now (fetching c.args.fetch.now c.args.mark_seen view done uids false) y c.args.store.now c.loop-message.store c.args.response.now c.loop-message.response in
     stops_then g.S.Store.step tag now now now _ _ _ _ _ _ _ _ _
-    (subst P (fetching_next c.args.fetch.now c.args.mark view done uids i c.loop-message.gone within)
+    (subst P (fetching_next c.args.fetch.now c.args.mark_seen view done uids i c.loop-message.gone within)
     (c.loop-message.invariant view uids are done tag now))
     (c.in_err-here.ensures view (get_or uids i 0) (message_at view uids c.args.messages.now i _ are c.loop-message-test.true)
-    (fetching c.args.fetch.now c.args.mark view done (drop (i + 1) uids) c.loop-message.gone)
-    (fetching c.args.fetch.now c.args.mark view done (drop (i + 1) uids) true) tag now))
+    (fetching c.args.fetch.now c.args.mark_seen view done (drop (i + 1) uids) c.loop-message.gone)
+    (fetching c.args.fetch.now c.args.mark_seen view done (drop (i + 1) uids) true) tag now))
 
 pub returns : goal.returns
 returns g c view uids are done tag now =

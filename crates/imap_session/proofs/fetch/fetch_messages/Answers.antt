@@ -23,7 +23,7 @@ pub returns-in_default : goal.returns-in_default
 returns-in_default g c tag now =
     let command = c.args.fetch.now in
     let looks = rw c.in_default.is at c.in_ok-messages.ensures.event in
-    reaches_too_high g.S.Store.step command.by_uid command.set (λ view uids. fetching command c.args.mark view (messages_done (commands.Fetch command) command.by_uid) uids false) looks.0 _ _ looks.1 looks.2 tag now
+    reaches_too_high g.S.Store.step command.by_uid command.set (λ view uids. fetching command c.args.mark_seen view (messages_done (commands.Fetch command) command.by_uid) uids false) looks.0 _ _ looks.1 looks.2 tag now
 
 pub returns-in_err-gone : goal.returns-in_err-gone
 returns-in_err-gone g c =
@@ -31,7 +31,7 @@ returns-in_err-gone g c =
     let looks = rw c.in-Some.is at c.in_ok-messages.ensures.event in
     let done : Bool → Exchange = messages_done (commands.Fetch command) command.by_uid in
     let p = err_from_is_err_and c.from_residual-in_err-gone.result c.from_residual-in_err-gone.ensures.1 in
-    rw (p.1, p.2) (does_chosen {V = List ℕ} g.S.Store.step command.by_uid command.set (λ view uids. fetching command c.args.mark view done uids false) last looks.0 c.in-Some.messages.items _ _ _ _ (Err _) looks.1 looks.2
+    rw (p.1, p.2) (does_chosen {V = List ℕ} g.S.Store.step command.by_uid command.set (λ view uids. fetching command c.args.mark_seen view done uids false) last looks.0 c.in-Some.messages.items _ _ _ _ (Err _) looks.1 looks.2
     (λ uids are. c.in_err-gone.ensures looks.0 uids (c.as_slice.ensures.value ∙ are) done))
 
 pub returns : goal.returns
@@ -39,5 +39,5 @@ returns g c =
     let command = c.args.fetch.now in
     let looks = rw c.in-Some.is at c.in_ok-messages.ensures.event in
     let done : Bool → Exchange = messages_done (commands.Fetch command) command.by_uid in
-    does_chosen g.S.Store.step command.by_uid command.set (λ view uids. fetching command c.args.mark view done uids false) last looks.0 c.in-Some.messages.items _ _ _ _ c.finish_fetch.result looks.1 looks.2
+    does_chosen g.S.Store.step command.by_uid command.set (λ view uids. fetching command c.args.mark_seen view done uids false) last looks.0 c.in-Some.messages.items _ _ _ _ c.finish_fetch.result looks.1 looks.2
     (λ uids are. does_then g.S.Store.step _ (done c.in_ok-gone.gone) last _ _ _ _ _ _ c.finish_fetch.result (c.in_ok-gone.ensures looks.0 uids (c.as_slice.ensures.value ∙ are) done) c.finish_fetch.ensures)

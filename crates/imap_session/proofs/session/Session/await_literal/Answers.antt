@@ -21,7 +21,7 @@ returns-then-append-clause-leads c =
     let a = c.args.append.now in
     let same = ap the_view c.self-inside.view_is ∙ c.self.view_is in
     leads_wanting_waits c.args.response.tag (ready a.literal.waits) (ForLiteral c.args.mailbox a.flags a.literal.size) c.args.self.now _ _ c.args.response.text c.put.new.out.items refl
-    (c.put.ensures.text ∙ ap (λ (t : List ℕ). t ++ codes "+ ready\r\n") c.release-tag.ensures.text ∙ ap (λ (b : Bool). c.args.response.text ++ ready b) (sym c.if-append.true))
+    (c.put.ensures.items ∙ ap (λ (t : List ℕ). t ++ codes "+ ready\r\n") c.release-tag.ensures.text ∙ ap (λ (b : Bool). c.args.response.text ++ ready b) (sym c.if-append.true))
     (begun_again c.args.mailbox a.flags a.literal.size c.in-Ok.own_tag c.args.response.tag c.begin_text-text.result.items (c.in-Ok.ensures.ok ∙ c.release-tag.ensures.tag) c.begin_text-text.ensures same)
 
 pub returns-else-append-clause-leads : goal.returns-else-append-clause-leads

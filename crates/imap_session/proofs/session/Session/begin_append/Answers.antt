@@ -8,7 +8,7 @@ pub returns-then-append-gt-MOST_UNASKED-clause-leads : goal.returns-then-append-
 returns-then-append-gt-MOST_UNASKED-clause-leads c =
     let now = c.args.self.now in
     leads_waits c.args.response.tag (bye (codes "Literal too big")) ForNothing now _ (appending now.mailing.most now.folders c.args.append.now) c.args.response.text c.put.new.out.items
-    (sent_too_big now.mailing.most now.folders c.args.append.now c.if-append.false c.if-append-gt-MOST_UNASKED.true) (c.put.ensures.text ∙ ap (λ (t : List ℕ). t ++ bye (codes "Literal too big")) c.release.ensures.text) (ended_again c.self.view_is)
+    (sent_too_big now.mailing.most now.folders c.args.append.now c.if-append.false c.if-append-gt-MOST_UNASKED.true) (c.put.ensures.items ∙ ap (λ (t : List ℕ). t ++ bye (codes "Literal too big")) c.release.ensures.text) (ended_again c.self.view_is)
 
 pub returns-in_default-clause-leads : goal.returns-in_default-clause-leads
 returns-in_default-clause-leads c =

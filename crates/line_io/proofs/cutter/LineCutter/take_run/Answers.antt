@@ -22,6 +22,6 @@ returns-clause-stands c stream at =
     c.before_lf-len.ensures.within
     c.before_lf-len.ensures.none
     (sym f.1)
-    (rw (f.0, max, f.2) (c.extend_reserved.ensures.items ∙ ap (λ t. c.self.inside.bytes.items ++ t) kept ∙ kept_run c.self.inside.max c.self.inside.bytes.items (take n piece) room fits))
+    (rw (f.0, max, f.2) (c.put.ensures.items ∙ ap (λ t. c.self.inside.bytes.items ++ t) kept ∙ kept_run c.self.inside.max c.self.inside.bytes.items (take n piece) room fits))
     (λ t. grind (arith, nat_tests))
     (λ t e. grind (arith, nat_tests))
