@@ -11,7 +11,7 @@ ghost use Rattle.cursor_set.specs.Opened.{open_of, opened};
 ghost use Rattle.cursor_set.specs.Cursors.{Open, IsLeastFrom, Updates, after_showing, held, in_slot, next_changes, open_numbers};
 
 use crate::lines::{LINE_ROOM, show_changes};
-use change_ring::{Change, ChangeRing};
+use change_ring::{Change, ChangeRing, Lapped};
 use slab::Slab;
 use std::alloc::{AllocError, Global};
 use std::marker::Model;
@@ -139,7 +139,7 @@ fn lend_next(ring: &ChangeRing, at: u64, limit: usize) -> (&[Change], &[Change])
             let more = (limit - taken).min(rest.len());
             (&first[..taken], &rest[..more])
         }
-        Err(_) => (&[], &[]),
+        Err(Lapped) => unreachable!(),
     }
 }
 

@@ -12,7 +12,7 @@ ghost use Rattle.house_session.specs.HouseSession.{Answered, AnsweredVerdict, Ha
 
 use delivery_token::Verdict;
 use imap_connection::ImapConnection;
-use imap_session::{Append, Folder, Selected, Store};
+use imap_session::{Append, Folder, Selected, SessionFault, Store};
 use incoming::Incoming;
 use std::alloc::{AllocError, Global};
 use std::marker::Model;
@@ -119,10 +119,11 @@ impl HouseSession {
         ensures asked { Asks S.step store.old store.new }
         ensures err { OnErr result ((self.new ≡ self.old) × (store.new ≡ store.old)) }
     {
-        let Ok(_) = self.connection.appended(verdict, store, &mut self.unsaid) else {
-            return Err(AllocError);
-        };
-        Ok(())
+        match self.connection.appended(verdict, store, &mut self.unsaid) {
+            Ok(_) => return Ok(()),
+            Err(SessionFault::NoMemory) => return Err(AllocError),
+            Err(SessionFault::Ended) => unreachable!(),
+        }
     }
 
     /// Answers what waits, over its store, as far as it goes: to its end, to that of the session, or to a message that was submitted, behind which
@@ -178,10 +179,11 @@ impl HouseSession {
         if self.connection.has_ended() {
             return Ok(0);
         }
-        let Ok(count) = self.connection.idle_turn(store, &mut self.unsaid) else {
-            return Err(AllocError);
-        };
-        Ok(count)
+        match self.connection.idle_turn(store, &mut self.unsaid) {
+            Ok(count) => return Ok(count),
+            Err(SessionFault::NoMemory) => return Err(AllocError),
+            Err(SessionFault::Ended) => unreachable!(),
+        }
     }
 
     /// What it said and isn't printed yet.

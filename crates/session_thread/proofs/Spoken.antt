@@ -14,7 +14,7 @@ use Rattle.imap_session.specs.Exchange.{Appending, Sent, Standing, kept_tag, may
 use Rattle.imap_session.specs.Store.{AnswersVerdict}
 use Rattle.imap_connection.specs.declared.connection.Progress.{Progress}
 use Rattle.imap_connection.specs.Dialogue as dialogue
-use Rattle.imap_connection.specs.Dialogue.{Dialogue, ImapConnection, StandsFor, Took, may_follow, tag_len}
+use Rattle.imap_connection.specs.Dialogue.{Dialogue, ImapConnection, StandsFor, Took, answer_room, may_follow, tag_len}
 use Rattle.session_thread.specs.Locks.{Holds, LockedStore}
 use Rattle.session_thread.specs.Life.{Says, SaysInPart, Speaks, TellsVerdict, carried_of, hears, moment, short, takes, takes_more, unheard}
 
@@ -139,10 +139,10 @@ said_all bytes used carried old new before after was link whole spoken d stands 
     let n = spoken d stands in (n.0, n.1, record { used = used; speaks = n.2; all = subst (λ (s : Standing). WasAll used bytes s) n.1.session whole })
 
 -- memory was refused before the next line
-pub said_short : (room : ℕ) (bytes : List ℕ) (used : ℕ) (carried : List Carried) (old new : LockedStore) (before after : List ℕ) (was link : ImapConnection) → room < length after + (8282 + tag_len (kept_tag link.session)) → Spoken bytes used carried was old before link new after
+pub said_short : (room : ℕ) (bytes : List ℕ) (used : ℕ) (carried : List Carried) (old new : LockedStore) (before after : List ℕ) (was link : ImapConnection) → room < length after + (answer_room + tag_len (kept_tag link.session)) → Spoken bytes used carried was old before link new after
     → (d : Dialogue) → StandsFor was d → (next : Dialogue) × StandsFor link next × SaysInPart room bytes lost.NoMemory (moment d old before) (moment next new after)
 said_short room bytes used carried old new before after was link full spoken d stands =
-    let n = spoken d stands in (n.0, n.1, short used carried n.2 (inl (subst (λ (s : Standing). room < length after + (8282 + tag_len (kept_tag s))) n.1.session full)) refl)
+    let n = spoken d stands in (n.0, n.1, short used carried n.2 (inl (subst (λ (s : Standing). room < length after + (answer_room + tag_len (kept_tag s))) n.1.session full)) refl)
 
 -- no verdict came on the message that was submitted
 pub said_unheard : (room : ℕ) (bytes : List ℕ) (used : ℕ) (carried : List Carried) (why : Lost) (old middle new : LockedStore) (before between after : List ℕ) (was mid link : ImapConnection) → may_send mid.session ≡ Submit → (link ≡ mid) × (new ≡ middle) × (after ≡ between)

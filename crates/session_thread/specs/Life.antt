@@ -11,7 +11,7 @@ use Rattle.imap_session.specs.declared.standing.Append.{Append}
 use Rattle.imap_session.specs.Exchange.{Answer, Feed, Folder, Leave, Refused, Sent, Standing, is_idling, kept_tag, may_send, nothing_sent}
 use Rattle.imap_session.specs.Commands.{most_changes}
 use Rattle.imap_session.specs.Store.{AnswersVerdict, IdleTurns}
-use Rattle.imap_connection.specs.Dialogue.{Answered, Dialogue, may_follow, tag_len}
+use Rattle.imap_connection.specs.Dialogue.{Answered, Dialogue, answer_room, may_follow, tag_len}
 use Rattle.session_thread.specs.declared.life.Step.{Step}
 use Rattle.session_thread.specs.declared.life.Step.TheVariants.{Say, Await}
 use Rattle.session_thread.specs.Locks.{Holds, LockedStore, shown_in}
@@ -126,7 +126,7 @@ pub data Lives (turns : ℕ) (first : Moment) : List Step → List Carried → M
 -- Memory was refused to a session where it stands: what it writes to has no room for the next line's last words and their like, out of `room` bytes,
 -- or a mailbox refused it a turn.
 abbrev pub IsShort : ℕ → Moment → Type 0
-IsShort room now = (room < length now.text + (8282 + tag_len (kept_tag now.dialogue.standing))) ⊎ Holds now.selection (Feed most_changes) (Refused NoMemory) now.selection
+IsShort room now = (room < length now.text + (answer_room + tag_len (kept_tag now.dialogue.standing))) ⊎ Holds now.selection (Feed most_changes) (Refused NoMemory) now.selection
 
 -- Of these bytes some were taken, and then the session stopped: memory was refused, or no verdict came on the message that it had submitted.
 pub data SaysInPart (room : ℕ) (bytes : List ℕ) (why : Lost) (before after : Moment) : Type 0 where

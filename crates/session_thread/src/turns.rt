@@ -8,6 +8,7 @@ ghost use Rattle.session_thread.specs.Life.{HasShown, IsShort, moment};
 
 use crate::locked_store::LockedStore;
 use imap_connection::ImapConnection;
+use imap_session::SessionFault;
 use pace::Gate;
 use std::alloc::AllocError;
 use std::sync::Wait;
@@ -38,6 +39,7 @@ pub fn idle_turn<R: Wait, G: Gate>(
     out.reserve(TURN_ROOM)?;
     match connection.idle_turn(store, out) {
         Ok(shown) => Ok(shown),
-        Err(_) => Err(AllocError),
+        Err(SessionFault::NoMemory) => Err(AllocError),
+        Err(SessionFault::Ended) => unreachable!(),
     }
 }

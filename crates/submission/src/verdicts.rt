@@ -175,14 +175,8 @@ impl Verdicts {
         if !self.are_known(count) {
             return Ok(None);
         }
-        let mut known = Vec::with_capacity(*self.slots.allocator(), self.slots.len())?;
-        for slot in &self.slots {
-            match slot {
-                Some(verdict) => known.push(*verdict)?,
-                None => return Ok(None),
-            }
-        }
-        Ok(Some(known))
+        let room = Vec::with_capacity(*self.slots.allocator(), self.slots.len())?;
+        Ok(Some(self.known_in(room)))
     }
 
     /// The verdicts, in the order of their copies, where each is known, in `room`, which is empty and has room for them. It takes no memory, for

@@ -2,10 +2,10 @@ use Rattle.std.proofs.Common.{arith}
 use Rattle.session_thread.proofs.Living.{has_shown, no_turn}
 use Rattle.session_thread.proofs.turns.idle_turn.Goals as goal
 
-pub returns-in-Err-clause-err : goal.returns-in-Err-clause-err
-returns-in-Err-clause-err g c d s =
-    let e = c.in-Err.ensures in
-    no_turn d c.args.store.now c.idle_turn.new.store c.args.out.now.items c.reserve.new.self.items c.idle_turn.new.out.items _ c.args.connection.now c.idle_turn.new.self c.in-Err.field-0 s c.requires c.reserve.ensures.items e.ended.0
+pub returns-in-Err-NoMemory-clause-err : goal.returns-in-Err-NoMemory-clause-err
+returns-in-Err-NoMemory-clause-err g c d s =
+    let e = c.in-Err-NoMemory.ensures in
+    no_turn d c.args.store.now c.idle_turn.new.store c.args.out.now.items c.reserve.new.self.items c.idle_turn.new.out.items _ c.args.connection.now c.idle_turn.new.self c.in-Err-NoMemory.field-0 s c.requires c.reserve.ensures.items e.ended.0
     (λ is. e.asked is (omega (arith, c.in_ok-reserve.ensures.ok))) e.refused
 
 pub returns-in-Ok-clause-ok : goal.returns-in-Ok-clause-ok
