@@ -2,9 +2,9 @@
 
 ghost use Rattle.std.specs.Prelude.{◌<◌, length};
 
-use house::{Config, House};
+use house::{Config, ConfigFault, House};
 use line_io::Watched;
-use script::drive;
+use script::{RunFault, drive};
 use std::alloc::Global;
 use std::io;
 use std::io::{Error, ErrorKind};
@@ -20,7 +20,7 @@ const CHANGES: usize = 65_536;
 const DEPTH: usize = 128;
 
 /// A house in which each of these users has a mailbox, with as much room as one may have.
-/// An error where a name is no user's, or where memory is refused.
+/// `InvalidInput` where a name is no user's, and `OutOfMemory` where memory is refused.
 pub fn large_house(alloc: Global, users: &[&[u8]]) -> io::Result<House>
     requires { 0 < length users.now }
 {
@@ -30,12 +30,13 @@ pub fn large_house(alloc: Global, users: &[&[u8]]) -> io::Result<House>
     config.depth = DEPTH;
     match House::new(alloc, &config) {
         Ok(house) => Ok(house),
+        Err(ConfigFault::NoMemory) => Err(Error::from(ErrorKind::OutOfMemory)),
         Err(_) => Err(Error::from(ErrorKind::InvalidInput)),
     }
 }
 
 /// Plays a script to the house, writes to `output` in place of what stood there, and gives the time of the thread that it took.
-/// An error where memory is refused, or where there is no such clock.
+/// `OutOfMemory` where memory is refused, the clock's error where there is none, and `Other` where the script isn't played for another reason.
 pub fn play<T: CpuClock>(
     rt: &T,
     house: &mut House,
@@ -50,6 +51,7 @@ pub fn play<T: CpuClock>(
     let end = rt.thread_cpu_time()?;
     match ended {
         Ok(()) => Ok(end.saturating_sub(start)),
-        Err(_) => Err(Error::from(ErrorKind::OutOfMemory)),
+        Err(RunFault::NoMemory) => Err(Error::from(ErrorKind::OutOfMemory)),
+        Err(_) => Err(Error::from(ErrorKind::Other)),
     }
 }

@@ -20,13 +20,19 @@ fn push_message(user: &[u8], script: &mut Vec<u8>) -> Result<(), AllocError> {
     )
 }
 
+// A message for each of these users.
+fn push_messages(users: &[&[u8]], script: &mut Vec<u8>) -> Result<(), AllocError> {
+    for user in users {
+        push_message(user, script)?;
+    }
+    Ok(())
+}
+
 /// A script in which connection 1 opens, and so many messages come for each of these users, by turns.
 pub fn deliveries(alloc: Global, users: &[&[u8]], each: usize) -> Result<Vec<u8>, AllocError> {
     let mut script = Vec::from_slice(alloc, b"L1 LHLO c.example\n")?;
     for _ in 0..each {
-        for user in users {
-            push_message(user, &mut script)?;
-        }
+        push_messages(users, &mut script)?;
     }
     Ok(script)
 }
@@ -50,15 +56,27 @@ const ASKED: [&[u8]; 6] = [
     b" a5 LOGOUT",
 ];
 
+// The same is said at each place.
+fn push_at_all(text: &[u8], script: &mut Vec<u8>) -> Result<(), AllocError> {
+    for place in 0..PLACES {
+        push_asked(place, text, script)?;
+    }
+    Ok(())
+}
+
+// What the sessions of one round ask, by turns.
+fn push_round(script: &mut Vec<u8>) -> Result<(), AllocError> {
+    for text in ASKED {
+        push_at_all(text, script)?;
+    }
+    Ok(())
+}
+
 /// A script in which eight sessions of alice stand at a time, and ask by turns, in so many rounds; after each round others take their places.
 pub fn visits(alloc: Global, rounds: usize) -> Result<Vec<u8>, AllocError> {
     let mut script = Vec::new(alloc);
     for _ in 0..rounds {
-        for text in ASKED {
-            for place in 0..PLACES {
-                push_asked(place, text, &mut script)?;
-            }
-        }
+        push_round(&mut script)?;
     }
     Ok(script)
 }

@@ -131,7 +131,7 @@ fn close_after<R: Wait>(rt: &R, alloc: Global, takes: usize) -> Result<bool, All
         }
     };
     let Rooms {
-        workers,
+        producers,
         consumers: unused,
     } = rooms;
     spend_permit_rooms(unused);
@@ -139,7 +139,7 @@ fn close_after<R: Wait>(rt: &R, alloc: Global, takes: usize) -> Result<bool, All
         permits: rooms,
         ended,
         mut lists,
-    } = workers;
+    } = producers;
     let Hands { each, all } = rooms;
     let Lanes {
         queues,

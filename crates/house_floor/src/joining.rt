@@ -123,13 +123,16 @@ fn sort_out(rooms: Rooms, lanes: Lanes, channels: Channels, parkers: Vec<Parker>
     ensures channels { (result.channels ≡ channels.channels) × (result.undealt.channel_permits ≡ channels.permits)
         × (result.undealt.receivers ≡ channels.receivers) }
     ensures parkers { result.undealt.parkers ≡ parkers }
-    ensures rooms { (result.undealt.hands ≡ rooms.workers.permits) × (result.undealt.rooms ≡ rooms.workers.ended.each)
+    ensures rooms { (result.undealt.hands ≡ rooms.producers.permits) × (result.undealt.rooms ≡ rooms.producers.ended.each)
         × (result.undealt.sender_hands ≡ rooms.consumers.permits) × (result.undealt.sender_rooms ≡ rooms.consumers.ended.each) }
-    ensures left { (result.of_producers.hands ≡ rooms.workers.ended.all) × (result.of_producers.lists ≡ rooms.workers.lists)
+    ensures left { (result.of_producers.hands ≡ rooms.producers.ended.all) × (result.of_producers.lists ≡ rooms.producers.lists)
         × (result.of_consumers.hands ≡ rooms.consumers.ended.all) × (result.of_consumers.lists ≡ rooms.consumers.lists) }
 {
-    let Rooms { workers, consumers } = rooms;
-    let (hands, rooms, of_producers) = parted(workers);
+    let Rooms {
+        producers,
+        consumers,
+    } = rooms;
+    let (hands, rooms, of_producers) = parted(producers);
     let (sender_hands, sender_rooms, of_consumers) = parted(consumers);
     let Lanes {
         queues,

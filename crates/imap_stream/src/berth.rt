@@ -122,6 +122,7 @@ impl<'a, R: Wait, G: Gate, W: Sink + Drop> Berth<'a, R, G, W> {
         Ok(())
     }
 
+    // Reads and hears the client until it is stopped, its line is at its end, or it may send no more.
     fn serve<I: Read, C: Courier>(
         &self,
         rt: &R,
@@ -183,7 +184,7 @@ impl<'a, R: Wait, G: Gate, W: Sink + Drop> Berth<'a, R, G, W> {
         true
     }
 
-    // Hears the client: whether it may send more.
+    // Hears the client: whether it may send more. One that stopped short may not; why, its courier keeps, where it is torn.
     fn hear<C: Courier>(&self, rt: &R, alloc: Global, courier: &mut C, piece: &[u8]) -> bool
         requires ready { C.ready courier.old }
         ensures ready { C.ready courier.new }

@@ -54,16 +54,16 @@ fn no_channels(alloc: Global, count: usize) -> Result<Channels, AllocError>
     })
 }
 
-/// An empty channel for each of `workers` workers, with room for `depth` entries, and the permits of
+/// An empty channel for each of `producers` producers, with room for `depth` entries, and the permits of
 /// `senders` senders, 0 to 255 each. An error where memory is refused; nothing is left then.
 pub fn make_channels(
     alloc: Global,
-    workers: u8,
+    producers: u8,
     depth: usize,
     senders: u8,
 ) -> Result<Channels, AllocError>
     requires { 0 < depth }
-    ensures count { IfOk result (λ r. vec_len r.channels ≡ workers) }
+    ensures count { IfOk result (λ r. vec_len r.channels ≡ producers) }
     ensures channels { IfOk result (λ r. All (λ q. (room_of q ≡ depth) × (senders_of q ≡ senders)) r.channels.items) }
 
     // Without an error each channel has its senders' permits, by their numbers, which sent nothing, and its receiver's, which took nothing.
@@ -71,8 +71,8 @@ pub fn make_channels(
     ensures receivers { IfOk result (λ r. AreReceivers r.channels.items r.receivers.items
         × All (λ s. received s ≡ []) r.receivers.items) }
 {
-    let mut channels = no_channels(alloc, usize::from(workers))?;
-    for _ in 0..workers {
+    let mut channels = no_channels(alloc, usize::from(producers))?;
+    for _ in 0..producers {
         match ReplyChannel::new(alloc, depth, senders) {
             Ok((channel, permits, receiver)) => {
                 channels.channels.push_reserved(channel);

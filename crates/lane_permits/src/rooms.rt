@@ -128,24 +128,24 @@ pub fn spend_permit_rooms<S, E>(rooms: PermitRooms<S, E>)
 
 /// Room for all permits of a house.
 pub struct Rooms {
-    /// For the workers' permits on the lanes.
-    pub workers: PermitRooms<LanePermit, Ended<Job>>,
-    /// For the consumers' permits on the workers' reply channels.
+    /// For the producers' permits on the lanes.
+    pub producers: PermitRooms<LanePermit, Ended<Job>>,
+    /// For the consumers' permits on the producers' reply channels.
     pub consumers: PermitRooms<SenderPermit<Noted>, SenderEnded<Noted>>,
 }
 
-/// Room for all permits of a house with so many workers, who have a reply channel each, and so many
+/// Room for all permits of a house with so many producers, who have a reply channel each, and so many
 /// shards, which have a lane and a consumer each. An error where memory is refused; nothing is left
 /// then.
-pub fn make_rooms(alloc: Global, workers: u8, shards: u8) -> Result<Rooms, AllocError>
-    ensures workers { IfOk result (λ rooms. ArePermitRooms workers shards rooms.workers) }
-    ensures consumers { IfOk result (λ rooms. ArePermitRooms shards workers rooms.consumers) }
+pub fn make_rooms(alloc: Global, producers: u8, shards: u8) -> Result<Rooms, AllocError>
+    ensures producers { IfOk result (λ rooms. ArePermitRooms producers shards rooms.producers) }
+    ensures consumers { IfOk result (λ rooms. ArePermitRooms shards producers rooms.consumers) }
 {
-    let (workers, shards) = (usize::from(workers), usize::from(shards));
-    let on_lanes = make_permit_rooms(alloc, workers, shards)?;
-    match make_permit_rooms(alloc, shards, workers) {
+    let (producers, shards) = (usize::from(producers), usize::from(shards));
+    let on_lanes = make_permit_rooms(alloc, producers, shards)?;
+    match make_permit_rooms(alloc, shards, producers) {
         Ok(on_channels) => Ok(Rooms {
-            workers: on_lanes,
+            producers: on_lanes,
             consumers: on_channels,
         }),
         Err(e) => {
@@ -157,9 +157,12 @@ pub fn make_rooms(alloc: Global, workers: u8, shards: u8) -> Result<Rooms, Alloc
 
 /// Spends room that is not to be used.
 pub fn spend_rooms(rooms: Rooms)
-    requires { AreEmptyPermitRooms rooms.workers × AreEmptyPermitRooms rooms.consumers }
+    requires { AreEmptyPermitRooms rooms.producers × AreEmptyPermitRooms rooms.consumers }
 {
-    let Rooms { workers, consumers } = rooms;
-    spend_permit_rooms(workers);
+    let Rooms {
+        producers,
+        consumers,
+    } = rooms;
+    spend_permit_rooms(producers);
     spend_permit_rooms(consumers);
 }

@@ -1,7 +1,7 @@
 //! The mail in the house on one thread: each message comes whole, and all settles before the next.
 
 use crate::mail::{config_of, opening, push_message};
-use house::{Event, House};
+use house::{ConfigFault, Event, House, HouseFault};
 use std::alloc::{AllocError, Global};
 use std::io::{self, Error, ErrorKind};
 
@@ -21,14 +21,18 @@ pub fn pieces(alloc: Global, messages: usize) -> Result<Vec<Vec<u8>>, AllocError
 }
 
 // Bytes come on connection 1, and all settles.
-fn take(house: &mut House, bytes: &[u8], out: &mut Vec<u8>) -> Result<(), AllocError> {
-    let Ok(()) = house.step(Event::Bytes(1, bytes), out) else {
-        return Err(AllocError);
-    };
-    house.settle(&[], out)
+fn take(house: &mut House, bytes: &[u8], out: &mut Vec<u8>) -> io::Result<()> {
+    match house.step(Event::Bytes(1, bytes), out) {
+        Ok(()) => {}
+        Err(HouseFault::NoMemory) => return Err(Error::from(ErrorKind::OutOfMemory)),
+        Err(_) => return Err(Error::from(ErrorKind::Other)),
+    }
+    house.settle(&[], out)?;
+    Ok(())
 }
 
-fn take_all(house: &mut House, pieces: &[Vec<u8>], out: &mut Vec<u8>) -> Result<(), AllocError> {
+// All of these come, one after another.
+fn take_all(house: &mut House, pieces: &[Vec<u8>], out: &mut Vec<u8>) -> io::Result<()> {
     for bytes in pieces {
         take(house, bytes, out)?;
     }
@@ -37,11 +41,13 @@ fn take_all(house: &mut House, pieces: &[Vec<u8>], out: &mut Vec<u8>) -> Result<
 
 /// How many copies are delivered in a new house with one shard, where these pieces come on a connection.
 ///
-/// Errors: `OutOfMemory` where memory is refused.
+/// Errors: `OutOfMemory` where memory is refused, `InvalidInput` where the settings are wrong, `Other` where a piece isn't taken.
 pub fn deliver_alone(alloc: Global, pieces: &[Vec<u8>]) -> io::Result<usize> {
     let config = config_of(alloc, 1)?;
-    let Ok(mut house) = House::new(alloc, &config) else {
-        return Err(Error::from(ErrorKind::OutOfMemory));
+    let mut house = match House::new(alloc, &config) {
+        Ok(house) => house,
+        Err(ConfigFault::NoMemory) => return Err(Error::from(ErrorKind::OutOfMemory)),
+        Err(_) => return Err(Error::from(ErrorKind::InvalidInput)),
     };
     let mut out = Vec::new(alloc);
     take_all(&mut house, pieces, &mut out)?;

@@ -5,7 +5,7 @@ ghost use Rattle.house.specs.Settings.{IsFrom, IsInRange};
 
 use crate::mail::{config_of, opening, push_message};
 use pace::{Actor, Gate};
-use running_house::{Plan, Report, run_house};
+use running_house::{Plan, Report, WorkFault, run_house};
 use std::alloc::{AllocError, Global};
 use std::io::{self, Error, ErrorKind};
 use std::sync::Wait;
@@ -72,21 +72,26 @@ pub fn plan_of(alloc: Global, workers: u8, shards: u8, copies: usize) -> Result<
     })
 }
 
+// How much stands in all these lists.
+fn count_in<T>(lists: &[Vec<T>]) -> usize {
+    let mut count: usize = 0;
+    for list in lists {
+        count = count.saturating_add(list.len());
+    }
+    count
+}
+
+// How many copies were accepted, and how many texts stand, in all mailboxes.
 fn found_in(report: &Report) -> Found {
-    let mut accepted: usize = 0;
-    for pairs in &report.accepted {
-        accepted = accepted.saturating_add(pairs.len());
+    Found {
+        accepted: count_in(&report.accepted),
+        texts: count_in(&report.texts),
     }
-    let mut texts: usize = 0;
-    for rows in &report.texts {
-        texts = texts.saturating_add(rows.len());
-    }
-    Found { accepted, texts }
 }
 
 /// What such a plan comes to.
 ///
-/// Errors: `Other` where the run has no report.
+/// Errors: `OutOfMemory` where memory is refused, `Other` where the run has no report for another reason.
 pub fn deliver_by_threads<R: Threads + Wait + Sync>(
     rt: &R,
     alloc: Global,
@@ -97,6 +102,7 @@ pub fn deliver_by_threads<R: Threads + Wait + Sync>(
 {
     match run_house(rt, alloc, plan, &Open {}) {
         Ok(report) => Ok(found_in(&report)),
+        Err(WorkFault::NoMemory) => Err(Error::from(ErrorKind::OutOfMemory)),
         Err(_) => Err(Error::from(ErrorKind::Other)),
     }
 }

@@ -42,10 +42,10 @@ use std::thread::Threads;
 struct Over {
     served: Vec<Served>,
     posts: Vec<Post>,
-    // Whether each thread could be made.
-    all: bool,
+    // Whether each thread could be made, or none was tried.
+    all_started: bool,
     // Whether none was started.
-    short: bool,
+    none_started: bool,
 }
 
 // What is dealt to the threads, and room for what the producers leave.
@@ -115,9 +115,9 @@ fn in_scope<'s, E, H: Hall + Send, R: Threads + Wait + Sync, I: Read + Drop>(
     requires client_grips { length site.now.grips.clients.items ≡ length site.now.guests.items }
     requires imap { All (λ v. v.user < vec_len site.now.sockets.imap) site.now.guests.items }
     requires dealt { IsDealt site.now.floor (length site.now.grips.mail.items) (length site.now.guests.items) (manually_drop_value dealt) }
-    ensures served { result.short ≡ false → AllAt (IsServed site.now.floor) 0 result.served.items ×
+    ensures served { result.none_started ≡ false → AllAt (IsServed site.now.floor) 0 result.served.items ×
         (vec_len result.served ≡ length site.now.floor.depot.channels.items) × (result.posts.items ≡ []) }
-    ensures short { result.short ≡ true → AllAt (IsPost site.now.floor) 0 result.posts.items ×
+    ensures none_started { result.none_started ≡ true → AllAt (IsPost site.now.floor) 0 result.posts.items ×
         (vec_len result.posts ≡ length site.now.floor.depot.channels.items) × (result.served.items ≡ []) }
 {
     let Dealt {
@@ -131,8 +131,8 @@ fn in_scope<'s, E, H: Hall + Send, R: Threads + Wait + Sync, I: Read + Drop>(
         return Over {
             served,
             posts,
-            all: true,
-            short: true,
+            all_started: true,
+            none_started: true,
         };
     };
     let Equipment {
@@ -152,8 +152,8 @@ fn in_scope<'s, E, H: Hall + Send, R: Threads + Wait + Sync, I: Read + Drop>(
     Over {
         served: join_producers(rt, &site.floor, hired, served),
         posts: Vec::new(alloc),
-        all,
-        short: false,
+        all_started: all,
+        none_started: false,
     }
 }
 
@@ -171,9 +171,9 @@ fn serve_in_threads<H: Hall + Send, R: Threads + Wait + Sync, I: Read + Drop>(
     requires client_grips { length site.now.grips.clients.items ≡ length site.now.guests.items }
     requires imap { All (λ v. v.user < vec_len site.now.sockets.imap) site.now.guests.items }
     requires dealt { IsDealt site.now.floor (length site.now.grips.mail.items) (length site.now.guests.items) dealt }
-    ensures served { result.short ≡ false → AllAt (IsServed site.now.floor) 0 result.served.items ×
+    ensures served { result.none_started ≡ false → AllAt (IsServed site.now.floor) 0 result.served.items ×
         (vec_len result.served ≡ length site.now.floor.depot.channels.items) × (result.posts.items ≡ []) }
-    ensures short { result.short ≡ true → AllAt (IsPost site.now.floor) 0 result.posts.items ×
+    ensures none_started { result.none_started ≡ true → AllAt (IsPost site.now.floor) 0 result.posts.items ×
         (vec_len result.posts ≡ length site.now.floor.depot.channels.items) × (result.served.items ≡ []) }
 {
     let dealt = packed(dealt);
@@ -187,9 +187,9 @@ fn serve_in_threads<H: Hall + Send, R: Threads + Wait + Sync, I: Read + Drop>(
             requires client_grips { length site.now.grips.clients.items ≡ length site.now.guests.items }
             requires imap { All (λ v. v.user < vec_len site.now.sockets.imap) site.now.guests.items }
             requires dealt { IsDealt site.now.floor (length site.now.grips.mail.items) (length site.now.guests.items) (manually_drop_value dealt) }
-            ensures served { result.short ≡ false → AllAt (IsServed site.entry.now.floor) 0 result.served.items ×
+            ensures served { result.none_started ≡ false → AllAt (IsServed site.entry.now.floor) 0 result.served.items ×
                 (vec_len result.served ≡ length site.entry.now.floor.depot.channels.items) × (result.posts.items ≡ []) }
-            ensures short { result.short ≡ true → AllAt (IsPost site.entry.now.floor) 0 result.posts.items ×
+            ensures none_started { result.none_started ≡ true → AllAt (IsPost site.entry.now.floor) 0 result.posts.items ×
                 (vec_len result.posts ≡ length site.entry.now.floor.depot.channels.items) × (result.served.items ≡ []) }
         { in_scope(scope, rt, site, dealt, stop) },
     )
@@ -259,12 +259,12 @@ fn give_up(
 }
 
 // What the end of a house comes to.
-fn told(all: bool, whole: bool) -> Result<(), ServeFault>
-    ensures spawn { all ≡ false → result ≡ Err ServeFault.Spawn }
-    ensures torn { all ≡ true → whole ≡ false → result ≡ Err ServeFault.Torn }
-    ensures done { all ≡ true → whole ≡ true → result ≡ Ok tt }
+fn told(all_started: bool, whole: bool) -> Result<(), ServeFault>
+    ensures spawn { all_started ≡ false → result ≡ Err ServeFault.Spawn }
+    ensures torn { all_started ≡ true → whole ≡ false → result ≡ Err ServeFault.Torn }
+    ensures done { all_started ≡ true → whole ≡ true → result ≡ Ok tt }
 {
-    if !all {
+    if !all_started {
         return Err(ServeFault::Spawn);
     }
     if !whole {
@@ -291,9 +291,9 @@ fn close_or_spend<H: Hall, R: Wait>(
     requires clerks { vec_len site.clerks ≡ length site.floor.office.lanes.items }
     requires rooms { AreRooms (length site.floor.office.lanes.items) (length site.floor.depot.channels.items) rooms }
     requires stands { (stands.items ≡ []) × (length site.floor.office.lanes.items ≤ vec_capacity stands) }
-    requires served { over.short ≡ false → AllAt (IsServed site.floor) 0 over.served.items ×
+    requires served { over.none_started ≡ false → AllAt (IsServed site.floor) 0 over.served.items ×
         (vec_len over.served ≡ length site.floor.depot.channels.items) × (over.posts.items ≡ []) }
-    requires short { over.short ≡ true → AllAt (IsPost site.floor) 0 over.posts.items ×
+    requires none_started { over.none_started ≡ true → AllAt (IsPost site.floor) 0 over.posts.items ×
         (vec_len over.posts ≡ length site.floor.depot.channels.items) × (over.served.items ≡ []) }
     requires worked { (worked.items ≡ []) × (length site.floor.depot.channels.items ≤ vec_capacity worked) }
     requires consumed { (consumed.items ≡ []) × (length site.floor.office.lanes.items ≤ vec_capacity consumed) }
@@ -318,10 +318,10 @@ fn close_or_spend<H: Hall, R: Wait>(
     let Over {
         served,
         posts,
-        all,
-        short,
+        all_started,
+        none_started,
     } = over;
-    if short {
+    if none_started {
         served.destroy_empty();
         let stands = stand_down(&floor, staff);
         return Err(give_up(floor, worked, consumed, stands, posts, baskets));
@@ -329,7 +329,7 @@ fn close_or_spend<H: Hall, R: Wait>(
     posts.destroy_empty();
     let dismissed = dismiss_all(rt, &gate, &floor, staff, consumed);
     let whole = close_house(rt, floor, served, worked, dismissed, baskets);
-    told(all, whole)
+    told(all_started, whole)
 }
 
 /// Serves the house until `stop` is at its end, and closes it. The first of its producers are so many workers; the others are the berths

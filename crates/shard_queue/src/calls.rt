@@ -25,11 +25,11 @@ impl<T: Drop> PlainLane<T> {
         })
     }
 
-    /// Whether `p` is a producer that has not put its end.
-    pub fn is_live(&self, p: u8) -> bool
-        ensures { result ≡ true ↔ MayPutMore self.now.live p }
+    /// Whether `producer` is a producer that has not put its end.
+    pub fn is_live(&self, producer: u8) -> bool
+        ensures { result ≡ true ↔ MayPutMore self.now.live producer }
     {
-        match self.live.get(usize::from(p)) {
+        match self.live.get(usize::from(producer)) {
             Some(live) => *live,
             None => false,
         }
@@ -54,42 +54,42 @@ impl<T: Drop> PlainLane<T> {
 
     /// Puts an item behind all that waits. Full exactly where as many entries wait as there is
     /// room for; the lane is then unchanged, and the item comes back.
-    pub fn put(&mut self, p: u8, item: T) -> Result<(), Full<T>>
+    pub fn put(&mut self, producer: u8, item: T) -> Result<(), Full<T>>
         // It is a producer of the lane that has not ended.
-        requires live { MayPutMore self.old.live p }
+        requires live { MayPutMore self.old.live producer }
         // Ok where there is room: the item waits behind all others. Else it comes back, and nothing has changed.
         ensures put { MatchResult result
             (λ _. (length self.old.waiting < self.old.capacity)
-            × (self.new ≡ record self.old { waiting = self.old.waiting ++ entries.Item p item ∷ [] }))
+            × (self.new ≡ record self.old { waiting = self.old.waiting ++ entries.Item producer item ∷ [] }))
             (λ back. (back.0 ≡ item) × (length self.old.waiting ≡ self.old.capacity) × (self.new ≡ self.old)) }
         // After Ok: from each lane for which it stood, a legal move leads to one for which it stands.
-        ensures moves { OnOk result (Makes self.old (Puts (entries.Item p item)) self.new) }
+        ensures moves { OnOk result (Makes self.old (Puts (entries.Item producer item)) self.new) }
     {
         if self.entries.len() == self.capacity {
             return Err(Full(item));
         }
-        self.entries.push_back_reserved(Entry::Item(p, item));
+        self.entries.push_back_reserved(Entry::Item(producer, item));
         Ok(())
     }
 
     /// Puts the producer's end behind all that waits, after which it may put nothing more. Full as
     /// for an item; the lane is then unchanged.
-    pub fn end(&mut self, p: u8) -> Result<(), Full<()>>
+    pub fn end(&mut self, producer: u8) -> Result<(), Full<()>>
         // It is a producer of the lane that has not ended.
-        requires live { MayPutMore self.old.live p }
+        requires live { MayPutMore self.old.live producer }
         // Ok where there is room: the end waits behind all others, and the producer may put no more. Else nothing has changed.
         ensures put { MatchResult result
             (λ _. (length self.old.waiting < self.old.capacity)
-            × (self.new ≡ record self.old { waiting = self.old.waiting ++ entries.End p ∷ []; live = slice_set self.old.live p false }))
+            × (self.new ≡ record self.old { waiting = self.old.waiting ++ entries.End producer ∷ []; live = slice_set self.old.live producer false }))
             (λ _. (length self.old.waiting ≡ self.old.capacity) × (self.new ≡ self.old)) }
         // After Ok: from each lane for which it stood, a legal move leads to one for which it stands.
-        ensures moves { OnOk result (Makes self.old (Puts (entries.End p)) self.new) }
+        ensures moves { OnOk result (Makes self.old (Puts (entries.End producer)) self.new) }
     {
         if self.entries.len() == self.capacity {
             return Err(Full(()));
         }
-        self.entries.push_back_reserved(Entry::End(p));
-        if let Some(live) = self.live.get_mut(usize::from(p)) {
+        self.entries.push_back_reserved(Entry::End(producer));
+        if let Some(live) = self.live.get_mut(usize::from(producer)) {
             *live = false;
         }
         Ok(())
@@ -105,8 +105,8 @@ impl<T: Drop> PlainLane<T> {
         ensures moves { taken_entry result ≢ None → Makes self.old Takes self.new }
     {
         match self.entries.pop_front() {
-            Some(Entry::Item(p, item)) => Taken::Item(p, item),
-            Some(Entry::End(p)) => Taken::End(p),
+            Some(Entry::Item(producer, item)) => Taken::Item(producer, item),
+            Some(Entry::End(producer)) => Taken::End(producer),
             None => Taken::Empty,
         }
     }

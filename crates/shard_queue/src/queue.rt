@@ -318,6 +318,7 @@ fn hear_out<T>(queue: &Lane<T>, producers: u8, pass: &mut Pass<Entry<T>, View<T>
     queue.learn_as::<Take>(pass);
 }
 
+// The ends of all these producers are heard.
 fn hear_all_out<T>(
     queue: &Lane<T>,
     producers: u8,

@@ -336,6 +336,7 @@ fn hear_out<T: Drop>(
     ends.learn_as::<Take>(pass);
 }
 
+// The ends of all these senders are heard.
 fn hear_all_out<T: Drop>(
     ends: &Sends<T>,
     senders: u8,

@@ -95,7 +95,7 @@ pub record AreNewChannels (producers shards : ℕ) (c : Channels) : Type 0 where
 
 -- all of a house that can't be let go
 pub record AreStock (producers shards depth : ℕ) (s : Stock) : Type 0 where
-  pub of_producers : ArePermitRooms producers shards s.rooms.workers
+  pub of_producers : ArePermitRooms producers shards s.rooms.producers
   pub of_consumers : ArePermitRooms shards producers s.rooms.consumers
   pub lists : AreLists producers shards s.lists
   pub lanes : AreNewLanes producers shards depth s.lanes

@@ -13,8 +13,8 @@ use Rattle.floor_tests.proofs.lanes.close_after.Goals as goal
 pub close_lanes-requires-clause-ended : goal.close_lanes-requires-clause-ended
 close_lanes-requires-clause-ended g c =
     let queues = c.in-Ok.lanes.queues.items in
-    let lists = c.in_ok-rooms.rooms.workers.lists in
-    let r : AreRooms 2 3 lists = c.in_ok-rooms.ensures.workers.2 in
+    let lists = c.in_ok-rooms.rooms.producers.lists in
+    let r : AreRooms 2 3 lists = c.in_ok-rooms.ensures.producers.2 in
     let P : Vec (Ended Job) Global → Type 0 = λ v. (v.items ≡ []) × (3 ≤ vec_capacity v) in
     let m = length-map lists.items list in
     let n = r.0 in

@@ -6,7 +6,7 @@ use Rattle.lane_permits.proofs.channels.make_channels.Given as goal
 abbrev pub invariant-loop : goal.invariant-loop
 invariant-loop l =
     (vec_len l.channels.channels ≡ l.counter) × (vec_len l.channels.permits ≡ l.counter) × (vec_len l.channels.receivers ≡ l.counter)
-    × (l.workers ≤ vec_capacity l.channels.channels) × (l.workers ≤ vec_capacity l.channels.permits) × (l.workers ≤ vec_capacity l.channels.receivers)
+    × (l.producers ≤ vec_capacity l.channels.channels) × (l.producers ≤ vec_capacity l.channels.permits) × (l.producers ≤ vec_capacity l.channels.receivers)
     × All (λ q. (room_of q ≡ l.depth) × (senders_of q ≡ l.senders)) l.channels.channels.items
     × SenderRows l.channels.channels.items 0 (map (λ v. v.items) l.channels.permits.items)
     × AreReceivers l.channels.channels.items l.channels.receivers.items × All (λ s. received s ≡ []) l.channels.receivers.items
