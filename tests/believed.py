@@ -238,6 +238,9 @@ def main(words):
         return 1 if wrong else 0
     if words[:1] == ["--page"]:
         page, words = words[1], words[2:]
+    if any("::" not in root for root in words):
+        print(__doc__, file=sys.stderr)
+        return 2
     closure = Closure()
     for root in words or ROOTS:
         closure.clauses_of(root)

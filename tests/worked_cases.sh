@@ -3,7 +3,7 @@
 #
 #     tests/worked_cases.sh PROGRAM [CASE..]
 #
-# The worked rows of the specification stand in worked_cases/, and whole dialogues, with what RFC 9051, RFC 2033 and RFC 5321 say of them, in dialogues/.
+# Short scripts, each with what it prints, stand in worked_cases/, and whole dialogues, with what RFC 9051, RFC 2033 and RFC 5321 say of them, in dialogues/.
 # A case is NAME.args (a word a line), NAME.stdin, NAME.stdout and NAME.status; one of the dialogues is asked for as dialogues/NAME. Where the command line
 # is refused (status 2) what the program prints is clap's, and isn't compared.
 set -eu
