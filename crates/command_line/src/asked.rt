@@ -46,6 +46,7 @@ enum Refused<'a> {
 
 impl<'a> From<AllocError> for Refused<'a> {
     ghost use Rattle.command_line.specs.declared.asked.Refused.{Refused};
+
     ghost from_gives = { λ _ refused. refused ≡ Refused.NoMemory };
 
     fn from(_error: AllocError) -> Refused<'a> {
