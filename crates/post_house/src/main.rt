@@ -222,7 +222,8 @@ fn command<
 
 // Says why the process's words can't be had: they are no text, or memory was refused.
 fn refuse_words<F: Write>(error: &io::Error, faults: &mut F) -> u8
-    ensures { IsStatus result }
+    ensures status { IsStatus result }
+    ensures refused { (result ≡ status_of Failure.NoMemory) ⊎ (result ≡ NOT_ASKED_RIGHT) }
 {
     if let io::ErrorKind::OutOfMemory = error.kind() {
         return fail(Failure::NoMemory, faults);
