@@ -1,7 +1,7 @@
 //! A worker's permits and a consumer's senders are ended, and a worker hears the ends of its reply
 //! channel. What stood on them before does not matter here.
 
-ghost use Rattle.std.specs.Prelude.{true, ◌≡◌, ◌↔◌, ◌≤◌, ◌+◌, ◌++◌, ◌∷◌, [], length, map, vec_capacity};
+ghost use Rattle.std.specs.Prelude.{true, ◌≡◌, ◌↔◌, ◌≤◌, ◌+◌, ◌-◌, ◌++◌, ◌∷◌, [], length, map, vec_capacity};
 ghost use Rattle.shard_queue.specs.declared.lane.Entry.TheVariants as entries;
 ghost use Rattle.shard_queue.specs.Permits.{IsProducer, IsEnded, sent, said, number_of, ended_number};
 ghost use Rattle.shard_queue.specs.Reply.{IsReceiver, IsSender, IsSenderEnded, received, sender_number, sender_ended_number, sent_on, said_on};
@@ -112,6 +112,8 @@ pub fn hear_ends<R: Wait, G: Gate>(
 
     // The ends that were heard before (`heard`) and those that came now are as many as `shards`, or more.
     ensures ends { shards + ends_in (received receiver.old) ≤ heard + ends_in (received receiver.new) }
+    // As many ends came now as were missing, and no more: none where those before were enough.
+    ensures missing { ends_in (received receiver.new) ≡ ends_in (received receiver.old) + (shards - heard) }
 {
     let mut quiet = true;
     for _ in rt.forever() {
@@ -121,7 +123,7 @@ pub fn hear_ends<R: Wait, G: Gate>(
         pace.pass();
         match channel.recv_as(rt, receiver) {
             Entry::Item(_, _) => quiet = false,
-            Entry::End(_) => heard = heard.saturating_add(1),
+            Entry::End(_) => heard += 1,
         }
     }
     unreachable!()

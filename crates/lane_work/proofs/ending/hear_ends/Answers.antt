@@ -16,6 +16,9 @@ loop-preserved-in-Item g c =
       omega (arith, e, c.loop.invariant.1),
       start_on (received c.args.receiver.now) old (received c.recv_as.new.permit) c.loop.invariant.2 (c.recv_as.result ∷ [], grew),
       (let n = ap length grew ∙ length-append old (c.recv_as.result ∷ []) in let k = c.loop.invariant.3 in omega (arith, n, e, none, k)),
+      c.loop.invariant.4,
+      c.loop.invariant.5,
+      omega (arith, e, none, c.loop.invariant.6),
       ((λ q. absurd (let f : false ≡ true = q in cc)), λ same. absurd (let n = ap length grew ∙ length-append old (c.recv_as.result ∷ []) in let k = c.loop.invariant.3 in omega (arith, n, e, none, k, same))),
     )
 
@@ -28,11 +31,14 @@ loop-preserved g c =
       search rules,
       start_on (received c.args.receiver.now) old (received c.recv_as.new.permit) c.loop.invariant.2 (End c.in-End.field-0 ∷ [], grew),
       (let n = ap length grew ∙ length-append old (End c.in-End.field-0 ∷ []) in let k = c.loop.invariant.3 in omega (arith, n, e, k)),
+      (let h = c.loop.invariant.4 in omega (arith, h)),
+      (let h = c.loop.invariant.5 in let l = c.loop.invariant.4 in let f = c.if-heard-shards.false in omega (arith, h, l, f)),
+      omega (arith, e, c.loop.invariant.6),
       (
-        (λ q. let n = ap length grew ∙ length-append old (End c.in-End.field-0 ∷ []) in let k = c.loop.invariant.4.0 q in omega (arith, n, e, k)),
-        λ same. c.loop.invariant.4.1 (let n = ap length grew ∙ length-append old (End c.in-End.field-0 ∷ []) in omega (arith, n, e, same)),
+        (λ q. let n = ap length grew ∙ length-append old (End c.in-End.field-0 ∷ []) in let k = c.loop.invariant.7.0 q in omega (arith, n, e, k)),
+        λ same. c.loop.invariant.7.1 (let n = ap length grew ∙ length-append old (End c.in-End.field-0 ∷ []) in omega (arith, n, e, same)),
       ),
     )
 
 pub loop-init : goal.loop-init
-loop-init g c = (c.requires, omega arith, start_same (received c.args.receiver.now), omega arith, ((λ q. refl), λ same. refl))
+loop-init g c = (c.requires, omega arith, start_same (received c.args.receiver.now), omega arith, omega arith, omega arith, refl, ((λ q. refl), λ same. refl))
