@@ -41,5 +41,7 @@ pub record IsKept (m : Mailbox) : Type 0 where
   -- the window has no more changes than fit, and no more fit than its most
   pub held : length m.window.changes ≤ m.window.capacity
   pub most : m.window.capacity ≤ m.window.max
+  -- its log has no more changes than can be numbered
+  pub few : total m.window ≤ 4611686018427387904
   -- its clients' handles carry its number, so that a handle of another mailbox is a stranger
   pub handles : m.cursors.number ≡ m.number

@@ -9,13 +9,15 @@ use crate::mailbox::Receipt;
 use cursor_set::FeedFault;
 use delivery_token::{Refusal, Verdict};
 
-/// A delivery's answer, as its producer is told.
+/// A delivery's answer, as its producer is told. It spends the receipt, as nothing else does.
 pub fn verdict_of(delivered: Result<Receipt, Refusal>) -> Verdict
     // Stored under the receipt's UID, or refused for that reason.
     ensures { result ≡ verdict_of delivered }
 {
     match delivered {
-        Ok(receipt) => Verdict::Stored { uid: receipt.uid() },
+        Ok(receipt) => Verdict::Stored {
+            uid: receipt.into_uid(),
+        },
         Err(why) => Verdict::Refused(why),
     }
 }

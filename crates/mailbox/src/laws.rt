@@ -8,6 +8,7 @@ use crate::mailbox::Mailbox;
 pub fn every_mailbox_keeps(mailbox: &Mailbox)
     ensures { IsKept mailbox.now }
 {
-    // Read for its bounds: what the window has fits it, and its room is at most its most.
+    // Read for their bounds: what the window has fits it, its room is at most its most, and its changes can be numbered.
     let _room = mailbox.ring.capacity();
+    let _logged = mailbox.ring.total();
 }

@@ -33,8 +33,9 @@ pub struct Limits {
     pub ring_max: usize,
 }
 
-/// That a copy was delivered: to which mailbox, under which UID.
-#[derive(Clone, Copy, Debug, PartialEq, Eq)]
+/// That a copy was delivered: to which mailbox, under which UID. `deliver` alone makes one; it can't be
+/// copied, and must be spent, by `verdict_of`: so whoever tells that a copy was stored has delivered one,
+/// and of each copy that was delivered something is told.
 pub struct Receipt {
     mailbox: u8,
     key: CopyKey,
@@ -115,6 +116,19 @@ impl Receipt {
     {
         self.position
     }
+
+    // Spends it, and tells the message's UID.
+    pub(crate) fn into_uid(self) -> u32
+        ensures { result ≡ self.uid }
+    {
+        let Receipt {
+            mailbox: _,
+            key: _,
+            uid,
+            position: _,
+        } = self;
+        uid
+    }
 }
 
 impl Mailbox {
@@ -158,6 +172,13 @@ impl Mailbox {
             accepted: Accepted::new(alloc, history),
             cursors: CursorSet::new(alloc, number),
         })
+    }
+
+    /// The mailbox's number.
+    pub fn number(&self) -> u8
+        ensures { result ≡ self.now.number }
+    {
+        self.number
     }
 
     // Whether no UID is left, or the log has no room for all that a message with these flags brings.

@@ -28,5 +28,6 @@ returns c =
       );
       held = c.capacity-room.ensures.within;
       most = c.capacity-room.ensures.most;
+      few = omega (arith, c.total-logged.ensures.total, c.total-logged.ensures.small);
       handles = c.mailbox.invariant.3;
     })
