@@ -1,5 +1,5 @@
 -- What a consumer does with the copies that it takes: each is delivered under a lock, and its producer is told.
-use Rattle.std.specs.Prelude.{◌≡◌, ◌⊎◌, ℕ, ◌<◌, ◌≤◌, List, [], ◌∷◌, ◌++◌, map, slice_index_or, slice_set, Result, Bool, false, not, nat_lt, ◌&&◌}
+use Rattle.std.specs.Prelude.{◌≡◌, ◌≢◌, ◌⊎◌, ℕ, ◌<◌, ◌≤◌, List, [], ◌∷◌, ◌++◌, map, slice_index_or, slice_set, Option, Some, None, Result, Bool, true, false, nat_lt, ◌&&◌}
 use Rattle.delivery_token.specs.declared.Job.{Job}
 use Rattle.delivery_token.specs.declared.Refusal.{Refusal}
 use Rattle.delivery_token.specs.declared.Refusal.TheVariants.{NoMemory}
@@ -13,26 +13,45 @@ use Rattle.mailbox_holds.specs.Holds.{DoesDeliver, UnderLock}
 use Rattle.shard_queue.specs.declared.lane.Entry.{Entry}
 use Rattle.shard_queue.specs.declared.lane.Entry.TheVariants.{Item, End}
 
--- The copy was delivered, and nothing else was done; the verdict is that delivery's answer.
-pub record IsDelivered (job : Job) (verdict : Verdict) (found left : Mailbox) : Type 0 where
-  pub delivered : Result Receipt Refusal
-  pub does : DoesDeliver found job delivered left
-  pub tells : verdict ≡ verdict_of delivered
+-- What was done with a copy under a lock, by the answer: the mailbox that was found was the copy's, the copy was delivered there, and nothing else was
+-- done; or another mailbox was found, and nothing was done.
+abbrev pub IsDelivered : Job → Option (Result Receipt Refusal) → Mailbox → Mailbox → Type 0
+IsDelivered job (Some delivered) found left = (found.number ≡ job.mailbox) × DoesDeliver found job delivered left
+IsDelivered job None found left = (found.number ≢ job.mailbox) × (left ≡ found)
 
--- The verdict on a copy, in a house of so many mailboxes: that of its delivery. One for a mailbox that isn't there is refused.
-abbrev pub IsVerdict : ℕ → Job → Verdict → Type 0
-IsVerdict mailboxes job verdict =
-    ((job.mailbox < mailboxes) × UnderLock (IsDelivered job verdict))
-    ⊎ ((mailboxes ≤ job.mailbox) × (verdict ≡ Refused NoMemory))
+-- What came of a copy, in a house of so many mailboxes: its delivery's answer. There is none where its mailbox isn't there, or another one was found
+-- under its lock.
+abbrev pub IsJudged : ℕ → Job → Option (Result Receipt Refusal) → Type 0
+IsJudged mailboxes job (Some delivered) = (job.mailbox < mailboxes) × UnderLock (IsDelivered job (Some delivered))
+IsJudged mailboxes job None = (mailboxes ≤ job.mailbox) ⊎ UnderLock (IsDelivered job None)
+
+-- the verdict on a copy of which this came: that of its delivery, or it is refused
+abbrev pub verdict_on : Option (Result Receipt Refusal) → Verdict
+verdict_on (Some delivered) = verdict_of delivered
+verdict_on None = Refused NoMemory
+
+-- The verdict on a copy, in a house of so many mailboxes.
+pub record IsVerdict (mailboxes : ℕ) (job : Job) (verdict : Verdict) : Type 0 where
+  pub came : Option (Result Receipt Refusal)
+  pub judged : IsJudged mailboxes job came
+  pub tells : verdict ≡ verdict_on came
 
 -- whether it is a copy of a house with so many mailboxes and channels: its producer has a channel, and its mailbox is there
 abbrev pub is_ours : (mailboxes channels producer : ℕ) → Job → Bool
 is_ours mailboxes channels producer job = nat_lt producer channels && nat_lt job.mailbox mailboxes
 
--- whether the entry is a copy of none
-abbrev pub is_nobodys : (mailboxes channels : ℕ) → Entry Job → Bool
-is_nobodys mailboxes channels (Item producer job) = not (is_ours mailboxes channels producer job)
-is_nobodys mailboxes channels (End producer) = false
+-- The copy is said to be a copy of this house, which it is; or not to be: its producer has no channel, its mailbox isn't there, or another one was found
+-- under its mailbox's lock.
+abbrev pub IsKnown : (mailboxes channels producer : ℕ) → Job → Bool → Type 0
+IsKnown mailboxes channels producer job true = is_ours mailboxes channels producer job ≡ true
+IsKnown mailboxes channels producer job false = (is_ours mailboxes channels producer job ≡ false) ⊎ UnderLock (IsDelivered job None)
+
+-- Of these entries, all copies were of this house, or not all were.
+pub data WereKnown (mailboxes channels : ℕ) : List (Entry Job) → Bool → Type 0 where
+  none : WereKnown mailboxes channels [] true
+  copy : {got : List (Entry Job)} {all : Bool} (producer : ℕ) (job : Job) (ours : Bool) → WereKnown mailboxes channels got all
+      → IsKnown mailboxes channels producer job ours → WereKnown mailboxes channels (got ++ Item producer job ∷ []) (all && ours)
+  end : {got : List (Entry Job)} {all : Bool} (producer : ℕ) → WereKnown mailboxes channels got all → WereKnown mailboxes channels (got ++ End producer ∷ []) all
 
 -- what the producer of a copy is told, by the sender of this number
 abbrev pub telling : ℕ → Job → Verdict → Entry Noted
