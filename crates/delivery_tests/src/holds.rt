@@ -4,7 +4,7 @@
 use change_ring::{FlagOp, Flags, NO_FLAGS};
 use cursor_set::{CursorHandle, Stranger};
 use delivery_token::{CopyKey, Job, Refusal, Text};
-use mailbox::{History, Limits, MailFault, Mailbox, Opening, Status};
+use mailbox::{History, Limits, MailFault, Mailbox, Opening, Status, verdict_of};
 use mailbox_holds::{alter, count, deliver, enter, expunge, feed, leave, read, view};
 use std::alloc::{AllocError, Global};
 
@@ -67,10 +67,13 @@ fn delivers(
     let Ok(copy) = copy_for(alloc, recipient) else {
         return false;
     };
-    match deliver(mailbox, &copy) {
+    let delivered = deliver(mailbox, &copy);
+    let is_so = match &delivered {
         Ok(r) => r.key() == copy.key && r.mailbox() == 3 && wanted == Ok((r.uid(), r.position())),
-        Err(refusal) => wanted == Err(refusal),
-    }
+        Err(refusal) => wanted == Err(*refusal),
+    };
+    let _ = verdict_of(delivered);
+    is_so
 }
 
 fn same_uids(counted: &[u32], wanted: &[u32]) -> bool {

@@ -5,8 +5,10 @@ ghost use Rattle.std.specs.Prelude.{◌<◌};
 
 use change_ring::{Change, FlagOp, Flags, NO_FLAGS};
 use cursor_set::{CursorHandle, FeedFault, Stranger};
-use delivery_token::{CopyKey, Job, Refusal, Text};
-use mailbox::{History, Limits, MailFault, Mailbox, Opening, Status, every_mailbox_keeps};
+use delivery_token::{CopyKey, Job, Refusal, Text, Verdict};
+use mailbox::{
+    History, Limits, MailFault, Mailbox, Opening, Status, every_mailbox_keeps, verdict_of,
+};
 use std::alloc::{AllocError, Global};
 
 const DELETED: Flags = Flags {
@@ -93,10 +95,13 @@ fn delivers(
     wanted: Result<(u8, u32, usize), Refusal>,
 ) -> Result<bool, AllocError> {
     let copy = job(alloc, recipient, bytes, flags)?;
-    match mailbox.deliver(&copy) {
-        Ok(r) => Ok(r.key() == copy.key && wanted == Ok((r.mailbox(), r.uid(), r.position()))),
-        Err(refusal) => Ok(wanted == Err(refusal)),
-    }
+    let delivered = mailbox.deliver(&copy);
+    let is_so = match &delivered {
+        Ok(r) => r.key() == copy.key && wanted == Ok((r.mailbox(), r.uid(), r.position())),
+        Err(refusal) => wanted == Err(*refusal),
+    };
+    let _ = verdict_of(delivered);
+    Ok(is_so)
 }
 
 fn has_accepted(mailbox: &Mailbox, copies: &[(CopyKey, u32)]) -> bool {
@@ -220,9 +225,9 @@ fn play(
 fn fill(alloc: Global, mailbox: &mut Mailbox, messages: u32) -> Result<(), AllocError> {
     let copy = job(alloc, 0, b"hi\r\n", NO_FLAGS)?;
     for _message in 0..messages {
-        if mailbox.deliver(&copy).is_err() {
+        let Verdict::Stored { uid: _ } = verdict_of(mailbox.deliver(&copy)) else {
             return Err(AllocError);
-        }
+        };
     }
     Ok(())
 }

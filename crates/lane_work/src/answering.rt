@@ -36,11 +36,13 @@ fn deliver_under<R: Wait>(
 ) -> Option<Result<Receipt, Refusal>>
     ensures { UnderLock (IsDelivered job.now result) }
 {
-    under(rt, lock, |mailbox: &mut Mailbox| -> Option<Result<Receipt, Refusal>>
-        ensures { IsDelivered job.entry.now result mailbox.old mailbox.new }
-    {
-        deliver_to(mailbox, job)
-    })
+    under(
+        rt,
+        lock,
+        |mailbox: &mut Mailbox| -> Option<Result<Receipt, Refusal>>
+            ensures { IsDelivered job.entry.now result mailbox.old mailbox.new }
+        { deliver_to(mailbox, job) },
+    )
 }
 
 // What came of a copy. None where its mailbox isn't there, or another one was found under its lock.

@@ -9,11 +9,7 @@ use mailbox::Mailbox;
 use std::sync::{Mutex, Wait};
 
 /// Takes a mailbox's lock, calls `once` with the mailbox that is found, and lets go.
-pub fn under<R: Wait, T, F: FnOnce(&mut Mailbox) -> T>(
-    rt: &R,
-    lock: &Mutex<Mailbox>,
-    once: F,
-) -> T
+pub fn under<R: Wait, T, F: FnOnce(&mut Mailbox) -> T>(rt: &R, lock: &Mutex<Mailbox>, once: F) -> T
     // It may be called, whatever mailbox is found.
     requires { F.IsAlwaysCallable once }
     // What is answered is what the call answers that found one mailbox, and left one.

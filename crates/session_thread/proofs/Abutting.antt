@@ -1,15 +1,18 @@
 -- A session's handle, hold by hold.
-use Rattle.std.proofs.Common.{◌≡◌, ℕ, ◌+◌, ◌-◌, Bool, true, false, ◌&&◌, List, [], ◌∷◌, length, length-drop, arith, refl, sym, ap, ◌∙◌, subst, Option, Some}
+use Rattle.std.proofs.Common.{◌≡◌, ℕ, zero, suc, ◌+◌, ◌-◌, Bool, true, false, ◌&&◌, List, [], ◌∷◌, ◌++◌, length, length-drop, take, drop, arith, refl, sym, ap, ◌∙◌, subst, Option, Some}
+use Rattle.std.specs.Prelude.{IfSome}
+use Rattle.std.proofs.lemmas.List.{length-append}
 use Rattle.std.specs.List.{list_all}
 use Rattle.change_ring.specs.declared.change.Change.{Change}
 use Rattle.cursor_set.specs.Cursors.{CursorHandle}
 use Rattle.mailbox.specs.Mailbox.{Mailbox}
+use Rattle.mailbox.specs.Stands.{Stands, next_of}
 use Rattle.mailbox_holds.specs.Holds.{Expunges}
 use Rattle.imap_session.specs.Exchange.{Call, Answer, Enter, Look, Read, Count, Alter, Expunge, Feed, Leave, Entered, Looked, Found, Counted, Altered, Expunged, Fed, Left, Refused, Starved, Event}
 use Rattle.session_thread.specs.declared.locked_store.Entry.{Entry}
 use Rattle.session_thread.specs.Locks.{Holds, In, LockedStore}
 use Rattle.session_thread.specs.Locks.{entered_at}
-use Rattle.session_thread.specs.Abut.{Abut, BeginsAt, Joins, shown_by, shown_by_all, stays}
+use Rattle.session_thread.specs.Abut.{Abut, found_by, shown_by, shown_by_all, stays}
 
 -- the session is in the same mailbox, and was shown so many changes more
 abbrev pub On : Entry → ℕ → LockedStore → Type 0
@@ -34,7 +37,7 @@ all_shown found left handle next uids view changes gone e =
     e.goes_on ∙ ap (λ (n : ℕ). let s : CursorHandle = record { number = handle.number; slot = handle.slot; serial = handle.serial; at = n } in s)
     (omega (arith, length-drop (handle.at - found.window.base) found.window.changes, ap (length {A = Change}) e.shown, e.current, e.known.within))
 
-step_on : (here : Entry) (old new : LockedStore) (call : Call) (answer : Answer) → old.entered ≡ Some here → stays answer ≡ true → Holds old call answer new → On here (shown_by answer) new
+step_on : (here : Entry) (old new : LockedStore) (call : Call) (answer : Answer) → old.entered ≡ Some here → stays answer ≡ true → Holds old call answer new → On here (length (shown_by answer)) new
 step_on here old new (Enter m) (Entered opening) there s h = cc
 step_on here old new (Enter m) (Looked view) there s h = elim h [ ]
 step_on here old new (Enter m) (Found row) there s h = elim h [ ]
@@ -116,37 +119,87 @@ step_on here old new (Leave remove) (Left gone) there s h = cc
 step_on here old new (Leave remove) (Refused fault) there s h = rests here old new there h.0
 step_on here old new (Leave remove) (Starved n) there s h = elim h [ ]
 
--- ---- where a piece begins
+-- ---- pieces of lists
 
-begins : (here : Entry) (old new : LockedStore) (call : Call) (answer : Answer) → old.entered ≡ Some here → Holds old call answer new → BeginsAt here.handle.at answer
-begins here old new call (Entered opening) there h = tt
-begins here old new call (Looked view) there h = tt
-begins here old new call (Found row) there h = tt
-begins here old new call (Counted status) there h = tt
-begins here old new call (Altered flags) there h = tt
-begins here old new call (Left gone) there h = tt
-begins here old new call (Refused fault) there h = tt
-begins here old new call (Starved n) there h = tt
-begins here old new (Enter m) (Fed view changes) there h = elim h [ ]
-begins here old new Look (Fed view changes) there h = elim h [ ]
-begins here old new (Read uid mark) (Fed view changes) there h = elim h [ ]
-begins here old new (Count m) (Fed view changes) there h = elim h [ ]
-begins here old new (Alter uid op) (Fed view changes) there h = elim h [ ]
-begins here old new (Expunge uids) (Fed view changes) there h = elim h [ ]
-begins here old new (Feed limit) (Fed view changes) there h =
-    let u = h.2.1 in
-    subst (λ (e : Entry). BeginsAt e.handle.at (Fed view changes)) (same_entry (sym h.1 ∙ there)) (u.0, u.2.0.known.within, u.2.0.current, u.2.0.shown)
-begins here old new (Leave remove) (Fed view changes) there h = elim h [ ]
-begins here old new (Enter m) (Expunged view changes gone) there h = elim h [ ]
-begins here old new Look (Expunged view changes gone) there h = elim h [ ]
-begins here old new (Read uid mark) (Expunged view changes gone) there h = elim h [ ]
-begins here old new (Count m) (Expunged view changes gone) there h = elim h [ ]
-begins here old new (Alter uid op) (Expunged view changes gone) there h = elim h [ ]
-begins here old new (Expunge uids) (Expunged view changes gone) there h =
-    let u = h.2.1 in
-    subst (λ (e : Entry). BeginsAt e.handle.at (Expunged view changes gone)) (same_entry (sym h.1 ∙ there)) (u.0, u.2.0.known.within, u.2.0.current, u.2.0.shown)
-begins here old new (Feed limit) (Expunged view changes gone) there h = elim h [ ]
-begins here old new (Leave remove) (Expunged view changes gone) there h = elim h [ ]
+whole : {A : Type 0} (xs : List A) → take (length xs) xs ≡ xs
+whole [] = refl
+whole (x ∷ xs) = ap (λ ys. x ∷ ys) (whole xs)
+
+same_head : {A : Type 0} {x y : A} {xs ys : List A} → x ∷ xs ≡ y ∷ ys → x ≡ y
+same_head e = cc
+
+same_tail : {A : Type 0} {x y : A} {xs ys : List A} → x ∷ xs ≡ y ∷ ys → xs ≡ ys
+same_tail e = cc
+
+-- what stands at the front of a first part stands at the front
+front : {A : Type 0} (k : ℕ) (log xs : List A) → xs ≡ take (length xs) (take k log) → xs ≡ take (length xs) log
+front k log [] is = refl
+front zero log (x ∷ xs) is = cc
+front (suc k) [] (x ∷ xs) is = is
+front (suc k) (l ∷ log) (x ∷ xs) is = ap (λ y. y ∷ xs) (same_head is) ∙ ap (λ ys. l ∷ ys) (front k log xs (same_tail is))
+
+-- and so behind some
+part : {A : Type 0} (at k : ℕ) (log xs : List A) → xs ≡ take (length xs) (drop at (take k log)) → xs ≡ take (length xs) (drop at log)
+part zero k log xs is = front k log xs is
+part (suc at) zero log xs is = nothing xs is where
+  nothing : (ys : List _) → ys ≡ take (length ys) [] → ys ≡ take (length ys) (drop (suc at) log)
+  nothing [] e = refl
+  nothing (y ∷ ys) e = cc
+part (suc at) (suc k) [] xs is = is
+part (suc at) (suc k) (l ∷ log) xs is = part at k log xs is
+
+front_then : {A : Type 0} (log xs ys : List A) → xs ≡ take (length xs) log → ys ≡ take (length ys) (drop (length xs) log) → xs ++ ys ≡ take (length (xs ++ ys)) log
+front_then log [] ys is then = then
+front_then [] (x ∷ xs) ys is then = cc
+front_then (l ∷ log) (x ∷ xs) ys is then = ap (λ y. y ∷ (xs ++ ys)) (same_head is) ∙ ap (λ zs. l ∷ zs) (front_then log xs ys (same_tail is) then)
+
+none : {A : Type 0} (n : ℕ) → drop {A = A} n [] ≡ []
+none zero = refl
+none (suc n) = refl
+
+further : {A : Type 0} (at n : ℕ) (log : List A) → drop (at + n) log ≡ drop n (drop at log)
+further zero n log = let e : 0 + n ≡ n = omega arith in ap (λ (k : ℕ). drop k log) e
+further (suc at) n [] = none (suc at + n) ∙ sym (none n)
+further (suc at) n (l ∷ log) = let e : suc at + n ≡ suc (at + n) = omega arith in ap (λ (k : ℕ). drop k (l ∷ log)) e ∙ further at n log
+
+-- two pieces that abut are one
+two : {A : Type 0} (at : ℕ) (log xs ys : List A) → xs ≡ take (length xs) (drop at log) → ys ≡ take (length ys) (drop (at + length xs) log) → xs ++ ys ≡ take (length (xs ++ ys)) (drop at log)
+two at log xs ys is then = front_then (drop at log) xs ys is (then ∙ ap (take (length ys)) (further at (length xs) log))
+
+-- ---- a piece is the log's
+
+-- the changes that a call showed are the log's next, where the mailbox that it found stood for a first part of it
+piece : (log : List Change) (here : Entry) (old new : LockedStore) (call : Call) (answer : Answer) (h : Holds old call answer new) → old.entered ≡ Some here
+    → IfSome (found_by old call answer new h) (λ found. (n : ℕ) × Stands found (take n log)) → shown_by answer ≡ next_of log here.handle.at (length (shown_by answer))
+piece log here old new call (Entered opening) h there of = refl
+piece log here old new call (Looked view) h there of = refl
+piece log here old new call (Found row) h there of = refl
+piece log here old new call (Counted status) h there of = refl
+piece log here old new call (Altered flags) h there of = refl
+piece log here old new call (Left gone) h there of = refl
+piece log here old new call (Refused fault) h there of = refl
+piece log here old new call (Starved n) h there of = refl
+piece log here old new (Enter m) (Fed view changes) h there of = elim h [ ]
+piece log here old new Look (Fed view changes) h there of = elim h [ ]
+piece log here old new (Read uid mark) (Fed view changes) h there of = elim h [ ]
+piece log here old new (Count m) (Fed view changes) h there of = elim h [ ]
+piece log here old new (Alter uid op) (Fed view changes) h there of = elim h [ ]
+piece log here old new (Expunge uids) (Fed view changes) h there of = elim h [ ]
+piece log here old new (Feed limit) (Fed view changes) h there of =
+    subst (λ (e : Entry). changes ≡ next_of log e.handle.at (length changes)) (same_entry (sym h.1 ∙ there))
+    (part h.0.handle.at of.0 log changes (h.2.1.2.1 (take of.0 log) of.1).1)
+piece log here old new (Leave remove) (Fed view changes) h there of = elim h [ ]
+piece log here old new (Enter m) (Expunged view changes gone) h there of = elim h [ ]
+piece log here old new Look (Expunged view changes gone) h there of = elim h [ ]
+piece log here old new (Read uid mark) (Expunged view changes gone) h there of = elim h [ ]
+piece log here old new (Count m) (Expunged view changes gone) h there of = elim h [ ]
+piece log here old new (Alter uid op) (Expunged view changes gone) h there of = elim h [ ]
+piece log here old new (Expunge uids) (Expunged view changes gone) h there of =
+    let is : changes ≡ drop h.0.handle.at (take of.0 log) = (h.2.1.2.1 (take of.0 log) of.1).1 in
+    subst (λ (e : Entry). changes ≡ next_of log e.handle.at (length changes)) (same_entry (sym h.1 ∙ there))
+    (part h.0.handle.at of.0 log changes (sym (whole changes) ∙ ap (take (length changes)) is))
+piece log here old new (Feed limit) (Expunged view changes gone) h there of = elim h [ ]
+piece log here old new (Leave remove) (Expunged view changes gone) h there of = elim h [ ]
 
 -- ---- all of them
 
@@ -167,11 +220,15 @@ joined here mid n m selection mailbox start handle h = (
 )
 
 pub abut : Abut
-abut old new [] here met all there = (tt, rests here old new there met)
+abut old new [] here met all there = (rests here old new there met, λ log of. refl)
 abut old new (event ∷ events) here met all there =
+    let xs : List Change = shown_by event.answer in
+    let ys : List Change = shown_by_all events in
     let t = both (stays event.answer) (list_all (λ (e : Event). stays e.answer) events) all in
-    let m : On here (shown_by event.answer) met.0 = step_on here old met.0 event.call event.answer there t.0 met.1 in
-    let r = abut met.0 new events m.0 met.2 t.1 m.1 in (
-      (begins here old met.0 event.call event.answer there met.1, subst (λ (s : CursorHandle). Joins s.at events) m.2.2 r.0),
-      joined here m.0 (shown_by event.answer) (shown_by_all events) new m.2.0 m.2.1 m.2.2 r.1,
+    let m : On here (length xs) met.0 = step_on here old met.0 event.call event.answer there t.0 met.1 in
+    let r = abut met.0 new events m.0 met.2 t.1 m.1 in
+    let at : m.0.handle.at ≡ here.handle.at + length xs = ap (λ (s : CursorHandle). s.at) m.2.2 in (
+      subst (λ (k : ℕ). On here k new) (sym (length-append xs ys)) (joined here m.0 (length xs) (length ys) new m.2.0 m.2.1 m.2.2 r.0),
+      λ log of. two here.handle.at log xs ys (piece log here old met.0 event.call event.answer met.1 there of.0)
+          (subst (λ (k : ℕ). ys ≡ next_of log k (length ys)) at (r.1 log of.1)),
     )

@@ -17,7 +17,7 @@ use Rattle.imap_connection.specs.Dialogue.{Dialogue, ImapConnection, StandsFor}
 use Rattle.session_thread.specs.declared.life.Step.{Step}
 use Rattle.session_thread.specs.declared.life.Step.TheVariants.{Say, Await}
 use Rattle.session_thread.specs.Locks.{Holds, LockedStore, shown_in}
-use Rattle.session_thread.specs.Life.{Awaits, Departs, Does, HasShown, HasTurn, IsOver, IsShort, Lives, LivesInPart, Moment, Says, SaysInPart, Steps, StopsIn, Turns, another, goes_on, greeted_at, moment, takes_more}
+use Rattle.session_thread.specs.Life.{Awaits, Departs, Does, HasShown, HasTurn, IsForgotten, IsOver, IsShortInTurn, Lives, LivesInPart, Moment, Says, SaysInPart, Steps, StopsIn, Turns, another, goes_on, greeted_at, moment, takes_more}
 use Rattle.courier.specs.Carried.{Carried}
 use Rattle.courier.specs.declared.Lost.{Lost}
 use Rattle.courier.specs.declared.Lost.TheVariants as lost
@@ -87,7 +87,7 @@ has_shown count d old new before middle after was link s idles kept t = (
 -- no turn: the session stands where it stood, and its mailbox refused it memory
 pub no_turn : (d : Dialogue) (old new : LockedStore) (before middle after : List ℕ) (room : ℕ) (was link : ImapConnection) (fault : SessionFault) → StandsFor was d → is_idling was.session ≡ true → middle ≡ before
     → (failed fault ≡ failed Ended → was.session.ended ≡ true) → (failed fault ≡ failed faults.NoMemory → Holds old (Feed most_changes) (Refused NoMemory) new) → (link ≡ was) × (after ≡ middle)
-    → StandsFor link d × (moment d new after ≡ moment d old before) × IsShort room (moment d new after)
+    → StandsFor link d × (moment d new after ≡ moment d old before) × IsShortInTurn room (moment d new after)
 no_turn d old new before middle after room was link Ended stands idles kept over starved same = absurd (awake (is_some was.session.idling) was.session.ended idles (over refl))
 no_turn d old new before middle after room was link faults.NoMemory stands idles kept over starved same =
     let h : Holds old (Feed most_changes) (Refused NoMemory) new = starved refl in (
@@ -149,7 +149,7 @@ said_in_part (Err why) turns room step v bytes old new before after was link goe
     stopped turns room step (Say v) why old new before after was link goes is (subst (λ (b : List ℕ). Leads (SaysInPart room b why) was old before link new after) items h)
 
 pub awaited_in_part : (turns room : ℕ) (step : Step) (count : ℕ) (old new : LockedStore) (before after : List ℕ) (was link : ImapConnection) → takes_more was.session ≡ true → step ≡ Await count
-    → ((d : Dialogue) → StandsFor was d → (next : Dialogue) × StandsFor link next × ((had : ℕ) × (had < turns) × Turns count (moment d old before) had (moment next new after) × (IsOver count (moment next new after) → ⊥)) × IsShort room (moment next new after))
+    → ((d : Dialogue) → StandsFor was d → (next : Dialogue) × StandsFor link next × ((had : ℕ) × (had < turns) × Turns count (moment d old before) had (moment next new after) × (IsOver count (moment next new after) → ⊥)) × IsShortInTurn room (moment next new after))
     → Stops turns room step lost.NoMemory was old before link new after
 awaited_in_part turns room step count old new before after was link goes is h =
     stopped turns room step (Await count) lost.NoMemory old new before after was link goes is (λ d stands. let t = h d stands in (t.0, t.1, (t.2.0, t.2.1, t.2.2, t.2.3, t.3, refl)))
@@ -175,16 +175,51 @@ lived_in_part turns room first steps i step carried why now last l is lives goes
 abbrev pub first_dialogue : Option ℕ → List Folder → Dialogue
 first_dialogue most folders = record { standing = record { folders = folders; selected = None; idling = None; ended = false; mailing = nothing_sent most }; begun = [] }
 
-pub lived : {A E : Type 0} (r : Result A E) (Was Now : List Carried → Type 0) (turns : ℕ) (most : Option ℕ) (folders : List Folder) (steps : List Step) (old new end : LockedStore) (before text after : List ℕ) (link last : ImapConnection) → StandsFor link (first_dialogue most folders) → text ≡ before ++ greeting
-    → OnOk r ((carried : List Carried) × ((done : List Carried) → Was done → Now (done ++ carried)) × ((d : Dialogue) → StandsFor link d → (next : Dialogue) × StandsFor last next × Lives turns (moment d old text) steps carried (moment next new after))) → Departs new end
-    → OnOk r ((carried : List Carried) × ((done : List Carried) → Was done → Now (done ++ carried)) × ((x : Moment) × Lives turns (greeted_at most folders old (before ++ greeting)) steps carried x × (after ≡ x.text) × Departs x.selection end))
-lived (Ok x) Was Now turns most folders steps old new end before text after link last stands greets h goes =
-    let t = h.2 (first_dialogue most folders) stands in (h.0, h.1, (moment t.0 new after, subst (λ (w : List ℕ). Lives turns (greeted_at most folders old w) steps h.0 (moment t.0 new after)) greets t.2, refl, goes))
-lived (Err e) Was Now turns most folders steps old new end before text after link last stands greets h goes = h
+-- it left, or is forgotten
+pub left_or_forgotten : {A E P Q : Type 0} (r : Result A E) → OnOk r P → OnErr r Q → P ⊎ Q
+left_or_forgotten (Ok x) p q = inl p
+left_or_forgotten (Err e) p q = inr q
 
-pub lived_some : {A : Type 0} (r : Result A Lost) (turns room : ℕ) (most : Option ℕ) (folders : List Folder) (steps : List Step) (old new end : LockedStore) (before text after : List ℕ) (link last : ImapConnection) → StandsFor link (first_dialogue most folders) → text ≡ before ++ greeting
-    → IfErr r (λ why. (d : Dialogue) → StandsFor link d → (next : Dialogue) × StandsFor last next × LivesInPart turns room (moment d old text) steps why (moment next new after)) → Departs new end
-    → IfErr r (λ why. (end ≡ old) × (after ≡ before) × (why ≡ lost.NoMemory) ⊎ (x : Moment) × LivesInPart turns room (greeted_at most folders old (before ++ greeting)) steps why x × (after ≡ x.text) × Departs x.selection end)
-lived_some (Ok x) turns room most folders steps old new end before text after link last stands greets h goes = h
-lived_some (Err why) turns room most folders steps old new end before text after link last stands greets h goes =
-    let t = h (first_dialogue most folders) stands in inr (moment t.0 new after, subst (λ (w : List ℕ). LivesInPart turns room (greeted_at most folders old w) steps why (moment t.0 new after)) greets t.2, refl, goes)
+-- So it lived: these messages were carried, and this was its last moment.
+abbrev Lived : (Was Now : List Carried → Type 0) → ℕ → Moment → List Step → LockedStore → List ℕ → (Moment → Type 0) → Type 0
+Lived Was Now turns first steps new after P =
+    (carried : List Carried) × ((done : List Carried) → Was done → Now (done ++ carried)) × ((x : Moment) × Lives turns first steps carried x × (after ≡ x.text) × P x)
+
+lived_whole : (Was Now : List Carried → Type 0) (P : Moment → Type 0) (turns : ℕ) (most : Option ℕ) (folders : List Folder) (steps : List Step) (old new : LockedStore) (before text after : List ℕ) (link last : ImapConnection)
+    → StandsFor link (first_dialogue most folders) → text ≡ before ++ greeting
+    → (carried : List Carried) × ((done : List Carried) → Was done → Now (done ++ carried)) × ((d : Dialogue) → StandsFor link d → (next : Dialogue) × StandsFor last next × Lives turns (moment d old text) steps carried (moment next new after))
+    → ((d : Dialogue) → P (moment d new after)) → Lived Was Now turns (greeted_at most folders old (before ++ greeting)) steps new after P
+lived_whole Was Now P turns most folders steps old new before text after link last stands greets h goes =
+    let t = h.2 (first_dialogue most folders) stands in
+    (h.0, h.1, (moment t.0 new after, subst (λ (w : List ℕ). Lives turns (greeted_at most folders old w) steps h.0 (moment t.0 new after)) greets t.2, refl, goes t.0))
+
+pub lived : {A E : Type 0} (r : Result A E) (Was Now : List Carried → Type 0) (turns : ℕ) (most : Option ℕ) (folders : List Folder) (steps : List Step) (old new end : LockedStore) (before text after : List ℕ) (link last : ImapConnection)
+    → StandsFor link (first_dialogue most folders) → text ≡ before ++ greeting
+    → (carried : List Carried) × ((done : List Carried) → Was done → Now (done ++ carried)) × ((d : Dialogue) → StandsFor link d → (next : Dialogue) × StandsFor last next × Lives turns (moment d old text) steps carried (moment next new after))
+    → OnOk r (Departs new end) → OnOk r (Lived Was Now turns (greeted_at most folders old (before ++ greeting)) steps new after (λ x. Departs x.selection end))
+lived (Ok x) Was Now turns most folders steps old new end before text after link last stands greets h goes =
+    lived_whole Was Now (λ x. Departs x.selection end) turns most folders steps old new before text after link last stands greets h (λ d. goes)
+lived (Err e) Was Now turns most folders steps old new end before text after link last stands greets h goes = tt
+
+-- What came where it stopped: nothing, or a first part of its life, or all of it.
+abbrev Stopped : (turns room : ℕ) → Moment → List Step → Lost → (old end : LockedStore) → (before after : List ℕ) → Type 0
+Stopped turns room first steps why old end before after =
+    (end ≡ old) × (after ≡ before) × (why ≡ lost.NoMemory)
+    ⊎ ((x : Moment) × LivesInPart turns room first steps why x × (after ≡ x.text) × (Departs x.selection end ⊎ IsForgotten x.selection end))
+    ⊎ ((carried : List Carried) × ((x : Moment) × Lives turns first steps carried x × (after ≡ x.text) × IsForgotten x.selection end × (why ≡ lost.Torn)))
+
+pub lived_forgotten : {A : Type 0} (r : Result A Lost) (Was Now : List Carried → Type 0) (turns room : ℕ) (most : Option ℕ) (folders : List Folder) (steps : List Step) (old new end : LockedStore) (before text after : List ℕ) (link last : ImapConnection)
+    → StandsFor link (first_dialogue most folders) → text ≡ before ++ greeting
+    → (carried : List Carried) × ((done : List Carried) → Was done → Now (done ++ carried)) × ((d : Dialogue) → StandsFor link d → (next : Dialogue) × StandsFor last next × Lives turns (moment d old text) steps carried (moment next new after))
+    → OnErr r (IsForgotten new end) → IfErr r (λ why. why ≡ lost.Torn) → IfErr r (λ why. Stopped turns room (greeted_at most folders old (before ++ greeting)) steps why old end before after)
+lived_forgotten (Ok x) Was Now turns room most folders steps old new end before text after link last stands greets h goes torn = tt
+lived_forgotten (Err why) Was Now turns room most folders steps old new end before text after link last stands greets h goes torn =
+    let t = lived_whole Was Now (λ x. IsForgotten x.selection end) turns most folders steps old new before text after link last stands greets h (λ d. goes) in
+    inr (inr (t.0, (t.2.0, t.2.1, t.2.2, t.2.3, torn)))
+
+pub lived_some : (turns room : ℕ) (why : Lost) (most : Option ℕ) (folders : List Folder) (steps : List Step) (old new end : LockedStore) (before text after : List ℕ) (link last : ImapConnection) → StandsFor link (first_dialogue most folders) → text ≡ before ++ greeting
+    → ((d : Dialogue) → StandsFor link d → (next : Dialogue) × StandsFor last next × LivesInPart turns room (moment d old text) steps why (moment next new after)) → Departs new end ⊎ IsForgotten new end
+    → Stopped turns room (greeted_at most folders old (before ++ greeting)) steps why old end before after
+lived_some turns room why most folders steps old new end before text after link last stands greets h goes =
+    let t = h (first_dialogue most folders) stands in
+    inr (inl (moment t.0 new after, subst (λ (w : List ℕ). LivesInPart turns room (greeted_at most folders old w) steps why (moment t.0 new after)) greets t.2, refl, goes))

@@ -1,5 +1,5 @@
 -- What a session was shown under a lock, as a call of its store.
-use Rattle.std.proofs.Common.{◌≡◌, ℕ, ◌≤◌, Bool, false, List, length, take, drop, refl, sym, ap, ◌∙◌, Result, Ok, Err, Option, Some, None, is_some}
+use Rattle.std.proofs.Common.{◌≡◌, inl, inr, ℕ, ◌<◌, ◌≤◌, Bool, false, List, length, take, drop, refl, sym, ap, ◌∙◌, Result, Ok, Err, Option, Some, None, is_some}
 use Rattle.std.specs.Prelude.{IfOk}
 use Rattle.change_ring.specs.declared.change.Change.{Change}
 use Rattle.change_ring.specs.declared.change.Flags.{Flags}
@@ -17,7 +17,7 @@ use Rattle.imap_session.specs.Exchange.{Alter, Altered, Answer, Feed, Expunge, F
 use Rattle.imap_session.specs.Store.{Feeds, Expunges, answer}
 use Rattle.session_thread.specs.declared.locked_store.Entry.{Entry}
 use Rattle.session_thread.specs.Locks.{Holds, LockedStore}
-use Rattle.session_thread.specs.Locks.{ShowsOf, refused_here, entered_at}
+use Rattle.session_thread.specs.Locks.{DoesEnterAt, ShowsOf, StaysOut, another_there, entered_at, not_let_in, refused_here}
 
 -- ---- of the log
 
@@ -70,3 +70,8 @@ pub alters : (old new : LockedStore) (here : Entry) (uid : ℕ) (op : FlagOp) (r
     → UnderLock (λ found left. DoesAlter found here.handle uid op r left) → Holds old (Alter uid op) (answer Altered r) new
 alters old new here uid op (Ok flags) there same u = (same, (here, there, u))
 alters old new here uid op (Err fault) there same u = (same, refused_here here u.0 u.1 there u.2)
+
+pub stays_out : (old : LockedStore) (mailbox : ℕ) (fault : MailFault) → old.entered ≡ None → mailbox < old.mailboxes → UnderLock (λ found left. DoesEnterAt mailbox found (Err fault) left)
+    → StaysOut old mailbox fault
+stays_out old mailbox fault nowhere under (found, left, (same, inl (number, kept, not))) = not_let_in found left nowhere under number kept same not
+stays_out old mailbox fault nowhere under (found, left, (same, inr (other, stranger))) = another_there found left nowhere under other same stranger

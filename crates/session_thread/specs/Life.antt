@@ -5,16 +5,19 @@ use Rattle.courier.specs.Carried.{Carried}
 use Rattle.courier.specs.declared.Lost.{Lost}
 use Rattle.courier.specs.declared.Lost.TheVariants as lost
 use Rattle.mailbox.specs.declared.clients.MailFault.TheVariants.{NoMemory}
+use Rattle.mailbox.specs.Events.{IsStranger}
+use Rattle.mailbox.specs.Stands.{IsKept}
+use Rattle.mailbox_holds.specs.Holds.{UnderLock}
 use Rattle.imap_session.specs.declared.standing.After.{After}
 use Rattle.imap_session.specs.declared.standing.After.TheVariants.{Submit}
 use Rattle.imap_session.specs.declared.standing.Append.{Append}
-use Rattle.imap_session.specs.Exchange.{Answer, Feed, Folder, Leave, Refused, Sent, Standing, is_idling, kept_tag, may_send, nothing_sent}
+use Rattle.imap_session.specs.Exchange.{Feed, Folder, Leave, Left, Refused, Sent, Standing, is_idling, kept_tag, may_send, nothing_sent}
 use Rattle.imap_session.specs.Commands.{most_changes}
 use Rattle.imap_session.specs.Store.{AnswersVerdict, IdleTurns}
 use Rattle.imap_connection.specs.Dialogue.{Answered, Dialogue, answer_room, may_follow, tag_len}
 use Rattle.session_thread.specs.declared.life.Step.{Step}
 use Rattle.session_thread.specs.declared.life.Step.TheVariants.{Say, Await}
-use Rattle.session_thread.specs.Locks.{Holds, LockedStore, shown_in}
+use Rattle.session_thread.specs.Locks.{Holds, In, LockedStore, shown_in}
 
 -- where a session stands: its client's dialogue, its handle, and all that was written
 pub record Moment : Type 0 where
@@ -123,12 +126,15 @@ pub data Lives (turns : ℕ) (first : Moment) : List Step → List Carried → M
 
 -- ---- where it stops
 
--- Memory was refused to a session where it stands: what it writes to has no room for the next line's last words and their like, out of `room` bytes,
--- or a mailbox refused it a turn.
+-- A session is short of room where it stands: what it writes to has none for the next line's last words and their like, out of `room` bytes.
 abbrev pub IsShort : ℕ → Moment → Type 0
-IsShort room now = (room < length now.text + (answer_room + tag_len (kept_tag now.dialogue.standing))) ⊎ Holds now.selection (Feed most_changes) (Refused NoMemory) now.selection
+IsShort room now = room < length now.text + (answer_room + tag_len (kept_tag now.dialogue.standing))
 
--- Of these bytes some were taken, and then the session stopped: memory was refused, or no verdict came on the message that it had submitted.
+-- A turn was refused memory where the session stands: it is short of room, or its mailbox refused the turn.
+abbrev pub IsShortInTurn : ℕ → Moment → Type 0
+IsShortInTurn room now = IsShort room now ⊎ Holds now.selection (Feed most_changes) (Refused NoMemory) now.selection
+
+-- Of these bytes some were taken, and then the session stopped: it was short of room, or no verdict came on the message that it had submitted.
 pub data SaysInPart (room : ℕ) (bytes : List ℕ) (why : Lost) (before after : Moment) : Type 0 where
   short : (used : ℕ) (carried : List Carried) → Speaks bytes before used carried after → IsShort room after → why ≡ lost.NoMemory → SaysInPart room bytes why before after
   unheard : (used : ℕ) (carried : List Carried) → Speaks bytes before used carried after → may_send after.dialogue.standing ≡ Submit → SaysInPart room bytes why before after
@@ -138,7 +144,7 @@ pub data SaysInPart (room : ℕ) (bytes : List ℕ) (why : Lost) (before after :
 abbrev pub StopsIn : ℕ → ℕ → Step → Lost → Moment → Moment → Type 0
 StopsIn turns room (Say bytes) why before after = SaysInPart room bytes.items why before after
 StopsIn turns room (Await count) why before after =
-    (had : ℕ) × (had < turns) × Turns count before had after × (IsOver count after → ⊥) × IsShort room after × (why ≡ lost.NoMemory)
+    (had : ℕ) × (had < turns) × Turns count before had after × (IsOver count after → ⊥) × IsShortInTurn room after × (why ≡ lost.NoMemory)
 
 -- The first of these steps were made, and in the next the session stopped.
 pub record LivesInPart (turns room : ℕ) (first : Moment) (steps : List Step) (why : Lost) (last : Moment) : Type 0 where
@@ -154,7 +160,10 @@ pub record LivesInPart (turns room : ℕ) (first : Moment) (steps : List Step) (
 
 -- ---- the end
 
--- How a session goes: it leaves the mailbox that it is in, without removal, in one hold, or is refused. Where it is in none it is refused as a stranger, and no
--- lock is taken.
+-- How a session goes: it was in no mailbox, and no lock was taken; or it left the one that it was in, without removal, in one hold.
 abbrev pub Departs : LockedStore → LockedStore → Type 0
-Departs old new = (answer : Answer) × Holds old (Leave false) answer new
+Departs old new = ((old.entered ≡ None) × (new ≡ old)) ⊎ ((gone : ℕ) × Holds old (Leave false) (Left gone) new)
+
+-- The mailbox that was found doesn't know the handle of the session, and was left as it was; the session has its handle still.
+abbrev pub IsForgotten : LockedStore → LockedStore → Type 0
+IsForgotten old new = (new ≡ old) × In old (λ here. UnderLock (λ found left. IsKept found × (left ≡ found) × IsStranger found here.handle))

@@ -1,5 +1,5 @@
 -- What a session does to mailboxes behind locks: each call takes the lock of one mailbox, does one thing to it, and lets go.
-use Rattle.std.specs.Prelude.{◌≡◌, ℕ, ◌-◌, ◌<◌, ◌≤◌, ◌⊎◌, List, length, drop, min, Option, Some, None, IsSome, Err}
+use Rattle.std.specs.Prelude.{◌≡◌, ◌≢◌, ℕ, ◌-◌, ◌<◌, ◌≤◌, ◌⊎◌, List, length, drop, min, Option, Some, None, IsSome, Result, Ok, Err}
 use Rattle.change_ring.specs.declared.change.Change.{Change}
 use Rattle.change_ring.specs.Log.{view_at}
 use Rattle.change_ring.specs.Logged.{flags_logged, removals, removals_if, seen_logged}
@@ -10,6 +10,8 @@ use Rattle.mailbox.specs.Mailbox.{Mailbox, message_with, rows}
 use Rattle.mailbox.specs.Stands.{IsKept, Stands, next_of}
 use Rattle.mailbox.specs.declared.clients.MailFault.{MailFault}
 use Rattle.mailbox.specs.declared.clients.MailFault.TheVariants.{Stranger}
+use Rattle.mailbox.specs.declared.clients.Opening.{Opening}
+use Rattle.mailbox.specs.declared.mailbox.Status.{Status}
 use Rattle.mailbox_holds.specs.Holds.{Alters, Counts, DoesLook, Enters, EntersNot, Expunges, Feeds, IsRefused, HasCursor, Leaves, LeavesNot, Reads, UnderLock}
 use Rattle.imap_session.specs.Exchange.{Call, Answer, Enter, Look, Read, Count, Alter, Expunge, Feed, Leave, Entered, Looked, Found, Counted, Altered, Expunged, Fed, Left, Refused}
 use Rattle.session_thread.specs.declared.locked_store.Entry.{Entry}
@@ -44,25 +46,41 @@ pub data TurnsAway (selection : LockedStore) (spent wants : Mailbox → CursorHa
       → TurnsAway selection spent wants fault
 
 -- Why a session doesn't enter: it is in a mailbox or there is none of this number, and no lock was taken; or the one that was found didn't let it in,
--- and was left as it was.
+-- or has another number, and was left as it was.
 pub data StaysOut (selection : LockedStore) (mailbox : ℕ) (fault : MailFault) : Type 0 where
   no_door : (selection.entered ≡ None → ⊥) ⊎ (selection.mailboxes ≤ mailbox) → fault ≡ Stranger → StaysOut selection mailbox fault
-  not_let_in : (found left : Mailbox) → selection.entered ≡ None → mailbox < selection.mailboxes → IsKept found → left ≡ found → EntersNot fault found → StaysOut selection mailbox fault
+  not_let_in : (found left : Mailbox) → selection.entered ≡ None → mailbox < selection.mailboxes → found.number ≡ mailbox → IsKept found → left ≡ found → EntersNot fault found
+      → StaysOut selection mailbox fault
+  another_there : (found left : Mailbox) → selection.entered ≡ None → mailbox < selection.mailboxes → found.number ≢ mailbox → left ≡ found → fault ≡ Stranger → StaysOut selection mailbox fault
 
--- One call of a session over locks, with its answer. Of the mailbox nothing is known but what the call finds.
+-- A client was let into the mailbox of this number, or not: the one that was found has the number, and did so; or it has another, and nothing was done.
+abbrev pub DoesEnterAt : ℕ → Mailbox → Result (CursorHandle × Opening) MailFault → Mailbox → Type 0
+DoesEnterAt number found (Ok entered) left = (found.number ≡ number) × Enters found entered.1 left entered.0
+DoesEnterAt number found (Err fault) left = (left ≡ found) × ((found.number ≡ number) × IsKept found × EntersNot fault found ⊎ (found.number ≢ number) × (fault ≡ Stranger))
+
+-- the mailbox of this number was counted, or another was found; and nothing was changed
+abbrev pub DoesCountAt : ℕ → Mailbox → Result Status MailFault → Mailbox → Type 0
+DoesCountAt number found (Ok status) left = (found.number ≡ number) × (left ≡ found) × Counts found status
+DoesCountAt number found (Err fault) left = (found.number ≢ number) × (left ≡ found) × (fault ≡ Stranger)
+
+-- One call of a session over locks, with its answer. Of the mailbox nothing is known but what the call finds, and its number: the one that was asked
+-- for, and in a mailbox that was entered the handle's, which is that one.
 abbrev pub Holds : LockedStore → Call → Answer → LockedStore → Type 0
 Holds old (Enter m) (Entered opening) new =
     (old.entered ≡ None) × (m < old.mailboxes)
-    × ((handle : CursorHandle) × UnderLock (λ found left. Enters found opening left handle) × (new ≡ record { mailboxes = old.mailboxes; entered = Some (record { mailbox = m; start = handle.at; handle = handle }) }))
+    × ((handle : CursorHandle) × UnderLock (λ found left. (found.number ≡ m) × Enters found opening left handle) × (new ≡ record { mailboxes = old.mailboxes; entered = Some (record { mailbox = m; start = handle.at; handle = handle }) }))
 Holds old (Enter m) (Refused fault) new = (new ≡ old) × StaysOut old m fault
--- a copy of the view, which is no event
-Holds old Look (Looked view) new = (new ≡ old) × In old (λ here. (found : Mailbox) × IsKept found × HasCursor found here.handle view)
-Holds old Look (Refused fault) new = (new ≡ old) × ((old.entered ≡ None) × (fault ≡ Stranger) ⊎ In old (λ here. (found : Mailbox) × DoesLook found here.handle (Err fault)))
+-- a copy of the view, which is no event: nothing is changed
+Holds old Look (Looked view) new = (new ≡ old) × In old (λ here. UnderLock (λ found left. (left ≡ found) × IsKept found × HasCursor found here.handle view))
+Holds old Look (Refused fault) new =
+    (new ≡ old) × ((old.entered ≡ None) × (fault ≡ Stranger) ⊎ In old (λ here. UnderLock (λ found left. (left ≡ found) × DoesLook found here.handle (Err fault))))
 Holds old (Read uid mark) (Found row) new = (new ≡ old) × In old (λ here. UnderLock (λ found left. Reads found here.handle uid mark row left))
 Holds old (Read uid mark) (Refused fault) new =
     (new ≡ old) × TurnsAway old (λ found handle. IsTooMany found (seen_logged mark (rows found) uid)) (λ found handle. IsSome (message_with uid found.messages)) fault
-Holds old (Count m) (Counted status) new = (new ≡ old) × (m < old.mailboxes) × (found : Mailbox) × Counts found status
-Holds old (Count m) (Refused fault) new = (new ≡ old) × (old.mailboxes ≤ m) × (fault ≡ Stranger)
+-- nor is a count
+Holds old (Count m) (Counted status) new = (new ≡ old) × (m < old.mailboxes) × UnderLock (λ found left. DoesCountAt m found (Ok status) left)
+Holds old (Count m) (Refused fault) new =
+    (new ≡ old) × ((old.mailboxes ≤ m) × (fault ≡ Stranger) ⊎ (m < old.mailboxes) × UnderLock (λ found left. DoesCountAt m found (Err fault) left))
 Holds old (Alter uid op) (Altered flags) new = (new ≡ old) × In old (λ here. UnderLock (λ found left. Alters found here.handle uid op flags left))
 Holds old (Alter uid op) (Refused fault) new = (new ≡ old) × TurnsAway old (λ found handle. IsTooMany found (flags_logged (rows found) uid op)) (λ found handle. ⊥) fault
 Holds old (Expunge uids) (Expunged view changes gone) new =

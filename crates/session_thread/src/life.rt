@@ -6,7 +6,7 @@ ghost use Rattle.std.specs.Vec.{vec_capacity};
 ghost use Rattle.imap_session.specs.Commands.{greeting};
 ghost use Rattle.imap_connection.specs.Dialogue.{Dialogue, StandsFor};
 ghost use Rattle.courier.specs.Carried.{Carried};
-ghost use Rattle.session_thread.specs.Life.{Awaits, Departs, IsOver, IsShort, Lives, LivesInPart, Moment, Steps, StopsIn, Turns, greeted_at, moment, takes_more};
+ghost use Rattle.session_thread.specs.Life.{Awaits, Departs, IsForgotten, IsOver, IsShortInTurn, Lives, LivesInPart, Moment, Steps, StopsIn, Turns, greeted_at, moment, takes_more};
 
 use crate::locked_store::LockedStore;
 use crate::speaking::answer;
@@ -53,7 +53,7 @@ fn wait_for<R: Wait, G: Gate>(
     ensures err { OnErr result ((d : Dialogue) → StandsFor connection.old d → (next : Dialogue) × StandsFor connection.new next
         × ((had : ℕ) × (had < turns) × Turns count (moment d store.old out.old.items) had (moment next store.new out.new.items)
         × (IsOver count (moment next store.new out.new.items) → ⊥))
-        × IsShort (vec_capacity out.new) (moment next store.new out.new.items)) }
+        × IsShortInTurn (vec_capacity out.new) (moment next store.new out.new.items)) }
 {
     for _turn in 0..turns {
         if store.shown() >= count {
@@ -126,6 +126,25 @@ fn make_all<R: Wait, G: Gate, C: Courier>(
     Ok(())
 }
 
+/// Leaves the mailbox that the session is in, if any, without removal.
+///
+/// Errors: `Torn` where the mailbox that was found doesn't know the session's handle, which the session
+/// keeps then.
+pub fn depart<R: Wait, G: Gate>(store: &mut LockedStore<'_, R, G>) -> Result<(), Lost>
+    ensures gone { OnOk result (Departs store.old store.new) }
+    ensures forgotten { OnErr result (IsForgotten store.old store.new) }
+    ensures torn { IfErr result (λ why. why ≡ Lost.Torn) }
+{
+    if !store.is_inside() {
+        return Ok(());
+    }
+    match store.leave(false) {
+        Ok(_gone) => Ok(()),
+        // It removes nothing, so its mailbox's log has room, and it wants no memory.
+        Err(_) => Err(Lost::Torn),
+    }
+}
+
 /// A session lives: its client is greeted, makes its steps, and leaves the mailbox that it is in, if
 /// any, without removal. What was said stands behind `out`. A step that awaits changes has at most
 /// `turns` turns, and waits on no bell; where a turn showed nothing, other threads may go on. A step of
@@ -135,10 +154,10 @@ fn make_all<R: Wait, G: Gate, C: Courier>(
 ///
 /// Errors: `NoMemory` where memory was refused to the session itself, or to the courier. Before the
 /// greeting nothing was done then. `Torn` where the courier met something else than the verdict that was
-/// awaited. After the greeting the session stops, and leaves its mailbox all the same, where that isn't refused: what was said by
-/// then stands behind `out`, and is what the steps say that were made, and of the next what was answered
-/// or the turns that were had. What a command was refused memory for is told to the client and is no
-/// error.
+/// awaited, and where the mailbox that is found when the session leaves doesn't know its handle. After
+/// the greeting the session stops, and leaves its mailbox all the same: what was said by then stands
+/// behind `out`, and is what the steps say that were made, and of the next what was answered or the turns
+/// that were had. What a command was refused memory for is told to the client and is no error.
 pub fn live<R: Wait, G: Gate, C: Courier>(
     alloc: Global,
     store: &mut LockedStore<'_, R, G>,
@@ -154,21 +173,26 @@ pub fn live<R: Wait, G: Gate, C: Courier>(
     ensures ready { C.ready courier.new }
     ensures kept { (first : C) → C.kept first courier.old → C.kept first courier.new }
 
-    // Without an error the greeting and what all steps say stand behind `out`, their messages were carried, and leaving was tried.
+    // Without an error the greeting and what all steps say stand behind `out`, their messages were carried, and the session left.
     ensures ok { OnOk result ((carried : List Carried) ×
         ((done : List Carried) → C.carried courier.old done → C.carried courier.new (done ++ carried))
         × ((last : Moment) × Lives turns (greeted_at most folders.items store.old (out.old.items ++ greeting)) steps.now carried last
         × (out.new.items ≡ last.text) × Departs last.selection store.new)) }
 
-    // After an error nothing was said or done; or it was greeted, made its first steps, stopped in the next, and leaving was tried.
+    // After an error nothing was said or done; or it was greeted, made its first steps, stopped in the next, and left or is forgotten;
+    // or it made all, and is forgotten.
     ensures err { IfErr result (λ why. (store.new ≡ store.old) × (out.new.items ≡ out.old.items) × (why ≡ Lost.NoMemory)
-        ⊎ (last : Moment) × LivesInPart turns (vec_capacity out.new) (greeted_at most folders.items store.old (out.old.items ++ greeting))
+        ⊎ ((last : Moment) × LivesInPart turns (vec_capacity out.new) (greeted_at most folders.items store.old (out.old.items ++ greeting))
         steps.now why last
-        × (out.new.items ≡ last.text) × Departs last.selection store.new) }
+        × (out.new.items ≡ last.text) × (Departs last.selection store.new ⊎ IsForgotten last.selection store.new))
+        ⊎ (carried : List Carried) × ((last : Moment)
+        × Lives turns (greeted_at most folders.items store.old (out.old.items ++ greeting)) steps.now carried last
+        × (out.new.items ≡ last.text) × IsForgotten last.selection store.new × (why ≡ Lost.Torn))) }
 {
     let mut connection = ImapConnection::new(alloc, folders, most)?;
     connection.greet(out)?;
     let lived = make_all(alloc, &mut connection, store, courier, steps, turns, out);
-    let _ = store.leave(false);
-    lived
+    let gone = depart(store);
+    lived?;
+    gone
 }

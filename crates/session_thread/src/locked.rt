@@ -1,29 +1,67 @@
-//! One hold of a mailbox's lock for each call: the lock is taken, one thing is done to the mailbox that
-//! is found, and the lock is let go. Which lock, and for whose handle, is told above.
+//! One hold of a mailbox's lock for each call: through the door of `mailbox_holds` one thing is done to the
+//! mailbox that is found. Which lock, and for whose handle, is told above.
 
-ghost use Rattle.std.specs.Prelude.{◌≡◌, ◌≢◌, ◌≤◌, ◌⊎◌, ℕ, List, Ok, Err, IfErr, IfOk, option_map};
+ghost use Rattle.std.specs.Prelude.{◌≡◌, ◌≢◌, ◌≤◌, ◌⊎◌, ℕ, List, None, Some, Ok, Err, IfErr, IfOk, option_map};
 ghost use Rattle.imap_grammar.specs.Sets.{messages_in};
 ghost use Rattle.std.specs.Option.{option_copied};
 ghost use Rattle.std.specs.Vec.{vec_capacity};
-ghost use Rattle.mailbox.specs.Mailbox.{Mailbox};
-ghost use Rattle.mailbox_holds.specs.Holds.{Counts, DoesAlter, DoesEnter, DoesExpunge, DoesFeed, DoesLeave, DoesLook, DoesRead, UnderLock};
+ghost use Rattle.mailbox_holds.specs.Holds.{DoesAlter, DoesExpunge, DoesFeed, DoesLeave, DoesLook, DoesRead, UnderLock};
+ghost use Rattle.session_thread.specs.Locks.{DoesCountAt, DoesEnterAt};
 
 use change_ring::{FlagOp, Flags};
 use cursor_set::CursorHandle;
 use imap_grammar::{Named, SeqSet, SetFault};
 use mailbox::{MailFault, Mailbox, Opening, Row, Status};
 use mailbox_holds as holds;
+use mailbox_holds::{under, under_with};
 use std::alloc::Global;
 use std::sync::{Mutex, Wait};
+
+// Lets a client into the mailbox that is held, where it has this number.
+fn enter_at(mailbox: &mut Mailbox, number: u8) -> Result<(CursorHandle, Opening), MailFault>
+    ensures { DoesEnterAt number mailbox.old result mailbox.new }
+{
+    if mailbox.number() != number {
+        return Err(MailFault::Stranger);
+    }
+    holds::enter(mailbox)
+}
 
 pub(crate) fn enter<R: Wait>(
     rt: &R,
     lock: &Mutex<Mailbox>,
+    number: u8,
 ) -> Result<(CursorHandle, Opening), MailFault>
-    ensures { UnderLock (λ found left. DoesEnter found result left) }
+    ensures { UnderLock (λ found left. DoesEnterAt number found result left) }
 {
-    let mut held = lock.lock(rt);
-    holds::enter(&mut held)
+    under(
+        rt,
+        lock,
+        |mailbox: &mut Mailbox| -> Result<(CursorHandle, Opening), MailFault>
+            ensures { DoesEnterAt number mailbox.old result mailbox.new }
+        { enter_at(mailbox, number) },
+    )
+}
+
+// The messages that a set names, as the handle's client counts them.
+fn choose_in(
+    alloc: Global,
+    mailbox: &Mailbox,
+    handle: &CursorHandle,
+    set: &SeqSet<'_>,
+    by_uid: bool,
+) -> Result<Option<Vec<Named>>, MailFault>
+    ensures chosen { IfOk result (λ chosen. (view : List ℕ) × DoesLook mailbox.now handle.now (Ok view)
+        × (option_map (λ named. named.items) chosen ≡ messages_in by_uid set.now view)) }
+    ensures not { IfErr result (λ fault. DoesLook mailbox.now handle.now (Err fault)) }
+    ensures faults { IfErr result (λ f. (f ≡ MailFault.Stranger) ⊎ (f ≡ MailFault.NoMemory)) }
+{
+    let view = holds::view(mailbox, handle)?;
+    match set.resolve(alloc, &view, by_uid) {
+        Err(SetFault::TooHigh) => Ok(None),
+        Err(SetFault::NoMemory) => Err(MailFault::NoMemory),
+        Ok(messages) => Ok(Some(messages)),
+    }
 }
 
 pub(crate) fn choose<R: Wait>(
@@ -34,18 +72,25 @@ pub(crate) fn choose<R: Wait>(
     set: &SeqSet<'_>,
     by_uid: bool,
 ) -> Result<Option<Vec<Named>>, MailFault>
-    ensures chosen { IfOk result (λ chosen. (view : List ℕ) × (found : Mailbox) × DoesLook found handle.now (Ok view)
+    ensures chosen { IfOk result (λ chosen. (view : List ℕ) × UnderLock (λ found left. (left ≡ found) × DoesLook found handle.now (Ok view))
         × (option_map (λ named. named.items) chosen ≡ messages_in by_uid set.now view)) }
-    ensures not { IfErr result (λ fault. (found : Mailbox) × DoesLook found handle.now (Err fault)) }
+    ensures not { IfErr result (λ fault. UnderLock (λ found left. (left ≡ found) × DoesLook found handle.now (Err fault))) }
     ensures faults { IfErr result (λ f. (f ≡ MailFault.Stranger) ⊎ (f ≡ MailFault.NoMemory)) }
 {
-    let held = lock.lock(rt);
-    let view = holds::view(&held, handle)?;
-    match set.resolve(alloc, &view, by_uid) {
-        Err(SetFault::TooHigh) => Ok(None),
-        Err(SetFault::NoMemory) => Err(MailFault::NoMemory),
-        Ok(messages) => Ok(Some(messages)),
-    }
+    // The set is lent, since a closure that captured it would lose its clauses.
+    let mut set = set;
+    under_with(
+        rt,
+        lock,
+        &mut set,
+        |mailbox: &mut Mailbox, set: &mut &SeqSet<'_>| -> Result<Option<Vec<Named>>, MailFault>
+            ensures same { mailbox.new ≡ mailbox.old }
+            ensures chosen { IfOk result (λ chosen. (view : List ℕ) × DoesLook mailbox.old handle.entry.now (Ok view)
+                × (option_map (λ named. named.items) chosen ≡ messages_in by_uid set.old.now view)) }
+            ensures not { IfErr result (λ fault. DoesLook mailbox.old handle.entry.now (Err fault)) }
+            ensures faults { IfErr result (λ f. (f ≡ MailFault.Stranger) ⊎ (f ≡ MailFault.NoMemory)) }
+        { choose_in(alloc, mailbox, handle, set, by_uid) },
+    )
 }
 
 pub(crate) fn read<R: Wait>(
@@ -57,15 +102,35 @@ pub(crate) fn read<R: Wait>(
 ) -> Result<Option<Row>, MailFault>
     ensures { UnderLock (λ found left. DoesRead found handle.now uid mark_seen result left) }
 {
-    let mut held = lock.lock(rt);
-    holds::read(&mut held, handle, uid, mark_seen)
+    under(
+        rt,
+        lock,
+        |mailbox: &mut Mailbox| -> Result<Option<Row>, MailFault>
+            ensures { DoesRead mailbox.old handle.entry.now uid mark_seen result mailbox.new }
+        { holds::read(mailbox, handle, uid, mark_seen) },
+    )
 }
 
-pub(crate) fn count<R: Wait>(rt: &R, lock: &Mutex<Mailbox>) -> Status
-    ensures { (found : Mailbox) × Counts found result }
+// Counts the mailbox that is held, where it has this number.
+fn count_at(mailbox: &Mailbox, number: u8) -> Result<Status, MailFault>
+    ensures { DoesCountAt number mailbox.now result mailbox.now }
 {
-    let held = lock.lock(rt);
-    holds::count(&held)
+    if mailbox.number() != number {
+        return Err(MailFault::Stranger);
+    }
+    Ok(holds::count(mailbox))
+}
+
+pub(crate) fn count<R: Wait>(rt: &R, lock: &Mutex<Mailbox>, number: u8) -> Result<Status, MailFault>
+    ensures { UnderLock (λ found left. DoesCountAt number found result left) }
+{
+    under(
+        rt,
+        lock,
+        |mailbox: &mut Mailbox| -> Result<Status, MailFault>
+            ensures { DoesCountAt number mailbox.old result mailbox.new }
+        { count_at(mailbox, number) },
+    )
 }
 
 pub(crate) fn alter<R: Wait>(
@@ -77,39 +142,86 @@ pub(crate) fn alter<R: Wait>(
 ) -> Result<Option<Flags>, MailFault>
     ensures { UnderLock (λ found left. DoesAlter found handle.now uid op result left) }
 {
-    let mut held = lock.lock(rt);
-    holds::alter(&mut held, handle, uid, op)
+    under(
+        rt,
+        lock,
+        |mailbox: &mut Mailbox| -> Result<Option<Flags>, MailFault>
+            ensures { DoesAlter mailbox.old handle.entry.now uid op result mailbox.new }
+        { holds::alter(mailbox, handle, uid, op) },
+    )
 }
 
 pub(crate) fn expunge<R: Wait>(
     rt: &R,
     lock: &Mutex<Mailbox>,
-    handle: &mut CursorHandle,
+    mut handle: CursorHandle,
     uids: Option<&[u32]>,
     out: &mut Vec<u8>,
-) -> Result<usize, MailFault>
+) -> (Result<usize, MailFault>, CursorHandle)
     ensures event { UnderLock (λ found left.
-        DoesExpunge found handle.old (option_copied uids.entry) out.old.items out.new.items result left handle.new) }
+        DoesExpunge found handle (option_copied uids.entry) out.old.items out.new.items result.0 left result.1) }
     ensures room { vec_capacity out.old ≤ vec_capacity out.new }
 {
-    let mut held = lock.lock(rt);
-    holds::expunge(&mut held, handle, uids, out)
+    match uids {
+        None => under_with(
+            rt,
+            lock,
+            out,
+            move |mailbox: &mut Mailbox, out: &mut Vec<u8>| -> (
+                Result<usize, MailFault>,
+                CursorHandle,
+            )
+                ensures event { DoesExpunge mailbox.old handle None out.old.items out.new.items result.0 mailbox.new result.1 }
+                ensures room { vec_capacity out.old ≤ vec_capacity out.new }
+            {
+                let gone = holds::expunge(mailbox, &mut handle, None, out);
+                (gone, handle)
+            },
+        ),
+        Some(uids) => under_with(
+            rt,
+            lock,
+            out,
+            move |mailbox: &mut Mailbox, out: &mut Vec<u8>| -> (
+                Result<usize, MailFault>,
+                CursorHandle,
+            )
+                ensures event { DoesExpunge mailbox.old handle (Some uids.entry.now) out.old.items out.new.items result.0 mailbox.new result.1 }
+                ensures room { vec_capacity out.old ≤ vec_capacity out.new }
+            {
+                let gone = holds::expunge(mailbox, &mut handle, Some(uids), out);
+                (gone, handle)
+            },
+        ),
+    }
 }
 
 pub(crate) fn feed<R: Wait>(
     rt: &R,
     lock: &Mutex<Mailbox>,
-    handle: &mut CursorHandle,
+    mut handle: CursorHandle,
     limit: usize,
     out: &mut Vec<u8>,
-) -> Result<usize, MailFault>
-    ensures event { UnderLock (λ found left. DoesFeed found handle.old limit out.old.items out.new.items result left handle.new) }
-    ensures few { IfOk result (λ n. n ≤ limit) }
-    ensures faults { IfErr result (λ f. f ≢ MailFault.Spent) }
+) -> (Result<usize, MailFault>, CursorHandle)
+    ensures event { UnderLock (λ found left. DoesFeed found handle limit out.old.items out.new.items result.0 left result.1) }
+    ensures few { IfOk result.0 (λ n. n ≤ limit) }
+    ensures faults { IfErr result.0 (λ f. f ≢ MailFault.Spent) }
     ensures room { vec_capacity out.old ≤ vec_capacity out.new }
 {
-    let mut held = lock.lock(rt);
-    holds::feed(&mut held, handle, limit, out)
+    under_with(
+        rt,
+        lock,
+        out,
+        move |mailbox: &mut Mailbox, out: &mut Vec<u8>| -> (Result<usize, MailFault>, CursorHandle)
+            ensures event { DoesFeed mailbox.old handle limit out.old.items out.new.items result.0 mailbox.new result.1 }
+            ensures few { IfOk result.0 (λ n. n ≤ limit) }
+            ensures faults { IfErr result.0 (λ f. f ≢ MailFault.Spent) }
+            ensures room { vec_capacity out.old ≤ vec_capacity out.new }
+        {
+            let fed = holds::feed(mailbox, &mut handle, limit, out);
+            (fed, handle)
+        },
+    )
 }
 
 pub(crate) fn leave<R: Wait>(
@@ -120,6 +232,11 @@ pub(crate) fn leave<R: Wait>(
 ) -> Result<usize, (CursorHandle, MailFault)>
     ensures { UnderLock (λ found left. DoesLeave found handle remove result left) }
 {
-    let mut held = lock.lock(rt);
-    holds::leave(&mut held, handle, remove)
+    under(
+        rt,
+        lock,
+        move |mailbox: &mut Mailbox| -> Result<usize, (CursorHandle, MailFault)>
+            ensures { DoesLeave mailbox.old handle remove result mailbox.new }
+        { holds::leave(mailbox, handle, remove) },
+    )
 }

@@ -1,7 +1,7 @@
 //! The store of a session of the running house: mailboxes behind locks. Which lock a call takes, and
 //! whose bells ring behind it, stands here; what is done to the mailbox that is found doesn't.
 
-ghost use Rattle.std.specs.Prelude.{◌≡◌, ◌∷◌, ◌++◌, [], List, IfOk, None, length};
+ghost use Rattle.std.specs.Prelude.{◌≡◌, ◌∷◌, ◌++◌, [], List, IfOk, None, is_some, length};
 ghost use Rattle.courier.specs.Carried.{Carried};
 ghost use Rattle.session_thread.specs.Life.{carried_of};
 ghost use Rattle.session_thread.specs.Locks.{Holds, shown_in};
@@ -140,6 +140,13 @@ impl<'a, R: Wait, G: Gate> LockedStore<'a, R, G> {
         pace
     }
 
+    // Whether the session is in a mailbox.
+    pub(crate) fn is_inside(&self) -> bool
+        ensures { result ≡ is_some self.now.entered }
+    {
+        self.entered.is_some()
+    }
+
     /// How many changes the session was shown since it entered its mailbox; 0 in none.
     pub fn shown(&self) -> u64
         ensures { result ≡ shown_in self.now.entered }
@@ -163,7 +170,7 @@ impl<'a, R: Wait, G: Gate> Store for LockedStore<'a, R, G> {
         }
         self.pace.pass();
         let lock = &self.mailboxes[usize::from(mailbox)];
-        let (handle, opening) = locked::enter(self.rt, lock)?;
+        let (handle, opening) = locked::enter(self.rt, lock, mailbox)?;
         self.entered = Some(Entry {
             mailbox,
             start: handle.at(),
@@ -205,7 +212,7 @@ impl<'a, R: Wait, G: Gate> Store for LockedStore<'a, R, G> {
         }
         self.pace.pass();
         let lock = &self.mailboxes[usize::from(mailbox)];
-        Ok(locked::count(self.rt, lock))
+        locked::count(self.rt, lock, mailbox)
     }
 
     fn store(&mut self, uid: u32, op: FlagOp) -> Result<Option<Flags>, MailFault> {
@@ -225,13 +232,17 @@ impl<'a, R: Wait, G: Gate> Store for LockedStore<'a, R, G> {
     }
 
     fn expunge(&mut self, uids: Option<&[u32]>, out: &mut Vec<u8>) -> Result<usize, MailFault> {
-        let Some(mut here) = self.entered.take() else {
+        let Some(here) = self.entered.take() else {
             return Err(MailFault::Stranger);
         };
         self.pace.pass();
         let lock = &self.mailboxes[usize::from(here.mailbox)];
-        let gone = locked::expunge(self.rt, lock, &mut here.handle, uids, out);
-        self.entered = Some(here);
+        let (gone, handle) = locked::expunge(self.rt, lock, here.handle, uids, out);
+        self.entered = Some(Entry {
+            mailbox: here.mailbox,
+            start: here.start,
+            handle,
+        });
         if has_removed(&gone) {
             ring_each(self.bells);
         }
@@ -239,13 +250,17 @@ impl<'a, R: Wait, G: Gate> Store for LockedStore<'a, R, G> {
     }
 
     fn feed(&mut self, limit: usize, out: &mut Vec<u8>) -> Result<usize, MailFault> {
-        let Some(mut here) = self.entered.take() else {
+        let Some(here) = self.entered.take() else {
             return Err(MailFault::Stranger);
         };
         self.pace.pass();
         let lock = &self.mailboxes[usize::from(here.mailbox)];
-        let fed = locked::feed(self.rt, lock, &mut here.handle, limit, out);
-        self.entered = Some(here);
+        let (fed, handle) = locked::feed(self.rt, lock, here.handle, limit, out);
+        self.entered = Some(Entry {
+            mailbox: here.mailbox,
+            start: here.start,
+            handle,
+        });
         fed
     }
 

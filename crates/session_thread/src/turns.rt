@@ -4,7 +4,7 @@ ghost use Rattle.std.specs.Prelude.{◌≡◌, true, IfOk, OnErr};
 ghost use Rattle.std.specs.Vec.{vec_capacity};
 ghost use Rattle.imap_session.specs.Exchange.{is_idling};
 ghost use Rattle.imap_connection.specs.Dialogue.{Dialogue, StandsFor};
-ghost use Rattle.session_thread.specs.Life.{HasShown, IsShort, moment};
+ghost use Rattle.session_thread.specs.Life.{HasShown, IsShortInTurn, moment};
 
 use crate::locked_store::LockedStore;
 use imap_connection::ImapConnection;
@@ -34,7 +34,7 @@ pub fn idle_turn<R: Wait, G: Gate>(
     // After an error it stands as before, and was short of room in `out`, or its mailbox refused it memory.
     ensures err { OnErr result ((d : Dialogue) → StandsFor connection.old d → StandsFor connection.new d
         × (moment d store.new out.new.items ≡ moment d store.old out.old.items)
-        × IsShort (vec_capacity out.new) (moment d store.new out.new.items)) }
+        × IsShortInTurn (vec_capacity out.new) (moment d store.new out.new.items)) }
 {
     out.reserve(TURN_ROOM)?;
     match connection.idle_turn(store, out) {

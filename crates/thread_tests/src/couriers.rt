@@ -6,7 +6,7 @@ use change_ring::Flags;
 use courier::{Courier, Lost};
 use delivery_token::{CopyKey, Job, Refusal, Text, Verdict};
 use imap_session::Store;
-use mailbox::{MailFault, Mailbox};
+use mailbox::{MailFault, Mailbox, verdict_of};
 use pace::{Gate, Pace};
 use session_thread::{LockedStore, Step, live};
 use std::alloc::{AllocError, Global};
@@ -70,10 +70,7 @@ impl<'a, R: Wait> TestCourier<'a, R> {
         let Some(lock) = self.mailboxes.get(usize::from(mailbox)) else {
             return Err(Lost::Torn);
         };
-        match lock.lock(self.rt).deliver(&job) {
-            Ok(receipt) => Ok(Verdict::Stored { uid: receipt.uid() }),
-            Err(why) => Ok(Verdict::Refused(why)),
-        }
+        Ok(verdict_of(lock.lock(self.rt).deliver(&job)))
     }
 }
 

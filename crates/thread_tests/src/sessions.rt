@@ -4,14 +4,14 @@
 use crate::couriers::{TestCourier, Way};
 use change_ring::{FlagOp, Flags, NO_FLAGS};
 use courier::Lost;
-use delivery_token::{CopyKey, Job, Text};
+use delivery_token::{CopyKey, Job, Text, Verdict};
 use imap_connection::ImapConnection;
 use imap_grammar::{Command, read_line};
 use imap_session::{Folder, Store};
-use mailbox::{History, Limits, MailFault, Mailbox};
+use mailbox::{History, Limits, MailFault, Mailbox, verdict_of};
 use pace::{Actor, Gate};
 use session_bells::{SessionBell, Sleeper, ring_each};
-use session_thread::{LockedStore, Step, live, takes_more};
+use session_thread::{LockedStore, Step, depart, live, takes_more};
 use std::alloc::{AllocError, Global};
 use std::mem;
 use std::sync::atomic::{AtomicBool, AtomicU64, Ordering};
@@ -105,6 +105,14 @@ fn copy(alloc: Global) -> Result<Job, AllocError> {
     })
 }
 
+// Whether a copy was delivered to the mailbox behind this lock.
+fn has_stored<R: Wait>(rt: &R, lock: &Mutex<Mailbox>, job: &Job) -> bool {
+    matches!(
+        verdict_of(lock.lock(rt).deliver(job)),
+        Verdict::Stored { uid: _ }
+    )
+}
+
 // What a consumer does with a copy: one event of the mailbox under its lock, and then the bells of its user.
 fn deliver<R: Wait>(
     rt: &R,
@@ -117,7 +125,7 @@ fn deliver<R: Wait>(
     let Some(mailbox) = mailboxes.first() else {
         return false;
     };
-    let is_stored = mailbox.lock(rt).deliver(job).is_ok();
+    let is_stored = has_stored(rt, mailbox, job);
     order.delivered.store(true, Ordering::SeqCst);
     ring_each(bells);
     is_stored
@@ -382,7 +390,7 @@ fn with_a_message<R: Wait>(rt: &R, alloc: Global) -> Result<Vec<Mutex<Mailbox>>,
     let mailboxes = two_mailboxes(alloc)?;
     let job = copy(alloc)?;
     match mailboxes.first() {
-        Some(lock) if lock.lock(rt).deliver(&job).is_ok() => Ok(mailboxes),
+        Some(lock) if has_stored(rt, lock, &job) => Ok(mailboxes),
         _ => Err(AllocError),
     }
 }
@@ -551,6 +559,28 @@ fn exchange<R: Wait>(rt: &R, mailboxes: &[Mutex<Mailbox>]) {
     if let [first, second] = mailboxes {
         mem::swap(&mut *first.lock(rt), &mut *second.lock(rt));
     }
+}
+
+// A session looks at the number of the mailbox that it finds: neither SELECT nor STATUS takes another for it.
+#[test]
+fn another_mailbox_is_not_taken_for_the_one_that_was_asked_for(
+    rt: HostRuntime,
+) -> Result<(), AllocError> {
+    let alloc = rt.alloc();
+    let mailboxes = with_a_message(&rt, alloc)?;
+    let tally = Tally::new();
+    let mut store = LockedStore::new(&rt, &tally, 0, &mailboxes, &[]);
+    exchange(&rt, &mailboxes);
+    assert_eq!(rt; store.enter(0), Err(MailFault::Stranger));
+    assert_eq!(rt; store.status(1), Err(MailFault::Stranger));
+    exchange(&rt, &mailboxes);
+    assert!(rt; store.enter(0).is_ok());
+    exchange(&rt, &mailboxes);
+    assert_eq!(rt; depart(&mut store), Err(Lost::Torn));
+    exchange(&rt, &mailboxes);
+    assert_eq!(rt; depart(&mut store), Ok(()));
+    assert_eq!(rt; depart(&mut store), Ok(()));
+    Ok(())
 }
 
 // What a session is told by a line, which it has selected INBOX for, once another mailbox stands behind its lock; and whether it has
