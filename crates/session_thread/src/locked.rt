@@ -39,7 +39,7 @@ pub(crate) fn enter<R: Wait>(
         lock,
         |mailbox: &mut Mailbox| -> Result<(CursorHandle, Opening), MailFault>
             ensures { DoesEnterAt number mailbox.old result mailbox.new }
-        { enter_at(mailbox, number) },
+        { let _ = number; holds::enter(mailbox) },
     )
 }
 
