@@ -1,5 +1,5 @@
 -- Events that are tried in a house, one after another.
-use Rattle.std.proofs.Common.{◌≡◌, ℕ, ◌⊎◌, inl, inr, false, List, [], ◌∷◌, ◌++◌, refl, sym, ap, ◌∙◌, subst, append_assoc, append-nil, ◌+◌, ◌<◌, ◌≤◌, Result, Err, length, take, get_or, add-one}
+use Rattle.std.proofs.Common.{◌≡◌, ℕ, ◌⊎◌, inl, inr, List, [], ◌∷◌, ◌++◌, refl, sym, ap, ◌∙◌, subst, append_assoc, append-nil, ◌+◌, ◌<◌, ◌≤◌, Result, Err, length, take, get_or, add-one}
 use Rattle.std.proofs.Math.Seq.{take-suc}
 use Rattle.std.proofs.lemmas.List.{take_all}
 use Rattle.house.specs.declared.event.HouseFault.{HouseFault}
@@ -7,49 +7,13 @@ use Rattle.house.specs.declared.event.HouseFault.TheVariants as faults
 use Rattle.house.specs.Setup.{Setup}
 use Rattle.house.specs.declared.event.Event.{Event}
 use Rattle.house.specs.Scene.{HasNothing, Scene, empty_scene}
-use Rattle.house.specs.Settled.{HappenedFrom}
-use Rattle.house.specs.Settling.{Happened}
+use Rattle.house.specs.Settling.{BreaksOff, Happened, cut_short, unbegun}
 use Rattle.house.specs.Stands.{StandsFor}
 use Rattle.house.specs.House.{House}
-use Rattle.house.specs.Steps.{Follows, FollowsInPart, IsBusy, ChangesNothing, IsNobody, Led}
-use Rattle.house.proofs.Settlement.{happened-append, plays_part}
-use Rattle.exactly_once.specs.Promise.{CameOnce, EachTried, IsTried, TriedFrom, happens, refused}
+use Rattle.house.specs.Steps.{Follows, FollowsInPart, IsBusy, ChangesNothing, IsNobody}
+use Rattle.house.proofs.Settlement.{broken_off, happened-append, plays_part, split_at}
+use Rattle.exactly_once.specs.Promise.{AreSomeOf, CameOnce, EachTried, IsTried, TriedFrom, TriedInPart, happens, refused}
 use Rattle.exactly_once.proofs.Going.{happened_once}
-
--- nothing happened
-pub none_happened : (k : Setup) (s : Scene) (h h1 : House) (old new : List ℕ) → StandsFor k h s → h1 ≡ h → new ≡ old → HappenedFrom k s h1 old new
-none_happened k s h h1 old new st e o = record { events = []; after = s; printed = []; happened = (refl, refl); stands = subst (λ (x : House). StandsFor k x s) (sym e) st; out = o ∙ sym (append-nil old) }
-
-led_happened : (k : Setup) (s : Scene) (e : Event) (h : House) (old new : List ℕ) → Led k false s e h old new → HappenedFrom k s h old new
-led_happened k s e h old new w = record {
-  events = e ∷ [];
-  after = w.after;
-  printed = w.printed;
-  happened = (w.after, w.printed, [], w.plays, (refl, refl), sym (append-nil w.printed));
-  stands = w.stands;
-  out = w.out;
-}
-
-in_part : (k : Setup) (s : Scene) (e : Event) (h1 : House) (old new : List ℕ) → Led k false s e h1 old new ⊎ (StandsFor k h1 s × (new ≡ old)) → HappenedFrom k s h1 old new
-in_part k s e h1 old new (inl w) = led_happened k s e h1 old new w
-in_part k s e h1 old new (inr n) = none_happened k s h1 h1 old new n.0 refl n.1
-
-pub part_happened : (k : Setup) (s : Scene) (e : Event) (h h1 : House) (old new : List ℕ) → StandsFor k h s → FollowsInPart h e h1 old new → HappenedFrom k s h1 old new
-part_happened k s e h h1 old new st f = in_part k s e h1 old new (f k s st)
-
--- one after the other
-pub happened_both : (k : Setup) (s : Scene) (h h1 : House) (old mid new : List ℕ) → (a : HappenedFrom k s h old mid) → HappenedFrom k a.after h1 mid new → HappenedFrom k s h1 old new
-happened_both k s h h1 old mid new a b = record {
-  events = a.events ++ b.events;
-  after = b.after;
-  printed = a.printed ++ b.printed;
-  happened = happened-append k a.events b.events s a.after b.after a.printed b.printed a.happened b.happened;
-  stands = b.stands;
-  out = b.out ∙ ap (λ (x : List ℕ). x ++ b.printed) a.out ∙ append_assoc old a.printed b.printed;
-}
-
-pub came_once : (k : Setup) (h : House) (old new : List ℕ) → HappenedFrom k (empty_scene k) h old new → CameOnce k h old new
-came_once k h old new a = record { events = a.events; after = a.after; printed = a.printed; stands = a.stands; out = a.out; once = happened_once k a.events a.after a.printed a.happened }
 
 -- ---- one event that was tried
 
@@ -106,23 +70,76 @@ pub one_more_tried : (k : Setup) (s : Scene) (es : List Event) (n : ℕ) (d : Ev
 one_more_tried k s es n d h i g old mid new l a b =
     subst (λ (xs : List Event). TriedFrom k xs h s g old new) (sym (take-suc es n d l) ∙ ap (λ (j : ℕ). take j es) (sym (add-one n))) (both_tried k s (take n es) (get_or es n d ∷ []) h i g old mid new a b)
 
+-- the first of them, and at the next one memory was wanting
+pub broke_off : (k : Setup) (s : Scene) (es : List Event) (n : ℕ) (d : Event) (h i g : House) (old mid new : List ℕ) → n < length es → (a : TriedFrom k (take n es) h s i old mid)
+    → FollowsInPart i (get_or es n d) g mid new → TriedInPart k es h s g old new
+broke_off k s es n d h i g old mid new l a f =
+    let r = split_at es n d l in
+    let b = broken_off (get_or es n d) g mid new k a.after (f k a.after a.stands) in
+    record {
+      done = take n es;
+      next = get_or es n d;
+      others = r.0;
+      split = r.1;
+      between = i;
+      scene = a.after;
+      one = a.printed;
+      tried = a.tried;
+      after = b.after;
+      two = b.printed;
+      breaks = b.goes;
+      stands = b.stands;
+      out = b.out ∙ ap (λ (x : List ℕ). x ++ b.printed) a.out;
+    }
+
 -- ---- what was tried happened
 
-is_tried : (k : Setup) (e : Event) (h : House) (s t : Scene) (printed : List ℕ) → IsTried k h s e t printed → (es : List Event) × Happened k es s t printed
-is_tried k e h s t printed (happens p) = (e ∷ [], (t, printed, [], plays_part k s e t printed p, (refl, refl), sym (append-nil printed)))
-is_tried k e h s t printed (refused why same silent) = ([], (same, silent))
+some_skip : (some all : List Event) (e : Event) → AreSomeOf some all → AreSomeOf some (e ∷ all)
+some_skip [] all e h = tt
+some_skip (x ∷ some) all e h = inr h
 
-each_tried : (k : Setup) (es : List Event) (h g : House) (s t : Scene) (printed : List ℕ) → EachTried k es h s g t printed → (fs : List Event) × Happened k fs s t printed
-each_tried k [] h g s t printed (a, b, c) = ([], (b, c))
-each_tried k (e ∷ es) h g s t printed (i, m, one, two, tried, stands, more, both) =
-    let a = is_tried k e h s m one tried in
-    let b = each_tried k es i g m t two more in
-    (a.0 ++ b.0, subst (λ (x : List ℕ). Happened k (a.0 ++ b.0) s t x) (sym both) (happened-append k a.0 b.0 s m t one two a.1 b.1))
+some_both : (fs es gs others : List Event) → AreSomeOf fs es → AreSomeOf gs others → AreSomeOf (fs ++ gs) (es ++ others)
+some_both [] [] gs others a b = b
+some_both [] (e ∷ es) gs others a b = some_skip gs (es ++ others) e (some_both [] es gs others tt b)
+some_both (f ∷ fs) [] gs others a b = absurd a
+some_both (f ∷ fs) (e ∷ es) gs others (inl (same, more)) b = inl (same, some_both fs es gs others more b)
+some_both (f ∷ fs) (e ∷ es) gs others (inr a) b = inr (some_both (f ∷ fs) es gs others a b)
 
-pub tried_happened : (k : Setup) (s : Scene) (es : List Event) (h g : House) (old new : List ℕ) → TriedFrom k es h s g old new → HappenedFrom k s g old new
-tried_happened k s es h g old new a =
-    let b = each_tried k es h g s a.after a.printed a.tried in
-    record { events = b.0; after = a.after; printed = a.printed; happened = b.1; stands = a.stands; out = a.out }
+-- some of these events happened, in their order
+abbrev pub SomeCame : Setup → List Event → Scene → Scene → List ℕ → Type 0
+SomeCame k es s t printed = (fs : List Event) × AreSomeOf fs es × Happened k fs s t printed
+
+one_tried : (k : Setup) (e : Event) (es : List Event) (h : House) (s m t : Scene) (one two printed : List ℕ) → IsTried k h s e m one → printed ≡ one ++ two → SomeCame k es m t two → SomeCame k (e ∷ es) s t printed
+one_tried k e es h s m t one two printed (happens p) both (fs, some, more) = (e ∷ fs, inl (refl, some), (m, one, two, plays_part k s e m one p, more, both))
+one_tried k e es h s m t one two printed (refused why same silent) both (fs, some, more) =
+    (fs, some_skip fs es e some, subst (λ (x : List ℕ). Happened k fs s t x) (sym (both ∙ ap (λ (x : List ℕ). x ++ two) silent)) (subst (λ (x : Scene). Happened k fs x t two) same more))
+
+each_tried : (k : Setup) (es : List Event) (h g : House) (s t : Scene) (printed : List ℕ) → EachTried k es h s g t printed → SomeCame k es s t printed
+each_tried k [] h g s t printed (a, b, c) = ([], tt, (b, c))
+each_tried k (e ∷ es) h g s t printed (i, m, one, two, tried, stands, more, both) = one_tried k e es h s m t one two printed tried both (each_tried k es i g m t two more)
+
+breaks_came : (k : Setup) (done : List Event) (next : Event) (others : List Event) (s m t : Scene) (one two : List ℕ) → SomeCame k done s m one → BreaksOff k m next t two → SomeCame k (done ++ next ∷ others) s t (one ++ two)
+breaks_came k done next others s m t one two (fs, some, came) (cut_short p) =
+    (fs ++ next ∷ [], some_both fs done (next ∷ []) (next ∷ others) some (inl (refl, tt)), happened-append k fs (next ∷ []) s m t one two came (t, two, [], p, (refl, refl), sym (append-nil two)))
+breaks_came k done next others s m t one two (fs, some, came) (unbegun same silent) = (fs ++ [], some_both fs done [] (next ∷ others) some tt, happened-append k fs [] s m t one two came (same, silent))
+
+pub came_once : (k : Setup) (es : List Event) (h g : House) (old new : List ℕ) → TriedFrom k es h (empty_scene k) g old new → CameOnce k es g old new
+came_once k es h g old new a =
+    let b = each_tried k es h g (empty_scene k) a.after a.printed a.tried in
+    record { events = b.0; among = b.1; after = a.after; printed = a.printed; stands = a.stands; out = a.out; once = happened_once k b.0 a.after a.printed b.2 }
+
+pub came_in_part : (k : Setup) (es : List Event) (h g : House) (old new : List ℕ) → TriedInPart k es h (empty_scene k) g old new → CameOnce k es g old new
+came_in_part k es h g old new a =
+    let b = breaks_came k a.done a.next a.others (empty_scene k) a.scene a.after a.one a.two (each_tried k a.done h a.between (empty_scene k) a.scene a.one a.tried) a.breaks in
+    record {
+      events = b.0;
+      among = subst (λ (xs : List Event). AreSomeOf b.0 xs) (sym a.split) b.1;
+      after = a.after;
+      printed = a.one ++ a.two;
+      stands = a.stands;
+      out = a.out ∙ append_assoc old a.one a.two;
+      once = happened_once k b.0 a.after (a.one ++ a.two) b.2;
+    }
 
 -- ---- which fault it was
 

@@ -18,6 +18,7 @@ use Rattle.house.specs.Scene.{EnterPlay, HasNothing, IdlePlay, Plays, SayPlay, S
 use Rattle.house.specs.Steps.{IsBusy, IsNobody}
 use Rattle.house.specs.declared.event.Event as house
 use Rattle.house.specs.declared.event.Event.TheVariants.{Bytes, Put, Hear, Enter, Say, Idle}
+use Rattle.house.specs.Settling.{BreaksOff}
 use Rattle.house.specs.Stands.{StandsFor}
 use Rattle.house.specs.House.{House}
 
@@ -167,9 +168,32 @@ pub record TriedFrom (k : Setup) (es : List house.Event) (h : House) (s : Scene)
   pub stands : StandsFor k g after
   pub out : new ≡ old ++ printed
 
--- In a house that was new these events happened; it stands for what they led to, and this was appended on the way.
-pub record CameOnce (k : Setup) (h : House) (old new : List ℕ) : Type 0 where
+-- Memory was wanting: the first of these events were tried so, and the next one broke off. Those behind it weren't tried.
+pub record TriedInPart (k : Setup) (es : List house.Event) (h : House) (s : Scene) (g : House) (old new : List ℕ) : Type 0 where
+  pub done : List house.Event
+  pub next : house.Event
+  pub others : List house.Event
+  pub split : es ≡ done ++ next ∷ others
+  pub between : House
+  pub scene : Scene
+  pub one : List ℕ
+  pub tried : EachTried k done h s between scene one
+  pub after : Scene
+  pub two : List ℕ
+  pub breaks : BreaksOff k scene next after two
+  pub stands : StandsFor k g after
+  pub out : new ≡ old ++ one ++ two
+
+-- these are some of the others, in their order
+abbrev pub AreSomeOf : List house.Event → List house.Event → Type 0
+AreSomeOf [] all = Unit {0}
+AreSomeOf (e ∷ some) [] = ⊥
+AreSomeOf (e ∷ some) (f ∷ all) = ((e ≡ f) × AreSomeOf some all) ⊎ AreSomeOf (e ∷ some) all
+
+-- In a house that was new some of these events happened, in their order; it stands for what they led to, and this was appended on the way.
+pub record CameOnce (k : Setup) (es : List house.Event) (h : House) (old new : List ℕ) : Type 0 where
   pub events : List house.Event
+  pub among : AreSomeOf events es
   pub after : Scene
   pub printed : List ℕ
   pub stands : StandsFor k h after

@@ -1,5 +1,5 @@
 -- Closing a shard: the mark changes, and who stands at a seat stands there as before; and in a settling each seat ends on each shard that is shut.
-use Rattle.std.proofs.Common.{◌≡◌, ℕ, ◌+◌, ◌<◌, Bool, true, false, List, [], ◌∷◌, ◌++◌, length, refl, ap, sym, ◌∙◌, subst, arith, append-nil, length-set, zero-add, Option, Some, None, Result, get_or, set}
+use Rattle.std.proofs.Common.{◌≡◌, ℕ, ◌+◌, ◌<◌, ◌≤◌, Bool, true, false, List, [], ◌∷◌, ◌++◌, length, refl, ap, sym, ◌∙◌, subst, arith, append-nil, length-set, zero-add, Option, Some, None, Result, get_or, set}
 use Rattle.std.specs.Prelude.{All, ◌||◌, cond, filter}
 use Rattle.std.specs.List.{range_with_len}
 use Rattle.std.proofs.lemmas.List.FromFn.{map-range_with_len_more}
@@ -8,9 +8,9 @@ use Rattle.std.proofs.lemmas.Grind.{flat_map-append}
 use Rattle.change_ring.proofs.RangeLaws.{range-push}
 use Rattle.house.specs.declared.event.Event.{Event}
 use Rattle.house.specs.declared.event.Event.TheVariants.{End}
-use Rattle.house.specs.Settling.{Stints, ends_on}
-use Rattle.house.specs.inner.Trying.{CameStints, DidStints, IsAmong, Wants, closes, ends, ends_where}
-use Rattle.house.proofs.Settlement.{All-one, DidStint, did_as, one_stint, shards_of, stints_then, stints_wants, wants_as}
+use Rattle.house.specs.Settling.{StintBreaksOff, Stints, StintsBreakOff, ends_on}
+use Rattle.house.specs.inner.Trying.{CameStints, DidStints, IsAmong, Wants, WantsStints, closes, ends, ends_where}
+use Rattle.house.proofs.Settlement.{All-one, DidStint, did_as, first_made, first_numbers, one_stint, one_wants, shards_of, stints_then, stints_wants, wants_as, wants_of_all}
 use Rattle.delivery_token.specs.declared.CopyKey.{CopyKey}
 use Rattle.delivery_token.specs.declared.log.Noted.{Noted}
 use Rattle.envelope.specs.Directory.{Directory, is_shut, marked}
@@ -96,11 +96,16 @@ ends_step seats seat shard h o h1 o1 h2 o2 a b l c d =
     (one_stint (IsFor seats shard) (End (seat + 1) shard ∷ []) h1 o1 h2 o2 b (λ k q. end_among k seats seat shard l q) d))
 
 pub ends_wants : (seats seat shard : ℕ) (h : House) (o : List ℕ) (h1 : House) (o1 : List ℕ) (h2 : House) (o2 : List ℕ) (a : Bool) → seat < seats → seats ≡ length h.callers + length h.visitors
-    → DidStints (IsFor seats shard) (λ k. ends seat shard) h o h1 o1 a → Wants (λ k. All (IsAmong k) (End (seat + 1) shard ∷ [])) h1 o1 h2 o2 → Wants (λ k. shard < k.config.shards) h o h2 o2
+    → DidStints (IsFor seats shard) (λ k. ends seat shard) h o h1 o1 a
+    → Wants (λ k. All (IsAmong k) (End (seat + 1) shard ∷ [])) (λ k s t printed. StintBreaksOff k (End (seat + 1) shard ∷ []) s t printed) h1 o1 h2 o2
+    → WantsStints (λ k. shard < k.config.shards) (λ k. ends k.config.seats shard) h o h2 o2
 ends_wants seats seat shard h o h1 o1 h2 o2 a l e c d =
-    wants_as (IsFor seats shard) (λ k. shard < k.config.shards) h o h2 o2 (λ k s q st. (sym (e ∙ st.seats), q))
-    (stints_wants (IsFor seats shard) (λ k. ends seat shard) h o h1 o1 h2 o2 a c
-    (wants_as (λ k. All (IsAmong k) (End (seat + 1) shard ∷ [])) (IsFor seats shard) h1 o1 h2 o2 (λ k s q st. end_among k seats seat shard l q) d))
+    let make : ℕ → List Event = λ n. End n shard ∷ [] in
+    wants_of_all (IsFor seats shard) (λ k. shard < k.config.shards) (λ k. ends seat shard ++ (End (seat + 1) shard ∷ []) ∷ []) (λ k. ends k.config.seats shard) h o h2 o2 (λ k s q st. (sym (e ∙ st.seats), q))
+    (λ k q. let f = q.0 in let r = first_made make 1 (seat + 1) k.config.seats (omega (arith, l, f)) in
+        (r.0, r.1 ∙ ap (λ (xs : List (List Event)). xs ++ r.0) (map-range_with_len_more make 1 seat (seat + 1) (omega arith))))
+    (stints_wants (IsFor seats shard) (λ k. ends seat shard) (λ k. (End (seat + 1) shard ∷ []) ∷ []) h o h1 o1 h2 o2 a c
+    (one_wants (IsFor seats shard) (End (seat + 1) shard ∷ []) h1 o1 h2 o2 (λ k q. end_among k seats seat shard l q) d))
 
 pub ends_done : (seats seat shard : ℕ) (h : House) (o : List ℕ) (h1 : House) (o1 : List ℕ) (b : Bool) → seat ≡ seats → seats ≡ length h.callers + length h.visitors
     → DidStints (IsFor seats shard) (λ k. ends seat shard) h o h1 o1 b → DidStints (λ k. shard < k.config.shards) (λ k. ends k.config.seats shard) h o h1 o1 b
@@ -139,9 +144,21 @@ closes_step shut shards shard is h o h1 o1 h2 o2 a b l e c d =
     one_more : (k : Setup) → closes k.config.seats shut shard ++ ends_where k.config.seats shard is ≡ closes k.config.seats shut (shard + 1)
     one_more k = ap (λ (x : Bool). closes k.config.seats shut shard ++ ends_where k.config.seats shard x) e ∙ closed_more k.config.seats shut shard
 
-pub closes_wants : (shut : ℕ → Bool) (shard : ℕ) (h : House) (o : List ℕ) (h1 : House) (o1 : List ℕ) (h2 : House) (o2 : List ℕ) (a : Bool) → shard < h.directory.shards
-    → DidStints (λ k. k.config.shards ≡ h.directory.shards) (λ k. closes k.config.seats shut shard) h o h1 o1 a → Wants (λ k. shard < k.config.shards) h1 o1 h2 o2 → Wants (λ k. Unit {0}) h o h2 o2
-closes_wants shut shard h o h1 o1 h2 o2 a l c d =
-    wants_as (λ k. k.config.shards ≡ h.directory.shards) (λ k. Unit {0}) h o h2 o2 (λ k s q st. shards_of k s h st)
-    (stints_wants (λ k. k.config.shards ≡ h.directory.shards) (λ k. closes k.config.seats shut shard) h o h1 o1 h2 o2 a c
-    (wants_as (λ k. shard < k.config.shards) (λ k. k.config.shards ≡ h.directory.shards) h1 o1 h2 o2 (λ k s q st. omega (arith, l, q)) d))
+-- the stints of ends on the first shards, and on the others
+first_closed : (seats : ℕ) (shut : ℕ → Bool) (some all : ℕ) → some ≤ all → (others : List (List Event)) × (closes seats shut all ≡ closes seats shut some ++ others)
+first_closed seats shut some all l =
+    let r = first_numbers 0 some all l in
+    (ends_on seats (filter shut r.0), ap (λ (xs : List ℕ). ends_on seats (filter shut xs)) r.1 ∙ ap (λ (xs : List ℕ). ends_on seats xs) (filter-append shut (range_with_len 0 some) r.0)
+        ∙ flat_map-append (λ shard. ends seats shard) (filter shut (range_with_len 0 some)) (filter shut r.0))
+
+pub closes_wants : (shut : ℕ → Bool) (shard : ℕ) (is : Bool) (h : House) (o : List ℕ) (h1 : House) (o1 : List ℕ) (h2 : House) (o2 : List ℕ) (a : Bool) → shard < h.directory.shards → is ≡ shut shard
+    → DidStints (λ k. k.config.shards ≡ h.directory.shards) (λ k. closes k.config.seats shut shard) h o h1 o1 a → WantsStints (λ k. shard < k.config.shards) (λ k. ends_where k.config.seats shard is) h1 o1 h2 o2
+    → WantsStints (λ k. Unit {0}) (λ k. closes k.config.seats shut k.config.shards) h o h2 o2
+closes_wants shut shard is h o h1 o1 h2 o2 a l e c d =
+    wants_of_all (λ k. k.config.shards ≡ h.directory.shards) (λ k. Unit {0}) (λ k. closes k.config.seats shut shard ++ ends_where k.config.seats shard is) (λ k. closes k.config.seats shut k.config.shards) h o h2 o2
+    (λ k s q st. shards_of k s h st)
+    (λ k q. let r = first_closed k.config.seats shut (shard + 1) k.config.shards (omega (arith, l, q)) in
+        (r.0, r.1 ∙ ap (λ (xs : List (List Event)). xs ++ r.0) (sym (ap (λ (x : Bool). closes k.config.seats shut shard ++ ends_where k.config.seats shard x) e ∙ closed_more k.config.seats shut shard))))
+    (stints_wants (λ k. k.config.shards ≡ h.directory.shards) (λ k. closes k.config.seats shut shard) (λ k. ends_where k.config.seats shard is) h o h1 o1 h2 o2 a c
+    (wants_as (λ k. shard < k.config.shards) (λ k. k.config.shards ≡ h.directory.shards) (λ k s t printed. StintsBreakOff k (ends_where k.config.seats shard is) s t printed)
+    (λ k s t printed. StintsBreakOff k (ends_where k.config.seats shard is) s t printed) h1 o1 h2 o2 (λ k s q st. omega (arith, l, q)) (λ k s q st t printed x. x) d))

@@ -2,6 +2,7 @@ pub mod Seats
 pub mod Worldly
 pub mod Callers
 pub mod Events
+pub mod Wanting
 pub mod Turns
 pub mod Ended
 pub mod TailLaws

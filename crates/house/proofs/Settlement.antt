@@ -23,8 +23,7 @@ use Rattle.world.specs.World.{World}
 use Rattle.house_session.specs.Visitor.{more_waits as visitor_more_waits}
 use Rattle.house_session.specs.SeatedVisitor.{SeatedVisitor, seated_greeted}
 use Rattle.house_session.specs.SeatedSession.{SeatedSession}
-use Rattle.house.specs.Settling.{GoesRounds, Happened, InTurn, Tries, Stint, Stints, happens, in_a_row, passes, round}
-use Rattle.house.specs.Settled.{HappenedFrom}
+use Rattle.house.specs.Settling.{BreaksOff, GoesRounds, Happened, InTurn, RoundsBreakOff, Stint, StintBreaksOff, Stints, StintsBreakOff, Tries, TurnBreaksOff, cut_short, happens, in_a_row, passes, round, unbegun}
 use Rattle.house.specs.Stands.{StandsFor}
 use Rattle.house.specs.Steps.{Follows, FollowsInPart, IsFreePlace, IsLeft, IsNoNumber, IsNoPlace, IsNobody, IsVacant, KeepsMarks, Led, is_left}
 use Rattle.house.proofs.Ended.{IsFree, nobody_at_place, vacant_free}
@@ -35,7 +34,7 @@ use Rattle.std.proofs.lemmas.List.Elements.{All-append, All-cons, All-get_or, Al
 use Rattle.std.proofs.Math.Seq.{take-suc}
 use Rattle.house.specs.House.{House}
 use Rattle.house.specs.Effort.{MakesLess, effort}
-use Rattle.house.specs.inner.Trying.{Came, CameStint, CameStints, Did, DidStints, IsAmong, IsOwn, Moved, Rests, Wants, Went, closes, hears, puts, serve, serves}
+use Rattle.house.specs.inner.Trying.{Came, CameStint, CameStints, Did, DidStints, IsAmong, IsOwn, Moved, Rests, Wants, WantsStints, Went, closes, hears, puts, serve, serves}
 
 -- ---- what a whole event does, one that is cut short may do as well
 
@@ -241,6 +240,63 @@ row-more : {A : Type 0} (n : ℕ) (group : List A) → in_a_row (replicate n gro
 row-more zero group = sym (append-nil group)
 row-more (suc n) group = append_assoc group (in_a_row (replicate n group)) group ∙ ap (λ xs. group ++ xs) (row-more n group)
 
+-- ---- what broke off behind what was done, and before more
+
+-- the items before a position, the one that stands there, and the others
+pub split_at : {A : Type 0} (xs : List A) (i : ℕ) (d : A) → i < length xs → (others : List A) × (xs ≡ take i xs ++ get_or xs i d ∷ others)
+split_at [] i d l = absurd (omega (arith, l))
+split_at (x ∷ xs) zero d l = (xs, refl)
+split_at (x ∷ xs) (suc i) d l = let r = split_at xs i d (omega (arith, l)) in (r.0, ap (λ (ys : List _). x ∷ ys) r.1)
+
+pub turn_breaks : (k : Setup) (es : List Event) (e : Event) (others : List Event) (s m t : Scene) (one two : List ℕ) → InTurn k es s m one → BreaksOff k m e t two → TurnBreaksOff k (es ++ e ∷ others) s t (one ++ two)
+turn_breaks k es e others s m t one two a b = record { done = es; next = e; others = others; split = refl; between = m; one = one; two = two; goes = a; breaks = b; both = refl }
+
+turn_then_breaks : (k : Setup) (es fs : List Event) (s m t : Scene) (one two : List ℕ) → InTurn k es s m one → TurnBreaksOff k fs m t two → TurnBreaksOff k (es ++ fs) s t (one ++ two)
+turn_then_breaks k es fs s m t one two a b = record {
+  done = es ++ b.done;
+  next = b.next;
+  others = b.others;
+  split = ap (λ (xs : List Event). es ++ xs) b.split ∙ sym (append_assoc es b.done (b.next ∷ b.others));
+  between = b.between;
+  one = one ++ b.one;
+  two = b.two;
+  goes = turn-append k es b.done s m b.between one b.one a b.goes;
+  breaks = b.breaks;
+  both = ap (λ (x : List ℕ). one ++ x) b.both ∙ sym (append_assoc one b.one b.two);
+}
+
+pub stints_then_break : (k : Setup) (gs hs : List (List Event)) (s m t : Scene) (one two : List ℕ) → Stints k gs s m one → StintsBreakOff k hs m t two → StintsBreakOff k (gs ++ hs) s t (one ++ two)
+stints_then_break k gs hs s m t one two a b = record {
+  done = gs ++ b.done;
+  next = b.next;
+  others = b.others;
+  split = ap (λ (xs : List (List Event)). gs ++ xs) b.split ∙ sym (append_assoc gs b.done (b.next ∷ b.others));
+  between = b.between;
+  one = one ++ b.one;
+  two = b.two;
+  goes = stints-append k gs b.done s m b.between one b.one a b.goes;
+  breaks = b.breaks;
+  both = ap (λ (x : List ℕ). one ++ x) b.both ∙ sym (append_assoc one b.one b.two);
+}
+
+-- more stints would have come
+pub stints_break_before : (k : Setup) (gs hs : List (List Event)) (s t : Scene) (printed : List ℕ) → StintsBreakOff k gs s t printed → StintsBreakOff k (gs ++ hs) s t printed
+stints_break_before k gs hs s t printed b = record {
+  done = b.done;
+  next = b.next;
+  others = b.others ++ hs;
+  split = ap (λ (xs : List (List Event)). xs ++ hs) b.split ∙ append_assoc b.done (b.next ∷ b.others) hs;
+  between = b.between;
+  one = b.one;
+  two = b.two;
+  goes = b.goes;
+  breaks = b.breaks;
+  both = b.both;
+}
+
+pub one_breaks : (k : Setup) (group : List Event) (s t : Scene) (printed : List ℕ) → StintBreaksOff k group s t printed → StintsBreakOff k (group ∷ []) s t printed
+one_breaks k group s t printed b = record { done = []; next = group; others = []; split = refl; between = s; one = []; two = printed; goes = (refl, refl); breaks = b; both = refl }
+
 -- ---- where nothing was there to do
 
 pub rest_turn : (k : Setup) (es : List Event) (s : Scene) → All (HasNothing k s) es → InTurn k es s s []
@@ -306,25 +362,11 @@ did_then Q P₁ P₂ P I₁ I₂ I h o h1 o1 h2 o2 false false j c d = record {
 }
 
 -- want of memory after what came before
-pub wants_after : (P : Setup → Scene → Scene → List ℕ → Type 0) (k : Setup) (s : Scene) (h1 h2 : House) (o o1 o2 : List ℕ)
-    → ((k : Setup) (s t : Scene) (printed : List ℕ) → P k s t printed → SomeHappened k s t printed)
-    → (w : Went P k s h1 o o1) → HappenedFrom k w.after h2 o1 o2 → HappenedFrom k s h2 o o2
-wants_after P k s h1 h2 o o1 o2 f w v =
-    let a = f k s w.after w.printed w.goes in
-    record {
-      events = a.0 ++ v.events;
-      after = v.after;
-      printed = w.printed ++ v.printed;
-      happened = happened-append k a.0 v.events s w.after v.after w.printed v.printed a.1 v.happened;
-      stands = v.stands;
-      out = v.out ∙ ap (λ (x : List ℕ). x ++ v.printed) w.out ∙ append_assoc o w.printed v.printed;
-    }
-
-pub did_wants : (Q : Setup → Type 0) (P : Setup → Scene → Scene → List ℕ → Type 0) (I : Setup → Scene → Type 0) (h : House) (o : List ℕ) (h1 : House) (o1 : List ℕ) (h2 : House) (o2 : List ℕ) (a : Bool)
-    → ((k : Setup) (s : Scene) → I k s → P k s s []) → ((k : Setup) (s t : Scene) (printed : List ℕ) → P k s t printed → SomeHappened k s t printed)
-    → Did Q P I h o h1 o1 a → Wants Q h1 o1 h2 o2 → Wants Q h o h2 o2
-did_wants Q P I h o h1 o1 h2 o2 a r f c d = record {
-  happened = λ k s q st. let w = went Q P I h o h1 o1 a r c k s q st in wants_after P k s h1 h2 o o1 o2 f w (d.happened k w.after q w.stands);
+pub did_wants : (Q : Setup → Type 0) (P₁ P₂ P : Setup → Scene → Scene → List ℕ → Type 0) (I : Setup → Scene → Type 0) (h : House) (o : List ℕ) (h1 : House) (o1 : List ℕ) (h2 : House) (o2 : List ℕ) (a : Bool)
+    → ((k : Setup) (s : Scene) → I k s → P₁ k s s []) → ((k : Setup) (s m t : Scene) (one two : List ℕ) → P₁ k s m one → P₂ k m t two → P k s t (one ++ two))
+    → Did Q P₁ I h o h1 o1 a → Wants Q P₂ h1 o1 h2 o2 → Wants Q P h o h2 o2
+did_wants Q P₁ P₂ P I h o h1 o1 h2 o2 a r f c d = record {
+  broke_off = λ k s q st. let w = went Q P₁ I h o h1 o1 a r c k s q st in joined P₁ P₂ P f k s h1 h2 o o1 o2 w (d.broke_off k w.after q w.stands);
 }
 
 -- ---- the same said of another way, in scenes for which the house stood
@@ -340,8 +382,11 @@ did_as Q Q' P P' I I' h o h1 o1 true f p i c = record {
 }
 did_as Q Q' P P' I I' h o h1 o1 false f p i c = record { same = c.same; silent = c.silent; changes_nothing = λ k s q st. i k s q st (c.changes_nothing k s (f k s q st) st) }
 
-pub wants_as : (Q Q' : Setup → Type 0) (h : House) (o : List ℕ) (h1 : House) (o1 : List ℕ) → ((k : Setup) (s : Scene) → Q' k → StandsFor k h s → Q k) → Wants Q h o h1 o1 → Wants Q' h o h1 o1
-wants_as Q Q' h o h1 o1 f c = record { happened = λ k s q st. c.happened k s (f k s q st) st }
+pub wants_as : (Q Q' : Setup → Type 0) (P P' : Setup → Scene → Scene → List ℕ → Type 0) (h : House) (o : List ℕ) (h1 : House) (o1 : List ℕ) → ((k : Setup) (s : Scene) → Q' k → StandsFor k h s → Q k)
+    → ((k : Setup) (s : Scene) → Q' k → StandsFor k h s → (t : Scene) (printed : List ℕ) → P k s t printed → P' k s t printed) → Wants Q P h o h1 o1 → Wants Q' P' h o h1 o1
+wants_as Q Q' P P' h o h1 o1 f p c = record {
+  broke_off = λ k s q st. let w = c.broke_off k s (f k s q st) st in record { after = w.after; printed = w.printed; goes = p k s q st w.after w.printed w.goes; stands = w.stands; out = w.out };
+}
 
 -- ---- an event where nobody is
 
@@ -435,19 +480,12 @@ tried e h h1 o o1 own f l = record {
   less = own_less e h h1 own l;
 }
 
-pub led_or_not : (e : Event) (h h1 : House) (o o1 : List ℕ) (k : Setup) (s : Scene) → Led k false s e h1 o o1 ⊎ (StandsFor k h1 s × (o1 ≡ o)) → HappenedFrom k s h1 o o1
-led_or_not e h h1 o o1 k s (inl w) = record {
-  events = e ∷ [];
-  after = w.after;
-  printed = w.printed;
-  happened = (w.after, w.printed, [], w.plays, (refl, refl), sym (append-nil w.printed));
-  stands = w.stands;
-  out = w.out;
-}
-led_or_not e h h1 o o1 k s (inr (st, same)) = record { events = []; after = s; printed = []; happened = (refl, refl); stands = st; out = same ∙ sym (append-nil o) }
+pub broken_off : (e : Event) (h1 : House) (o o1 : List ℕ) (k : Setup) (s : Scene) → Led k false s e h1 o o1 ⊎ (StandsFor k h1 s × (o1 ≡ o)) → Went (λ k s t printed. BreaksOff k s e t printed) k s h1 o o1
+broken_off e h1 o o1 k s (inl w) = record { after = w.after; printed = w.printed; goes = cut_short w.plays; stands = w.stands; out = w.out }
+broken_off e h1 o o1 k s (inr (st, same)) = record { after = s; printed = []; goes = unbegun refl refl; stands = st; out = same ∙ sym (append-nil o) }
 
-pub wanted : (Q : Setup → Type 0) (e : Event) (h h1 : House) (o o1 : List ℕ) → FollowsInPart h e h1 o o1 → Wants Q h o h1 o1
-wanted Q e h h1 o o1 f = record { happened = λ k s q st. led_or_not e h h1 o o1 k s (f k s st) }
+pub wanted : (Q : Setup → Type 0) (e : Event) (h h1 : House) (o o1 : List ℕ) → FollowsInPart h e h1 o o1 → Wants Q (λ k s t printed. BreaksOff k s e t printed) h o h1 o1
+wanted Q e h h1 o o1 f = record { broke_off = λ k s q st. broken_off e h1 o o1 k s (f k s st) }
 
 pub All-one : {A : Type 0} (P : A → Type 0) (x : A) → P x → All P (x ∷ [])
 All-one P x h = All-cons P x [] h (All-nil P)
@@ -481,11 +519,16 @@ each_step group i d h o h1 o1 h2 o2 a b l c e =
     subst (λ (xs : List Event). DidTurn group xs h o h2 o2 (a || b)) (sym (take-suc group i d l) ∙ ap (λ (n : ℕ). take n group) (sym (add-one i)))
     (turn_then group (take i group) (get_or group i d) h o h1 o1 h2 o2 a b (λ k q. All-get_or (IsAmong k) group i d l q) c e)
 
-pub each_wants : (group es : List Event) (e : Event) (h : House) (o : List ℕ) (h1 : House) (o1 : List ℕ) (h2 : House) (o2 : List ℕ) (a : Bool) → ((k : Setup) → All (IsAmong k) group → IsAmong k e)
-    → DidTurn group es h o h1 o1 a → Wants (λ k. IsAmong k e) h1 o1 h2 o2 → Wants (λ k. All (IsAmong k) group) h o h2 o2
-each_wants group es e h o h1 o1 h2 o2 a f c d =
-    did_wants (λ k. All (IsAmong k) group) (λ k s t printed. InTurn k es s t printed) (λ k s. All (HasNothing k s) es) h o h1 o1 h2 o2 a (λ k s x. rest_turn k es s x)
-    (λ k s t printed x. turn_happened k es s t printed x) c (wants_as (λ k. IsAmong k e) (λ k. All (IsAmong k) group) h1 o1 h2 o2 (λ k s q st. f k q) d)
+pub each_wants : (group : List Event) (i : ℕ) (d : Event) (h : House) (o : List ℕ) (h1 : House) (o1 : List ℕ) (h2 : House) (o2 : List ℕ) (a : Bool) → i < length group
+    → DidTurn group (take i group) h o h1 o1 a → Wants (λ k. IsAmong k (get_or group i d)) (λ k s t printed. BreaksOff k s (get_or group i d) t printed) h1 o1 h2 o2
+    → Wants (λ k. All (IsAmong k) group) (λ k s t printed. TurnBreaksOff k group s t printed) h o h2 o2
+each_wants group i d h o h1 o1 h2 o2 a l c e =
+    let r = split_at group i d l in
+    did_wants (λ k. All (IsAmong k) group) (λ k s t printed. InTurn k (take i group) s t printed) (λ k s t printed. BreaksOff k s (get_or group i d) t printed) (λ k s t printed. TurnBreaksOff k group s t printed)
+    (λ k s. All (HasNothing k s) (take i group)) h o h1 o1 h2 o2 a (λ k s x. rest_turn k (take i group) s x)
+    (λ k s m t one two x y. subst (λ (xs : List Event). TurnBreaksOff k xs s t (one ++ two)) (sym r.1) (turn_breaks k (take i group) (get_or group i d) r.0 s m t one two x y)) c
+    (wants_as (λ k. IsAmong k (get_or group i d)) (λ k. All (IsAmong k) group) (λ k s t printed. BreaksOff k s (get_or group i d) t printed) (λ k s t printed. BreaksOff k s (get_or group i d) t printed) h1 o1 h2 o2
+    (λ k s q st. All-get_or (IsAmong k) group i d l q) (λ k s q st t printed x. x) e)
 
 -- ---- memory was wanting
 
@@ -494,13 +537,13 @@ pub on_err : {A E : Type 0} (r : Result A E) (P : Type 0) → P → OnErr r P
 on_err (Ok x) P h = tt
 on_err (Err e) P h = h
 
-pub came_wanting : {E : Type 0} {Q : Setup → Type 0} {before h : House} {old new : List ℕ} (P : Setup → Scene → Scene → List ℕ → Type 0) (I : Setup → Scene → Type 0) (r : Result Bool E) → IsErr r
-    → Wants Q before old h new → Came Q P I before old h new r
-came_wanting P I (Ok x) is w = cc
-came_wanting P I (Err e) is w = w
+pub came_wanting : {E : Type 0} {Q : Setup → Type 0} {before h : House} {old new : List ℕ} (P B : Setup → Scene → Scene → List ℕ → Type 0) (I : Setup → Scene → Type 0) (r : Result Bool E) → IsErr r
+    → Wants Q B before old h new → Came Q P B I before old h new r
+came_wanting P B I (Ok x) is w = cc
+came_wanting P B I (Err e) is w = w
 
 pub visits_wanting : {E : Type 0} {Q : Setup → Type 0} {before h : House} {old new : List ℕ} (groups : Setup → List (List Event)) (r : Result Bool E) → IsErr r
-    → Wants Q before old h new → CameStints Q groups before old h new r
+    → WantsStints Q groups before old h new → CameStints Q groups before old h new r
 visits_wanting groups (Ok x) is w = cc
 visits_wanting groups (Err e) is w = w
 
@@ -514,8 +557,9 @@ pub often_more : (k : Setup) (group : List Event) (s m t : Scene) (one two : Lis
 often_more k group s m t one two (n, a) b =
     (suc n, subst (λ (xs : List Event). InTurn k xs s t (one ++ two)) (row-more n group) (turn-append k (in_a_row (replicate n group)) group s m t one two a b))
 
-pub often_happened : (k : Setup) (group : List Event) (s t : Scene) (printed : List ℕ) → Often k group s t printed → SomeHappened k s t printed
-often_happened k group s t printed (n, a) = turn_happened k (in_a_row (replicate n group)) s t printed a
+pub often_breaks : (k : Setup) (group : List Event) (s m t : Scene) (one two : List ℕ) → Often k group s m one → TurnBreaksOff k group m t two → StintBreaksOff k group s t (one ++ two)
+often_breaks k group s m t one two (n, a) b =
+    (suc n, subst (λ (xs : List Event). TurnBreaksOff k xs s t (one ++ two)) (row-more n group) (turn_then_breaks k (in_a_row (replicate n group)) group s m t one two a b))
 
 abbrev pub DidOften : List Event → House → List ℕ → House → List ℕ → Bool → Type 0
 DidOften group h o h1 o1 moved = Did (λ k. All (IsAmong k) group) (λ k s t printed. Often k group s t printed) (λ k s. Unit {0}) h o h1 o1 moved
@@ -537,10 +581,11 @@ often_again group h o h1 o1 h2 o2 a true e c d = record {
   less = let x = no_more group h o h1 o1 a c in let y = d.less in omega (arith, x, y);
 }
 
-pub often_wants : (group : List Event) (h : House) (o : List ℕ) (h1 : House) (o1 : List ℕ) (h2 : House) (o2 : List ℕ) (a : Bool) → DidOften group h o h1 o1 a → Wants (λ k. All (IsAmong k) group) h1 o1 h2 o2
-    → Wants (λ k. All (IsAmong k) group) h o h2 o2
+pub often_wants : (group : List Event) (h : House) (o : List ℕ) (h1 : House) (o1 : List ℕ) (h2 : House) (o2 : List ℕ) (a : Bool) → DidOften group h o h1 o1 a
+    → Wants (λ k. All (IsAmong k) group) (λ k s t printed. TurnBreaksOff k group s t printed) h1 o1 h2 o2 → Wants (λ k. All (IsAmong k) group) (λ k s t printed. StintBreaksOff k group s t printed) h o h2 o2
 often_wants group h o h1 o1 h2 o2 a c d =
-    did_wants (λ k. All (IsAmong k) group) (λ k s t printed. Often k group s t printed) (λ k s. Unit {0}) h o h1 o1 h2 o2 a (λ k s x. (0, (refl, refl))) (λ k s t printed x. often_happened k group s t printed x) c d
+    did_wants (λ k. All (IsAmong k) group) (λ k s t printed. Often k group s t printed) (λ k s t printed. TurnBreaksOff k group s t printed) (λ k s t printed. StintBreaksOff k group s t printed) (λ k s. Unit {0}) h o h1 o1 h2 o2 a
+    (λ k s x. (0, (refl, refl))) (λ k s m t one two x y. often_breaks k group s m t one two x y) c d
 
 -- the last turn moved nothing: the stint is done
 abbrev pub DidStint : List Event → House → List ℕ → House → List ℕ → Bool → Type 0
@@ -585,11 +630,41 @@ stints_then Q gs hs h o h1 o1 h2 o2 a b c d =
       both = λ k s x y. All-append (λ group. All (HasNothing k s) group) (gs k) (hs k) x y;
     }) c d
 
-pub stints_wants : (Q : Setup → Type 0) (gs : Setup → List (List Event)) (h : House) (o : List ℕ) (h1 : House) (o1 : List ℕ) (h2 : House) (o2 : List ℕ) (a : Bool)
-    → DidStints Q gs h o h1 o1 a → Wants Q h1 o1 h2 o2 → Wants Q h o h2 o2
-stints_wants Q gs h o h1 o1 h2 o2 a c d =
-    did_wants Q (λ k s t printed. Stints k (gs k) s t printed) (λ k s. All (λ group. All (HasNothing k s) group) (gs k)) h o h1 o1 h2 o2 a
-    (λ k s x. rest_stints k (gs k) s x) (λ k s t printed x. stints_happened k (gs k) s t printed x) c d
+pub stints_wants : (Q : Setup → Type 0) (gs hs : Setup → List (List Event)) (h : House) (o : List ℕ) (h1 : House) (o1 : List ℕ) (h2 : House) (o2 : List ℕ) (a : Bool)
+    → DidStints Q gs h o h1 o1 a → WantsStints Q hs h1 o1 h2 o2 → WantsStints Q (λ k. gs k ++ hs k) h o h2 o2
+stints_wants Q gs hs h o h1 o1 h2 o2 a c d =
+    did_wants Q (λ k s t printed. Stints k (gs k) s t printed) (λ k s t printed. StintsBreakOff k (hs k) s t printed) (λ k s t printed. StintsBreakOff k (gs k ++ hs k) s t printed)
+    (λ k s. All (λ group. All (HasNothing k s) group) (gs k)) h o h1 o1 h2 o2 a (λ k s x. rest_stints k (gs k) s x) (λ k s m t one two x y. stints_then_break k (gs k) (hs k) s m t one two x y) c d
+
+-- more stints would have come
+pub wants_before : (Q : Setup → Type 0) (gs hs : Setup → List (List Event)) (h : House) (o : List ℕ) (h1 : House) (o1 : List ℕ) → WantsStints Q gs h o h1 o1 → WantsStints Q (λ k. gs k ++ hs k) h o h1 o1
+wants_before Q gs hs h o h1 o1 c =
+    wants_as Q Q (λ k s t printed. StintsBreakOff k (gs k) s t printed) (λ k s t printed. StintsBreakOff k (gs k ++ hs k) s t printed) h o h1 o1
+    (λ k s q st. q) (λ k s q st t printed x. stints_break_before k (gs k) (hs k) s t printed x) c
+
+-- all that the stints are a beginning of, in setups of which more is known
+pub wants_of_all : (Q Q' : Setup → Type 0) (gs hs : Setup → List (List Event)) (h : House) (o : List ℕ) (h1 : House) (o1 : List ℕ) → ((k : Setup) (s : Scene) → Q' k → StandsFor k h s → Q k)
+    → ((k : Setup) → Q k → (others : List (List Event)) × (hs k ≡ gs k ++ others)) → WantsStints Q gs h o h1 o1 → WantsStints Q' hs h o h1 o1
+wants_of_all Q Q' gs hs h o h1 o1 f e c =
+    wants_as Q Q' (λ k s t printed. StintsBreakOff k (gs k) s t printed) (λ k s t printed. StintsBreakOff k (hs k) s t printed) h o h1 o1 f
+    (λ k s q st t printed x. let r = e k (f k s q st) in subst (λ (xs : List (List Event)). StintsBreakOff k xs s t printed) (sym r.1) (stints_break_before k (gs k) r.0 s t printed x)) c
+
+-- one stint broke off
+pub one_wants : (Q : Setup → Type 0) (group : List Event) (h : House) (o : List ℕ) (h1 : House) (o1 : List ℕ) → ((k : Setup) → Q k → All (IsAmong k) group)
+    → Wants (λ k. All (IsAmong k) group) (λ k s t printed. StintBreaksOff k group s t printed) h o h1 o1 → WantsStints Q (λ k. group ∷ []) h o h1 o1
+one_wants Q group h o h1 o1 f c =
+    wants_as (λ k. All (IsAmong k) group) Q (λ k s t printed. StintBreaksOff k group s t printed) (λ k s t printed. StintsBreakOff k (group ∷ []) s t printed) h o h1 o1
+    (λ k s q st. f k q) (λ k s q st t printed x. one_breaks k group s t printed x) c
+
+-- the first of some numbers in a row, and the others
+pub first_numbers : (first some all : ℕ) → some ≤ all → (others : List ℕ) × (range_with_len first all ≡ range_with_len first some ++ others)
+first_numbers first zero all l = (range_with_len first all, refl)
+first_numbers first (suc some) zero l = absurd (omega (arith, l))
+first_numbers first (suc some) (suc all) l = let r = first_numbers (first + 1) some all (omega (arith, l)) in (r.0, ap (λ (xs : List ℕ). first ∷ xs) r.1)
+
+pub first_made : (make : ℕ → List Event) (first some all : ℕ) → some ≤ all → (others : List (List Event)) × (map make (range_with_len first all) ≡ map make (range_with_len first some) ++ others)
+first_made make first some all l =
+    let r = first_numbers first some all l in (map make r.0, ap (λ (xs : List ℕ). map make xs) r.1 ∙ map-append make (range_with_len first some) r.0)
 
 -- one stint, as a list of stints
 pub one_stint : (Q : Setup → Type 0) (group : List Event) (h : House) (o : List ℕ) (h1 : House) (o1 : List ℕ) (b : Bool) → ((k : Setup) → Q k → All (IsAmong k) group)
@@ -609,11 +684,15 @@ seats_step make seats seat h o h1 o1 h2 o2 a b f c d =
     (one_stint (λ k. k.config.seats ≡ seats) (make (seat + 1)) h1 o1 h2 o2 b f d))
 
 pub seats_wants : (make : ℕ → List Event) (seats seat : ℕ) (h : House) (o : List ℕ) (h1 : House) (o1 : List ℕ) (h2 : House) (o2 : List ℕ) (a : Bool) → ((k : Setup) → k.config.seats ≡ seats → All (IsAmong k) (make (seat + 1)))
-    → seats ≡ length h.callers + length h.visitors → DidStints (λ k. k.config.seats ≡ seats) (λ k. map make (range_with_len 1 seat)) h o h1 o1 a → Wants (λ k. All (IsAmong k) (make (seat + 1))) h1 o1 h2 o2 → Wants (λ k. Unit {0}) h o h2 o2
-seats_wants make seats seat h o h1 o1 h2 o2 a f e c d =
-    wants_as (λ k. k.config.seats ≡ seats) (λ k. Unit {0}) h o h2 o2 (λ k s q st. sym (e ∙ st.seats))
-    (stints_wants (λ k. k.config.seats ≡ seats) (λ k. map make (range_with_len 1 seat)) h o h1 o1 h2 o2 a c
-    (wants_as (λ k. All (IsAmong k) (make (seat + 1))) (λ k. k.config.seats ≡ seats) h1 o1 h2 o2 (λ k s q st. f k q) d))
+    → seats ≡ length h.callers + length h.visitors → seat < seats → DidStints (λ k. k.config.seats ≡ seats) (λ k. map make (range_with_len 1 seat)) h o h1 o1 a
+    → Wants (λ k. All (IsAmong k) (make (seat + 1))) (λ k s t printed. StintBreaksOff k (make (seat + 1)) s t printed) h1 o1 h2 o2
+    → WantsStints (λ k. Unit {0}) (λ k. map make (range_with_len 1 k.config.seats)) h o h2 o2
+seats_wants make seats seat h o h1 o1 h2 o2 a f e l c d =
+    wants_of_all (λ k. k.config.seats ≡ seats) (λ k. Unit {0}) (λ k. map make (range_with_len 1 seat) ++ make (seat + 1) ∷ []) (λ k. map make (range_with_len 1 k.config.seats)) h o h2 o2 (λ k s q st. sym (e ∙ st.seats))
+    (λ k q. let r = first_made make 1 (seat + 1) k.config.seats (omega (arith, l, q)) in
+        (r.0, r.1 ∙ ap (λ (xs : List (List Event)). xs ++ r.0) (map-range_with_len_more make 1 seat (seat + 1) (omega arith))))
+    (stints_wants (λ k. k.config.seats ≡ seats) (λ k. map make (range_with_len 1 seat)) (λ k. make (seat + 1) ∷ []) h o h1 o1 h2 o2 a c
+    (one_wants (λ k. k.config.seats ≡ seats) (make (seat + 1)) h1 o1 h2 o2 (λ k q. f k q) d))
 
 -- all of them, where so many seats are there
 pub stints_as : (Q : Setup → Type 0) (gs hs : Setup → List (List Event)) (h : House) (o : List ℕ) (h1 : House) (o1 : List ℕ) (b : Bool)
@@ -659,9 +738,6 @@ rounds_more : (k : Setup) (held shut : ℕ → Bool) (s m t : Scene) (one two : 
 rounds_more k held shut s m t one two (n, a) b =
     (suc n, subst (λ (xs : List (List Event)). Stints k xs s t (one ++ two)) (row-more n (round k held shut)) (stints-append k (in_a_row (replicate n (round k held shut))) (round k held shut) s m t one two a b))
 
-rounds_some : (k : Setup) (held shut : ℕ → Bool) (s t : Scene) (printed : List ℕ) → Rounds k held shut s t printed → SomeHappened k s t printed
-rounds_some k held shut s t printed (n, a) = stints_happened k (in_a_row (replicate n (round k held shut))) s t printed a
-
 pub round_again : (held shut : ℕ → Bool) (k : Setup) (s : Scene) (h1 h2 : House) (o o1 o2 : List ℕ) (b : Bool) → Went (λ k s t printed. Rounds k held shut s t printed) k s h1 o o1 → DidRound held shut h1 o1 h2 o2 b
     → Went (λ k s t printed. Rounds k held shut s t printed) k s h2 o o2
 round_again held shut k s h1 h2 o o1 o2 b w d =
@@ -669,9 +745,20 @@ round_again held shut k s h1 h2 o o1 o2 b w d =
     (λ k s m t one two x y. rounds_more k held shut s m t one two x y) k s h1 h2 o o1 o2 w
     (went (λ k. Unit {0}) (λ k s t printed. Stints k (round k held shut) s t printed) (λ k s. All (λ group. All (HasNothing k s) group) (round k held shut)) h1 o1 h2 o2 b (λ k s x. rest_stints k (round k held shut) s x) d k w.after tt w.stands)
 
-pub rounds_want : (held shut : ℕ → Bool) (k : Setup) (s : Scene) (h1 h2 : House) (o o1 o2 : List ℕ) → Went (λ k s t printed. Rounds k held shut s t printed) k s h1 o o1 → Wants (λ k. Unit {0}) h1 o1 h2 o2 → HappenedFrom k s h2 o o2
-rounds_want held shut k s h1 h2 o o1 o2 w d =
-    wants_after (λ k s t printed. Rounds k held shut s t printed) k s h1 h2 o o1 o2 (λ k s t printed x. rounds_some k held shut s t printed x) w (d.happened k w.after tt w.stands)
+pub rounds_want : (held shut : ℕ → Bool) (k : Setup) (s : Scene) (h1 h2 : House) (o o1 o2 : List ℕ) → shut ≡ is_shut_in s → Went (λ k s t printed. Rounds k held shut s t printed) k s h1 o o1
+    → WantsStints (λ k. Unit {0}) (λ k. round k held shut) h1 o1 h2 o2 → Went (λ k s t printed. RoundsBreakOff k held s t printed) k s h2 o o2
+rounds_want held shut k s h1 h2 o o1 o2 marks w d =
+    let v = d.broke_off k w.after tt w.stands in
+    let n = w.goes.0 in
+    let b = subst (λ (xs : List (List Event)). StintsBreakOff k xs s v.after (w.printed ++ v.printed)) (row-more n (round k held shut))
+    (stints_then_break k (in_a_row (replicate n (round k held shut))) (round k held shut) s w.after v.after w.printed v.printed w.goes.1 v.goes) in
+    record {
+      after = v.after;
+      printed = w.printed ++ v.printed;
+      goes = (suc n, subst (λ (x : ℕ → Bool). StintsBreakOff k (in_a_row (replicate (suc n) (round k held x))) s v.after (w.printed ++ v.printed)) marks b);
+      stands = v.stands;
+      out = v.out ∙ ap (λ (x : List ℕ). x ++ v.printed) w.out ∙ append_assoc o w.printed v.printed;
+    }
 
 -- the last round moved nothing
 pub rounds_done : (held shut : ℕ → Bool) (k : Setup) (s : Scene) (h1 h2 : House) (o o1 o2 : List ℕ) (b : Bool) → shut ≡ is_shut_in s → b ≡ false → Went (λ k s t printed. Rounds k held shut s t printed) k s h1 o o1 → DidRound held shut h1 o1 h2 o2 b
@@ -689,9 +776,6 @@ rounds_done held shut k s h1 h2 o o1 o2 false marks e w d = record {
     rounds_of : (t : Scene) (printed : List ℕ) (n : ℕ) → Stints k (in_a_row (replicate n (round k held (is_shut_in s)))) s t printed → All (λ group. All (HasNothing k t) group) (round k held (is_shut_in s)) → GoesRounds k held s t printed
     rounds_of t printed n a d = record { rounds = n; goes = a; done = d }
 
-pub rounds_happened : (k : Setup) (held : ℕ → Bool) (s t : Scene) (printed : List ℕ) → GoesRounds k held s t printed → SomeHappened k s t printed
-rounds_happened k held s t printed g = stints_happened k (in_a_row (replicate g.rounds (round k held (is_shut_in s)))) s t printed g.goes
-
 -- a round from its parts
 abbrev pub DidFirst : (shut : ℕ → Bool) → House → List ℕ → House → List ℕ → Bool → Type 0
 DidFirst shut h o h1 o1 moved = DidStints (λ k. Unit {0}) (λ k. closes k.config.seats shut k.config.shards) h o h1 o1 moved
@@ -702,23 +786,46 @@ DidSecond shut h o h1 o1 moved = DidStints (λ k. Unit {0}) (λ k. closes k.conf
 abbrev pub DidThird : (held shut : ℕ → Bool) → House → List ℕ → House → List ℕ → Bool → Type 0
 DidThird held shut h o h1 o1 moved = DidStints (λ k. Unit {0}) (λ k. closes k.config.seats shut k.config.shards ++ puts k.config.seats ++ serves held k.config.shards) h o h1 o1 moved
 
-pub first_wants : (shut : ℕ → Bool) (h : House) (o : List ℕ) (h1 : House) (o1 : List ℕ) (h2 : House) (o2 : List ℕ) (a : Bool) → DidFirst shut h o h1 o1 a → Wants (λ k. Unit {0}) h1 o1 h2 o2 → Wants (λ k. Unit {0}) h o h2 o2
-first_wants shut h o h1 o1 h2 o2 a x z = stints_wants (λ k. Unit {0}) (λ k. closes k.config.seats shut k.config.shards) h o h1 o1 h2 o2 a x z
+-- a round that broke off in its first, second, third or last part
+abbrev pub WantsRound : (held shut : ℕ → Bool) → House → List ℕ → House → List ℕ → Type 0
+WantsRound held shut h o h1 o1 = WantsStints (λ k. Unit {0}) (λ k. round k held shut) h o h1 o1
+
+third_breaks : (held shut : ℕ → Bool) (h : House) (o : List ℕ) (h1 : House) (o1 : List ℕ)
+    → WantsStints (λ k. Unit {0}) (λ k. closes k.config.seats shut k.config.shards ++ puts k.config.seats ++ serves held k.config.shards) h o h1 o1 → WantsRound held shut h o h1 o1
+third_breaks held shut h o h1 o1 c =
+    wants_before (λ k. Unit {0}) (λ k. closes k.config.seats shut k.config.shards ++ puts k.config.seats ++ serves held k.config.shards) (λ k. hears k.config.seats) h o h1 o1 c
+
+second_breaks : (held shut : ℕ → Bool) (h : House) (o : List ℕ) (h1 : House) (o1 : List ℕ)
+    → WantsStints (λ k. Unit {0}) (λ k. closes k.config.seats shut k.config.shards ++ puts k.config.seats) h o h1 o1 → WantsRound held shut h o h1 o1
+second_breaks held shut h o h1 o1 c =
+    third_breaks held shut h o h1 o1 (wants_before (λ k. Unit {0}) (λ k. closes k.config.seats shut k.config.shards ++ puts k.config.seats) (λ k. serves held k.config.shards) h o h1 o1 c)
+
+pub first_breaks : (held shut : ℕ → Bool) (h : House) (o : List ℕ) (h1 : House) (o1 : List ℕ) → WantsStints (λ k. Unit {0}) (λ k. closes k.config.seats shut k.config.shards) h o h1 o1 → WantsRound held shut h o h1 o1
+first_breaks held shut h o h1 o1 c = second_breaks held shut h o h1 o1 (wants_before (λ k. Unit {0}) (λ k. closes k.config.seats shut k.config.shards) (λ k. puts k.config.seats) h o h1 o1 c)
+
+pub first_wants : (held shut : ℕ → Bool) (h : House) (o : List ℕ) (h1 : House) (o1 : List ℕ) (h2 : House) (o2 : List ℕ) (a : Bool) → DidFirst shut h o h1 o1 a
+    → WantsStints (λ k. Unit {0}) (λ k. puts k.config.seats) h1 o1 h2 o2 → WantsRound held shut h o h2 o2
+first_wants held shut h o h1 o1 h2 o2 a x z =
+    second_breaks held shut h o h2 o2 (stints_wants (λ k. Unit {0}) (λ k. closes k.config.seats shut k.config.shards) (λ k. puts k.config.seats) h o h1 o1 h2 o2 a x z)
 
 pub then_puts : (shut : ℕ → Bool) (h : House) (o : List ℕ) (h1 : House) (o1 : List ℕ) (h2 : House) (o2 : List ℕ) (a b : Bool)
     → DidFirst shut h o h1 o1 a → DidStints (λ k. Unit {0}) (λ k. puts k.config.seats) h1 o1 h2 o2 b → DidSecond shut h o h2 o2 (a || b)
 then_puts shut h o h1 o1 h2 o2 a b x y = stints_then (λ k. Unit {0}) (λ k. closes k.config.seats shut k.config.shards) (λ k. puts k.config.seats) h o h1 o1 h2 o2 a b x y
 
-pub second_wants : (shut : ℕ → Bool) (h : House) (o : List ℕ) (h1 : House) (o1 : List ℕ) (h2 : House) (o2 : List ℕ) (a : Bool) → DidSecond shut h o h1 o1 a → Wants (λ k. Unit {0}) h1 o1 h2 o2 → Wants (λ k. Unit {0}) h o h2 o2
-second_wants shut h o h1 o1 h2 o2 a x z = stints_wants (λ k. Unit {0}) (λ k. closes k.config.seats shut k.config.shards ++ puts k.config.seats) h o h1 o1 h2 o2 a x z
+pub second_wants : (held shut : ℕ → Bool) (h : House) (o : List ℕ) (h1 : House) (o1 : List ℕ) (h2 : House) (o2 : List ℕ) (a : Bool) → DidSecond shut h o h1 o1 a
+    → WantsStints (λ k. Unit {0}) (λ k. serves held k.config.shards) h1 o1 h2 o2 → WantsRound held shut h o h2 o2
+second_wants held shut h o h1 o1 h2 o2 a x z =
+    third_breaks held shut h o h2 o2 (stints_wants (λ k. Unit {0}) (λ k. closes k.config.seats shut k.config.shards ++ puts k.config.seats) (λ k. serves held k.config.shards) h o h1 o1 h2 o2 a x z)
 
 pub then_serves : (held shut : ℕ → Bool) (h : House) (o : List ℕ) (h1 : House) (o1 : List ℕ) (h2 : House) (o2 : List ℕ) (a b : Bool)
     → DidSecond shut h o h1 o1 a → DidStints (λ k. Unit {0}) (λ k. serves held k.config.shards) h1 o1 h2 o2 b → DidThird held shut h o h2 o2 (a || b)
 then_serves held shut h o h1 o1 h2 o2 a b x y =
     stints_then (λ k. Unit {0}) (λ k. closes k.config.seats shut k.config.shards ++ puts k.config.seats) (λ k. serves held k.config.shards) h o h1 o1 h2 o2 a b x y
 
-pub third_wants : (held shut : ℕ → Bool) (h : House) (o : List ℕ) (h1 : House) (o1 : List ℕ) (h2 : House) (o2 : List ℕ) (a : Bool) → DidThird held shut h o h1 o1 a → Wants (λ k. Unit {0}) h1 o1 h2 o2 → Wants (λ k. Unit {0}) h o h2 o2
-third_wants held shut h o h1 o1 h2 o2 a x z = stints_wants (λ k. Unit {0}) (λ k. closes k.config.seats shut k.config.shards ++ puts k.config.seats ++ serves held k.config.shards) h o h1 o1 h2 o2 a x z
+pub third_wants : (held shut : ℕ → Bool) (h : House) (o : List ℕ) (h1 : House) (o1 : List ℕ) (h2 : House) (o2 : List ℕ) (a : Bool) → DidThird held shut h o h1 o1 a
+    → WantsStints (λ k. Unit {0}) (λ k. hears k.config.seats) h1 o1 h2 o2 → WantsRound held shut h o h2 o2
+third_wants held shut h o h1 o1 h2 o2 a x z =
+    stints_wants (λ k. Unit {0}) (λ k. closes k.config.seats shut k.config.shards ++ puts k.config.seats ++ serves held k.config.shards) (λ k. hears k.config.seats) h o h1 o1 h2 o2 a x z
 
 pub round_of : (held shut : ℕ → Bool) (h : House) (o : List ℕ) (h1 : House) (o1 : List ℕ) (h2 : House) (o2 : List ℕ) (a b : Bool)
     → DidThird held shut h o h1 o1 a → DidStints (λ k. Unit {0}) (λ k. hears k.config.seats) h1 o1 h2 o2 b → DidRound held shut h o h2 o2 (a || b)
@@ -744,7 +851,7 @@ pub serve_came : {E : Type 0} (shard : ℕ) (held : Bool) (h : House) (o : List 
     → CameStint {E = E} (Take shard ∷ Deliver shard ∷ Answer shard ∷ []) h o h1 o1 r → CameStints {E = E} (λ k. shard < k.config.shards) (λ k. serve shard held) h o h1 o1 r
 serve_came shard true h o h1 o1 r e c = cc
 serve_came shard false h o h1 o1 (Ok b) e c = one_stint (λ k. shard < k.config.shards) (Take shard ∷ Deliver shard ∷ Answer shard ∷ []) h o h1 o1 b (λ k q. shard_among k shard q) c
-serve_came shard false h o h1 o1 (Err x) e c = wants_as (λ k. All (IsAmong k) (Take shard ∷ Deliver shard ∷ Answer shard ∷ [])) (λ k. shard < k.config.shards) h o h1 o1 (λ k s q st. shard_among k shard q) c
+serve_came shard false h o h1 o1 (Err x) e c = one_wants (λ k. shard < k.config.shards) (Take shard ∷ Deliver shard ∷ Answer shard ∷ []) h o h1 o1 (λ k q. shard_among k shard q) c
 
 pub shards_step : (held : ℕ → Bool) (shards shard : ℕ) (is : Bool) (h : House) (o : List ℕ) (h1 : House) (o1 : List ℕ) (h2 : House) (o2 : List ℕ) (a b : Bool) → shard < shards → is ≡ held shard
     → DidStints (λ k. k.config.shards ≡ shards) (λ k. serves held shard) h o h1 o1 a → DidStints (λ k. shard < k.config.shards) (λ k. serve shard is) h1 o1 h2 o2 b
@@ -756,9 +863,22 @@ shards_step held shards shard is h o h1 o1 h2 o2 a b l e c d =
     (λ k s. All (λ group. All (HasNothing k s) group) (serve shard is)) (λ k s. All (λ group. All (HasNothing k s) group) (serve shard is)) h1 o1 h2 o2 b
     (λ k s q st. omega (arith, l, q)) (λ k s q st t printed x. x) (λ k s q st x. x) d))
 
-pub shards_wants : (held : ℕ → Bool) (shard : ℕ) (h : House) (o : List ℕ) (h1 : House) (o1 : List ℕ) (h2 : House) (o2 : List ℕ) (a : Bool) → shard < h.directory.shards
-    → DidStints (λ k. k.config.shards ≡ h.directory.shards) (λ k. serves held shard) h o h1 o1 a → Wants (λ k. shard < k.config.shards) h1 o1 h2 o2 → Wants (λ k. Unit {0}) h o h2 o2
-shards_wants held shard h o h1 o1 h2 o2 a l c d =
-    wants_as (λ k. k.config.shards ≡ h.directory.shards) (λ k. Unit {0}) h o h2 o2 (λ k s q st. shards_of k s h st)
-    (stints_wants (λ k. k.config.shards ≡ h.directory.shards) (λ k. serves held shard) h o h1 o1 h2 o2 a c
-    (wants_as (λ k. shard < k.config.shards) (λ k. k.config.shards ≡ h.directory.shards) h1 o1 h2 o2 (λ k s q st. omega (arith, l, q)) d))
+-- the stints of the first shards, and of the others
+first_served : (held : ℕ → Bool) (some all : ℕ) → some ≤ all → (others : List (List Event)) × (serves held all ≡ serves held some ++ others)
+first_served held some all l =
+    let r = first_numbers 0 some all l in
+    let make : ℕ → List Event = λ s. Take s ∷ Deliver s ∷ Answer s ∷ [] in
+    let free : ℕ → Bool = λ s. not (held s) in
+    (map make (filter free r.0), ap (λ (xs : List ℕ). map make (filter free xs)) r.1 ∙ ap (λ (xs : List ℕ). map make xs) (filter-append free (range_with_len 0 some) r.0)
+        ∙ map-append make (filter free (range_with_len 0 some)) (filter free r.0))
+
+pub shards_wants : (held : ℕ → Bool) (shard : ℕ) (is : Bool) (h : House) (o : List ℕ) (h1 : House) (o1 : List ℕ) (h2 : House) (o2 : List ℕ) (a : Bool) → shard < h.directory.shards → is ≡ held shard
+    → DidStints (λ k. k.config.shards ≡ h.directory.shards) (λ k. serves held shard) h o h1 o1 a → WantsStints (λ k. shard < k.config.shards) (λ k. serve shard is) h1 o1 h2 o2
+    → WantsStints (λ k. Unit {0}) (λ k. serves held k.config.shards) h o h2 o2
+shards_wants held shard is h o h1 o1 h2 o2 a l e c d =
+    wants_of_all (λ k. k.config.shards ≡ h.directory.shards) (λ k. Unit {0}) (λ k. serves held shard ++ serve shard is) (λ k. serves held k.config.shards) h o h2 o2 (λ k s q st. shards_of k s h st)
+    (λ k q. let r = first_served held (shard + 1) k.config.shards (omega (arith, l, q)) in
+        (r.0, r.1 ∙ ap (λ (xs : List (List Event)). xs ++ r.0) (sym (ap (λ (x : Bool). serves held shard ++ serve shard x) e ∙ served held shard))))
+    (stints_wants (λ k. k.config.shards ≡ h.directory.shards) (λ k. serves held shard) (λ k. serve shard is) h o h1 o1 h2 o2 a c
+    (wants_as (λ k. shard < k.config.shards) (λ k. k.config.shards ≡ h.directory.shards) (λ k s t printed. StintsBreakOff k (serve shard is) s t printed) (λ k s t printed. StintsBreakOff k (serve shard is) s t printed) h1 o1 h2 o2
+    (λ k s q st. omega (arith, l, q)) (λ k s q st t printed x. x) d))

@@ -63,7 +63,57 @@ pub record Settles (k : Setup) (held : ℕ → Bool) (s t : Scene) (printed : Li
   pub turns : Stints k (idle_turns k.config.sessions) between t two
   pub both : printed ≡ one ++ two
 
--- Where memory was wanting: some events happened, one after another, and some may have been cut short.
+-- ---- where memory was wanting
+
+-- As an event was tried memory was wanting: it was cut short, or nothing of it happened.
+pub data BreaksOff (k : Setup) (s : Scene) (e : Event) (t : Scene) (printed : List ℕ) : Type 0 where
+  cut_short : Plays k false s e t printed → BreaksOff k s e t printed
+  unbegun : t ≡ s → printed ≡ [] → BreaksOff k s e t printed
+
+-- The first of these events were tried, one after another, and the next one broke off.
+pub record TurnBreaksOff (k : Setup) (es : List Event) (s t : Scene) (printed : List ℕ) : Type 0 where
+  pub done : List Event
+  pub next : Event
+  pub others : List Event
+  pub split : es ≡ done ++ next ∷ others
+  pub between : Scene
+  pub one : List ℕ
+  pub two : List ℕ
+  pub goes : InTurn k done s between one
+  pub breaks : BreaksOff k between next t two
+  pub both : printed ≡ one ++ two
+
+-- a stint broke off: its events were tried over and over, till one of them did
+abbrev pub StintBreaksOff : Setup → List Event → Scene → Scene → List ℕ → Type 0
+StintBreaksOff k group s t printed = (times : ℕ) × TurnBreaksOff k (in_a_row (replicate times group)) s t printed
+
+-- The first of these stints were done, one after another, and the next one broke off.
+pub record StintsBreakOff (k : Setup) (groups : List (List Event)) (s t : Scene) (printed : List ℕ) : Type 0 where
+  pub done : List (List Event)
+  pub next : List Event
+  pub others : List (List Event)
+  pub split : groups ≡ done ++ next ∷ others
+  pub between : Scene
+  pub one : List ℕ
+  pub two : List ℕ
+  pub goes : Stints k done s between one
+  pub breaks : StintBreaksOff k next between t two
+  pub both : printed ≡ one ++ two
+
+-- rounds broke off
+abbrev pub RoundsBreakOff : Setup → (held : ℕ → Bool) → Scene → Scene → List ℕ → Type 0
+RoundsBreakOff k held s t printed = (rounds : ℕ) × StintsBreakOff k (in_a_row (replicate rounds (round k held (is_shut_in s)))) s t printed
+
+-- As the house settled memory was wanting: what it does by itself began in its order, and broke off within the rounds, or behind them within the turns of
+-- the sessions that idle. Nothing else happened.
+pub data SettlingBreaksOff (k : Setup) (held : ℕ → Bool) (s t : Scene) (printed : List ℕ) : Type 0 where
+  in_rounds : RoundsBreakOff k held s t printed → SettlingBreaksOff k held s t printed
+  in_turns : (between : Scene) (one two : List ℕ) → GoesRounds k held s between one → StintsBreakOff k (idle_turns k.config.sessions) between t two
+      → printed ≡ one ++ two → SettlingBreaksOff k held s t printed
+
+-- ---- any events
+
+-- Some events happened, one after another, and each may have been cut short for want of memory.
 abbrev pub Happened : Setup → List Event → Scene → Scene → List ℕ → Type 0
 Happened k [] s t printed = (t ≡ s) × (printed ≡ [])
 Happened k (e ∷ es) s t printed = (m : Scene) × (one : List ℕ) × (two : List ℕ) × Plays k false s e m one × Happened k es m t two × (printed ≡ one ++ two)

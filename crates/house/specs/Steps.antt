@@ -16,7 +16,7 @@ use Rattle.delivery_token.specs.Log.{heard_at_once}
 use Rattle.delivery_token.specs.Keys.{past}
 use Rattle.delivery_core.specs.Stands as core
 use Rattle.house_connection.specs.HouseConnection.{HouseConnection}
-use Rattle.house_connection.specs.Taking.{due}
+use Rattle.house_connection.specs.Taking.{HasWork, due}
 use Rattle.house.specs.House.{House}
 use Rattle.house.specs.Setup.{Setup}
 use Rattle.house.specs.Scene.{Scene, HasNothing, Plays, most_serials, place_of, seat_of}
@@ -232,8 +232,25 @@ pub record MayIdle (p : SeatedSession) (place : ℕ) (core : DeliveryCore) : Typ
   pub selected : IsSome p.place.link.session.selected
   pub news : IsSome (client_of core place) → behind core place ≡ 0 → ⊥
 
+-- who stands at a connection's seat, and at a session's place
+abbrev pub caller_at : House → (connection : ℕ) → Option HouseConnection
+caller_at h connection = slice_index_or h.callers (seat_of connection) None
+
+abbrev pub visitor_at : House → (session : ℕ) → Option SeatedSession
+visitor_at h session = slice_index_or h.visitors (place_of session) None
+
+-- Who goes on may want memory where there was something to be done, or where something was said that couldn't be printed: so of a connection, and of a session.
+pub data CallerWants (old new : Option HouseConnection) : Type 0 where
+  caller_works : (h : HouseConnection) → old ≡ Some h → HasWork h → CallerWants old new
+  caller_unprinted : (h : HouseConnection) → new ≡ Some h → 0 < length h.unsaid → CallerWants old new
+
+pub data VisitorWants (old new : Option SeatedSession) : Type 0 where
+  visitor_works : (p : SeatedSession) → old ≡ Some p → seat.HasWork p → VisitorWants old new
+  visitor_unprinted : (p : SeatedSession) → new ≡ Some p → 0 < length p.place.unsaid → VisitorWants old new
+
 -- When an event may be refused for want of memory. A take, a delivery, an answer, an end, a close, a leave and a peer that is gone ask for none. A put and a hearing ask before
--- anything is done for the room of one note alone, and an idling session for what there is to show.
+-- anything is done for the room of one note alone, and an idling session for what there is to show. Bytes ask for it where a connection is opened for them, where there are any,
+-- and else only where whoever they are for goes on.
 abbrev pub MayWant : Event → House → House → Type 0
 MayWant (Take shard) old new = ⊥
 MayWant (Deliver shard) old new = ⊥
@@ -245,6 +262,6 @@ MayWant (Vanish connection) old new = ⊥
 MayWant (Put number) old new = MayWantToPut (due_at old (seat_of number)) old.core new.core
 MayWant (Hear number) old new = HasNoRoom old.core (seat_of number) ⊎ ((r : Noted) × Hears old.core new.core (seat_of number) (r ∷ []))
 MayWant (Idle session) old new = (p : SeatedSession) × (slice_index_or old.visitors (place_of session) None ≡ Some p) × MayIdle p (place_of session) old.core
-MayWant (Bytes connection piece) old new = Unit {0}
+MayWant (Bytes connection piece) old new = IsEmptySeat old connection ⊎ ((0 < length piece.now) ⊎ CallerWants (caller_at old connection) (caller_at new connection))
 MayWant (Enter session user) old new = Unit {0}
-MayWant (Say session piece) old new = Unit {0}
+MayWant (Say session piece) old new = (0 < length piece.now) ⊎ VisitorWants (visitor_at old session) (visitor_at new session)

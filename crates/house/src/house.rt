@@ -17,7 +17,7 @@ ghost use Rattle.house.specs.Setup.{Setup};
 ghost use Rattle.house.specs.Stands.{StandsFor};
 ghost use Rattle.house.specs.Effort.{MakesLess, caller_effort};
 ghost use Rattle.delivery_core.specs.Load.{load};
-ghost use Rattle.house.specs.Steps.{CannotNote, CorePuts, Follows, FollowsInPart, HasNoRoom, IsBusy, IsEmptySeat, ChangesNothing, IsNoNumber, IsNoSeat, IsNobody, KeepsMarks, Led, MayFindNothing, MayWant, PutsNext, is_unread};
+ghost use Rattle.house.specs.Steps.{CallerWants, CannotNote, CorePuts, Follows, FollowsInPart, HasNoRoom, IsBusy, IsEmptySeat, ChangesNothing, IsNoNumber, IsNoSeat, IsNobody, KeepsMarks, Led, MayFindNothing, MayWant, PutsNext, is_unread};
 ghost use Rattle.house.specs.inner.Steps.{CallerWentOn, HasSeat, IsNoNext, IsOpen, IsRead, MayNotPut, StandsForMaybe, fault_of, job_of};
 ghost use Rattle.house.specs.declared.event.Event.TheVariants as events;
 
@@ -92,6 +92,7 @@ fn caller_goes_on(
         IsOf k number seat directory.now → StandsForMaybe k seat next heard occupant.old (Some b) →
         CallerWentOn k false seat next heard b occupant.new out.old.items out.new.items) }
     ensures asks { OnErr result (IfSome occupant.old (λ h. h.gone ≡ false)) }
+    ensures works { OnErr result (CallerWants occupant.old occupant.new) }
 {
     let Some(caller) = occupant else {
         return Ok(());
@@ -126,6 +127,7 @@ fn opened(
 fn append_to_caller(occupant: &mut Option<HouseConnection>, piece: &[u8]) -> Result<(), AllocError>
     ensures ok { OnOk result (occupant.new ≡ option_map (with_more piece.now) occupant.old) }
     ensures err { OnErr result (occupant.new ≡ occupant.old) }
+    ensures asks { OnErr result (0 < length piece.now) }
 {
     match occupant {
         Some(caller) => caller.append(piece),
@@ -220,6 +222,7 @@ impl House {
         ensures follows { OnOk result (Follows self.old (events.Bytes connection piece.entry) self.new out.old.items out.new.items) }
         ensures only { IfErr result (λ e. e ≡ HouseFault.NoMemory) }
         ensures no_memory { OnErr result (FollowsInPart self.old (events.Bytes connection piece.entry) self.new out.old.items out.new.items) }
+        ensures asks { OnErr result (MayWant (events.Bytes connection piece.entry) self.old self.new) }
     {
         let occupant = &mut self.callers[index_of(connection)];
         append_to_caller(occupant, piece)?;
@@ -243,6 +246,7 @@ impl House {
         ensures follows { OnOk result (Follows self.old (events.Bytes connection piece.entry) self.new out.old.items out.new.items) }
         ensures only { IfErr result (λ e. e ≡ HouseFault.NoMemory) }
         ensures no_memory { OnErr result (FollowsInPart self.old (events.Bytes connection piece.entry) self.new out.old.items out.new.items) }
+        ensures asks { OnErr result (MayWant (events.Bytes connection piece.entry) self.old self.new) }
     {
         let seat = index_of(connection);
         let serial = self.serials[seat];
@@ -397,7 +401,7 @@ impl House {
         // From each such scene the event was cut short, or nothing happened, and the house stands for what came of it.
         ensures no_memory { result ≡ Err HouseFault.NoMemory → FollowsInPart self.old event.entry self.new out.old.items out.new.items }
 
-        // No take, delivery, answer, end, close, leave or vanishing is refused so; a put, hearing or idle turn as `MayWant` says.
+        // No take, delivery, answer, end, close, leave or vanishing is refused so; the others only as `MayWant` says.
         ensures asks { result ≡ Err HouseFault.NoMemory → MayWant event.entry self.old self.new }
 
         // A refusal but for memory leaves the house and `out` as they were.
@@ -442,6 +446,7 @@ impl House {
         ensures nothing { result ≢ Err HouseFault.Nothing }
         ensures no_memory { result ≡ Err HouseFault.NoMemory →
             FollowsInPart self.old (events.Bytes connection piece.entry) self.new out.old.items out.new.items }
+        ensures asks { result ≡ Err HouseFault.NoMemory → MayWant (events.Bytes connection piece.entry) self.old self.new }
         ensures refused { result ≢ Err HouseFault.NoMemory → OnErr result ((self.new ≡ self.old) × (out.new.items ≡ out.old.items)) }
     {
         if self.has_no_seat(connection) {

@@ -6,7 +6,7 @@ ghost use Rattle.house.specs.Setup.{Setup, session_seat};
 ghost use Rattle.delivery_core.specs.DeliveryCore.{behind};
 ghost use Rattle.delivery_core.specs.Stands as core;
 ghost use Rattle.house.specs.Effort.{MakesLess, turns_left};
-ghost use Rattle.house.specs.Settling.{Stint, Stints, idle_turns};
+ghost use Rattle.house.specs.Settling.{Stint, StintBreaksOff, Stints, StintsBreakOff, idle_turns};
 ghost use Rattle.house.specs.Stands.{StandsFor};
 ghost use Rattle.house.specs.Steps.{Follows, FollowsInPart, IsBusy, ChangesNothing, IsNobody, MayIdle, MayWant};
 ghost use Rattle.house.specs.inner.Steps.{HasNoTurn, PlaceIdled, PlaceIdledInPart, StandsForSomebody};
@@ -107,7 +107,8 @@ impl House {
     fn idle_out(&mut self, session: u8, out: &mut Vec<u8>) -> Result<(), AllocError>
         ensures ok { OnOk result (Goes (λ k. IsAmong k (events.Idle session)) (λ k s t printed.
             Stint k (events.Idle session ∷ []) s t printed) self.old out.old.items self.new out.new.items) }
-        ensures err { OnErr result (Wants (λ k. IsAmong k (events.Idle session)) self.old out.old.items self.new out.new.items) }
+        ensures err { OnErr result (Wants (λ k. IsAmong k (events.Idle session)) (λ k s t printed.
+            StintBreaksOff k (events.Idle session ∷ []) s t printed) self.old out.old.items self.new out.new.items) }
     {
         loop {
             match self.step(Event::Idle(session), out) {
@@ -124,7 +125,8 @@ impl House {
     pub(crate) fn idle_all(&mut self, out: &mut Vec<u8>) -> Result<(), AllocError>
         ensures ok { OnOk result (Goes (λ k. Unit {0}) (λ k s t printed.
             Stints k (idle_turns k.config.sessions) s t printed) self.old out.old.items self.new out.new.items) }
-        ensures err { OnErr result (Wants (λ k. Unit {0}) self.old out.old.items self.new out.new.items) }
+        ensures err { OnErr result (Wants (λ k. Unit {0}) (λ k s t printed.
+            StintsBreakOff k (idle_turns k.config.sessions) s t printed) self.old out.old.items self.new out.new.items) }
     {
         let sessions = self.visitors.len() as u8;
         for place in 0..sessions {

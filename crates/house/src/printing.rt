@@ -1,7 +1,7 @@
 //! What connections and sessions say is printed: each line with a mark that tells who said it, all of it or nothing. Where memory is refused it is
 //! printed at the next event of the same connection or session.
 
-ghost use Rattle.std.specs.Prelude.{◌≡◌, ◌≤◌, ◌<◌, ◌++◌, ℕ, List, length, true, false, OnOk, OnErr, IfOk};
+ghost use Rattle.std.specs.Prelude.{◌≡◌, ◌≤◌, ◌<◌, ◌⊎◌, ◌++◌, ℕ, List, length, true, false, OnOk, OnErr, IfOk};
 ghost use Rattle.delivery_token.specs.declared.CopyKey.{CopyKey};
 ghost use Rattle.delivery_token.specs.declared.log.Noted.{Noted};
 ghost use Rattle.line_io.specs.Marks.{marked};
@@ -10,8 +10,9 @@ ghost use Rattle.house_connection.specs.Caller as connection;
 ghost use Rattle.house_connection.specs.Caller.{Terms};
 ghost use Rattle.house_connection.specs.ConnectionStands.{StandsForConnection};
 ghost use Rattle.house_connection.specs.Taking as taking;
-ghost use Rattle.house_connection.specs.Taking.{line_effort};
+ghost use Rattle.house_connection.specs.Taking.{HasWork, line_effort};
 ghost use Rattle.house_session.specs.HouseSession.{HadTurn, with_all_said};
+ghost use Rattle.house_session.specs.SeatedSession as seated;
 ghost use Rattle.house_session.specs.SeatedSession.{StandsForSeated, seat_effort, with_place};
 ghost use Rattle.house_session.specs.SeatedVisitor as session;
 ghost use Rattle.delivery_core.specs.Changes.{SameDelivery};
@@ -49,6 +50,7 @@ fn print_connection(
         (out.new.items ≡ out.old.items ++ marked of_connection number caller.old.unsaid)) }
     ensures err { OnErr result ((caller.new ≡ caller.old) × (out.new.items ≡ out.old.items)) }
     ensures asks { OnErr result (caller.old.gone ≡ true → ⊥) }
+    ensures words { OnErr result (0 < length caller.new.unsaid) }
 {
     print_words(b'L', number, caller.unsaid(), out)?;
     caller.note_printed();
@@ -64,6 +66,7 @@ fn print_session(
     ensures ok { OnOk result ((visitor.new ≡ with_place (with_all_said visitor.old.place) visitor.old) ×
         (out.new.items ≡ out.old.items ++ marked of_session number visitor.old.place.unsaid)) }
     ensures err { OnErr result ((visitor.new ≡ visitor.old) × (out.new.items ≡ out.old.items)) }
+    ensures words { OnErr result (0 < length visitor.new.place.unsaid) }
 {
     print_words(b'I', number, visitor.unsaid(), out)?;
     visitor.note_printed();
@@ -85,6 +88,7 @@ pub(crate) fn proceed(
         IsOf k number seat directory.now → StandsForConnection k seat next heard caller.old b →
         ConnectionWent k false seat next heard b whats.More caller.new out.old.items out.new.items) }
     ensures asks { OnErr result (caller.old.gone ≡ false) }
+    ensures works { OnErr result (HasWork caller.old ⊎ (0 < length caller.new.unsaid)) }
 {
     let Ok(what) = caller.proceed(directory) else {
         // What was done stands, and what was said is printed as far as memory goes.
@@ -113,6 +117,7 @@ pub(crate) fn go_on(
     ensures err { OnErr result ((seat : ℕ) (next : CopyKey) (heard : List Noted) (v : session.SeatedVisitor) →
         StandsForSeated seat next heard visitor.old v
         → WentOn Serves false seat number next heard v store.old store.new out.old.items out.new.items visitor.new) }
+    ensures works { OnErr result (seated.HasWork visitor.old ⊎ (0 < length visitor.new.place.unsaid)) }
 {
     let Ok(()) = visitor.proceed(alloc, store) else {
         let _ = print_session(visitor, number, out);

@@ -12,7 +12,7 @@ ghost use Rattle.house.specs.Effort.{MakesLess, visitor_effort};
 ghost use Rattle.house.specs.Scene as scene;
 ghost use Rattle.house.specs.Setup.{Setup, session_seat};
 ghost use Rattle.house.specs.Stands.{StandsFor, first_of};
-ghost use Rattle.house.specs.Steps.{CannotNote, Follows, FollowsInPart, IsBusy, ChangesNothing, IsNobody, IsNoPlace, IsVacant, Led, MayWant, PutsNext, is_left};
+ghost use Rattle.house.specs.Steps.{CannotNote, Follows, FollowsInPart, IsBusy, ChangesNothing, IsNobody, IsNoPlace, IsVacant, Led, MayWant, PutsNext, VisitorWants, is_left};
 ghost use Rattle.house.specs.inner.Steps.{CanEnter, HasLingered, IsSession, IsTalking, MayNotPut, PlaceTalked, PlaceVisited, StandsForSomebody, with_more_came};
 ghost use Rattle.house.specs.declared.event.Event.TheVariants as events;
 ghost use Rattle.house_session.specs.SeatedVisitor as spec;
@@ -58,6 +58,7 @@ fn visitor_talks(
     ensures err { OnErr result ((k : Setup) (next : CopyKey) (heard : List NotedSpec) (w : World) (b : spec.SeatedVisitor) →
         core.StandsFor k.config store.old.core w → StandsForSomebody (session_seat k (number - 1)) next heard place.old (Some b) →
         PlaceTalked k false (number - 1) next heard w b place.new store.new.core out.old.items out.new.items) }
+    ensures works { OnErr result (VisitorWants place.old place.new) }
 {
     let Some(visitor) = place else {
         return Ok(());
@@ -128,6 +129,7 @@ fn admitted(
 fn append_to_visitor(place: &mut Option<SeatedSession>, piece: &[u8]) -> Result<(), AllocError>
     ensures ok { OnOk result (place.new ≡ option_map (with_more_came piece.now) place.old) }
     ensures err { OnErr result (place.new ≡ place.old) }
+    ensures asks { OnErr result (0 < length piece.now) }
 {
     match place {
         Some(visitor) => visitor.append(piece),
@@ -256,6 +258,7 @@ impl House {
         ensures follows { OnOk result (Follows self.old (events.Say session piece.entry) self.new out.old.items out.new.items) }
         ensures only { IfErr result (λ e. e ≡ HouseFault.NoMemory) }
         ensures no_memory { OnErr result (FollowsInPart self.old (events.Say session piece.entry) self.new out.old.items out.new.items) }
+        ensures asks { OnErr result (MayWant (events.Say session piece.entry) self.old self.new) }
     {
         let place = &mut self.visitors[index_of(session)];
         append_to_visitor(place, piece)?;
@@ -277,6 +280,7 @@ impl House {
         ensures nothing { result ≢ Err HouseFault.Nothing }
         ensures no_memory { result ≡ Err HouseFault.NoMemory →
             FollowsInPart self.old (events.Say session piece.entry) self.new out.old.items out.new.items }
+        ensures asks { result ≡ Err HouseFault.NoMemory → MayWant (events.Say session piece.entry) self.old self.new }
         ensures refused { result ≢ Err HouseFault.NoMemory → OnErr result ((self.new ≡ self.old) × (out.new.items ≡ out.old.items)) }
     {
         if self.has_no_place(session) {

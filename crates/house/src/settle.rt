@@ -4,8 +4,8 @@
 ghost use Rattle.std.specs.Prelude.{◌≡◌, ◌<◌, All, OnOk, OnErr};
 ghost use Rattle.house.specs.Scene as scene;
 ghost use Rattle.house.specs.Setup.{Setup};
-ghost use Rattle.house.specs.Settled.{HappenedFrom, SettledFrom, is_held};
-ghost use Rattle.house.specs.Settling.{GoesRounds, round};
+ghost use Rattle.house.specs.Settled.{BrokeOffFrom, SettledFrom, is_held};
+ghost use Rattle.house.specs.Settling.{GoesRounds, RoundsBreakOff, round};
 ghost use Rattle.house.specs.Stands.{StandsFor};
 ghost use Rattle.envelope.specs.Directory.{is_shut};
 ghost use Rattle.house.specs.inner.Trying.{CameInTurn, CameOne, CameStint, CameStints, Goes, IsOwn, Wants, closes, ends, ends_where, hears, puts, serve, serves};
@@ -185,7 +185,8 @@ impl House {
     fn go_rounds(&mut self, held: &[bool], out: &mut Vec<u8>) -> Result<(), AllocError>
         ensures ok { OnOk result (Goes (λ k. Unit {0}) (λ k s t printed.
             GoesRounds k (is_held held.now) s t printed) self.old out.old.items self.new out.new.items) }
-        ensures err { OnErr result (Wants (λ k. Unit {0}) self.old out.old.items self.new out.new.items) }
+        ensures err { OnErr result (Wants (λ k. Unit {0}) (λ k s t printed.
+            RoundsBreakOff k (is_held held.now) s t printed) self.old out.old.items self.new out.new.items) }
     {
         loop {
             let moved = self.go_round(held, out)?;
@@ -198,15 +199,16 @@ impl House {
     /// Settles: each seat ends on each shard that is shut, where it hasn't ended; each connection from 1, and each session behind them, puts its
     /// copies; each shard from 0 that isn't held takes, delivers and answers as long as it can; each connection and each session hears its
     /// verdicts; and so on in rounds until nothing moves. Then each session from 1 that idles is shown what is pending, until nothing is.
-    /// The one error is want of memory: what happened by then stands.
+    /// The one error is want of memory: what happened by then stands, a beginning of the same events, the last of them perhaps in part. Nothing
+    /// else happened.
     pub fn settle(&mut self, held: &[bool], out: &mut Vec<u8>) -> Result<(), AllocError>
         // From each scene for which it stood: rounds without held shards till nothing moves, then idle turns; it stands for where they lead.
         ensures settles { OnOk result ((k : Setup) (s : scene.Scene) → StandsFor k self.old s →
             SettledFrom k held.now s self.new out.old.items out.new.items) }
 
-        // From each such scene some events happened, each perhaps cut short, and the house stands for where they led.
+        // From each such scene the same was begun, in the same order, and broke off at one event; the house stands for where that led.
         ensures no_memory { OnErr result ((k : Setup) (s : scene.Scene) → StandsFor k self.old s →
-            HappenedFrom k s self.new out.old.items out.new.items) }
+            BrokeOffFrom k held.now s self.new out.old.items out.new.items) }
     {
         self.go_rounds(held, out)?;
         self.idle_all(out)

@@ -1,5 +1,6 @@
 -- What a session at its seat holds, as contracts see it, and when that stands for one.
-use Rattle.std.specs.Prelude.{◌≡◌, ◌<◌, ℕ, ◌+◌, ◌*◌, Bool, true, false, List, [], ◌++◌, length, Option, Some, None}
+use Rattle.std.specs.Option.{is_some}
+use Rattle.std.specs.Prelude.{◌≡◌, ◌<◌, ℕ, ◌+◌, ◌*◌, ◌⊎◌, Bool, true, false, List, [], ◌∷◌, ◌++◌, length, Option, Some, None}
 use Rattle.delivery_token.specs.declared.CopyKey.{CopyKey}
 use Rattle.delivery_token.specs.Keys.{AtLeast}
 use Rattle.delivery_token.specs.declared.Job.{Job}
@@ -73,6 +74,16 @@ noted_put verdict p = with_slots (verdicts.noted_put verdict p.slots) p
 -- its client is gone: what waited and what was still to be printed is dropped
 abbrev pub with_nobody_there : SeatedSession → SeatedSession
 with_nobody_there p = record { place = record { link = p.place.link; came = []; unsaid = [] }; number = p.number; serial = p.serial; gone = true; slots = p.slots }
+
+-- the verdict on the message at hand is known
+abbrev pub IsHeard : SeatedSession → Type 0
+IsHeard p = (v : Verdict) × verdicts.AreKnown 1 p.slots (v ∷ [])
+
+-- There is something to be done: the session goes on, and bytes wait and no verdict is awaited, or the one that is awaited is known.
+pub record HasWork (p : SeatedSession) : Type 0 where
+  pub there : p.gone ≡ false
+  pub going : p.place.link.session.ended ≡ false
+  pub what : ((submitted_at p ≡ None) × (0 < length p.place.came)) ⊎ ((is_some (submitted_at p) ≡ true) × IsHeard p)
 
 -- From this session at its seat what could be done was done, and nothing of what it said is printed yet.
 pub record Proceeded {S : Type 0} (step : S → Call → Answer → S → Type 0) (whole : Bool) (seat : ℕ) (next : CopyKey) (heard : List Noted) (before : SeatedVisitor) (old new : S) (p : SeatedSession) : Type 0 where

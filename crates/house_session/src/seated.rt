@@ -13,7 +13,7 @@ ghost use Rattle.imap_connection.specs.Dialogue.{Asks};
 ghost use Rattle.house_session.specs.HouseSession.{HadTurn, with_all_said, with_more};
 ghost use Rattle.house_session.specs.SeatedVisitor as spec;
 ghost use Rattle.house_session.specs.SeatedVisitor.{Awaits, IsSettled, seated_greeted};
-ghost use Rattle.house_session.specs.SeatedSession.{HearsVerdict, Proceeded, SeatedTurned, StandsForSeated, due, noted_put, seat_effort, submitted_at, with_nobody_there, with_place};
+ghost use Rattle.house_session.specs.SeatedSession.{HasWork, HearsVerdict, IsHeard, Proceeded, SeatedTurned, StandsForSeated, due, noted_put, seat_effort, submitted_at, with_nobody_there, with_place};
 
 use crate::session::HouseSession;
 use delivery_token::{CopyKey, Noted, Verdict};
@@ -83,10 +83,11 @@ impl SeatedSession {
         })
     }
 
-    /// Adds bytes that came to those that wait. After an error nothing is changed.
+    /// Adds bytes that came to those that wait. After an error nothing is changed; where there are none no memory is asked for.
     pub fn append(&mut self, piece: &[u8]) -> Result<(), AllocError>
         ensures ok { OnOk result (self.new ≡ with_place (with_more piece.now self.old.place) self.old) }
         ensures err { OnErr result (self.new ≡ self.old) }
+        ensures asks { OnErr result (0 < length piece.now) }
     {
         self.session.append(piece)
     }
@@ -170,6 +171,7 @@ impl SeatedSession {
         ensures less { seat_effort self.new ≤ seat_effort self.old }
         ensures asked { Asks S.step store.old store.new }
         ensures gone { self.new.gone ≡ self.old.gone }
+        ensures asks { OnErr result (IsHeard self.old) }
     {
         let Some(verdict) = self.verdicts.only() else {
             return Ok(());
@@ -207,7 +209,8 @@ impl SeatedSession {
     /// more is left to do than was: what a message adds that was submitted, the bytes that were taken for it more than outweigh. The store was asked
     /// some calls, one after the other, or none; and whether its client is gone is as it was.
     ///
-    /// Errors: `AllocError` where memory was refused. What was done stands, and the next call goes on from there.
+    /// Errors: `AllocError` where memory was refused, and only where there was something to be done. What was done stands, and the next call goes
+    /// on from there.
     pub fn proceed<S: Store>(&mut self, alloc: Global, store: &mut S) -> Result<(), AllocError>
         // From each session for which it stood: it did what it can by what its seat has heard, after an error perhaps less; nothing is printed yet.
         ensures ok { OnOk result ((seat : ℕ) (next : Key) (heard : List NotedSpec) (v : spec.SeatedVisitor) →
@@ -219,6 +222,9 @@ impl SeatedSession {
         ensures less { seat_effort self.new ≤ seat_effort self.old }
         ensures asked { Asks S.step store.old store.new }
         ensures gone { self.new.gone ≡ self.old.gone }
+
+        // An error only where there was something to be done.
+        ensures asks { OnErr result (HasWork self.old) }
     {
         if self.is_gone {
             return Ok(());

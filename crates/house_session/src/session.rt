@@ -55,10 +55,11 @@ impl HouseSession {
         })
     }
 
-    /// Adds bytes that came to those that wait. After an error nothing is changed.
+    /// Adds bytes that came to those that wait. After an error nothing is changed; where there are none no memory is asked for.
     pub fn append(&mut self, piece: &[u8]) -> Result<(), AllocError>
         ensures ok { OnOk result (self.new ≡ with_more piece.now self.old) }
         ensures err { OnErr result (self.new ≡ self.old) }
+        ensures asks { OnErr result (0 < length piece.now) }
     {
         self.incoming.append(piece)
     }
@@ -130,7 +131,7 @@ impl HouseSession {
     /// nothing is answered before the verdict. What it says is still to be printed. Whatever it stands for, the store was asked some calls, one
     /// after the other, or none; no more waits than did; and where a message was submitted, a byte at least was taken for it.
     ///
-    /// Errors: `AllocError` where memory was refused. What was done stands, and the next call goes on from there.
+    /// Errors: `AllocError` where memory was refused, and only where bytes wait. What was done stands, and the next call goes on from there.
     pub fn go_on<S: Store>(&mut self, alloc: Global, store: &mut S) -> Result<(), AllocError>
         // From each visitor for which it stood: some of what waits was answered in turn, without error all that may be; nothing is printed yet.
         ensures ok { OnOk result ((v : spec.Visitor) → StandsFor self.old v → Answered S.step true v store.old store.new self.new) }
@@ -143,6 +144,9 @@ impl HouseSession {
         ensures fewer { length self.new.came ≤ length self.old.came }
         ensures moves { self.old.link.session.mailing.sent ≡ None → is_some self.new.link.session.mailing.sent ≡ true →
             length self.new.came < length self.old.came }
+
+        // An error only where bytes wait.
+        ensures asks { OnErr result (0 < length self.old.came) }
     {
         if self.connection.has_ended() {
             return Ok(());

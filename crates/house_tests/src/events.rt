@@ -254,6 +254,17 @@ T alice total 1\n",
     ),
 ];
 
+// What is printed of those events.
+const TRIED_LINES: &[u8] = b"L1 220 mx.example.org LMTP ready\n\
+L1 250-mx.example.org\n\
+L1 250-PIPELINING\n\
+L1 250-ENHANCEDSTATUSCODES\n\
+L1 250 8BITMIME\n\
+L1 250 2.1.0 Sender OK\n\
+L1 250 2.1.5 Recipient OK\n\
+L1 354 Start mail input\n\
+L1 250 2.1.5 Delivered\n";
+
 // Whether what was printed is this; from here on it is asked of what comes after.
 fn is_printed(out: &mut Vec<u8>, wanted: &[u8]) -> bool {
     let is_same = out.as_slice() == wanted;
@@ -309,6 +320,62 @@ pub fn house(alloc: Global) -> Result<House, ConfigFault> {
 fn played(alloc: Global, steps: &[Step]) -> Result<Option<usize>, ConfigFault> {
     let mut house = house(alloc)?;
     Ok(first_unlike(&mut house, steps, &mut Vec::new(alloc)))
+}
+
+// Whether this is a beginning of what is wanted, or tells a copy that memory was wanting for it.
+fn is_beginning(out: &[u8], wanted: &[u8]) -> bool {
+    wanted.starts_with(out) || out.ends_with(b"L1 451 4.3.0 Out of memory\n")
+}
+
+// Whether a house in which one message was brought, and nothing else, was left to that: no other connection and no session is there, and no shard is shut.
+fn is_left_alone(house: &mut House, out: &mut Vec<u8>) -> bool {
+    house.step(Event::Vanish(2), out) == Err(HouseFault::Nobody)
+        && house.step(Event::Leave(1), out) == Err(HouseFault::Nobody)
+        && house.step(Event::Close(0), out) == Ok(())
+}
+
+// Settles where memory may be refused in the middle, looks at what was printed, and settles on.
+fn settles_on(house: &mut House, out: &mut Vec<u8>) -> bool {
+    let is_whole = house.settle(&[], out) == Ok(());
+    let is_told = is_beginning(out, b"L1 250 2.1.5 Delivered\n");
+    is_told && (is_whole || house.settle(&[], out) == Ok(())) && !out.is_empty()
+}
+
+// A message is brought to the house, which settles; where memory is refused before that there is nothing to see.
+fn breaks_off(house: &mut House, out: &mut Vec<u8>) -> bool {
+    if house.step(Event::Bytes(1, MESSAGE), out) != Ok(()) {
+        return true;
+    }
+    out.clear();
+    settles_on(house, out)
+        && is_beginning(out, b"L1 250 2.1.5 Delivered\n")
+        && is_left_alone(house, out)
+}
+
+// Events are tried, and memory may be refused at one of them: what was printed is a beginning of what they print, and nothing else was done.
+fn tries(house: &mut House, out: &mut Vec<u8>) -> bool {
+    let is_whole = play(house, EVENTS, out) == Ok(());
+    let is_told = if is_whole {
+        out.as_slice() == TRIED_LINES || out.ends_with(b"L1 451 4.3.0 Out of memory\n")
+    } else {
+        is_beginning(out, TRIED_LINES)
+    };
+    is_told && is_left_alone(house, out)
+}
+
+// Memory is enough here, and refused at each allocation in turn by `rt try --test --fail-alloc N`.
+#[test]
+fn a_settling_that_breaks_off_did_nothing_else(rt: HostRuntime) {
+    if let Ok(mut house) = house(rt.alloc()) {
+        assert!(rt; breaks_off(&mut house, &mut Vec::new(rt.alloc())));
+    }
+}
+
+#[test]
+fn events_that_break_off_are_the_first(rt: HostRuntime) {
+    if let Ok(mut house) = house(rt.alloc()) {
+        assert!(rt; tries(&mut house, &mut Vec::new(rt.alloc())));
+    }
 }
 
 #[test]

@@ -312,7 +312,7 @@ impl ImapConnection {
     /// (RFC 9051, 2.2), one of more than 8,192 bytes with its CRLF as too long, and the bytes of a literal are kept for the line that announced
     /// it (4.3), wherever they are cut. Where memory is refused before a line is answered, what was taken till then stands, and the rest is for
     /// the next call. It is refused only where `out` has no room, behind what it has by then, for 8,282 bytes and the tag of the IDLE or the
-    /// APPEND that isn't done. A message is submitted only by a byte that was taken; and whatever the connection stands for, the store was asked
+    /// APPEND that isn't done, and never over a piece that is empty. A message is submitted only by a byte that was taken; and whatever the connection stands for, the store was asked
     /// some calls, one after the other, or none.
     pub fn take<S: Store>(
         &mut self,
@@ -332,6 +332,9 @@ impl ImapConnection {
         // Memory is refused (None) only where `out` has too little room behind what it has by then, and no message is submitted then.
         ensures full { result.after ≡ None → vec_capacity out.new < vec_len out.new + (ANSWER_ROOM + tag_len (kept_tag self.new.session)) }
         ensures unsent { result.after ≡ None → self.new.session.mailing.sent ≡ None }
+
+        // Nor is it where there is nothing to take.
+        ensures asks { result.after ≡ None → 0 < length piece.now }
 
         // A message is submitted only by a byte that was taken. Whatever it stands for, the store was asked some calls in turn, or none.
         ensures moves { is_some self.new.session.mailing.sent ≡ true → 0 < result.used }

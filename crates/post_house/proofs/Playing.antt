@@ -24,7 +24,7 @@ use Rattle.post_house.specs.declared.failure.Failure.TheVariants as failures
 -- what delivers nothing delivers exactly once
 pub unplayed : (config : Config) (lines : List ScriptLine) (old : Option (List ℕ)) → WroteOnce (setup_of config) lines old old
 unplayed config lines old =
-    wrote_beginning (setup_of config) lines (λ number others s. Unit {0}) old old (run_unbegun (setup_of config) lines old (λ number others s. Unit {0}) tt)
+    wrote_beginning (setup_of config) lines (λ number held others s. Unit {0}) old old (run_unbegun (setup_of config) lines old (λ number held others s. Unit {0}) tt)
 
 -- a run that failed, by its fault
 pub failed_played : (config : Config) (lines : List ScriptLine) (h : House) (failed : Bool) (old new : Option (List ℕ)) (f : RunFault) (r : Failure) → r ≡ run_failure f

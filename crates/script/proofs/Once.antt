@@ -243,7 +243,7 @@ wrote_first k lines sent h old new w = record {
   out = w.out;
 }
 
-pub wrote_beginning : (k : Setup) (lines : List ScriptLine) (Left : ℕ → List ScriptLine → Scene → Type 0) (old new : Option (List ℕ)) → WritesBeginning k lines Left old new → WroteOnce k lines old new
+pub wrote_beginning : (k : Setup) (lines : List ScriptLine) (Left : ℕ → List Bool → List ScriptLine → Scene → Type 0) (old new : Option (List ℕ)) → WritesBeginning k lines Left old new → WroteOnce k lines old new
 wrote_beginning k lines Left old new w = record {
   some = w.some;
   others = w.others;

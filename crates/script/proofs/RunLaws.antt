@@ -27,13 +27,13 @@ use Rattle.house.specs.Scene.{Plays, Scene, empty_scene, seat_of}
 use Rattle.house.specs.Stands.{StandsFor, StandsForOne}
 use Rattle.house.specs.declared.event.Event.{Event}
 use Rattle.house.specs.Steps.{FollowsInPart, IsEmptySeat, IsNoSeat, IsSpent, IsUnread, Led, is_unread}
-use Rattle.house.specs.Settled.{HappenedFrom, SettledFrom, is_held}
-use Rattle.house.specs.Settling.{Settles}
+use Rattle.house.specs.Settled.{BrokeOffFrom, SettledFrom, is_held}
+use Rattle.house.specs.Settling.{Settles, SettlingBreaksOff}
 use Rattle.house.specs.Window.{PrintsWindow}
-use Rattle.script.specs.Script.{IsAway, IsNoConnection, IsOwing, LinePlays, NobodyThere, Script, ScriptLine, Asks, Enters, Leaves, Sends, Vanishes, Hold, Free, Closes, Tail, Skip, Bad, asked, brought, closes, closes_again, closes_nobody, goes_again, goes_nobody, held_after, is_bad, line_of, none_held, refusal, script_of, sends, sends_to_nobody, sends_to_owing, skips, stands_nobody, stands_still, tails, tails_nobody, vanishes, vanishes_again, vanishes_away}
+use Rattle.script.specs.Script.{IsAway, IsNoConnection, IsOwing, LinePlays, NobodyThere, Script, ScriptLine, Asks, Enters, Leaves, Sends, Vanishes, Hold, Free, Closes, Tail, Skip, Bad, asked, brought, closes, closes_again, closes_nobody, goes_again, goes_nobody, held_after, held_by, is_bad, line_of, none_held, refusal, script_of, sends, sends_to_nobody, sends_to_owing, skips, stands_nobody, stands_still, tails, tails_nobody, vanishes, vanishes_again, vanishes_away}
 use Rattle.script.specs.Leaving.{Writes, WritesBeginning, WritesFirst, unwritten, LineBegins, LineWanting, undone, begun, PlayWanting, settling}
 use Rattle.std.specs.Prelude.{Bool, IfNone, IfSome, codes, false, true}
-use Rattle.script.specs.inner.Running.{HasRun, IsClipped, IsOver, IsUnread as IsUnreadTurn, IsUnwritten, LineCut, LineDone, LinePlayed, LineWritten, SetsHeld, TurnTells, held_by, sets, sets_nobody}
+use Rattle.script.specs.inner.Running.{HasRun, IsClipped, IsOver, IsUnread as IsUnreadTurn, IsUnwritten, LineCut, LineDone, LinePlayed, LineWritten, SetsHeld, TurnTells, sets, sets_nobody}
 use Rattle.script.proofs.Once.{script_once}
 use Rattle.script.proofs.ScriptLaws.{first_line, script_push}
 
@@ -282,8 +282,8 @@ run_over k input count g h held holds before left old mid new sent r o is tells 
       out = subst (λ (x : Option (List ℕ)). Appends old x r.printed) (sym over.silent) r.out;
     }
 
-pub run_stops : (k : Setup) (input : List ℕ) (count : ℕ) (h : House) (held : List Bool) (left old mid new : Option (List ℕ)) (sent : ℕ) (Left : ℕ → List ScriptLine → Scene → Type 0)
-    → (r : HasRun k input count h held left old mid sent (empty_scene k)) → Left (count + 1) (script_of r.rest) r.after → new ≡ mid → WritesBeginning k (script_of input) Left old new
+pub run_stops : (k : Setup) (input : List ℕ) (count : ℕ) (h : House) (held : List Bool) (left old mid new : Option (List ℕ)) (sent : ℕ) (Left : ℕ → List Bool → List ScriptLine → Scene → Type 0)
+    → (r : HasRun k input count h held left old mid sent (empty_scene k)) → Left (count + 1) held (script_of r.rest) r.after → new ≡ mid → WritesBeginning k (script_of input) Left old new
 run_stops k input count h held left old mid new sent Left r is same = record {
   some = r.lines;
   others = script_of r.rest;
@@ -292,12 +292,12 @@ run_stops k input count h held left old mid new sent Left r is same = record {
   printed = r.printed;
   script = r.script;
   once = script_once k r.lines r.after r.printed r.script;
-  left = subst (λ (n : ℕ). Left (n + 1) (script_of r.rest) r.after) (sym r.counted) is;
+  left = subst (λ (n : ℕ). Left (n + 1) (held_by (none_held k) r.lines) (script_of r.rest) r.after) (sym r.counted) (subst (λ (x : List Bool). Left (count + 1) x (script_of r.rest) r.after) r.holds_now is);
   out = subst (λ (x : Option (List ℕ)). Appends old x r.printed) (sym same) r.out;
 }
 
 -- nothing was read or written yet
-pub run_unbegun : (k : Setup) (lines : List ScriptLine) (old : Option (List ℕ)) (Left : ℕ → List ScriptLine → Scene → Type 0) → Left 1 lines (empty_scene k) → WritesBeginning k lines Left old old
+pub run_unbegun : (k : Setup) (lines : List ScriptLine) (old : Option (List ℕ)) (Left : ℕ → List Bool → List ScriptLine → Scene → Type 0) → Left 1 (none_held k) lines (empty_scene k) → WritesBeginning k lines Left old old
 run_unbegun k lines old Left is = record { some = []; others = lines; split = refl; after = (empty_scene k); printed = []; script = (refl, refl); once = script_once k [] (empty_scene k) [] (refl, refl); left = is; out = Appends-nil old }
 
 pub run_cut : (k : Setup) (input : List ℕ) (count : ℕ) (g h : House) (held holds : List Bool) (before left old mid new : Option (List ℕ)) (sent more : ℕ)
@@ -327,22 +327,23 @@ turn_unread k number held s input h holds left old new f is tells = subst (λ (x
 
 -- memory was wanting in a turn
 pub turn_unwritten : (k : Setup) (number : ℕ) (held : List Bool) (s : Scene) (input : List ℕ) (h : House) (holds : List Bool) (left old new : Option (List ℕ)) (f : TurnFault)
-    → f ≡ turn_faults.NoMemory → TurnTells k number held s input h holds left old new (Err f) → IsUnwritten k number s input h old new
+    → f ≡ turn_faults.NoMemory → TurnTells k number held s input h holds left old new (Err f) → IsUnwritten k number held s input h old new
 turn_unwritten k number held s input h holds left old new f is tells = subst (λ (x : TurnFault). TurnTells k number held s input h holds left old new (Err x)) is tells
 
 -- memory was wanting as a line was played
-pub turn_wanting : (k : Setup) (number : ℕ) (s : Scene) (input piece : List ℕ) (h : House) (old new : Option (List ℕ))
-    → piece ≡ take_through 10 input → 0 < length piece → PlayWanting k number (asked (line_of piece)) s h → new ≡ old → IsUnwritten k number s input h old new
-turn_wanting k number s input piece h old new e some p same = record {
+pub turn_wanting : (k : Setup) (number : ℕ) (held : List Bool) (s : Scene) (input piece : List ℕ) (h : House) (old new : Option (List ℕ))
+    → piece ≡ take_through 10 input → 0 < length piece → PlayWanting k number held (asked (line_of piece)) s h → new ≡ old → IsUnwritten k number held s input h old new
+turn_wanting k number held s input piece h old new e some p same = record {
   left = unwritten (asked (line_of piece)) (script_of (drop_through 10 input))
       (first_line input (subst (λ (x : List ℕ). 0 < length x) e some) ∙ ap (λ (x : List ℕ). asked (line_of x) ∷ script_of (drop_through 10 input)) (sym e)) p;
   silent = same;
 }
 
 -- memory was wanting as the house settled behind a line
-pub settling_wanting : (k : Setup) (number : ℕ) (line : ScriptLine) (s : Scene) (g h : House) (mid new : List ℕ) → LineDone k number line s g [] mid
-    → ((j : Setup) (t : Scene) → StandsFor j g t → HappenedFrom j t h mid new) → PlayWanting k number line s h
-settling_wanting k number line s g h mid new d f = let t = f k d.after d.stands in settling d.after d.printed t.events t.after t.printed d.does t.happened t.stands
+pub settling_wanting : (k : Setup) (number : ℕ) (held holds : List Bool) (line : ScriptLine) (s : Scene) (g h : House) (mid new : List ℕ) → LineDone k number line s g [] mid → holds ≡ held_after held line
+    → ((j : Setup) (t : Scene) → StandsFor j g t → BrokeOffFrom j holds t h mid new) → PlayWanting k number held line s h
+settling_wanting k number held holds line s g h mid new d e f =
+    let t = f k d.after d.stands in settling d.after d.printed t.after t.printed d.does (subst (λ (x : List Bool). SettlingBreaksOff k (is_held x) d.after t.after t.printed) e t.breaks_off) t.stands
 
 -- ---- where memory is wanting
 

@@ -4,8 +4,7 @@ use Rattle.std.proofs.lemmas.Bool.{eqb-true}
 use Rattle.std.specs.Io.BufRead.{take_through, drop_through}
 use Rattle.house.specs.Setup.{Setup}
 use Rattle.house.specs.Scene.{Scene}
-use Rattle.script.specs.Script.{LinePlays, Script, ScriptLine, asked, held_after, line_of, pieces, put_first, script_of}
-use Rattle.script.specs.inner.Running.{held_by}
+use Rattle.script.specs.Script.{LinePlays, Script, ScriptLine, asked, held_after, held_by, line_of, pieces, put_first, script_of}
 
 piece_by : (b : ℕ) (bs : List ℕ) (t : Bool) → (b == 10) ≡ t → put_first b (pieces bs) ≡ (b ∷ take_through 10 bs) ∷ pieces (drop_through 10 bs)
     → (if t then (10 ∷ []) ∷ pieces bs else put_first b (pieces bs)) ≡ (if t then b ∷ [] else b ∷ take_through 10 bs) ∷ pieces (if t then bs else drop_through 10 bs)

@@ -1,13 +1,13 @@
 -- What a run leaves: what was written, and what the house stands for then.
-use Rattle.std.specs.Prelude.{◌≡◌, ℕ, ◌+◌, ◌<◌, false, List, ◌∷◌, ◌++◌, length, take, Option}
+use Rattle.std.specs.Prelude.{◌≡◌, ℕ, ◌+◌, ◌<◌, Bool, false, List, ◌∷◌, ◌++◌, length, take, Option}
 use Rattle.std.specs.Io.KnownBytes.{Appends}
 use Rattle.house.specs.Setup.{Setup}
 use Rattle.house.specs.Scene.{BytesPlay, ClosePlay, EnterPlay, LeavePlay, SayPlay, Scene, VanishPlay, empty_scene, place_of, seat_of}
-use Rattle.house.specs.Settling.{Happened}
+use Rattle.house.specs.Settled.{is_held}
+use Rattle.house.specs.Settling.{SettlingBreaksOff}
 use Rattle.house.specs.Stands.{StandsFor}
 use Rattle.house.specs.House.{House}
-use Rattle.house.specs.declared.event.Event.{Event}
-use Rattle.script.specs.Script.{Asks, Closes, Enters, Leaves, LineDoes, Script, ScriptLine, Sends, Vanishes, none_held}
+use Rattle.script.specs.Script.{Asks, Closes, Enters, Leaves, LineDoes, Script, ScriptLine, Sends, Vanishes, held_after, held_by, none_held}
 use Rattle.script.specs.Promise.{DeliversOnce}
 
 -- These bytes were written, they are what a script of these lines prints, and deliver exactly once; the house that is left stands for the scene that it
@@ -33,8 +33,9 @@ pub record WritesFirst (k : Setup) (lines : List ScriptLine) (sent : ℕ) (h : H
   pub within : sent < length printed
   pub out : Appends old new (take sent printed)
 
--- What some of the first lines print was written, whole, and of the house that is left, by the lines behind them and the scene that these lead to, this holds.
-pub record WritesBeginning (k : Setup) (lines : List ScriptLine) (Left : ℕ → List ScriptLine → Scene → Type 0) (old new : Option (List ℕ)) : Type 0 where
+-- What some of the first lines print was written, whole, and of the house that is left, by the shards that are held then, the lines behind them and the scene
+-- that these lead to, this holds.
+pub record WritesBeginning (k : Setup) (lines : List ScriptLine) (Left : ℕ → (held : List Bool) → List ScriptLine → Scene → Type 0) (old new : Option (List ℕ)) : Type 0 where
   pub some : List ScriptLine
   pub others : List ScriptLine
   pub split : lines ≡ some ++ others
@@ -42,12 +43,12 @@ pub record WritesBeginning (k : Setup) (lines : List ScriptLine) (Left : ℕ →
   pub printed : List ℕ
   pub script : Script k 1 (none_held k) some (empty_scene k) after printed
   pub once : DeliversOnce k (length some) after printed
-  pub left : Left (length some + 1) others after
+  pub left : Left (length some + 1) (held_by (none_held k) some) others after
   pub out : Appends old new printed
 
 -- nothing was done since
-abbrev pub IsLeft : Setup → House → ℕ → List ScriptLine → Scene → Type 0
-IsLeft k h number others s = StandsFor k h s
+abbrev pub IsLeft : Setup → House → ℕ → (held : List Bool) → List ScriptLine → Scene → Type 0
+IsLeft k h number held others s = StandsFor k h s
 
 -- the event that a line asks for happened in part, and printed this
 abbrev pub LineBegins : Setup → Scene → Scene → List ℕ → ScriptLine → Type 0
@@ -64,13 +65,13 @@ pub data LineWanting (k : Setup) (line : ScriptLine) (s : Scene) (h : House) : T
   undone : StandsFor k h s → LineWanting k line s h
   begun : (after : Scene) (unsaid : List ℕ) → LineBegins k s after unsaid line → StandsFor k h after → LineWanting k line s h
 
--- The same, or the line was done, and memory was wanting as the house settled.
-pub data PlayWanting (k : Setup) (number : ℕ) (line : ScriptLine) (s : Scene) (h : House) : Type 0 where
-  doing : LineWanting k line s h → PlayWanting k number line s h
-  settling : (between : Scene) (one : List ℕ) (events : List Event) (after : Scene) (two : List ℕ)
-      → LineDoes k number s between one line → Happened k events between after two → StandsFor k h after → PlayWanting k number line s h
+-- The same, or the line was done, and memory was wanting as the house settled: that began as ever, and broke off.
+pub data PlayWanting (k : Setup) (number : ℕ) (held : List Bool) (line : ScriptLine) (s : Scene) (h : House) : Type 0 where
+  doing : LineWanting k line s h → PlayWanting k number held line s h
+  settling : (between : Scene) (one : List ℕ) (after : Scene) (two : List ℕ) → LineDoes k number s between one line
+      → SettlingBreaksOff k (is_held (held_after held line)) between after two → StandsFor k h after → PlayWanting k number held line s h
 
 -- Memory was wanting before the next line was read, or as it was played. What it printed isn't written.
-pub data IsLeftWanting (k : Setup) (h : House) (number : ℕ) (others : List ScriptLine) (s : Scene) : Type 0 where
-  unread : StandsFor k h s → IsLeftWanting k h number others s
-  unwritten : (line : ScriptLine) (more : List ScriptLine) → others ≡ line ∷ more → PlayWanting k number line s h → IsLeftWanting k h number others s
+pub data IsLeftWanting (k : Setup) (h : House) (number : ℕ) (held : List Bool) (others : List ScriptLine) (s : Scene) : Type 0 where
+  unread : StandsFor k h s → IsLeftWanting k h number held others s
+  unwritten : (line : ScriptLine) (more : List ScriptLine) → others ≡ line ∷ more → PlayWanting k number held line s h → IsLeftWanting k h number held others s

@@ -301,6 +301,11 @@ held_after held (Tail word) = held
 held_after held Skip = held
 held_after held Bad = held
 
+-- the same after some lines
+abbrev pub held_by : List Bool → List ScriptLine → List Bool
+held_by held [] = held
+held_by held (line ∷ lines) = held_by (held_after held line) lines
+
 -- a line, and then the house settles
 pub record LinePlays (k : Setup) (number : ℕ) (held : List Bool) (line : ScriptLine) (s t : Scene) (printed : List ℕ) : Type 0 where
   pub between : Scene

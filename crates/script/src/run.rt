@@ -342,7 +342,7 @@ fn play_line(house: &mut House, number: u64, room: &mut Room) -> Result<(), Allo
     ensures played { OnOk result ((k : Setup) (s : scene.Scene) → StandsFor k house.old s → length room.old.held.items ≡ k.config.shards →
         LinePlayed k number room.old.held.items (asked (line_of room.old.line.items)) s house.new [] room.new.out.items) }
     ensures wanting { OnErr result ((k : Setup) (s : scene.Scene) → StandsFor k house.old s → length room.old.held.items ≡ k.config.shards →
-        PlayWanting k number (asked (line_of room.old.line.items)) s house.new) }
+        PlayWanting k number room.old.held.items (asked (line_of room.old.line.items)) s house.new) }
     ensures held { OnOk result (room.new.held.items ≡ held_after room.old.held.items (asked (line_of room.old.line.items))) }
     ensures as_many { length room.new.held.items ≡ length room.old.held.items }
 {
@@ -431,7 +431,8 @@ fn take_turn<R: BufRead, W: Sink>(
 ///
 /// The house that is left is what the lines made of it that were played: nothing else was done.
 ///
-/// `Read`: the reader failed, or 2^32 lines were read; `NoMemory`: memory was wanting, and the line at hand was played in part or not at all. What
+/// `Read`: the reader failed, or 2^32 lines were read; `NoMemory`: memory was wanting, and the line at hand was played in part or not at all: of the
+/// events to which it leads the first happened, the last of them perhaps in part, and no others. What
 /// the lines before printed was then written, and nothing of the line at hand. `Write`: the writer failed; the first `sent` bytes of what the
 /// script prints were written, and not all that its last line printed.
 pub fn drive<R: BufRead, W: Sink>(

@@ -6,7 +6,7 @@ use Rattle.house.specs.declared.event.Event.{Event}
 use Rattle.house.specs.declared.event.Event.TheVariants.{Bytes, Vanish, Enter, Say, Leave, Close}
 use Rattle.house.specs.Setup.{Setup}
 use Rattle.house.specs.Scene.{Scene}
-use Rattle.script.specs.Script.{LineDoes, LinePlays, Script, ScriptLine, Sends, Vanishes, Enters, Asks, Leaves, Closes, Bad, held_after, none_held, refusal, script_of}
+use Rattle.script.specs.Script.{LineDoes, LinePlays, Script, ScriptLine, Sends, Vanishes, Enters, Asks, Leaves, Closes, Bad, held_after, held_by, none_held, refusal, script_of}
 use Rattle.script.specs.Leaving.{IsLeftWanting}
 use Rattle.house.specs.Stands.{StandsFor}
 use Rattle.script.specs.declared.run.TurnFault.{TurnFault}
@@ -76,8 +76,8 @@ pub record IsUnread (k : Setup) (s : Scene) (h : House) (old new : Option (List 
   pub silent : new ≡ old
 
 -- memory was wanting, and nothing was written
-pub record IsUnwritten (k : Setup) (number : ℕ) (s : Scene) (input : List ℕ) (h : House) (old new : Option (List ℕ)) : Type 0 where
-  pub left : IsLeftWanting k h number (script_of input) s
+pub record IsUnwritten (k : Setup) (number : ℕ) (held : List Bool) (s : Scene) (input : List ℕ) (h : House) (old new : Option (List ℕ)) : Type 0 where
+  pub left : IsLeftWanting k h number held (script_of input) s
   pub silent : new ≡ old
 
 -- what a turn says by its answer
@@ -86,12 +86,7 @@ TurnTells k number held s input h holds left old new (Ok None) = IsOver k s inpu
 TurnTells k number held s input h holds left old new (Ok (Some sent)) = LineWritten k number held s input h holds left old new sent
 TurnTells k number held s input h holds left old new (Err (faults.Write sent)) = LineCut k number held s input h old new sent
 TurnTells k number held s input h holds left old new (Err faults.Read) = IsUnread k s h old new
-TurnTells k number held s input h holds left old new (Err faults.NoMemory) = IsUnwritten k number s input h old new
-
--- which shards are held after these lines
-abbrev pub held_by : List Bool → List ScriptLine → List Bool
-held_by held [] = held
-held_by held (line ∷ lines) = held_by (held_after held line) lines
+TurnTells k number held s input h holds left old new (Err faults.NoMemory) = IsUnwritten k number held s input h old new
 
 -- The run so far: of the script these lines were played, and what they printed was written.
 pub record HasRun (k : Setup) (input : List ℕ) (count : ℕ) (h : House) (holds : List Bool) (left old new : Option (List ℕ)) (sent : ℕ) (start : Scene) : Type 0 where

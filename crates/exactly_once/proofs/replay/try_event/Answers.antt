@@ -1,13 +1,13 @@
 use Rattle.std.proofs.Common.{ap, inl, inr, Err}
 use Rattle.house.specs.declared.event.HouseFault.TheVariants as faults
-use Rattle.exactly_once.proofs.Playing.{busy_wanting, is_fault, is_other, it_happened, it_was_refused, none_wanting, nothing_wanting, part_happened}
+use Rattle.exactly_once.proofs.Playing.{busy_wanting, is_fault, is_other, it_happened, it_was_refused, none_wanting, nothing_wanting}
 use Rattle.exactly_once.proofs.replay.try_event.Goals as goal
 
 pub returns-in-Ok-clause-tried : goal.returns-in-Ok-clause-tried
 returns-in-Ok-clause-tried c k s st = it_happened k s _ _ _ _ _ st c.in-Ok.ensures.follows
 
 pub returns-in-Err-NoMemory-clause-wanting : goal.returns-in-Err-NoMemory-clause-wanting
-returns-in-Err-NoMemory-clause-wanting c k s st = part_happened k s _ _ _ _ _ st (c.in-Err-NoMemory.ensures.no_memory (ap (λ x. Err x) c.in-Err-NoMemory.field-0-is))
+returns-in-Err-NoMemory-clause-wanting c = c.in-Err-NoMemory.ensures.no_memory (ap (λ x. Err x) c.in-Err-NoMemory.field-0-is)
 
 pub returns-in-Err-Nobody-clause-tried : goal.returns-in-Err-Nobody-clause-tried
 returns-in-Err-Nobody-clause-tried c k s st =

@@ -1,4 +1,4 @@
-use Rattle.std.proofs.Common.{◌∙◌, List, ℕ, sym, subst}
+use Rattle.std.proofs.Common.{◌∙◌, inl, inr, List, ℕ, sym, subst}
 use Rattle.std.specs.Prelude.{true, false}
 use Rattle.std.proofs.lemmas.Result.{on_err_weaker, on_ok_weaker}
 use Rattle.session_store.specs.CoreStore.{Serves}
@@ -32,3 +32,9 @@ returns-clause-delivery c = let a = c.proceed.ensures.asked in met_delivery c.ar
 
 pub returns-in_default-clause-delivery : goal.returns-in_default-clause-delivery
 returns-in_default-clause-delivery c = let a = c.proceed.ensures.asked in met_delivery c.args.store.now c.proceed.new.store a.0 a.1
+
+pub returns-in_default-clause-works : goal.returns-in_default-clause-works
+returns-in_default-clause-works c = inl c.in_default.ensures.asks
+
+pub returns-clause-works : goal.returns-clause-works
+returns-clause-works c = on_err_weaker c.print_session-2.result (λ l. inr l) c.print_session-2.ensures.words

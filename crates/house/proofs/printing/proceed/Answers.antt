@@ -1,4 +1,4 @@
-use Rattle.std.proofs.Common.{◌∙◌, sym, subst}
+use Rattle.std.proofs.Common.{◌∙◌, inl, inr, sym, subst}
 use Rattle.std.specs.Prelude.{true, false}
 use Rattle.lmtp_machine.specs.declared.connection.What.TheVariants.{More}
 use Rattle.house_connection.specs.HouseConnection.{HouseConnection}
@@ -27,3 +27,9 @@ returns-clause-ok c k seat next heard b of s =
     let e = c.in_ok-print_connection.ensures.ok in
     subst (λ (h : HouseConnection). ConnectionWent k true seat next heard b c.in-Ok.what h c.args.out.now.items c.print_connection-2.new.out.items) (sym e.0)
     (went k seat next heard c.args.number b c.in-Ok.what c.proceed.new.self c.args.out.now.items c.print_connection-2.new.out.items of.numbered p e.1)
+
+pub returns-in_default-clause-works : goal.returns-in_default-clause-works
+returns-in_default-clause-works c = inl c.in_default.ensures.asks.1
+
+pub returns-in_err-print_connection-clause-works : goal.returns-in_err-print_connection-clause-works
+returns-in_err-print_connection-clause-works c = on_err c.from_residual.result _ (inr c.in_err-print_connection.ensures.words)

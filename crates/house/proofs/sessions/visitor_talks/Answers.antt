@@ -1,4 +1,4 @@
-use Rattle.std.proofs.Common.{◌≡◌, ◌-◌, ◌∙◌, false, refl, Option, Some, subst, sym, true}
+use Rattle.std.proofs.Common.{◌≡◌, ◌-◌, ◌∙◌, inl, inr, false, refl, Option, Some, subst, sym, true}
 use Rattle.imap_session.specs.Exchange.{Left}
 use Rattle.imap_session.specs.Store.{answer}
 use Rattle.session_store.specs.declared.core_store.CoreStore.{CoreStore}
@@ -7,6 +7,7 @@ use Rattle.house.specs.Setup.{session_seat}
 use Rattle.house.specs.inner.Steps.{StandsForSomebody}
 use Rattle.house.proofs.Visiting.{delivery_then, parted, talked}
 use Rattle.house.proofs.Settlement.{on_err}
+use Rattle.house.specs.Steps.{visitor_unprinted, visitor_works}
 use Rattle.house.proofs.sessions.visitor_talks.Goals as goal
 
 pub returns-in_err-go_on-clause-err : goal.returns-in_err-go_on-clause-err
@@ -33,3 +34,6 @@ returns-else-has_ended-clause-ok c k next heard w b stands there =
 
 pub returns-then-has_ended-clause-delivery : goal.returns-then-has_ended-clause-delivery
 returns-then-has_ended-clause-delivery c = delivery_then c.args.store.now.core c.go_on.new.store.core c.leave.new.self.core c.go_on.ensures.delivery c.leave.ensures.rest
+
+pub returns-in_err-go_on-clause-works : goal.returns-in_err-go_on-clause-works
+returns-in_err-go_on-clause-works c = on_err c.from_residual.result _ (elim c.in_err-go_on.ensures.works [ inl w ↦ visitor_works _ c.in-Some.is w | inr l ↦ visitor_unprinted _ refl l ])

@@ -18,5 +18,5 @@ returns-in-Err-clause-tells g c k s input st many e =
 
 pub returns-in_default-clause-tells : goal.returns-in_default-clause-tells
 returns-in_default-clause-tells g c k s input st many e =
-    turn_wanting k c.args.number s input c.read_piece.new.line.items c.play_line.new.house (g.W.Sink.taken c.args.writer.now) (g.W.Sink.taken c.args.writer.now)
+    turn_wanting k c.args.number c.args.room.now.held.items s input c.read_piece.new.line.items c.play_line.new.house (g.W.Sink.taken c.args.writer.now) (g.W.Sink.taken c.args.writer.now)
     (c.in_ok-read_piece.ensures.some input e) (c.in_ok-read_piece.ensures.more c.if-not-branch.false) (c.in_default.ensures.wanting k s st many) refl

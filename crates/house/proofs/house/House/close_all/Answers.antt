@@ -12,7 +12,8 @@ returns-in_err-one-clause-came c =
     let e = c.shards-shards.ensures.value in
     let t = c.loop-shard-test.true in
     let l : c.loop-shard.shard < c.args.self.now.directory.shards = omega (arith, t, e, many) in
-    visits_wanting _ c.from_residual.result c.from_residual.ensures.0 (closes_wants (is_shut c.args.self.now.directory) c.loop-shard.shard c.args.self.now c.args.out.now.items c.loop-shard.self c.loop-shard.out.items c.end_where.new.self c.end_where.new.out.items c.loop-shard.moved l
+    visits_wanting _ c.from_residual.result c.from_residual.ensures.0 (closes_wants (is_shut c.args.self.now.directory) c.loop-shard.shard c.is_shut-shut.result c.args.self.now c.args.out.now.items c.loop-shard.self c.loop-shard.out.items c.end_where.new.self c.end_where.new.out.items
+    c.loop-shard.moved l (c.is_shut-shut.ensures ∙ ap (λ (n : ℕ). is_shut c.self-in-loop-shard.inside.directory n) c.from.ensures ∙ ap (λ (x : House). is_shut x.directory c.loop-shard.shard) c.self-in-loop-shard.view_is ∙ ap (λ (d : Directory). is_shut d c.loop-shard.shard) c.loop-shard.invariant.0)
     c.loop-shard.invariant.1 c.in_err-one.ensures.came)
 
 pub loop-shard-preserved : goal.loop-shard-preserved

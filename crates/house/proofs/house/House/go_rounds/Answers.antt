@@ -1,13 +1,14 @@
 use Rattle.std.proofs.Common.{◌∙◌, subst}
 use Rattle.envelope.specs.Directory.{Directory, is_shut}
 use Rattle.house.specs.Settled.{is_held}
-use Rattle.house.proofs.Settlement.{DidRound, on_err, round_again, rounds_done, rounds_want, same_marks}
+use Rattle.house.proofs.Settlement.{DidRound, WantsRound, on_err, round_again, rounds_done, rounds_want, same_marks}
 use Rattle.house.proofs.house.House.go_rounds.Goals as goal
 
 pub returns-in_err-moved-clause-err : goal.returns-in_err-moved-clause-err
 returns-in_err-moved-clause-err c = on_err c.from_residual.result _ (record {
-  happened = λ k s q st.
-      rounds_want (is_held c.args.held.now) (is_shut c.args.self.now.directory) k s c.loop-moved.self c.go_round.new.self c.args.out.now.items c.loop-moved.out.items c.go_round.new.out.items (c.loop-moved.invariant.1 k s st) c.in_err-moved.ensures.came;
+  broke_off = λ k s q st.
+      rounds_want (is_held c.args.held.now) (is_shut c.args.self.now.directory) k s c.loop-moved.self c.go_round.new.self c.args.out.now.items c.loop-moved.out.items c.go_round.new.out.items (same_marks k c.args.self.now s st)
+      (c.loop-moved.invariant.1 k s st) (subst (λ (d : Directory). WantsRound (is_held c.args.held.now) (is_shut d) c.loop-moved.self c.loop-moved.out.items c.go_round.new.self c.go_round.new.out.items) c.loop-moved.invariant.0 c.in_err-moved.ensures.came);
 })
 
 pub returns-then-not-moved-clause-ok : goal.returns-then-not-moved-clause-ok

@@ -14,7 +14,7 @@ returns-in_err-one-clause-came c =
     let t = c.loop-seat-test.true in
     let l : c.loop-seat.seat < (length c.args.self.now.callers + length c.args.self.now.visitors) = omega (arith, t, e, f, many, more) in
     visits_wanting _ c.from_residual.result c.from_residual.ensures.0 (seats_wants (λ n. Hear n ∷ []) ((length c.args.self.now.callers + length c.args.self.now.visitors)) c.loop-seat.seat c.args.self.now c.args.out.now.items c.loop-seat.self c.loop-seat.out.items c.stint.new.self c.stint.new.out.items c.loop-seat.moved
-    (λ k q. hear_among k ((length c.args.self.now.callers + length c.args.self.now.visitors)) c.loop-seat.seat l q) refl c.loop-seat.invariant.1 c.in_err-one.ensures.came)
+    (λ k q. hear_among k ((length c.args.self.now.callers + length c.args.self.now.visitors)) c.loop-seat.seat l q) refl l c.loop-seat.invariant.1 c.in_err-one.ensures.came)
 
 pub loop-seat-preserved : goal.loop-seat-preserved
 loop-seat-preserved c =

@@ -1,4 +1,4 @@
-use Rattle.std.proofs.Common.{◌≡◌, ◌-◌, ◌<◌, ◌∙◌, ap, arith, false, inl, length, ℕ, None, Option, Some, IsSome, subst, sym, true, get_or}
+use Rattle.std.proofs.Common.{◌≡◌, ◌-◌, ◌<◌, ◌⊎◌, ◌∙◌, set, ap, arith, false, inl, length, ℕ, None, Option, Some, IsSome, subst, sym, true, get_or}
 use Rattle.std.specs.Option.{option_map}
 use Rattle.delivery_core.proofs.Follow.{get_or-any}
 use Rattle.house.specs.House.{House}
@@ -10,6 +10,8 @@ use Rattle.house.specs.inner.Steps.{PlaceTalked, StandsForSomebody, with_more_ca
 use Rattle.house_session.specs.SeatedSession.{SeatedSession}
 use Rattle.house.proofs.SessionEvents.{said, somebody}
 use Rattle.house.proofs.Settlement.{on_err}
+use Rattle.house.specs.Steps.{VisitorWants}
+use Rattle.house.proofs.Wanting.{visitor_wants}
 use Rattle.house.proofs.house.House.listen.Goals as goal
 
 pub returns-in_err-visitor_talks-clause-no_memory : goal.returns-in_err-visitor_talks-clause-no_memory
@@ -46,3 +48,20 @@ returns-clause-follows c k s st =
     (λ next heard w b stands is. subst (λ (n : ℕ). PlaceTalked k true n next heard w b c.visitor_talks.new.place c.visitor_talks.new.store.core c.args.out.now.items c.visitor_talks.new.out.items) (sym e1)
     (c.in_ok-visitor_talks.ensures.ok k next heard w b stands (subst (λ (n : ℕ). StandsForSomebody (session_seat k n) next heard c.append_to_visitor.new.place (Some b)) e1 (subst (λ (o : Option SeatedSession). StandsForSomebody (session_seat k c.index_of.result) next heard o (Some b)) (sym at) is)))) in
     record { after = r.0; printed = r.1; plays = subst (λ (n : ℕ). SayPlay k true s n c.args.piece.now r.0 r.1) e1 r.2; stands = r.3; out = r.4 }
+
+pub returns-in_err-append_to_visitor-clause-asks : goal.returns-in_err-append_to_visitor-clause-asks
+returns-in_err-append_to_visitor-clause-asks c = on_err c.from_residual.result _ (inl c.in_err-append_to_visitor.ensures.asks)
+
+pub returns-in_err-visitor_talks-clause-asks : goal.returns-in_err-visitor_talks-clause-asks
+returns-in_err-visitor_talks-clause-asks c =
+    let i = c.self.inside in
+    let many = ap (λ (x : House). length x.visitors) c.self.view_is in
+    let e = c.index_of.ensures in
+    let n = c.requires.there.number in
+    let m = c.requires.there.place in
+    let lt : c.index_of.result < length i.visitors.items = omega (arith, n, m, e, many) in
+    let at = c.in_ok-append_to_visitor.ensures.ok ∙ ap (option_map (with_more_came c.args.piece.now)) (c.index_mut-place.ensures.value ∙ get_or-any i.visitors.items c.index_of.result _ None lt) in
+    let now = set i.visitors.items c.index_of.result c.visitor_talks.new.place in
+    on_err c.from_residual-in_err-visitor_talks.result _ (subst (λ (x : House). (0 < length c.args.piece.now) ⊎ VisitorWants (get_or x.visitors (c.args.session - 1) None) (get_or now (c.args.session - 1) None)) c.self.view_is
+    (subst (λ (n : ℕ). (0 < length c.args.piece.now) ⊎ VisitorWants (get_or i.visitors.items n None) (get_or now n None)) e
+    (visitor_wants i.visitors.items c.index_of.result c.args.piece.now c.append_to_visitor.new.place c.visitor_talks.new.place lt at c.in_err-visitor_talks.ensures.works)))

@@ -1,4 +1,4 @@
-use Rattle.std.proofs.Common.{◌≡◌, ◌+◌, ◌-◌, ◌<◌, inl, refl, sym, subst, ap, ◌∙◌, true, false, None, ℕ, length, arith, get_or, IsSome}
+use Rattle.std.proofs.Common.{◌≡◌, ◌+◌, ◌-◌, ◌<◌, ◌⊎◌, inl, inr, set, refl, sym, subst, ap, ◌∙◌, true, false, None, ℕ, length, arith, get_or, IsSome}
 use Rattle.std.specs.Option.{option_map}
 use Rattle.delivery_core.proofs.Follow.{get_or-any}
 use Rattle.house_connection.specs.Taking.{with_more}
@@ -8,6 +8,8 @@ use Rattle.house.specs.Stands.{StandsFor}
 use Rattle.house.specs.Steps.{is_unread}
 use Rattle.house.proofs.Events.{received}
 use Rattle.house.proofs.Settlement.{on_err}
+use Rattle.house.specs.Steps.{CallerWants}
+use Rattle.house.proofs.Wanting.{caller_wants}
 use Rattle.house.proofs.house.House.receive.Goals as goal
 
 pub returns-in_err-caller_goes_on-clause-no_memory : goal.returns-in_err-caller_goes_on-clause-no_memory
@@ -42,3 +44,20 @@ returns-clause-follows c k s st =
     let r = received k h s c.args.connection c.index_of.result c.args.piece.now i.directory c.caller_goes_on.new.occupant c.append_to_caller.new.occupant true c.args.out.now.items c.caller_goes_on.new.out.items st1
     number refl lt who read at c.in_ok-caller_goes_on.ensures.ok in
     record { after = r.0; printed = r.1; plays = subst (λ (n : ℕ). BytesPlay k true s n c.args.piece.now r.0 r.1) e r.2; stands = r.3; out = r.4 }
+
+pub returns-in_err-append_to_caller-clause-asks : goal.returns-in_err-append_to_caller-clause-asks
+returns-in_err-append_to_caller-clause-asks c = on_err c.from_residual.result _ (inr (inl c.in_err-append_to_caller.ensures.asks))
+
+pub returns-in_err-caller_goes_on-clause-asks : goal.returns-in_err-caller_goes_on-clause-asks
+returns-in_err-caller_goes_on-clause-asks c =
+    let i = c.self.inside in
+    let many = ap (λ (x : House). length x.callers) c.self.view_is in
+    let e = c.index_of.ensures in
+    let n = c.requires.there.number in
+    let m = c.requires.there.seat in
+    let lt : c.index_of.result < length i.callers.items = omega (arith, n, m, e, many) in
+    let at = c.in_ok-append_to_caller.ensures.ok ∙ ap (option_map (with_more c.args.piece.now)) (c.index_mut-occupant.ensures.value ∙ get_or-any i.callers.items c.index_of.result _ None lt) in
+    let now = set i.callers.items c.index_of.result c.caller_goes_on.new.occupant in
+    on_err c.from_residual-in_err-caller_goes_on.result _ (inr (subst (λ (x : House). (0 < length c.args.piece.now) ⊎ CallerWants (get_or x.callers (c.args.connection - 1) None) (get_or now (c.args.connection - 1) None)) c.self.view_is
+    (subst (λ (n : ℕ). (0 < length c.args.piece.now) ⊎ CallerWants (get_or i.callers.items n None) (get_or now n None)) e
+    (caller_wants i.callers.items c.index_of.result c.args.piece.now c.append_to_caller.new.occupant c.caller_goes_on.new.occupant lt at c.in_err-caller_goes_on.ensures.works))))

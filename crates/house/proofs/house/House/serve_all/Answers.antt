@@ -11,8 +11,8 @@ returns-in_err-one-clause-came c =
     let e = c.shards-shards.ensures.value in
     let t = c.loop-shard-test.true in
     let l : c.loop-shard.shard < c.args.self.now.directory.shards = omega (arith, t, e, many) in
-    visits_wanting _ c.from_residual.result c.from_residual.ensures.0 (shards_wants (is_held c.args.held.now) c.loop-shard.shard c.args.self.now c.args.out.now.items c.loop-shard.self c.loop-shard.out.items c.serve.new.self c.serve.new.out.items c.loop-shard.moved l
-    c.loop-shard.invariant.1 c.in_err-one.ensures.came)
+    visits_wanting _ c.from_residual.result c.from_residual.ensures.0 (shards_wants (is_held c.args.held.now) c.loop-shard.shard c.is_held.result c.args.self.now c.args.out.now.items c.loop-shard.self c.loop-shard.out.items c.serve.new.self c.serve.new.out.items c.loop-shard.moved l
+    c.is_held.ensures c.loop-shard.invariant.1 c.in_err-one.ensures.came)
 
 pub loop-shard-preserved : goal.loop-shard-preserved
 loop-shard-preserved c =

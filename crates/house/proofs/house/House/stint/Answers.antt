@@ -4,7 +4,7 @@ use Rattle.house.proofs.house.House.stint.Goals as goal
 
 pub returns-in_err-more-clause-came : goal.returns-in_err-more-clause-came
 returns-in_err-more-clause-came c =
-    came_wanting _ _ c.from_residual.result c.from_residual.ensures.0 (often_wants c.args.group.now c.args.self.now c.args.out.now.items c.loop-more.self c.loop-more.out.items c.try_each.new.self c.try_each.new.out.items c.loop-more.moved c.loop-more.invariant.1 c.in_err-more.ensures.came)
+    came_wanting _ _ _ c.from_residual.result c.from_residual.ensures.0 (often_wants c.args.group.now c.args.self.now c.args.out.now.items c.loop-more.self c.loop-more.out.items c.try_each.new.self c.try_each.new.out.items c.loop-more.moved c.loop-more.invariant.1 c.in_err-more.ensures.came)
 
 pub returns-then-not-more-clause-came : goal.returns-then-not-more-clause-came
 returns-then-not-more-clause-came c =
