@@ -19,6 +19,8 @@ folder=$1
 port=$2
 shift 2
 umask 077
+# mbsync doesn't start without it, and a service may have none.
+export HOME="${HOME:-/}"
 mkdir -p "$folder"
 # One at a time.
 exec 9>"$folder/.taking"
@@ -77,14 +79,26 @@ SyncState *
 MBSYNC
 }
 
-# Removes from the server what the last pull of a mailbox has brought. curl goes no further where the mailbox has another UIDVALIDITY by now.
+# The UID of a mailbox's first message; nothing where it has none.
+first_uid() {
+    ask '' -X "STATUS $1 (MESSAGES)" || return 1
+    if ! grep -q '(MESSAGES 0)' "$room/answer"; then
+        ask "$1" -X 'FETCH 1 UID' && tr -d '\r' <"$room/answer" | sed -n 's/^\* 1 FETCH (UID \([0-9]*\))$/\1/p'
+    fi
+}
+
+# Removes from the server what the last pull of a mailbox has brought, fifty UIDs at a time, since curl takes no long answers. It goes no further where the
+# mailbox has another UIDVALIDITY by now.
 remove_pulled() {
     notes=$place/$1/.mbsyncstate
     last=$(sed -n 's/^MaxPulledUid //p' "$notes")
     pulled=$(sed -n 's/^FarUidValidity //p' "$notes")
-    [ "${last:-0}" -gt 0 ] || return 0
-    ask "$1;UIDVALIDITY=$pulled" -X "UID STORE 1:$last +FLAGS.SILENT (\\Deleted)" &&
-        ask "$1;UIDVALIDITY=$pulled" -X "UID EXPUNGE 1:$last"
+    while first=$(first_uid "$1") || return 1; [ "${first:-4294967295}" -le "${last:-0}" ]; do
+        to=$((first + 49))
+        [ "$to" -le "$last" ] || to=$last
+        ask "$1;UIDVALIDITY=$pulled" -X "UID STORE $first:$to +FLAGS.SILENT (\\Deleted)" &&
+            ask "$1;UIDVALIDITY=$pulled" -X "UID EXPUNGE $first:$to" || return 1
+    done
 }
 
 take() {

@@ -10,6 +10,7 @@ set -eu
 program=$1
 PATH=$PATH:/usr/sbin
 export LC_ALL=C
+here=$(CDPATH='' cd -- "$(dirname -- "$0")" && pwd)
 room=$(mktemp -d)
 # Postfix's own users look for their files below it.
 chmod 755 "$room"
@@ -175,8 +176,8 @@ by_msmtp() {
 # A folder with the configuration of an instance that delivers everything to the server.
 configure_postfix() {
     mkdir -p "$room/postfix" "$room/queue" "$room/data-of-postfix"
-    chown postfix "$room/data-of-postfix" &&
-        cat >"$room/postfix/main.cf" <<MAIN && cat >"$room/postfix/master.cf" <<'MASTER'
+    cp "$here/postfix/master.cf" "$room/postfix/master.cf" && chown postfix "$room/data-of-postfix" &&
+        cat >"$room/postfix/main.cf" <<MAIN
 compatibility_level = 3.6
 queue_directory = $room/queue
 data_directory = $room/data-of-postfix
@@ -191,22 +192,6 @@ alias_database =
 inet_interfaces = loopback-only
 default_transport = lmtp:inet:127.0.0.1:$lmtp_port
 MAIN
-pickup    unix  n  -  n  60   1  pickup
-cleanup   unix  n  -  n  -    0  cleanup
-qmgr      unix  n  -  n  300  1  qmgr
-rewrite   unix  -  -  n  -    -  trivial-rewrite
-bounce    unix  -  -  n  -    0  bounce
-defer     unix  -  -  n  -    0  bounce
-trace     unix  -  -  n  -    0  bounce
-verify    unix  -  -  n  -    1  verify
-flush     unix  n  -  n  1000 0  flush
-proxymap  unix  -  -  n  -    -  proxymap
-showq     unix  n  -  n  -    -  showq
-error     unix  -  -  n  -    -  error
-retry     unix  -  -  n  -    -  error
-lmtp      unix  -  -  n  -    -  lmtp
-postlog   unix-dgram n - n -   1  postlogd
-MASTER
 }
 
 start_postfix() {
