@@ -1,15 +1,18 @@
 #!/bin/sh
-# Takes the mail out of a running server into Maildirs: mbsync pulls what is new of each mailbox, and what is on the disk then is removed from the server.
-# It may be run at any time and as often as one likes, also when the server has started anew since the last time.
+# Takes the mail out of a running server into Maildirs: mbsync pulls what is new of each mailbox, and what is on the
+# disk then is removed from the server. It may be run at any time and as often as one likes, also when the server has
+# started anew since the last time.
 #
 #     examples/take_mail.sh FOLDER PORT USER..
 #
-# PORT is the first user's, and the users stand in the order of the server's command line, without their folders. FOLDER/USER/INBOX becomes a Maildir, and
-# so does FOLDER/USER/NAME for each folder. Packages: isync (it has mbsync), curl.
+# PORT is the first user's, and the users stand in the order of the server's command line, without their folders.
+# FOLDER/USER/INBOX becomes a Maildir, and so does FOLDER/USER/NAME for each folder. Packages: isync (it has mbsync),
+# curl.
 #
-# The status is 0 where each message that stood in a mailbox as mbsync selected it is in its Maildir. Else it says what went wrong, goes on with the next
-# user, and what wasn't taken is in the server still: run it again. A message is removed from the server only behind a pull that ended well, and under the
-# UIDVALIDITY of that pull. Nothing is removed from a Maildir. A pull that was killed may bring a message twice.
+# The status is 0 where each message that stood in a mailbox as mbsync selected it is in its Maildir. Else it says what
+# went wrong, goes on with the next user, and what wasn't taken is in the server still: run it again. A message is
+# removed from the server only behind a pull that ended well, and under the UIDVALIDITY of that pull. Nothing is removed
+# from a Maildir. A pull that was killed may bring a message twice.
 set -eu
 if [ $# -lt 3 ]; then
     echo 'take_mail: FOLDER PORT USER..' >&2
@@ -46,7 +49,8 @@ validity() {
     ask '' -X 'STATUS INBOX (UIDVALIDITY)' && tr -d '\r' <"$room/answer" | sed -n 's/^\* STATUS INBOX (UIDVALIDITY \([0-9]*\))$/\1/p'
 }
 
-# Forgets what mbsync has noted of a mailbox of an earlier start: it would stop at another UIDVALIDITY, and pull nothing. $1 is the mailbox's Maildir.
+# Forgets what mbsync has noted of a mailbox of an earlier start: it would stop at another UIDVALIDITY, and pull
+# nothing. $1 is the mailbox's Maildir.
 forget_earlier_starts() {
     notes=$1/.mbsyncstate
     if ! grep -qsxF "FarUidValidity $valid" "$notes" && ! grep -qs "^| $valid " "$notes.journal"; then
@@ -87,8 +91,8 @@ first_uid() {
     fi
 }
 
-# Removes from the server what the last pull of a mailbox has brought, fifty UIDs at a time, since curl takes no long answers. It goes no further where the
-# mailbox has another UIDVALIDITY by now.
+# Removes from the server what the last pull of a mailbox has brought, fifty UIDs at a time, since curl takes no long
+# answers. It goes no further where the mailbox has another UIDVALIDITY by now.
 remove_pulled() {
     notes=$place/$1/.mbsyncstate
     last=$(sed -n 's/^MaxPulledUid //p' "$notes")

@@ -1,11 +1,13 @@
 #!/bin/sh
-# A server and the clients that people use: mail is brought by Postfix's lmtp(8), by swaks and by msmtp; curl reads messages, sets flags and appends, and mbsync
-# pulls a mailbox, twice, with messages gone and come in between. What each of them reads is what was brought, byte for byte.
+# A server and the clients that people use: mail is brought by Postfix's lmtp(8), by swaks and by msmtp; curl reads
+# messages, sets flags and appends, mbsync pulls a mailbox, twice, with messages gone and come in between, and Python's
+# imaplib reads, appends, sets flags and expunges. What each of them reads is what was brought, byte for byte.
 #
 #     tests/clients.sh PROGRAM
 #
-# PROGRAM is the built program. Postfix runs as an instance of its own, with its configuration and its queue in a scratch folder, and is started by the
-# superuser alone. Packages: postfix, swaks, msmtp, isync, curl; what is missing is a failure that names it.
+# PROGRAM is the built program. Postfix runs as an instance of its own, with its configuration and its queue in a
+# scratch folder, and is started by the superuser alone. Packages: postfix, swaks, msmtp, isync, curl, python3; what is
+# missing is a failure that names it.
 set -eu
 program=$1
 PATH=$PATH:/usr/sbin
@@ -377,6 +379,36 @@ check_mbsync() {
     check 'the Maildir has three messages again, as they stand' maildir_has 1 3 4
 }
 
+# Python's imaplib takes no server that doesn't say IMAP4rev1, and this one behind a line.
+is_refused_by_imaplib() {
+    python3 -c 'import imaplib, sys; imaplib.IMAP4("127.0.0.1", int(sys.argv[1]))' "$imap_port" 2>&1 | grep 'not IMAP4 compliant'
+}
+
+by_imaplib() {
+    python3 - "$((imap_port + 1))" "$1" <<'PYTHON'
+import imaplib
+import sys
+
+imaplib.AllowedVersions += ("IMAP4REV2",)
+text = open(sys.argv[2], "rb").read()
+with imaplib.IMAP4("127.0.0.1", int(sys.argv[1])) as inbox:
+    status, told = inbox.append("INBOX", r"(\Flagged)", None, text)
+    assert status == "OK" and b"APPENDUID" in told[0], told
+    status, (count,) = inbox.select()
+    assert status == "OK", count
+    status, told = inbox.fetch(count.decode(), "(FLAGS BODY.PEEK[])")
+    assert status == "OK" and rb"FLAGS (\Flagged)" in told[0][0] and told[0][1] == text, told
+    assert inbox.store(count.decode(), "+FLAGS", r"(\Deleted)")[0] == "OK"
+    assert inbox.expunge() == ("OK", [count])
+PYTHON
+}
+
+check_imaplib() {
+    check 'imaplib by itself refuses the server' is_refused_by_imaplib
+    message imaplib | sed 's/$/\r/' >"$room/imaplib.text"
+    check 'imaplib appends, reads, sets flags and expunges behind one line' by_imaplib "$room/imaplib.text"
+}
+
 start_server
 check 'the program says what it listens on' says_its_listeners
 if have postfix postfix; then check_postfix; fi
@@ -384,6 +416,7 @@ if have swaks swaks; then check_swaks; fi
 if have msmtp msmtp; then check_msmtp; fi
 if have curl curl; then check_curl; fi
 if have isync mbsync; then check_mbsync; fi
+if have python3 python3; then check_imaplib; fi
 check 'the program ends with its input' ends_with_its_input
 
 echo "$passed passed, $failed failed"

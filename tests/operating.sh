@@ -1,12 +1,13 @@
 #!/bin/sh
-# What docs/OPERATING.md says, done with that page's very lines: the program is installed and started by its unit's lines, Postfix brings mail all the while,
-# mail is taken out into Maildirs, and the server is stopped and started anew, twice. In the end each copy that Postfix was answered 250 for is in its Maildir,
-# once, with the text that was sent.
+# What docs/OPERATING.md says, done with that page's very lines: the program is installed and started by its unit's
+# lines, Postfix brings mail all the while, mail is taken out into Maildirs, and the server is stopped and started anew,
+# twice. In the end each copy that Postfix was answered 250 for is in its Maildir, once, with the text that was sent.
 #
 #     tests/operating.sh PROGRAM
 #
-# PROGRAM is the built program. The script runs as the superuser, in name spaces of its own: it has the page's ports for itself, scratch folders stand over
-# the system's, and whatever it started ends with it. Packages: postfix, isync, curl, iproute2, util-linux; what is missing is a failure that names it.
+# PROGRAM is the built program. The script runs as the superuser, in name spaces of its own: it has the page's ports for
+# itself, scratch folders stand over the system's, and whatever it started ends with it. Packages: postfix, isync, curl,
+# iproute2, util-linux; what is missing is a failure that names it.
 set -eu
 PATH=$PATH:/usr/sbin:/sbin
 export LC_ALL=C
@@ -198,6 +199,7 @@ brings_for_a_while() {
         3) bring "$number" alice alice+work bob postmaster ;;
         4) bring "$number" alice bob ;;
         esac
+        sleep 0.05
     done
 }
 
@@ -226,8 +228,9 @@ has_nothing_left() {
 answered() {
     awk '
         match($0, /: [0-9A-Za-z]+: message-id=</) { split($0, words, ": "); split($0, ids, "[<>]"); id[words[2]] = ids[2] }
-        /postfix\/lmtp.*status=sent \(250 2\.1\.5 Delivered\)/ { split($0, words, ": "); split($0, to, "[<>]"); print id[words[2]], to[2] }' "$room/mail.log" |
-        sort
+        /postfix\/lmtp.*status=sent \(250 2\.1\.5 Delivered\)/ {
+            split($0, words, ": "); split($0, to, "[<>]"); print id[words[2]], to[2]
+        }' "$room/mail.log" | sort
 }
 
 # The same of what is in the Maildirs, behind a look at each text: one that isn't what was sent is told as such.
@@ -253,7 +256,7 @@ nothing_is_missing() {
 
 # Whether everything that Postfix took for its recipients was delivered, and nothing was bounced.
 all_was_delivered() {
-    has_nothing_left && ! grep -E 'status=(bounced|undeliverable)' "$room/mail.log" && [ "$(wc -l <"$room/answered")" -gt 200 ]
+    has_nothing_left && ! grep -E 'status=(bounced|undeliverable)' "$room/mail.log" && [ "$(wc -l <"$room/answered")" -gt 100 ]
 }
 
 # How many messages a mailbox has: the port, then its name.
@@ -302,7 +305,7 @@ for start in first second; do
     sleep 5
     check "mail was brought without a fault, $start start" end_bringing
 done
-check 'Postfix gets rid of what it held' within 120 has_nothing_left
+check 'Postfix gets rid of what it held' within 400 has_nothing_left
 check 'curl does nothing under another UIDVALIDITY' leaves_another_start_alone
 check 'mail is taken out a last time' does 'take mail out'
 check 'the server has nothing left' is_empty
