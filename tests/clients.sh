@@ -1,15 +1,18 @@
 #!/bin/sh
-# A server and the clients that people use: mail is brought by Postfix's lmtp(8), by swaks and by msmtp; curl reads messages, sets flags and appends, and mbsync
-# pulls a mailbox, twice, with messages gone and come in between. What each of them reads is what was brought, byte for byte.
+# A server and the clients that people use: mail is brought by Postfix's lmtp(8), by swaks and by msmtp; curl reads
+# messages, sets flags and appends, mbsync pulls a mailbox, twice, with messages gone and come in between, and Python's
+# imaplib reads, appends, sets flags and expunges. What each of them reads is what was brought, byte for byte.
 #
 #     tests/clients.sh PROGRAM
 #
-# PROGRAM is the built program. Postfix runs as an instance of its own, with its configuration and its queue in a scratch folder, and is started by the
-# superuser alone. Packages: postfix, swaks, msmtp, isync, curl; what is missing is a failure that names it.
+# PROGRAM is the built program. Postfix runs as an instance of its own, with its configuration and its queue in a
+# scratch folder, and is started by the superuser alone. Packages: postfix, swaks, msmtp, isync, curl, python3; what is
+# missing is a failure that names it.
 set -eu
 program=$1
 PATH=$PATH:/usr/sbin
 export LC_ALL=C
+here=$(CDPATH='' cd -- "$(dirname -- "$0")" && pwd)
 room=$(mktemp -d)
 # Postfix's own users look for their files below it.
 chmod 755 "$room"
@@ -175,8 +178,8 @@ by_msmtp() {
 # A folder with the configuration of an instance that delivers everything to the server.
 configure_postfix() {
     mkdir -p "$room/postfix" "$room/queue" "$room/data-of-postfix"
-    chown postfix "$room/data-of-postfix" &&
-        cat >"$room/postfix/main.cf" <<MAIN && cat >"$room/postfix/master.cf" <<'MASTER'
+    cp "$here/postfix/master.cf" "$room/postfix/master.cf" && chown postfix "$room/data-of-postfix" &&
+        cat >"$room/postfix/main.cf" <<MAIN
 compatibility_level = 3.6
 queue_directory = $room/queue
 data_directory = $room/data-of-postfix
@@ -191,22 +194,6 @@ alias_database =
 inet_interfaces = loopback-only
 default_transport = lmtp:inet:127.0.0.1:$lmtp_port
 MAIN
-pickup    unix  n  -  n  60   1  pickup
-cleanup   unix  n  -  n  -    0  cleanup
-qmgr      unix  n  -  n  300  1  qmgr
-rewrite   unix  -  -  n  -    -  trivial-rewrite
-bounce    unix  -  -  n  -    0  bounce
-defer     unix  -  -  n  -    0  bounce
-trace     unix  -  -  n  -    0  bounce
-verify    unix  -  -  n  -    1  verify
-flush     unix  n  -  n  1000 0  flush
-proxymap  unix  -  -  n  -    -  proxymap
-showq     unix  n  -  n  -    -  showq
-error     unix  -  -  n  -    -  error
-retry     unix  -  -  n  -    -  error
-lmtp      unix  -  -  n  -    -  lmtp
-postlog   unix-dgram n - n -   1  postlogd
-MASTER
 }
 
 start_postfix() {
@@ -392,6 +379,36 @@ check_mbsync() {
     check 'the Maildir has three messages again, as they stand' maildir_has 1 3 4
 }
 
+# Python's imaplib takes no server that doesn't say IMAP4rev1, and this one behind a line.
+is_refused_by_imaplib() {
+    python3 -c 'import imaplib, sys; imaplib.IMAP4("127.0.0.1", int(sys.argv[1]))' "$imap_port" 2>&1 | grep 'not IMAP4 compliant'
+}
+
+by_imaplib() {
+    python3 - "$((imap_port + 1))" "$1" <<'PYTHON'
+import imaplib
+import sys
+
+imaplib.AllowedVersions += ("IMAP4REV2",)
+text = open(sys.argv[2], "rb").read()
+with imaplib.IMAP4("127.0.0.1", int(sys.argv[1])) as inbox:
+    status, told = inbox.append("INBOX", r"(\Flagged)", None, text)
+    assert status == "OK" and b"APPENDUID" in told[0], told
+    status, (count,) = inbox.select()
+    assert status == "OK", count
+    status, told = inbox.fetch(count.decode(), "(FLAGS BODY.PEEK[])")
+    assert status == "OK" and rb"FLAGS (\Flagged)" in told[0][0] and told[0][1] == text, told
+    assert inbox.store(count.decode(), "+FLAGS", r"(\Deleted)")[0] == "OK"
+    assert inbox.expunge() == ("OK", [count])
+PYTHON
+}
+
+check_imaplib() {
+    check 'imaplib by itself refuses the server' is_refused_by_imaplib
+    message imaplib | sed 's/$/\r/' >"$room/imaplib.text"
+    check 'imaplib appends, reads, sets flags and expunges behind one line' by_imaplib "$room/imaplib.text"
+}
+
 start_server
 check 'the program says what it listens on' says_its_listeners
 if have postfix postfix; then check_postfix; fi
@@ -399,6 +416,7 @@ if have swaks swaks; then check_swaks; fi
 if have msmtp msmtp; then check_msmtp; fi
 if have curl curl; then check_curl; fi
 if have isync mbsync; then check_mbsync; fi
+if have python3 python3; then check_imaplib; fi
 check 'the program ends with its input' ends_with_its_input
 
 echo "$passed passed, $failed failed"

@@ -1,8 +1,16 @@
-//! A bell that is rung before anybody sleeps on it: the ring is kept. A sleeper that wasn't woken would sleep for good.
+//! The bell of a session. A ring that comes before anybody sleeps is kept, and each ring ends one sleep: whoever sleeps finds what was marked
+//! before the ring that woke it. A sleeper that wasn't woken would sleep for good.
 
 use session_bells::{Sleeper, ring_each};
 use std::alloc::AllocError;
-use std::sync::atomic::Ordering;
+use std::sync::atomic::{AtomicBool, Ordering};
+use std::thread;
+use std::time::Duration;
+
+// How long nothing is marked: a sleep that nothing has ended lasts longer.
+fn a_while() -> Duration {
+    Duration::from_millis(50)
+}
 
 #[test]
 fn a_session_that_idles_is_woken(rt: HostRuntime) -> Result<(), AllocError> {
@@ -11,7 +19,23 @@ fn a_session_that_idles_is_woken(rt: HostRuntime) -> Result<(), AllocError> {
     let bell = sleeper.bell()?;
     sleeper.idling()?.store(true, Ordering::SeqCst);
     bell.ring();
-    sleeper.sleep(&rt);
+    let mark = AtomicBool::new(false);
+    let (runtime, marked) = (&rt, &mark);
+    let (found, ()) = thread::join(
+        &rt,
+        move || {
+            // The first ring was kept, and is heard once: what ends the second sleep is the second ring.
+            sleeper.sleep(runtime);
+            sleeper.sleep(runtime);
+            marked.load(Ordering::SeqCst)
+        },
+        || {
+            thread::sleep(&rt, a_while());
+            mark.store(true, Ordering::SeqCst);
+            bell.ring();
+        },
+    );
+    assert!(rt; found);
     Ok(())
 }
 
@@ -21,11 +45,24 @@ fn whoever_wakes_all_wakes_who_does_not_idle(rt: HostRuntime) -> Result<(), Allo
     let sleeper = Sleeper::new(alloc)?;
     let mut bells = Vec::new(alloc);
     bells.push(sleeper.bell()?)?;
-    // Nobody idles, so these rings are for nobody.
-    ring_each(&bells);
-    for bell in &bells {
-        bell.wake();
-    }
-    sleeper.sleep(&rt);
+    let mark = AtomicBool::new(false);
+    let (runtime, marked) = (&rt, &mark);
+    let (found, ()) = thread::join(
+        &rt,
+        move || {
+            sleeper.sleep(runtime);
+            marked.load(Ordering::SeqCst)
+        },
+        || {
+            // Nobody idles, so these rings are for nobody.
+            ring_each(&bells);
+            thread::sleep(&rt, a_while());
+            mark.store(true, Ordering::SeqCst);
+            for bell in &bells {
+                bell.wake();
+            }
+        },
+    );
+    assert!(rt; found);
     Ok(())
 }

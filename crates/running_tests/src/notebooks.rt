@@ -8,6 +8,9 @@ use lane_work::{Notebook, Summons, Unkept};
 use lmtp_machine::Submission;
 use std::alloc::{AllocError, Global};
 use std::sync::Wait;
+use std::sync::atomic::{AtomicBool, Ordering};
+use std::thread;
+use std::time::Duration;
 
 fn key(recipient: u8) -> CopyKey {
     CopyKey {
@@ -65,15 +68,28 @@ fn call_for<R: Wait, S: Summons>(rt: &R, summons: &S, shard: usize) {
     summons.summon(rt, shard);
 }
 
-// The thread would sleep for ever where its bell wasn't rung.
+// The thread would sleep for ever where its bell wasn't rung. It is rung behind the mark, and that of another shard isn't its own.
 #[test]
 fn the_bell_of_a_shard_is_rung(rt: HostRuntime) -> Result<(), AllocError> {
     let alloc = rt.alloc();
     let bell = Parker::new(alloc)?;
     let mut bells = Vec::new(alloc);
     bells.push(bell.unparker().clone()?)?;
-    call_for(&rt, &bells, 1);
-    call_for(&rt, &bells, 0);
-    bell.park(&rt);
+    let mark = AtomicBool::new(false);
+    let (runtime, marked) = (&rt, &mark);
+    let (found, ()) = thread::join(
+        &rt,
+        move || {
+            bell.park(runtime);
+            marked.load(Ordering::SeqCst)
+        },
+        || {
+            call_for(&rt, &bells, 1);
+            thread::sleep(&rt, Duration::from_millis(50));
+            mark.store(true, Ordering::SeqCst);
+            call_for(&rt, &bells, 0);
+        },
+    );
+    assert!(rt; found);
     Ok(())
 }
