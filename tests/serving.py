@@ -8,6 +8,7 @@
   between commands is told `421`; one within a message is told nothing, and no copy of that is made; a session is told `BYE`, whatever it was about.
 - What a client appends is answered with its UID, and shown to another of the same user.
 - A connection for which no worker is free is served once the one before it has quit. A server starts at once on ports that another has just left.
+- Where there is room on a lane for a copy of each worker and berth, none is refused for want of it, though all bring messages at once.
 - As many workers and berths as there may be are all served; one more is refused as `TooMany`. A port that is taken, a thread that there is no memory for, and
   lines that can't be written, are a fault of a device. Then nothing is announced, the server ends though its input doesn't, and leaves nobody who listens.
 
@@ -42,8 +43,14 @@ REPLIES_TO_HALF = (GREETING, *HELLO, SENDER_OK, RECIPIENT_OK, START_INPUT)
 WHOLE = HALF + b".\r\nQUIT\r\n"
 REPLIES = b"".join(line + b"\r\n" for line in (*REPLIES_TO_HALF, DELIVERED, b"221 2.0.0 Bye"))
 
+# How an APPEND is answered that stored its message.
+APPENDED = rb"b\d+ OK \[APPENDUID 7 \d+\] APPEND completed"
+
 # What is heard last, as the server stops.
 NOTHING, DISMISSED, BYE = b"", b"421 4.3.2 Shutting down\r\n", b"* BYE Shutting down\r\n"
+
+# So many messages each brings, of so many workers and sessions.
+CROWD, WORKERS, BERTHS = 50, 8, 4
 
 # Users, berths of each and workers: with so many, 255 at most, all are served, and with so many none.
 SERVED = ((61, 4, 8), (62, 4, 7), (64, 3, 8))
@@ -304,6 +311,25 @@ def wait_for_a_worker(program):
         expect("what stands", looking.messages(), [(1, standing(data_of("first"))), (2, standing(b"hi\r\n"))])
 
 
+def bring_at_once(program):
+    """Mail connections and sessions bring many messages in one piece each, all at once, on one lane with room for a copy of each of them."""
+    options = ("--workers", str(WORKERS), "--sessions", str(BERTHS), "--depth", str(WORKERS + BERTHS))
+    with serving(program, ("alice",), options) as house:
+        peers, sessions = [mail(house) for _ in range(WORKERS)], [session(house) for _ in range(BERTHS)]
+        appended = b"".join(b"b%d APPEND INBOX {4+}\r\nhi\r\n\r\n" % number for number in range(CROWD))
+        for peer in peers:
+            peer.say((envelope(["alice"]) + b"hi\r\n.\r\n") * CROWD)
+        for appending in sessions:
+            appending.say(appended)
+        for peer in peers:
+            peer.expect(*(SENDER_OK, RECIPIENT_OK, START_INPUT, DELIVERED) * CROWD)
+        answers = [appending.line() for appending in sessions for _ in range(CROWD)]
+        expect("what is answered beside OK", [answer for answer in answers if not re.fullmatch(APPENDED, answer)], [])
+        for peer in peers:
+            peer.quit()
+        select(sessions[0], (WORKERS + BERTHS) * CROWD)
+
+
 def names(count):
     """So many users."""
     return ["a" * number for number in range(1, count + 1)]
@@ -388,6 +414,7 @@ def checks():
     yield "each session is told that the server stops", dismiss
     yield "a server starts on ports that were just left", start_again
     yield "a connection waits for a worker", wait_for_a_worker
+    yield "nothing is refused where each has room for a copy", bring_at_once
     for users, berths, workers in SERVED:
         yield f"{users} users with {berths} berths, and {workers} workers", serve_many, users, berths, workers
     for users, berths, workers in REFUSED:
