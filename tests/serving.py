@@ -3,20 +3,23 @@
 
     tests/serving.py PROGRAM
 
-- A server says each listener on a line, and ends with its input.
+- A server says each listener on a line, listens on 127.0.0.1 alone, and ends with its input.
 - Mail is taken, and shown to a session that idles, until the server stops; a connection that vanishes within a message harms nobody. At the stop a connection
   between commands is told `421`; one within a message is told nothing, and no copy of that is made; a session is told `BYE`, whatever it was about.
 - What a client appends is answered with its UID, and shown to another of the same user.
 - A connection for which no worker is free is served once the one before it has quit. A server starts at once on ports that another has just left.
-- As many workers and berths as there may be are all served; one more is refused as `TooMany`. A port that is taken, and lines that can't be written, are a
-  fault of a device. Then nothing is announced, the server ends though its input doesn't, and leaves nobody who listens.
+- Where there is room on a lane for a copy of each worker and berth, none is refused for want of it, though all bring messages at once.
+- As many workers and berths as there may be are all served; one more is refused as `TooMany`. A port that is taken, a thread that there is no memory for, and
+  lines that can't be written, are a fault of a device. Then nothing is announced, the server ends though its input doesn't, and leaves nobody who listens.
 
 What is heard is compared to the byte with what RFC 2033, RFC 4315, RFC 9051, docs/OPERATING.md and docs/STANDARDS.md say, up to the end of the connection,
 which comes in good order. A check that takes a minute has failed. It prints a line for each check that fails, and last how many of how many passed.
 """
 
 import contextlib
+import errno
 import os
+import re
 import socket
 import subprocess
 import sys
@@ -40,12 +43,25 @@ REPLIES_TO_HALF = (GREETING, *HELLO, SENDER_OK, RECIPIENT_OK, START_INPUT)
 WHOLE = HALF + b".\r\nQUIT\r\n"
 REPLIES = b"".join(line + b"\r\n" for line in (*REPLIES_TO_HALF, DELIVERED, b"221 2.0.0 Bye"))
 
+# How an APPEND is answered that stored its message.
+APPENDED = rb"b\d+ OK \[APPENDUID 7 \d+\] APPEND completed"
+
 # What is heard last, as the server stops.
 NOTHING, DISMISSED, BYE = b"", b"421 4.3.2 Shutting down\r\n", b"* BYE Shutting down\r\n"
 
+# So many messages each brings, of so many workers and sessions.
+CROWD, WORKERS, BERTHS = 50, 8, 4
+
 # Users, berths of each and workers: with so many, 255 at most, all are served, and with so many none.
 SERVED = ((61, 4, 8), (62, 4, 7), (64, 3, 8))
+# So many KB of addresses are enough for these, and not for the stacks of all threads.
+FEW_ADDRESSES, MANY = 400_000, (64, 3, 8)
 REFUSED = ((62, 4, 8), (64, 4, 4))
+
+# How the system's tables write that a socket listens, and the address 127.0.0.1.
+LISTENS, LOOPBACK = "0A", f"{int.from_bytes(socket.inet_aton(ADDRESS), sys.byteorder):08X}"
+# An address of this machine that isn't the one on which a server listens.
+OTHER_ADDRESS = "127.0.0.2"
 
 # Who finds his port taken: mail, the first user and the second.
 PORTS = ("mail", "the first user", "the second user")
@@ -154,6 +170,36 @@ def asked(house, user, text, *answer):
     return asking
 
 
+# ---- what the system tells
+
+
+def sockets_of(pid):
+    """The numbers of the sockets that a process has."""
+    folder = f"/proc/{pid}/fd"
+    ends = [os.readlink(f"{folder}/{number}") for number in os.listdir(folder)]
+    return {found[1] for found in (re.fullmatch(r"socket:\[(\d+)\]", end) for end in ends) if found}
+
+
+def listens_on(pid, table):
+    """The addresses and ports on which a process listens, of those in a table of the system, as they are written there."""
+    own = sockets_of(pid)
+    with open(f"/proc/net/{table}", encoding="ascii") as lines:
+        rows = [line.split() for line in lines][1:]
+    return sorted(row[1] for row in rows if row[3] == LISTENS and row[9] in own)
+
+
+def is_bound(address, port):
+    """Whether somebody has this port of this address, or of all addresses."""
+    with socket.socket() as other:
+        try:
+            other.bind((address, port))
+        except OSError as error:
+            if error.errno != errno.EADDRINUSE:
+                raise
+            return True
+        return False
+
+
 # ---- what is checked
 
 
@@ -166,6 +212,16 @@ def tell_listeners(program):
             break
     lines = f"LMTP 127.0.0.1:{port}\nIMAP 127.0.0.1:{port + 1} alice\nIMAP 127.0.0.1:{port + 2} bob\n".encode()
     expect("the end", ended, (0, lines + WARNING, b""))
+
+
+def listen_on_loopback(program):
+    """A server listens on its ports of 127.0.0.1, and nowhere else; another address of the machine has them free."""
+    with serving(program, ("alice", "bob")) as house:
+        ports = [house.lmtp_port, *house.imap_ports]
+        expect("where it listens", listens_on(house.pid, "tcp"), sorted(f"{LOOPBACK}:{port:04X}" for port in ports))
+        expect("where it listens by IPv6", listens_on(house.pid, "tcp6"), [])
+        expect("what is taken of another address", [port for port in ports if is_bound(OTHER_ADDRESS, port)], [])
+        expect("what is taken of its own", [port for port in ports if is_bound(ADDRESS, port)], ports)
 
 
 def take_mail(program, last, last_words):
@@ -255,6 +311,25 @@ def wait_for_a_worker(program):
         expect("what stands", looking.messages(), [(1, standing(data_of("first"))), (2, standing(b"hi\r\n"))])
 
 
+def bring_at_once(program):
+    """Mail connections and sessions bring many messages in one piece each, all at once, on one lane with room for a copy of each of them."""
+    options = ("--workers", str(WORKERS), "--sessions", str(BERTHS), "--depth", str(WORKERS + BERTHS))
+    with serving(program, ("alice",), options) as house:
+        peers, sessions = [mail(house) for _ in range(WORKERS)], [session(house) for _ in range(BERTHS)]
+        appended = b"".join(b"b%d APPEND INBOX {4+}\r\nhi\r\n\r\n" % number for number in range(CROWD))
+        for peer in peers:
+            peer.say((envelope(["alice"]) + b"hi\r\n.\r\n") * CROWD)
+        for appending in sessions:
+            appending.say(appended)
+        for peer in peers:
+            peer.expect(*(SENDER_OK, RECIPIENT_OK, START_INPUT, DELIVERED) * CROWD)
+        answers = [appending.line() for appending in sessions for _ in range(CROWD)]
+        expect("what is answered beside OK", [answer for answer in answers if not re.fullmatch(APPENDED, answer)], [])
+        for peer in peers:
+            peer.quit()
+        select(sessions[0], (WORKERS + BERTHS) * CROWD)
+
+
 def names(count):
     """So many users."""
     return ["a" * number for number in range(1, count + 1)]
@@ -280,6 +355,16 @@ def refuse_many(program, users, berths, workers):
     with endless() as stdin:
         ended = run(program, port, names(users), ("--sessions", str(berths), "--workers", str(workers)), stdin=stdin, stdout=subprocess.PIPE)
     expect("the end", ended, (3, b"", TOO_MANY))
+
+
+def want_threads(program):
+    """There are no addresses for the stacks of all threads."""
+    users, berths, workers = MANY
+    port, limit = free_ports(1 + users), ("sh", "-c", f'ulimit -v {FEW_ADDRESSES} && exec "$@"', "sh")
+    with endless() as stdin:
+        options = ("--sessions", str(berths), "--workers", str(workers))
+        ended = run(program, port, names(users), options, shell=limit, stdin=stdin, stdout=subprocess.PIPE)
+    expect("the end", ended, TAKEN)
 
 
 def find_port_taken(program, position):
@@ -322,18 +407,21 @@ def write_to_closed(program):
 def checks():
     """Each check: its name, what is done, and with what beside the program."""
     yield "each listener has a line", tell_listeners
+    yield "it listens on the loopback address alone", listen_on_loopback
     yield "mail is taken and shown until the server stops", take_mail, mail, DISMISSED
     yield "a message that isn't whole is dropped as the server stops", take_mail, begin, NOTHING
     yield "what is appended is answered and shown", append
     yield "each session is told that the server stops", dismiss
     yield "a server starts on ports that were just left", start_again
     yield "a connection waits for a worker", wait_for_a_worker
+    yield "nothing is refused where each has room for a copy", bring_at_once
     for users, berths, workers in SERVED:
         yield f"{users} users with {berths} berths, and {workers} workers", serve_many, users, berths, workers
     for users, berths, workers in REFUSED:
         yield f"{users} users with {berths} berths, and {workers} workers, are too many", refuse_many, users, berths, workers
     for position, name in enumerate(PORTS):
         yield f"the port of {name} is taken", find_port_taken, position
+    yield "there is no memory for all threads", want_threads
     yield "the lines find no room", write_to_full
     yield "the lines go to a pipe that nobody reads", write_to_nobody
     yield "the output is closed", write_to_closed

@@ -1,10 +1,18 @@
 //! Sockets of the system, on ports that it chooses.
 
-use loopback::{Grip, Listening, Patience, Pause, farewell, prepare};
-use std::io::{Read, Write};
+use loopback::{Grip, Listening, Patience, Pause, Timely, farewell, prepare};
+use std::alloc::Global;
+use std::io::{ErrorKind, Read, Write};
 use std::net::TcpStream;
+use std::sync::atomic::{AtomicBool, Ordering};
 use std::time::{Duration, Instant};
 use std::{io, thread};
+
+/// More bytes than the system keeps for a peer that takes none.
+const MUCH: usize = 32 << 20;
+
+/// So many pauses of a tenth of a second a peer makes that takes a little at a time.
+const SIPS: u32 = 60;
 
 #[test]
 fn bytes_go_both_ways(rt: HostRuntime) -> io::Result<()> {
@@ -90,5 +98,69 @@ fn a_pause_lasts_and_ends(rt: HostRuntime) -> io::Result<()> {
     pause.wait();
     // Half of what it is to last, since the system's clocks may differ a little.
     assert!(rt; began.elapsed(&rt)? >= Duration::from_millis(50));
+    Ok(())
+}
+
+// Bytes, of which many are sent.
+fn much(alloc: Global) -> io::Result<Vec<u8>> {
+    Ok(vec![in alloc; b'x'; MUCH]?)
+}
+
+// Gives a connection more than its peer takes in the second that it has: whether the first call was cut short, and the next took no time.
+fn is_sent_in_time(stream: &TcpStream, bytes: &[u8]) -> io::Result<bool> {
+    prepare(stream, Patience::Limited)?;
+    stream.set_write_timeout(Some(Duration::from_secs(1)))?;
+    let mut output = Timely::new(stream);
+    let taken = output.write(bytes)?;
+    // Who asks the system again waits for a minute, and is told `WouldBlock`.
+    stream.set_write_timeout(Some(Duration::from_secs(60)))?;
+    let Err(refused) = output.write(bytes) else {
+        return Ok(false);
+    };
+    Ok(0 < taken && taken < bytes.len() && refused.kind() == ErrorKind::TimedOut)
+}
+
+// Takes a little at a time, until the other side has sent what it could: how often.
+fn sip(mut client: TcpStream, pause: &Pause, is_sent: &AtomicBool) -> u32 {
+    let mut some = [0u8; 4096];
+    for sips in 0..SIPS {
+        if is_sent.load(Ordering::SeqCst) {
+            return sips;
+        }
+        let _ = client.read(&mut some);
+        pause.wait();
+    }
+    SIPS
+}
+
+#[test]
+fn a_peer_that_takes_nothing_has_its_time_once(rt: HostRuntime) -> io::Result<()> {
+    let listening = Listening::bind(&rt, 0)?;
+    let client = TcpStream::connect(&rt, ("127.0.0.1", listening.port()))?;
+    let stream = listening.accept()?;
+    let bytes = much(rt.alloc())?;
+    assert!(rt; is_sent_in_time(&stream, &bytes)?);
+    drop(client);
+    Ok(())
+}
+
+#[test]
+fn a_peer_that_takes_a_little_has_no_more_time(rt: HostRuntime) -> io::Result<()> {
+    let listening = Listening::bind(&rt, 0)?;
+    let client = TcpStream::connect(&rt, ("127.0.0.1", listening.port()))?;
+    let stream = listening.accept()?;
+    let (pause, bytes) = (Pause::new(&rt)?, much(rt.alloc())?);
+    let is_sent = AtomicBool::new(false);
+    let (in_time, sips) = thread::join(
+        &rt,
+        || {
+            let in_time = is_sent_in_time(&stream, &bytes);
+            is_sent.store(true, Ordering::SeqCst);
+            in_time
+        },
+        || sip(client, &pause, &is_sent),
+    );
+    assert!(rt; in_time?);
+    assert!(rt; sips < SIPS / 2);
     Ok(())
 }

@@ -6,9 +6,11 @@
 mod grip;
 mod listening;
 mod parting;
+mod timely;
 mod waiting;
 
 pub use grip::Grip;
 pub use listening::Listening;
 pub use parting::{Patience, farewell, prepare};
+pub use timely::Timely;
 pub use waiting::Pause;

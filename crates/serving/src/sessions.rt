@@ -21,7 +21,7 @@ use house_threads::most_of;
 use imap_stream::{Berth, Hush, Visit};
 use lane_work::{Desk, LaneCourier, Summons, Unkept, end_all};
 use line_io::Watched;
-use loopback::{Grip, Patience, prepare};
+use loopback::{Grip, Patience, Timely, prepare};
 use pace::{Actor, Pace};
 use serving_workers::{Door, Hired, Mark, Served, Serves, have_threads, packed};
 use session_bells::Sleeper;
@@ -33,8 +33,11 @@ use std::sync::{Arc, Wait};
 use std::thread;
 use std::thread::Threads;
 
+/// Where a client's answers go.
+type ClientOutput = Watched<Timely<TcpStream>>;
+
 /// Where one client of a user is served at a time.
-pub(crate) type ClientBerth<'a, R> = Berth<'a, R, Unhindered, Watched<TcpStream>>;
+pub(crate) type ClientBerth<'a, R> = Berth<'a, R, Unhindered, ClientOutput>;
 
 // The connection that a berth's thread has at hand, for the watch beside it. It comes to hand before its visit stands in the berth, and
 // the next one only when that visit was taken out: see `answer_clients`.
@@ -89,13 +92,13 @@ fn open_visit<'a, R: Wait>(
     rt: &'a R,
     gateway: Gateway<'a>,
     stream: &TcpStream,
-) -> Option<Visit<'a, R, Unhindered, Watched<TcpStream>>> {
+) -> Option<Visit<'a, R, Unhindered, ClientOutput>> {
     let (floor, gate) = (gateway.floor, gateway.gate);
     let directory = &floor.office.directory;
     let inbox = inbox_numbered(directory, gateway.user)?;
     let bells = floor.depot.sessions.get(usize::from(inbox))?;
     let folders = folders_of(floor.alloc, directory, directory.user_of(inbox)).ok()?;
-    let output = Watched::new(stream.try_clone().ok()?);
+    let output = Watched::new(Timely::new(stream.try_clone().ok()?));
     let store = LockedStore::new(rt, gate, gateway.session, &floor.depot.mailboxes, bells);
     let most = Some(most_of(floor.office.max_message));
     Visit::open(rt, floor.alloc, store, folders, most, output).ok()

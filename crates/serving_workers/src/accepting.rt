@@ -10,7 +10,7 @@ use delivery_token::{Job, Noted};
 use lane_work::{Desk, Office, Summons, Unkept, end_all};
 use line_io::Watched;
 use lmtp_stream::{TalkFault, converse};
-use loopback::{Grip, Patience, prepare};
+use loopback::{Grip, Patience, Timely, prepare};
 use pace::{Gate, Pace};
 use shard_queue::{Ended, ReceiverPermit, ReplyChannel};
 use std::alloc::Global;
@@ -66,7 +66,7 @@ fn serve_one<R: Wait, G: Gate, S: Summons>(
         return false;
     }
     let mut input = stream;
-    let mut output = Watched::new(stream);
+    let mut output = Watched::new(Timely::new(stream));
     let ending = converse(
         rt,
         alloc,
