@@ -10,6 +10,7 @@ use Rattle.shard_queue.specs.declared.queue.ShardQueue.{ShardQueue}
 use Rattle.lane_work.specs.declared.worker.Worked.{Worked}
 use Rattle.lane_work.specs.declared.consumer.Consumed.{Consumed}
 use Rattle.lane_work.specs.declared.worker.Fate.TheVariants.{NotBegun, Whole}
+use Rattle.lane_work.specs.Awaiting.{copies_in, verdicts_in}
 use Rattle.lane_work.specs.Permits.{AreEnded}
 use Rattle.lane_work.specs.Account.{Account}
 use Rattle.lane_work.specs.Speaking.{premises_of}
@@ -33,13 +34,15 @@ found_at xs i n d x same is = ap (λ k. slice_index_or xs k d) same ∙ get_or_f
 -- what a worker at its position left
 pub work_of : (floor : Floor) (plans : Plans) (guests : List Guest) (i n number : ℕ) (c : ReplyChannel Noted) (p : Vec (Vec ℕ Global) Global) (bytes : List (Vec ℕ Global)) (w : Worked)
     → i ≡ n → n < length plans → number ≡ n → bytes ≡ (slice_index_or plans i p).items
-    → IsWorked floor.office (slice_index_or floor.depot.channels.items i c) number (map (λ b. b.items) bytes) w → IsProduceOf floor plans guests n w
-work_of floor plans guests i n number c p bytes w same under of are worked =
+    → IsWorked floor.office (slice_index_or floor.depot.channels.items i c) number (map (λ b. b.items) bytes) w → (w.fate ≡ Whole → verdicts_in (received w.receiver) ≡ copies_in (map said w.ended.items))
+    → IsProduceOf floor plans guests n w
+work_of floor plans guests i n number c p bytes w same under of are worked only =
     let own = subst (λ (x : ℕ). IsWorked floor.office (slice_index_or floor.depot.channels.items i c) x (map (λ b. b.items) bytes) w) of worked in
     record {
       ended = own.0;
       receiver = λ channel at. subst (λ (x : ReplyChannel Noted). IsReceiver x w.receiver) (found_at floor.depot.channels.items i n c channel same at) own.1;
       seat = own.2;
+      only = only;
       worker = λ plan at whole.
           subst (λ (x : List (Vec ℕ Global)). Account (premises_of floor.office) n (map (λ b. b.items) x) (map (λ b. b.items) w.replies.items) w.log.notes (received w.receiver) (map said w.ended.items))
           (are ∙ ap (λ (v : Vec (Vec ℕ Global) Global). v.items) (found_at plans i n p plan same at)) (own.3 whole);
@@ -57,6 +60,7 @@ stood_down floor plans guests n number receiver w r of is ended same seat fate h
       ended = subst (λ (x : ℕ). AreEnded floor.office.lanes.items x w.ended.items) of ended;
       receiver = λ channel at. subst (IsReceiver channel) (sym same) (hears channel at);
       seat = seat ∙ of;
+      only = λ whole. absurd (not_whole whole);
       worker = λ plan at whole. absurd (not_whole whole);
       session = λ k guest behind at whole. absurd (not_whole whole);
     })

@@ -14,6 +14,7 @@ use Rattle.lane_work.specs.declared.worker.Worked.{Worked}
 use Rattle.lane_work.specs.declared.consumer.Consumed.{Consumed}
 use Rattle.lane_work.specs.declared.worker.Fate.TheVariants.{Whole}
 use Rattle.lane_work.specs.Account.{Account, AreAccountedFor, Premises}
+use Rattle.lane_work.specs.Awaiting.{copies_in, verdicts_in}
 use Rattle.lane_work.specs.Permits.{AreEnded}
 use Rattle.lane_work.specs.Speaking.{premises_of}
 use Rattle.shard_queue.specs.Reply.{IsReceiver, received}
@@ -55,11 +56,13 @@ pub record SessionAccount (house : Premises) (mailboxes turns seat : ℕ) (guest
   pub copies : AreAccountedFor house seat (map (judged_of seat 0) carried) notes heard put
 
 -- What producer n left: its ended permits are its own on each lane, its receiver is of its channel, and the log is its own. Where a worker went through all its
--- connections, that is its account of them; where a session, behind the workers, made all its steps, that is its account of these.
+-- connections, that is its account of them; where a session, behind the workers, made all its steps, that is its account of these. Either then heard as many
+-- verdicts as it put copies: each was awaited, and nothing else came but ends.
 pub record IsProduceOf (floor : Floor) (plans : Plans) (guests : List Guest) (n : ℕ) (w : Worked) : Type 0 where
   pub ended : AreEnded floor.office.lanes.items n w.ended.items
   pub receiver : (channel : ReplyChannel Noted) → slice_get floor.depot.channels.items n ≡ Some channel → IsReceiver channel w.receiver
   pub seat : w.log.seat ≡ n
+  pub only : w.fate ≡ Whole → verdicts_in (received w.receiver) ≡ copies_in (map said w.ended.items)
   pub worker : (plan : Vec (Vec ℕ Global) Global) → slice_get plans n ≡ Some plan → w.fate ≡ Whole
       → Account (premises_of floor.office) n (map (λ b. b.items) plan.items) (map (λ b. b.items) w.replies.items) w.log.notes (received w.receiver) (map said w.ended.items)
   pub session : (k : ℕ) (guest : Guest) → n ≡ length plans + k → slice_get guests k ≡ Some guest → w.fate ≡ Whole

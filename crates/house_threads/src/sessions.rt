@@ -1,13 +1,14 @@
 //! A session's whole life in a house with threads: its steps, over mailboxes behind locks, its messages by way of the lanes, and then
 //! the end of its permits. What it is answered stands in `session_thread`, who starts its thread in `producers`.
 
-ghost use Rattle.std.specs.Prelude.{ℕ, ◌≡◌, ◌≢◌, ◌∷◌, ◌++◌, ◌≤◌, [], List, None, length, map};
+ghost use Rattle.std.specs.Prelude.{ℕ, ◌≡◌, ◌≢◌, ◌∷◌, ◌++◌, ◌≤◌, [], List, None, false, length, map};
 ghost use Rattle.courier.specs.Carried.{Carried};
 ghost use Rattle.shard_queue.specs.Reply.{IsReceiver};
 ghost use Rattle.house_floor.specs.Crew.{IsHouse, IsPost};
 ghost use Rattle.house_floor.specs.Users.{user_numbered};
 ghost use Rattle.house_threads.specs.Crew.{most_of};
 ghost use Rattle.lane_work.specs.Account.{notes_tell};
+ghost use Rattle.lane_work.specs.Awaiting.{HearsItsOwn};
 ghost use Rattle.lane_work.specs.Couriers.{HasCarried, IsReady, IsSameDesk};
 ghost use Rattle.house_threads.specs.inner.Crew.{HasLived, IsAttended};
 
@@ -50,6 +51,7 @@ fn live_through<R: Wait, G: Gate>(
     ensures same { IsSameDesk courier.old.office.now courier.new.office.now courier.old.channel.now courier.new.channel.now courier.old.desk
         courier.new.desk }
     ensures serial { courier.new.serial ≡ courier.old.serial }
+    ensures only { courier.new.is_torn ≡ false → (courier.old.is_torn ≡ false) × HearsItsOwn courier.old.desk courier.new.desk }
     ensures book { courier.new.book.seat ≡ courier.old.book.seat }
     ensures began { result ≢ Fate.NotBegun }
     ensures whole { result ≡ Fate.Whole → (carried : List Carried)
@@ -76,6 +78,13 @@ fn live_through<R: Wait, G: Gate>(
         Err(Lost::NoMemory) => Fate::NoMemory,
         Err(Lost::Torn) => Fate::Torn,
     }
+}
+
+// How a session came to its end whose courier may have met what it didn't await.
+fn unless_torn(fate: Fate, is_torn: bool) -> Fate
+    ensures whole { result ≡ Fate.Whole → (fate ≡ Fate.Whole) × (is_torn ≡ false) }
+{
+    if is_torn { Fate::Torn } else { fate }
 }
 
 /// A session's whole life: its client is greeted, makes its steps, and leaves the mailbox that it is in; the messages that it appends
@@ -128,8 +137,9 @@ pub(crate) fn attend<R: Wait, G: Gate>(
         desk,
         serial: _,
         book: log,
-        is_torn: _,
+        is_torn,
     } = courier;
+    let fate = unless_torn(fate, is_torn);
     let mut pace = locked.into_pace();
     let (office, summons) = (&floor.office, &floor.bells);
     finish(

@@ -8,3 +8,4 @@ pub mod AnswerLaws
 pub mod ClosedLaws
 pub mod ClosingLaws
 pub mod RoundLaws
+pub mod AwaitedLaws

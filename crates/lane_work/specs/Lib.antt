@@ -4,6 +4,7 @@ pub mod Couriers
 pub mod Permits
 pub mod Account
 pub mod Answering
+pub mod Awaiting
 pub mod Consuming
 pub mod Ends
 pub mod Speaking

@@ -1,12 +1,13 @@
 //! A session's way to the lanes: its permit on each, and its end of a reply channel, as a worker has them.
 //! What a session is answered stands above.
 
-ghost use Rattle.std.specs.Prelude.{◌≡◌, IfOk, length, map};
+ghost use Rattle.std.specs.Prelude.{◌≡◌, IfOk, OnOk, false, length, map};
 ghost use Rattle.shard_queue.specs.Reply.{IsReceiver, received};
 ghost use Rattle.shard_queue.specs.Shared.{IsStartOf};
 ghost use Rattle.lane_work.specs.Copies.{rooms_of};
 ghost use Rattle.lane_work.specs.Couriers.{HasCarried, IsReady, IsSameDesk};
 ghost use Rattle.lane_work.specs.inner.Copies.{WasJudged};
+ghost use Rattle.lane_work.specs.Awaiting.{HearsItsOwn};
 ghost use Rattle.lane_work.specs.Ends.{CountsEnds};
 ghost use Rattle.lane_work.specs.Permits.{AreLive, ArePermits, put_by};
 
@@ -66,6 +67,7 @@ fn judge<R: Wait, G: Gate, S: Summons>(
     ensures live { AreLive desk.new.permits.items }
     ensures ends { CountsEnds desk.old desk.new }
     ensures grew { IsStartOf (received desk.old.receiver) (received desk.new.receiver) }
+    ensures only { OnOk result (HearsItsOwn desk.old desk.new) }
     ensures judged { IfOk result (λ verdict. WasJudged office.now.directory (rooms_of office.now.lanes.items) desk.old.number
         (record { key = key; mailbox = mailbox; text = text.now; flags = flags }) verdict
         (received desk.new.receiver) (map put_by desk.old.permits.items) (map put_by desk.new.permits.items)) }
@@ -83,9 +85,11 @@ impl<'a, R: Wait, S: Summons, N: Notebook> Courier for LaneCourier<'a, R, S, N> 
     // Its books tell of just these messages of its session, and of the verdicts on them.
     ghost carried = { λ c done. HasCarried c.office.now c.desk c.serial (N.tells c.book) done };
 
-    // Office, channel, number, serial and the book's owner are the same, and no end was counted that wasn't heard.
+    // Office, channel, number, serial and the book's owner are the same, and no end was counted that wasn't heard. Unless it is torn, as
+    // many verdicts were heard as copies were put.
     ghost kept = { λ first now. IsSameDesk first.office.now now.office.now first.channel.now now.channel.now first.desk now.desk
-        × (now.serial ≡ first.serial) × (N.owner now.book ≡ N.owner first.book) };
+        × (now.serial ≡ first.serial) × (N.owner now.book ≡ N.owner first.book)
+        × (now.is_torn ≡ false → (first.is_torn ≡ false) × HearsItsOwn first.desk now.desk) };
 
     fn carry<G: Gate>(
         &mut self,

@@ -11,6 +11,7 @@ ghost use Rattle.submission.specs.Verdicts.{Fills, unknown};
 ghost use Rattle.lane_work.specs.Copies.{IsHeard, copies_of};
 ghost use Rattle.lane_work.specs.inner.Copies.{WereHeard};
 ghost use Rattle.lane_work.specs.inner.Desk.{SameButReceiver};
+ghost use Rattle.lane_work.specs.Awaiting.{verdicts_in};
 ghost use Rattle.lane_work.specs.Ends.{CountsEnds, ends_in};
 ghost use Rattle.lane_work.specs.Permits.{AreLive, overs};
 
@@ -105,6 +106,7 @@ pub(crate) fn hear_one<R: Wait, G: Gate>(
 
     // Without an error the verdict was heard, of just this key and mailbox; after one, something was heard.
     ensures grew { IsStartOf (received desk.old.receiver) (received desk.new.receiver) }
+    ensures only { OnOk result (verdicts_in (received desk.new.receiver) ≡ verdicts_in (received desk.old.receiver) + 1) }
     ensures heard { IfOk result (λ verdict. IsHeard (received desk.new.receiver) (record { key = key; mailbox = mailbox; verdict = verdict })) }
     ensures torn { OnErr result (length (received desk.old.receiver) < length (received desk.new.receiver)) }
 {

@@ -1,7 +1,7 @@
 //! A message's copies are put, each into the lane of its mailbox's shard. What is heard of them does
 //! not belong here.
 
-ghost use Rattle.std.specs.Prelude.{◌≡◌, ◌≤◌, ◌<◌, ◌++◌, ◌∷◌, [], length, map, Some, None, MatchOption, true, false, slice_index_or, slice_set, vec_len};
+ghost use Rattle.std.specs.Prelude.{◌≡◌, ◌≤◌, ◌<◌, ◌+◌, ◌++◌, ◌∷◌, [], length, map, Some, None, MatchOption, true, false, slice_index_or, slice_set, vec_len};
 ghost use Rattle.shard_queue.specs.declared.lane.Entry.TheVariants as entries;
 ghost use Rattle.delivery_token.specs.declared.Refusal.TheVariants as refusals;
 ghost use Rattle.delivery_token.specs.declared.Verdict.TheVariants as verdicts;
@@ -11,6 +11,8 @@ ghost use Rattle.lmtp_machine.specs.Calls.{submission_of};
 ghost use Rattle.lane_work.specs.Permits.{ArePermits, IsPermit, is_over, overs, permit_number, put_by};
 ghost use Rattle.lane_work.specs.inner.Permits.{AreOpenTo};
 ghost use Rattle.lane_work.specs.inner.Desk.{SameButPermits};
+ghost use Rattle.submission.specs.Verdicts.{unknown};
+ghost use Rattle.lane_work.specs.Awaiting.{copies_in};
 ghost use Rattle.lane_work.specs.Copies.{FoundFull, IsAtOnce, copies_of, room_at, room_of, rooms_of};
 ghost use Rattle.lane_work.specs.inner.Copies.{HavePut, WereTried};
 
@@ -145,6 +147,8 @@ pub(crate) fn put_all<R: Wait, G: Gate, S: Summons>(
     ensures permits { ArePermits office.now.lanes.items desk.old.number desk.new.permits.items }
     ensures same { SameButPermits desk.old desk.new }
     ensures slots { length verdicts.new.slots ≡ vec_len message.now.keys }
+    // So many copies were put as verdicts are unknown.
+    ensures counts { copies_in (map put_by desk.new.permits.items) ≡ copies_in (map put_by desk.old.permits.items) + unknown verdicts.new.slots }
     // Where no permit is over that a copy is for.
     ensures tried { AreOpenTo office.now.directory message.now.mailboxes.items desk.old.permits.items
         → WereTried office.now.directory (rooms_of office.now.lanes.items) desk.old.number (copies_of (submission_of message.now)) verdicts.new.slots

@@ -15,6 +15,7 @@ ghost use Rattle.lane_work.specs.Permits.{AreEnded, AreInForce, ArePermits, IsNe
 ghost use Rattle.lane_work.specs.inner.Permits.{AreOpenTo};
 ghost use Rattle.lane_work.specs.Account.{AreBooks, HaveEnded, notes_tell, setting_at};
 ghost use Rattle.lane_work.specs.inner.Account.{HasServed};
+ghost use Rattle.lane_work.specs.Awaiting.{HearsItsOwn, copies_in, verdicts_in};
 ghost use Rattle.lane_work.specs.Ends.{CountsEnds, ends_in};
 ghost use Rattle.lane_work.specs.Working.{IsWorked};
 ghost use Rattle.lane_work.specs.Speaking.{Stands, is_quit, premises_of};
@@ -92,6 +93,7 @@ fn put_and_hear<R: Wait, G: Gate, S: Summons, N: Notebook>(
     ensures ends { CountsEnds desk.old desk.new }
     ensures overs { overs desk.new.permits.items ≡ overs desk.old.permits.items }
     ensures owner { N.owner book.new ≡ N.owner book.old }
+    ensures only { OnOk result (HearsItsOwn desk.old desk.new) }
     ensures verdicts { IfOk result (λ vs. vec_len vs ≡ vec_len message.now.keys) }
     // Where no permit is over that a copy is for.
     ensures books { IfOk result (λ vs. AreOpenTo office.now.directory message.now.mailboxes.items desk.old.permits.items →
@@ -159,6 +161,9 @@ pub fn turn<R: Wait, G: Gate, S: Summons, N: Notebook>(
     ensures number { desk.new.number ≡ desk.old.number }
     ensures ends { CountsEnds desk.old desk.new }
     ensures owner { N.owner book.new ≡ N.owner book.old }
+
+    // Without an error as many verdicts were heard as copies were put.
+    ensures only { OnOk result (HearsItsOwn desk.old desk.new) }
 
     // Without an error the next turn may follow: no message waits, and the connection's setting and host are the same.
     ensures quiet { OnOk result (machine.new.pending ≡ []) }
@@ -239,6 +244,7 @@ fn speak<R: Wait, G: Gate, S: Summons>(
     ensures number { desk.new.number ≡ desk.old.number }
     ensures ends { CountsEnds desk.old desk.new }
     ensures seat { log.new.seat ≡ log.old.seat }
+    ensures only { OnOk result (HearsItsOwn desk.old desk.new) }
     ensures spoke { OnOk result ((done : List Judged)
         → Stands directory.now office.now.directory (rooms_of office.now.lanes.items) desk.old.number done [] false machine.old out.old.items
         (notes_tell log.old.notes) (received desk.old.receiver) (map put_by desk.old.permits.items)
@@ -299,6 +305,7 @@ fn converse<R: Wait, G: Gate, S: Summons>(
     ensures number { desk.new.number ≡ desk.old.number }
     ensures ends { CountsEnds desk.old desk.new }
     ensures seat { log.new.seat ≡ log.old.seat }
+    ensures only { OnOk result (HearsItsOwn desk.old desk.new) }
     ensures spoke { IfOk result (λ reply. (done : List Judged)
         → AreBooks office.now.directory (rooms_of office.now.lanes.items) desk.old.number done (notes_tell log.old.notes)
         (received desk.old.receiver) (map put_by desk.old.permits.items)
@@ -369,6 +376,7 @@ fn go_through<R: Wait, G: Gate, S: Summons>(
     ensures ends { CountsEnds desk.old desk.new }
     ensures seat { log.new.seat ≡ log.old.seat }
     ensures began { result ≢ Fate.NotBegun }
+    ensures only { result ≡ Fate.Whole → HearsItsOwn desk.old desk.new }
     ensures whole { result ≡ Fate.Whole → HasServed (premises_of office.now) desk.old.number (map (λ b. b.items) connections.now)
         (map (λ b. b.items) replies.new.items) (notes_tell log.new.notes) (received desk.new.receiver) (map put_by desk.new.permits.items) }
 {
@@ -435,6 +443,10 @@ pub fn work<R: Wait, G: Gate, S: Summons>(
 
     // It heard as many shards' ends as there are lanes, or more, of which `desk.ends` were counted before.
     ensures heard { length office.now.lanes.items + ends_in (received desk.receiver) ≤ desk.ends + ends_in (received result.receiver) }
+
+    // Where it is `Whole`, as many verdicts were heard as copies were put on all lanes: each was awaited, and nothing else came.
+    ensures only { result.fate ≡ Fate.Whole → verdicts_in (received result.receiver) ≡ verdicts_in (received desk.receiver) +
+        copies_in (map said result.ended.items) }
 
     // The permits, the receiver and the log are its own; where it is `Whole`, this is its account: of replies, notes and what it put.
     ensures worked { IsWorked office.now channel.now desk.number (map (λ b. b.items) connections.now) result }

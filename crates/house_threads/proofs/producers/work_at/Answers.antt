@@ -3,6 +3,7 @@ use Rattle.std.specs.Global.{Global}
 use Rattle.delivery_token.specs.declared.log.Noted.{Noted}
 use Rattle.shard_queue.specs.declared.ends.ReplyChannel.{ReplyChannel}
 use Rattle.shard_queue.specs.Reply.{IsReceiver}
+use Rattle.lane_work.specs.Awaiting.{verdicts_in}
 use Rattle.lane_work.specs.Working.{IsWorked}
 use Rattle.house_threads.proofs.Lives.{here_at, work_of}
 use Rattle.house_threads.proofs.producers.work_at.Goals as goal
@@ -21,3 +22,4 @@ returns g c =
     work_of floor c.args.plans.now c.args.guests.now c.from-position.result c.args.number c.args.post.desk.number c.index.result.now c.index-plans-position.result
     c.as_slice.result.now c.work.result same c.requires.number c.requires.post.number (c.as_slice.ensures.value ∙ ap (λ (v : Vec (Vec ℕ Global) Global). v.items) c.index-plans-position.is)
     (subst (λ (x : ReplyChannel Noted). IsWorked floor.office x c.args.post.desk.number (map (λ b. b.items) c.as_slice.result.now) c.work.result) c.index.ensures c.work.ensures.worked)
+    (λ whole. let only = c.work.ensures.only whole in let none = ap verdicts_in c.requires.post.unheard.0 in omega (arith, only, none))

@@ -1,8 +1,10 @@
-use Rattle.std.proofs.Common.{rules, ◌≡◌, ◌∙◌, ℕ, [], Vec, ap, subst, map}
+use Rattle.std.proofs.Common.{rules, ◌≡◌, ◌∙◌, ℕ, [], Vec, ap, arith, subst, map}
 use Rattle.std.specs.Global.{Global}
 use Rattle.delivery_token.specs.WorkerLog.{WorkerLog}
 use Rattle.lane_work.specs.Copies.{rooms_of}
-use Rattle.lane_work.specs.Permits.{AreEnded}
+use Rattle.lane_work.specs.Awaiting.{verdicts_in}
+use Rattle.lane_work.specs.Permits.{AreEnded, put_by}
+use Rattle.lane_work.proofs.AwaitedLaws.{ended_counts, new_counts, quiet_counts}
 use Rattle.lane_work.proofs.ServedLaws.{books_begin}
 use Rattle.shard_queue.specs.Reply.{received}
 use Rattle.shard_queue.specs.Permits.{said}
@@ -25,8 +27,15 @@ returns g c =
       subst (λ (n : ℕ). AreEnded office.lanes.items n left.ended.items) own end.ended,
       end.receiver,
       ap (λ (b : WorkerLog). b.seat) end.kept.0 ∙ life.book ∙ c.new.ensures.seat,
+      (λ whole.
+          let alone = life.only (c.unless_torn-fate.ensures.whole (end.whole whole)).1 in
+          let heard = alone.1 in
+          let quiet = quiet_counts (received now.desk.receiver) (received left.receiver) (end.quiet whole) in
+          let over = ended_counts now.desk.number (map put_by now.desk.permits.items) (map said left.ended.items) end.said in
+          let new = new_counts c.args.post.desk.permits.items c.requires.post.fresh in
+          let none = ap verdicts_in c.requires.post.unheard.0 in omega (arith, heard, quiet, over, new, none)),
       λ whole.
-          let lived = life.whole (end.whole whole) in
+          let lived = life.whole (c.unless_torn-fate.ensures.whole (end.whole whole)).0 in
           let named = user_named directory.homes c.in-Some.inbox c.args.guest.now.user c.user_of-user.result.now (search rules) c.in-Some.ensures.inbox.1 c.user_of-user.ensures in
           let said_alone = ap (λ (v : Vec (Vec ℕ Global) Global). map (λ b. b.items) v.items) end.kept.1 ∙ lived.2.2 in
           session_account floor now.office.now now.desk seat now.serial c.args.guest.now c.user_of-user.result.now c.new-locked.result lived.0 lived.2.0 (map (λ b. b.items) left.replies.items) now.book.notes left.log.notes

@@ -1,11 +1,18 @@
-use Rattle.std.proofs.Common.{sym, subst, map, Vec, IfOk, arith}
+use Rattle.std.proofs.Common.{◌≡◌, ◌∙◌, ap, sym, subst, map, ◌∷◌, [], Vec, IfOk, OnOk, arith, ℕ, List, slice_index_or, false}
 use Rattle.std.specs.Global.{Global}
 use Rattle.std.proofs.lemmas.List.{length-map}
+use Rattle.std.proofs.lemmas.Result.{on_ok_weaker}
 use Rattle.lane_work.specs.declared.desk.LanePermit.{LanePermit}
 use Rattle.shard_queue.specs.Reply.{received}
 use Rattle.lane_work.specs.Permits.{AreLive, put_by}
 use Rattle.lane_work.specs.Copies.{rooms_of}
 use Rattle.lane_work.specs.inner.Copies.{WasJudged}
+use Rattle.delivery_token.specs.declared.log.Noted.{Noted}
+use Rattle.shard_queue.specs.declared.reply.ReceiverPermit.{ReceiverPermit}
+use Rattle.lane_work.specs.Awaiting.{HearsItsOwn, copies_in, verdicts_in}
+use Rattle.lane_work.specs.Permits.{overs}
+use Rattle.submission.specs.Verdicts.{unknown}
+use Rattle.lane_work.proofs.AwaitedLaws.{tried_counts}
 use Rattle.lane_work.proofs.CopyLaws.{judged_at_once, judged_later}
 use Rattle.lane_work.proofs.PermitLaws.{live_at, live_still, overs_length, permits_length}
 use Rattle.envelope.specs.Directory.{shard_of}
@@ -44,3 +51,28 @@ returns-in-Some-clause-live g c = live_still c.args.desk.now.permits.items c.put
 pub returns-in-None-clause-live : goal.returns-in-None-clause-live
 returns-in-None-clause-live g c =
     subst (λ (v : Vec LanePermit Global). AreLive v.items) (sym c.hear_one.ensures.same.1) (live_still c.args.desk.now.permits.items c.put_copy.new.desk.permits.items c.put_copy.ensures.same.3 c.requires.live)
+
+pub returns-in-Some-clause-only : goal.returns-in-Some-clause-only
+returns-in-Some-clause-only g c =
+    let put = c.put_copy.ensures in
+    let before = c.args.desk.now.permits.items in
+    let lanes = permits_length c.args.office.now.lanes.items c.args.desk.now.number before c.requires.permits in
+    let shard = shard_of c.args.office.now.directory c.args.mailbox in
+    let counts = tried_counts (map put_by before) (map put_by c.put_copy.new.desk.permits.items) shard c.args.desk.now.number _ c.put_copy.result (slice_index_or (overs before) shard false) _ _
+    (omega (arith, put.within, lanes, length-map before put_by)) put.put put.over in
+    let some = ap (λ o. unknown (o ∷ [])) c.in-Some.is in
+    let heard = ap (λ (x : ReceiverPermit Noted). verdicts_in (received x)) put.same.1 in
+    omega (arith, counts, some, heard)
+
+pub returns-in-None-clause-only : goal.returns-in-None-clause-only
+returns-in-None-clause-only g c =
+    let put = c.put_copy.ensures in
+    let before = c.args.desk.now.permits.items in
+    let lanes = permits_length c.args.office.now.lanes.items c.args.desk.now.number before c.requires.permits in
+    let shard = shard_of c.args.office.now.directory c.args.mailbox in
+    let counts = tried_counts (map put_by before) (map put_by c.put_copy.new.desk.permits.items) shard c.args.desk.now.number _ c.put_copy.result (slice_index_or (overs before) shard false) _ _
+    (omega (arith, put.within, lanes, length-map before put_by)) put.put put.over in
+    let none = ap (λ o. unknown (o ∷ [])) c.in-None.is in
+    let heard = ap (λ (x : ReceiverPermit Noted). verdicts_in (received x)) put.same.1 in
+    let kept = ap (λ (v : Vec LanePermit Global). copies_in (map put_by v.items)) c.hear_one.ensures.same.1 in
+    on_ok_weaker c.hear_one.result (λ one. omega (arith, counts, none, heard, kept, one)) c.hear_one.ensures.only

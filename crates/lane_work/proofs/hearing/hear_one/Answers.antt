@@ -5,6 +5,8 @@ use Rattle.shard_queue.specs.declared.lane.Entry.TheVariants.{Item, End}
 use Rattle.shard_queue.specs.Reply.{received}
 use Rattle.lane_work.specs.Copies.{IsHeard}
 use Rattle.lane_work.specs.Ends.{ends_in}
+use Rattle.lane_work.specs.Awaiting.{verdicts_in}
+use Rattle.lane_work.proofs.AwaitedLaws.{verdict_more}
 use Rattle.lane_work.proofs.PermitLaws.{ends_next}
 use Rattle.lane_work.proofs.hearing.hear_one.Goals as goal
 
@@ -46,3 +48,9 @@ returns-in-End-clause-ends g c =
     let grew : received c.recv_as.new.permit ≡ old ++ End c.in-End.field-0 ∷ [] = search rules in
     let e = ap ends_in grew ∙ ends_next old (End c.in-End.field-0) in
     search rules
+
+pub returns-else-noted-mailbox-clause-only : goal.returns-else-noted-mailbox-clause-only
+returns-else-noted-mailbox-clause-only g c =
+    let old = received c.args.desk.now.receiver in
+    let grew : received c.recv_as.new.permit ≡ old ++ Item c.in-Item.field-0 c.in-Item.noted ∷ [] = search rules in
+    ap verdicts_in grew ∙ verdict_more old c.in-Item.field-0 c.in-Item.noted

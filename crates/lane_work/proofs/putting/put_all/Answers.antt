@@ -7,7 +7,9 @@ use Rattle.envelope.specs.Directory.{shard_of}
 use Rattle.lane_work.specs.Copies.{rooms_of}
 use Rattle.std.proofs.lemmas.List.{length-map}
 use Rattle.lane_work.proofs.CopyLaws.{all_at, puts_next, tries_next}
-use Rattle.lane_work.proofs.PermitLaws.{overs_length}
+use Rattle.submission.specs.Verdicts.{unknown}
+use Rattle.lane_work.proofs.AwaitedLaws.{tried_counts, unknown_next}
+use Rattle.lane_work.proofs.PermitLaws.{overs_length, permits_length}
 use Rattle.lane_work.proofs.putting.put_all.Goals as goal
 
 pub loop-i-preserved : goal.loop-i-preserved
@@ -26,11 +28,17 @@ loop-i-preserved g c =
       (let n = ap length more ∙ length-append c.loop-i.verdicts.slots (c.put_copy-verdict.result ∷ []) in omega (arith, n, v.2)),
       λ open_to. tries_next c.args.office.now.directory (rooms_of c.args.office.now.lanes.items) c.args.desk.now.number c.loop-i.desk.number c.args.message.now.keys.items c.args.message.now.mailboxes.items c.args.message.now.text c.loop-i.i
           c.index.result.now c.index-in-loop-i.result.now (map put_by c.args.desk.now.permits.items) (map put_by c.loop-i.desk.permits.items) c.put_copy-verdict.result c.loop-i.verdicts.slots c.note_put.new.self.slots _ _
-          (search rules) (search rules) c.index.ensures c.index-in-loop-i.ensures (search rules) more number (c.put_copy-verdict.ensures.put (is_live open_to)) (v.5 open_to) (v.3 open_to),
+          (search rules) (search rules) c.index.ensures c.index-in-loop-i.ensures (search rules) more number (c.put_copy-verdict.ensures.put (is_live open_to)) (v.6 open_to) (v.3 open_to),
       subst (λ (most : ℕ). vec_len c.args.message.now.keys ≤ most) (sym (ap (λ (w : Verdicts). w.most) c.note_put.ensures)) v.4,
+      (let within = c.put_copy-verdict.ensures.within in
+          let lanes = permits_length c.args.office.now.lanes.items c.args.desk.now.number c.loop-i.desk.permits.items v.0 in
+          let many = length-map c.loop-i.desk.permits.items put_by in
+          let one = tried_counts (map put_by c.loop-i.desk.permits.items) (map put_by c.put_copy-verdict.new.desk.permits.items) (shard_of d c.index-in-loop-i.result.now) c.loop-i.desk.number _ c.put_copy-verdict.result
+          (slice_index_or (overs c.loop-i.desk.permits.items) (shard_of d c.index-in-loop-i.result.now) false) _ _ (omega (arith, within, lanes, many)) c.put_copy-verdict.ensures.put c.put_copy-verdict.ensures.over in
+          let slots = ap unknown more ∙ unknown_next c.loop-i.verdicts.slots c.put_copy-verdict.result in omega (arith, one, slots, v.5)),
       λ open_to. puts_next c.args.office.now.directory c.args.desk.now.number c.loop-i.desk.number c.args.message.now.keys.items c.args.message.now.mailboxes.items c.args.message.now.text c.loop-i.i c.index.result.now c.index-in-loop-i.result.now
           (map put_by c.args.desk.now.permits.items) (map put_by c.loop-i.desk.permits.items) (map put_by c.put_copy-verdict.new.desk.permits.items) c.put_copy-verdict.result c.loop-i.verdicts.slots c.note_put.new.self.slots _
           (search rules) (search rules) c.index.ensures c.index-in-loop-i.ensures (search rules) more
           (length-map c.loop-i.desk.permits.items put_by ∙ overs_length c.loop-i.desk.permits.items c.args.desk.now.permits.items v.1.3 ∙ sym (length-map c.args.desk.now.permits.items put_by))
-          number (c.put_copy-verdict.ensures.put (is_live open_to)) (v.5 open_to),
+          number (c.put_copy-verdict.ensures.put (is_live open_to)) (v.6 open_to),
     )

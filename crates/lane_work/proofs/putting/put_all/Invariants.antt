@@ -1,7 +1,9 @@
-use Rattle.std.proofs.Common.{◌≡◌, ◌≤◌, length, map, take, vec_len}
+use Rattle.std.proofs.Common.{◌≡◌, ◌≤◌, ◌+◌, length, map, take, vec_len}
 use Rattle.lane_work.specs.Permits.{put_by}
 use Rattle.lane_work.specs.inner.Permits.{AreOpenTo}
 use Rattle.lane_work.specs.Permits.{ArePermits}
+use Rattle.submission.specs.Verdicts.{unknown}
+use Rattle.lane_work.specs.Awaiting.{copies_in}
 use Rattle.lane_work.specs.inner.Desk.{SameButPermits}
 use Rattle.lane_work.specs.Copies.{copies, rooms_of}
 use Rattle.lane_work.specs.inner.Copies.{HavePut, WereTried}
@@ -15,5 +17,6 @@ invariant-loop-i g l =
     × (AreOpenTo l.office.directory l.message.mailboxes.items l.fn.desk.permits.items → WereTried l.office.directory (rooms_of l.office.lanes.items) l.fn.desk.number (copies (take l.i l.message.keys.items) (take l.i l.message.mailboxes.items) l.message.text) l.verdicts.slots
     (map put_by l.fn.desk.permits.items))
     × (vec_len l.message.keys ≤ l.verdicts.most)
+    × (copies_in (map put_by l.desk.permits.items) ≡ copies_in (map put_by l.fn.desk.permits.items) + unknown l.verdicts.slots)
     × (AreOpenTo l.office.directory l.message.mailboxes.items l.fn.desk.permits.items → HavePut l.office.directory l.fn.desk.number (copies (take l.i l.message.keys.items) (take l.i l.message.mailboxes.items) l.message.text) l.verdicts.slots
     (map put_by l.fn.desk.permits.items) (map put_by l.desk.permits.items))

@@ -7,6 +7,7 @@ use Rattle.delivery_token.specs.declared.log.Noted.{Noted}
 use Rattle.envelope.specs.Directory.{Directory}
 use Rattle.shard_queue.specs.declared.lane.Entry.{Entry}
 use Rattle.shard_queue.specs.declared.reply.ReceiverPermit.{ReceiverPermit}
+use Rattle.lane_work.specs.Awaiting.{copies_in, verdicts_in}
 use Rattle.lane_work.specs.Ends.{ends_in}
 use Rattle.lane_work.specs.Permits.{AreInForce, put_by}
 use Rattle.lane_work.specs.inner.Account.{HasServed}
@@ -28,6 +29,7 @@ loop-i-init g c = (
   refl,
   served_begin (premises_of c.args.office.now) c.args.desk.now.number c.args.replies.now.items (notes_tell c.args.log.now.notes) (received c.args.desk.now.receiver) (map put_by c.args.desk.now.permits.items) c.requires.begun.0 c.requires.begun.1,
   marked_first (closings_at c.args.office.now c.args.desk.now.number) c.args.office.now.directory c.in-Ok.directory c.in-Ok.ensures.same c.in-Ok.ensures.marks,
+  refl,
 )
 
 pub close_due-requires-clause-permits : goal.close_due-requires-clause-permits
@@ -76,4 +78,10 @@ loop-i-preserved g c =
           → Spoke own d (rooms_of c.args.office.now.lanes.items) n done c.as_slice.result.now (setting_at house n c.loop-i.i) c.args.office.now.host.items c.in-Ok-converse.reply.items (notes_tell c.converse.new.log.notes) (received c.converse.new.desk.receiver) after)
           number c.in-Ok-converse.ensures.spoke),
       marked_next closings c.loop-i.i d c.loop-i.directory own v.6 marks,
+      (let one = c.in-Ok-converse.ensures.only in
+          let r = ap (λ (x : ReceiverPermit Noted). verdicts_in (received x)) kept.1 in
+          let q = ap copies_in kept.3 in omega (arith, one, r, q, v.7)),
     )
+
+pub returns-clause-only : goal.returns-clause-only
+returns-clause-only g c whole = c.loop-i.invariant.7

@@ -2,6 +2,7 @@ use Rattle.std.proofs.Common.{◌≡◌, map, take}
 use Rattle.shard_queue.specs.Reply.{IsReceiver, received}
 use Rattle.lane_work.specs.Account.{notes_tell}
 use Rattle.lane_work.specs.inner.Account.{HasServed}
+use Rattle.lane_work.specs.Awaiting.{HearsItsOwn}
 use Rattle.lane_work.specs.Ends.{CountsEnds}
 use Rattle.lane_work.specs.Permits.{AreInForce, put_by}
 use Rattle.lane_work.specs.inner.Closing.{IsMarkedBefore, closings_at}
@@ -17,3 +18,4 @@ invariant-loop-i g l =
     × (l.log.seat ≡ l.fn.log.seat)
     × HasServed (premises_of l.office) l.fn.desk.number (map (λ b. b.items) (take l.i l.connections)) (map (λ b. b.items) l.replies.items) (notes_tell l.log.notes) (received l.desk.receiver) (map put_by l.desk.permits.items)
     × IsMarkedBefore (closings_at l.office l.fn.desk.number) l.i l.office.directory l.directory
+    × HearsItsOwn l.fn.desk l.desk

@@ -1,4 +1,4 @@
-use Rattle.std.proofs.Common.{rules, ◌∙◌, ap, sym, subst, length, map, Vec, arith}
+use Rattle.std.proofs.Common.{rules, ◌≡◌, ◌+◌, ◌∙◌, ap, sym, subst, length, map, Vec, arith}
 use Rattle.std.specs.Global.{Global}
 use Rattle.std.proofs.lemmas.List.{length-map}
 use Rattle.lmtp_machine.specs.Calls.{submission_of}
@@ -12,6 +12,10 @@ use Rattle.lane_work.specs.Copies.{copies_of, rooms_of}
 use Rattle.lane_work.specs.inner.Copies.{HavePut}
 use Rattle.submission.proofs.Fills.{fills_length, known_length}
 use Rattle.lane_work.proofs.CopyLaws.{books_more}
+use Rattle.submission.specs.Verdicts.{unknown}
+use Rattle.lane_work.specs.Awaiting.{copies_in, verdicts_in}
+use Rattle.lane_work.specs.Ends.{ends_in}
+use Rattle.lane_work.proofs.AwaitedLaws.{heard_counts}
 use Rattle.lane_work.proofs.PermitLaws.{overs_length}
 use Rattle.lane_work.proofs.worker.put_and_hear.Goals as goal
 
@@ -60,3 +64,13 @@ returns-clause-books g c open_to judged books =
     (subst (HavePut d p (copies_of m) c.put_all.new.verdicts.slots before) kept (c.put_all.ensures.put open_to))
     (ap length (sym kept) ∙ length-map mid put_by ∙ overs_length mid c.args.desk.now.permits.items c.put_all.ensures.same.3 ∙ sym (length-map c.args.desk.now.permits.items put_by))
     (search rules) (subst (λ (r : ReceiverPermit Noted). IsStartOf (received r) (received c.hear_all.new.desk.receiver)) c.put_all.ensures.same.1 c.hear_all.ensures.grew) c.hear_all.ensures.heard books
+
+pub returns-clause-only : goal.returns-clause-only
+returns-clause-only g c =
+    let old = received c.put_all.new.desk.receiver in
+    let new = received c.hear_all.new.desk.receiver in
+    let awaited : length new + ends_in old ≡ length old + unknown c.put_all.new.verdicts.slots + ends_in new = search rules in
+    let heard = heard_counts old new (unknown c.put_all.new.verdicts.slots) awaited in
+    let same = ap (λ (x : ReceiverPermit Noted). verdicts_in (received x)) c.put_all.ensures.same.1 in
+    let kept = ap (λ (v : Vec LanePermit Global). copies_in (map put_by v.items)) c.hear_all.ensures.same.1 in
+    omega (arith, heard, same, kept, c.put_all.ensures.counts)

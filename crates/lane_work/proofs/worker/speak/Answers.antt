@@ -62,6 +62,7 @@ loop-fed-preserved-in-Submit g c =
           (piece_more bytes c.loop-fed.used c.in_ok-fed.fed.used) here in
           subst (λ b. Stands c.args.directory.now d (rooms_of c.args.office.now.lanes.items) c.args.desk.now.number done (take (c.loop-fed.used + c.in_ok-fed.fed.used) bytes) b c.turn.new.machine c.turn.new.out.items (notes_tell c.turn.new.book.notes) (received c.turn.new.desk.receiver) (map put_by c.turn.new.desk.permits.items))
           (ap is_quit c.in-Submit.is) whole,
+      (let own = c.in_ok-fed.ensures.only in omega (arith, own, v.10)),
     )
 
 pub loop-fed-preserved : goal.loop-fed-preserved
@@ -89,4 +90,11 @@ loop-fed-preserved g c =
           (piece_more bytes c.loop-fed.used c.in_ok-fed.fed.used) here in
           subst (λ b. Stands c.args.directory.now d (rooms_of c.args.office.now.lanes.items) c.args.desk.now.number done (take (c.loop-fed.used + c.in_ok-fed.fed.used) bytes) b c.turn.new.machine c.turn.new.out.items (notes_tell c.turn.new.book.notes) (received c.turn.new.desk.receiver) (map put_by c.turn.new.desk.permits.items))
           (ap is_quit c.in-More.is) whole,
+      (let own = c.in_ok-fed.ensures.only in omega (arith, own, v.10)),
     )
+
+pub returns-in-Quit-clause-only : goal.returns-in-Quit-clause-only
+returns-in-Quit-clause-only g c = let own = c.in_ok-fed.ensures.only in omega (arith, own, c.loop-fed.invariant.10)
+
+pub returns-then-used-bytes-clause-only : goal.returns-then-used-bytes-clause-only
+returns-then-used-bytes-clause-only g c = let own = c.in_ok-fed.ensures.only in omega (arith, own, c.loop-fed.invariant.10)

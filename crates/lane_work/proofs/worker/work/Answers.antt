@@ -1,4 +1,4 @@
-use Rattle.std.proofs.Common.{◌∙◌, ap, sym, subst, map, ℕ, Vec}
+use Rattle.std.proofs.Common.{arith, ◌∙◌, ap, sym, subst, map, ℕ, Vec}
 use Rattle.std.specs.Global.{Global}
 use Rattle.delivery_token.specs.WorkerLog.{WorkerLog}
 use Rattle.shard_queue.specs.Reply.{received}
@@ -8,6 +8,7 @@ use Rattle.lane_work.specs.Copies.{rooms_of}
 use Rattle.lane_work.specs.Account.{Account, HaveEnded}
 use Rattle.lane_work.specs.Permits.{AreEnded}
 use Rattle.lane_work.specs.Speaking.{premises_of}
+use Rattle.lane_work.proofs.AwaitedLaws.{ended_counts, new_counts, quiet_counts}
 use Rattle.lane_work.proofs.ServedLaws.{account_of, books_begin}
 use Rattle.lane_work.proofs.worker.work.Goals as goal
 
@@ -32,3 +33,12 @@ returns-clause-worked g c =
           subst (λ (l : WorkerLog). Account (premises_of c.args.office.now) c.args.desk.number (map (λ b. b.items) c.args.connections.now) (map (λ b. b.items) c.finish.result.replies.items) l.notes (received c.finish.result.receiver) after) (sym f.kept.0)
           (subst (λ (r : Vec (Vec ℕ Global) Global). Account (premises_of c.args.office.now) c.args.desk.number (map (λ b. b.items) c.args.connections.now) (map (λ b. b.items) r.items) c.go_through-fate.new.log.notes (received c.finish.result.receiver) after) (sym f.kept.1) account),
     )
+
+pub returns-clause-only : goal.returns-clause-only
+returns-clause-only g c whole =
+    let desk = c.go_through-fate.new.desk in
+    let own = c.go_through-fate.ensures.only (c.finish.ensures.whole whole) in
+    let quiet = quiet_counts (received desk.receiver) (received c.finish.result.receiver) (c.finish.ensures.quiet whole) in
+    let ended = ended_counts desk.number (map put_by desk.permits.items) (map said c.finish.result.ended.items) c.finish.ensures.said in
+    let new = new_counts c.args.desk.permits.items c.requires.permits.1 in
+    omega (arith, own, quiet, ended, new)
