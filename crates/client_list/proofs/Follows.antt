@@ -34,7 +34,7 @@ TellsOf P (Add uid) = P uid unknown
 TellsOf P (Gone uid) = Unit {0}
 TellsOf P (SetFlags uid flags) = (m : Known) → P uid m → P uid (told_of uid flags m)
 
-abbrev TellsEach : (ℕ → Known → Type 0) → List Change → Type 0
+abbrev pub TellsEach : (ℕ → Known → Type 0) → List Change → Type 0
 TellsEach P [] = Unit {0}
 TellsEach P (c ∷ cs) = TellsOf P c × TellsEach P cs
 

@@ -12,6 +12,8 @@ pub mod IdleTags
 pub mod Kept
 pub mod Items
 pub mod Fetched
+pub mod Heard
+pub mod UidsHeard
 pub mod Chosen
 pub mod Untold
 pub mod Commands

@@ -1,13 +1,15 @@
 -- What holds of a client that reads what its session says.
-use Rattle.std.specs.Prelude.{◌≡◌, ℕ, ◌<◌, ◌^◌, Bool, Contains, List, [], ◌++◌, length, reverse, codes, decimal, Some, Ok, IfSome}
+use Rattle.std.specs.Prelude.{◌≡◌, ℕ, ◌<◌, ◌^◌, Bool, false, true, ◌||◌, All, Contains, List, [], ◌++◌, length, reverse, codes, decimal, Some, Ok, IfSome}
+use Rattle.std.specs.List.{list_any}
 use Rattle.change_ring.specs.declared.change.Change.{Change}
+use Rattle.change_ring.specs.declared.change.Change.TheVariants.{Flags as SetFlags}
 use Rattle.change_ring.specs.declared.change.Flags.{Flags}
-use Rattle.change_ring.specs.Log.{replay}
-use Rattle.cursor_set.specs.Lines.{lines, position}
+use Rattle.change_ring.specs.Log.{added, replay}
+use Rattle.cursor_set.specs.Lines.{line, lines, position}
 use Rattle.mailbox.specs.declared.clients.Opening.{Opening}
 use Rattle.mailbox.specs.declared.clients.Row.{Row}
 use Rattle.mailbox.specs.declared.clients.MailFault.{MailFault}
-use Rattle.imap_answers.specs.Answers.{literal, row_answer, flags_answer, opening_text}
+use Rattle.imap_answers.specs.Answers.{is_uid, literal, row_answer, flags_answer, opening_text}
 use Rattle.imap_grammar.specs.declared.items.FetchItem.{FetchItem}
 use Rattle.imap_grammar.specs.Reading.{read}
 use Rattle.imap_grammar.specs.declared.command.Command.{Command}
@@ -15,7 +17,7 @@ use Rattle.imap_session.specs.Exchange.{Answer, Exchange, Standing, Turn, bye, k
 use Rattle.imap_session.specs.Commands.{greeting, idle_turn, turn_of, turn_of_long_line, turn_of_verdict}
 use Rattle.delivery_token.specs.declared.Verdict.{Verdict}
 use Rattle.client_list.specs.Client.{Client, Known, Messages, reads, within}
-use Rattle.client_list.specs.Beliefs.{Follows, IsOf, IsRight, Leads, Leaves, MayShow, TellsNothing}
+use Rattle.client_list.specs.Beliefs.{Each, Follows, HearsUid, IsKnownTo, IsOf, IsRight, KeepsUids, Leads, Leaves, MayShow, TellsNothing}
 use Rattle.client_list.specs.Commands.{IsFollowed, IsPrinted}
 use Rattle.client_list.specs.Fetches.{AreToldParts, IsNumbered}
 use Rattle.client_list.specs.Talks.{Happening, Talks}
@@ -112,6 +114,34 @@ FlagsAreTold = (view : List ℕ) (uid : ℕ) (by_uid : Bool) (flags : Flags) →
 abbrev pub OpeningIsFollowed : Type 0
 OpeningIsFollowed = (read_only : Bool) (name : List ℕ) (opening : Opening) (view : List ℕ) → IsPlain name → opening.count ≡ length view
     → opening.count < 2 ^ 64 → opening.uidvalidity < 2 ^ 64 → opening.uidnext < 2 ^ 64 → Follows IsOf [] (opening_text read_only name opening) view
+
+-- ---- UIDs that are told
+
+-- the line of a change of flags, which has the message's UID
+abbrev pub ChangeTellsUid : Type 0
+ChangeTellsUid = (view : List ℕ) (uid : ℕ) (flags : Flags) → Contains view uid → IsNumbered view → HearsUid view uid (line view (SetFlags uid flags))
+
+-- the flags after a STORE by UID
+abbrev pub StoreTellsUid : Type 0
+StoreTellsUid = (view : List ℕ) (uid : ℕ) (flags : Flags) → Contains view uid → IsNumbered view → HearsUid view uid (flags_answer true (position uid view) uid flags)
+
+-- and the answer to a FETCH by UID, or to one that asked for UID
+abbrev pub FetchTellsUid : Type 0
+FetchTellsUid = (view : List ℕ) (uid : ℕ) (by_uid : Bool) (items : List FetchItem) (row : Row) → Contains view uid → IsNumbered view → IsRowOf uid (Some row) → AreToldParts items
+    → (by_uid || list_any is_uid items) ≡ true → HearsUid view uid (row_answer (position uid view) by_uid items row)
+
+-- What is known stays known, whatever else is told of a message at its position,
+abbrev pub RowKeepsUids : Type 0
+RowKeepsUids = (view : List ℕ) (uid : ℕ) (by_uid : Bool) (items : List FetchItem) (row : Row) → Contains view uid → IsNumbered view → IsRowOf uid (Some row) → AreToldParts items
+    → KeepsUids view (row_answer (position uid view) by_uid items row)
+
+abbrev pub FlagsKeepUids : Type 0
+FlagsKeepUids = (view : List ℕ) (uid : ℕ) (by_uid : Bool) (flags : Flags) → Contains view uid → IsNumbered view → KeepsUids view (flags_answer by_uid (position uid view) uid flags)
+
+-- and by the lines of changes, as long as the message is there. Of those that come with these changes nothing is known before.
+abbrev pub LinesKeepUids : Type 0
+LinesKeepUids = (view : List ℕ) (changes : List Change) (known : ℕ → Bool) (list : List Known) → MayShow view changes → All (λ uid. known uid ≡ false) (added changes)
+    → Each (IsKnownTo known) view list → Follows (IsKnownTo known) list (lines view changes) (replay view changes)
 
 -- ---- a whole talk
 

@@ -1,7 +1,7 @@
 //! Laws of what a client reads, as functions that do nothing: bytes and literals, the lines of changes, and the
 //! turns of a session.
 
-ghost use Rattle.client_list.specs.Laws.{AnswerIsFollowed, ByeTellsNothing, FlagsAreTold, GreetingTellsNothing, IdleTurnIsFollowed, KeptTagsAreTags, LinesAreFollowed, ListIsAsLong, LiteralLeavesItsCount, LiteralsAreAlike, LongLineTellsNothing, OpeningIsFollowed, PiecesAreTheWhole, RefusalTellsNothing, RowIsTold, TaggedTellsNothing, TagsAreTags, TalkIsFollowed, TurnIsFollowed, VerdictIsFollowed};
+ghost use Rattle.client_list.specs.Laws.{AnswerIsFollowed, ByeTellsNothing, ChangeTellsUid, FetchTellsUid, FlagsAreTold, FlagsKeepUids, GreetingTellsNothing, IdleTurnIsFollowed, KeptTagsAreTags, LinesAreFollowed, LinesKeepUids, ListIsAsLong, LiteralLeavesItsCount, LiteralsAreAlike, LongLineTellsNothing, OpeningIsFollowed, PiecesAreTheWhole, RefusalTellsNothing, RowIsTold, RowKeepsUids, StoreTellsUid, TaggedTellsNothing, TagsAreTags, TalkIsFollowed, TurnIsFollowed, VerdictIsFollowed};
 
 /// It makes no difference in which pieces bytes come, and a literal leaves nothing but its count in the line in which it
 /// stands, whatever its bytes (RFC 9051, 4.3). So a message's text can't be taken for lines.
@@ -53,6 +53,23 @@ pub fn messages_are_told()
 
     // What SELECT or EXAMINE says before its tagged line leads a client with no messages to a list as long as the mailbox is told to be.
     ensures opening { OpeningIsFollowed }
+{}
+
+/// What is told of UIDs is heard: whatever a client knew, when it has read the line of a change of flags, the flags after a STORE
+/// by UID, or the answer to a FETCH by UID or for UID, it knows the UID of that message (7.5.2). And what it knows of UIDs it
+/// doesn't forget: neither by these texts, nor by the lines of changes, as long as the message is there.
+pub fn uids_are_heard()
+    // Once a client whose list is as long as the view has read such a text it knows that message by its UID, whatever it knew before.
+    ensures change { ChangeTellsUid }
+    ensures store { StoreTellsUid }
+    ensures fetch { FetchTellsUid }
+
+    // Each message that it knows by its UID it knows so behind the answer about any row, and behind the flags after a STORE.
+    ensures row { RowKeepsUids }
+    ensures flags { FlagsKeepUids }
+
+    // So it does behind the lines of changes, but for those messages that go.
+    ensures lines { LinesKeepUids }
 {}
 
 /// The tag of each command that is read begins with no star and has no LF, and so does that of an IDLE or an APPEND while it lasts. Over any store,

@@ -6,5 +6,5 @@ mod laws;
 
 pub use laws::{
     answers_are_followed, ends_tell_nothing, lines_are_followed, literals_are_passed_over,
-    messages_are_told, talks_are_followed, turns_are_followed,
+    messages_are_told, talks_are_followed, turns_are_followed, uids_are_heard,
 };

@@ -1,8 +1,9 @@
 -- What a client knows after the lines of worked cases, and what it may not conclude.
-use Rattle.std.specs.Prelude.{◌≡◌, ℕ, Bool, true, false, List, [], ◌∷◌, ◌++◌, codes, Some, None}
+use Rattle.std.specs.Prelude.{◌≡◌, ℕ, Bool, true, false, List, [], ◌∷◌, ◌++◌, codes, length, Option, Some, None}
 use Rattle.std.proofs.Common.{refl, ap, sym, subst, arith}
+use Rattle.cursor_set.specs.Lines.{position}
 use Rattle.client_list.specs.Client.{Client, Known, Messages, reads, fresh, knowing, unknown}
-use Rattle.client_list.specs.Beliefs.{Each, IsOf, Follows}
+use Rattle.client_list.specs.Beliefs.{Each, HearsUid, HoldsOf, IsKnownTo, IsOf, Follows, KeepsUids}
 
 -- what SELECT answers about a mailbox of so many messages
 abbrev pub select_of : List ℕ → List ℕ
@@ -105,3 +106,40 @@ is_known (Some list) = true
 too_high_is_refused : (view : List ℕ) → Follows IsOf (unknown ∷ []) (codes "* 2 EXPUNGE\r\n") view → ⊥
 too_high_is_refused view follows =
     let same : false ≡ true = ap (λ (client : Client). is_known client.messages) follows.reads in cc
+
+-- ---- what `HearsUid` and `KeepsUids` refuse
+
+-- a client that has read these bytes to this list knows the UID there
+the_uid : (view : List ℕ) (uid : ℕ) (before : List Known) (bytes : List ℕ) (after : List Known) → reads (knowing (Some before)) bytes ≡ knowing (Some after) → length before ≡ length view → HearsUid view uid bytes
+    → HoldsOf (λ message. message.uid ≡ Some uid) (position uid view) after
+the_uid view uid before bytes after is long hears =
+    let l = hears before long in
+    subst (λ (client : Client). HoldsOf (λ message. message.uid ≡ Some uid) (position uid view) (the_list client.messages)) is
+    (subst (λ (client : Client). HoldsOf (λ message. message.uid ≡ Some uid) (position uid view) (the_list client.messages)) (sym l.reads) l.learned)
+
+abbrev pub the_number : Option ℕ → ℕ
+the_number None = 0
+the_number (Some n) = n
+
+-- a text that tells no UID
+no_uid_is_told : HearsUid (7 ∷ []) 7 (codes "* 1 FETCH (FLAGS (\\Seen))\r\n") → ⊥
+no_uid_is_told hears =
+    let same : 0 ≡ 7 = ap the_number (the_uid (7 ∷ []) 7 (unknown ∷ []) (codes "* 1 FETCH (FLAGS (\\Seen))\r\n") (record { uid = None; flags = Some (codes "\\Seen" ∷ []) } ∷ []) refl refl hears) in absurd (omega (arith, same))
+
+-- another UID
+another_is_told : HearsUid (7 ∷ []) 7 (codes "* 1 FETCH (UID 8)\r\n") → ⊥
+another_is_told hears =
+    let same : 8 ≡ 7 = ap the_number (the_uid (7 ∷ []) 7 (unknown ∷ []) (codes "* 1 FETCH (UID 8)\r\n") (record { uid = Some 8; flags = None } ∷ []) refl refl hears) in absurd (omega (arith, same))
+
+-- and the UID at another position
+told_of_another : HearsUid (7 ∷ 8 ∷ []) 8 (codes "* 1 FETCH (UID 8)\r\n") → ⊥
+told_of_another hears =
+    let same : 0 ≡ 8 = ap the_number (the_uid (7 ∷ 8 ∷ []) 8 (unknown ∷ unknown ∷ []) (codes "* 1 FETCH (UID 8)\r\n") (record { uid = Some 8; flags = None } ∷ unknown ∷ []) refl refl hears) in absurd (omega (arith, same))
+
+-- a text by which one that is known is taken for another
+not_kept : KeepsUids (7 ∷ []) (codes "* 1 FETCH (UID 8)\r\n") → ⊥
+not_kept keeps =
+    let f = keeps (λ uid. true) (record { uid = Some 7; flags = None } ∷ []) ((λ e. refl), tt) in
+    let each : Each (IsKnownTo (λ uid. true)) (7 ∷ []) (record { uid = Some 8; flags = None } ∷ []) =
+    subst (λ (client : Client). Each (IsKnownTo (λ uid. true)) (7 ∷ []) (the_list client.messages)) (sym f.reads) f.each in
+    let same : 8 ≡ 7 = ap the_number (each.0 refl) in absurd (omega (arith, same))
