@@ -1,5 +1,6 @@
 mod Words
 pub mod ScriptLaws
+mod KeptLaws
 pub mod RunLaws
 pub mod SessionLaws
 pub mod EventLaws

@@ -152,13 +152,13 @@ played k number held holds line s g h mid new d same f =
 -- ---- a turn
 
 pub turn_written : (k : Setup) (number : ℕ) (held holds : List Bool) (s : Scene) (input piece text : List ℕ) (h : House) (left old new : Option (List ℕ)) (sent : ℕ)
-    → piece ≡ take_through 10 input → 0 < length piece → left ≡ Some (drop_through 10 input) → LinePlayed k number held (asked (line_of piece)) s h [] text → holds ≡ held_after held (asked (line_of piece))
+    → asked (line_of piece) ≡ asked (line_of (take_through 10 input)) → 0 < length (take_through 10 input) → left ≡ Some (drop_through 10 input) → LinePlayed k number held (asked (line_of piece)) s h [] text → holds ≡ held_after held (asked (line_of piece))
     → Appends old new text → sent ≡ length text → LineWritten k number held s input h holds left old new sent
 turn_written k number held holds s input piece text h left old new sent e some rest p now a n = record {
   line = asked (line_of piece);
   rest = drop_through 10 input;
   remaining = rest;
-  first = first_line input (subst (λ (x : List ℕ). 0 < length x) e some) ∙ ap (λ (x : List ℕ). asked (line_of x) ∷ script_of (drop_through 10 input)) (sym e);
+  first = first_line input some ∙ ap (λ (x : ScriptLine). x ∷ script_of (drop_through 10 input)) (sym e);
   after = p.after;
   printed = p.printed;
   plays = p.plays;
@@ -169,12 +169,12 @@ turn_written k number held holds s input piece text h left old new sent e some r
 }
 
 pub turn_cut : (k : Setup) (number : ℕ) (held : List Bool) (s : Scene) (input piece text : List ℕ) (h : House) (old new : Option (List ℕ)) (sent : ℕ)
-    → piece ≡ take_through 10 input → 0 < length piece → LinePlayed k number held (asked (line_of piece)) s h [] text
+    → asked (line_of piece) ≡ asked (line_of (take_through 10 input)) → 0 < length (take_through 10 input) → LinePlayed k number held (asked (line_of piece)) s h [] text
     → Appends old new (take sent text) → sent < length text → LineCut k number held s input h old new sent
 turn_cut k number held s input piece text h old new sent e some p a n = record {
   line = asked (line_of piece);
   others = script_of (drop_through 10 input);
-  first = first_line input (subst (λ (x : List ℕ). 0 < length x) e some) ∙ ap (λ (x : List ℕ). asked (line_of x) ∷ script_of (drop_through 10 input)) (sym e);
+  first = first_line input some ∙ ap (λ (x : ScriptLine). x ∷ script_of (drop_through 10 input)) (sym e);
   after = p.after;
   printed = p.printed;
   plays = p.plays;
@@ -331,11 +331,17 @@ pub turn_unwritten : (k : Setup) (number : ℕ) (held : List Bool) (s : Scene) (
 turn_unwritten k number held s input h holds left old new f is tells = subst (λ (x : TurnFault). TurnTells k number held s input h holds left old new (Err x)) is tells
 
 -- memory was wanting as a line was played
+<<<<<<< HEAD
 pub turn_wanting : (k : Setup) (number : ℕ) (held : List Bool) (s : Scene) (input piece : List ℕ) (h : House) (old new : Option (List ℕ))
     → piece ≡ take_through 10 input → 0 < length piece → PlayWanting k number held (asked (line_of piece)) s h → new ≡ old → IsUnwritten k number held s input h old new
 turn_wanting k number held s input piece h old new e some p same = record {
+=======
+pub turn_wanting : (k : Setup) (number : ℕ) (s : Scene) (input piece : List ℕ) (h : House) (old new : Option (List ℕ))
+    → asked (line_of piece) ≡ asked (line_of (take_through 10 input)) → 0 < length (take_through 10 input) → PlayWanting k number (asked (line_of piece)) s h → new ≡ old → IsUnwritten k number s input h old new
+turn_wanting k number s input piece h old new e some p same = record {
+>>>>>>> mine
   left = unwritten (asked (line_of piece)) (script_of (drop_through 10 input))
-      (first_line input (subst (λ (x : List ℕ). 0 < length x) e some) ∙ ap (λ (x : List ℕ). asked (line_of x) ∷ script_of (drop_through 10 input)) (sym e)) p;
+      (first_line input some ∙ ap (λ (x : ScriptLine). x ∷ script_of (drop_through 10 input)) (sym e)) p;
   silent = same;
 }
 

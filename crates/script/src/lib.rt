@@ -3,6 +3,7 @@
 #![tactic(auto)]
 
 mod line;
+mod reading;
 mod run;
 
 pub use line::ScriptLine;

@@ -2,7 +2,6 @@
 //! how things are printed is told elsewhere.
 
 ghost use Rattle.std.specs.Prelude.{false, true, ◌≡◌, ◌≢◌, ◌↔◌, ◌++◌, ◌∷◌, ◌<◌, ◌≤◌, ◌+◌, ◌*◌, ◌^◌, ℕ, List, Some, Ok, Err, IfNone, IfOk, IfSome, OnOk, OnErr, length, replicate, []};
-ghost use Rattle.std.specs.Io.BufRead.{take_through, drop_through};
 ghost use Rattle.hex.specs.Hex.{decode_of};
 ghost use Rattle.hex.specs.declared.error.FromHexError.TheVariants.{OutOfMemory};
 ghost use Rattle.line_io.specs.Wire.{crlf};
@@ -21,12 +20,13 @@ ghost use Rattle.house.specs.Stands.{StandsFor};
 ghost use Rattle.script.specs.Promise.{WroteOnce};
 
 use crate::line::{ScriptLine, read_line, without_end};
+use crate::reading::read_piece;
 use hex::{FromHexError, decode};
 use house::{Event, House, HouseFault};
 use itoa::Buffer;
 use line_io::{Sink, append_parts, send};
 use std::alloc::{AllocError, Global};
-use std::io::{BufRead, ErrorKind};
+use std::io::BufRead;
 use thiserror::Error;
 
 /// How often a run reads: a script of this many lines or more doesn't end.
@@ -46,12 +46,14 @@ pub enum RunFault {
     NoMemory,
 }
 
-// Why a turn of a run failed.
+/// Why a turn of a run failed.
 #[derive(Clone, Copy, Debug, PartialEq, Eq)]
-enum TurnFault {
+pub enum TurnFault {
+    /// The input could not be read.
     Read,
-    // Of what the line printed the first `sent` bytes were written.
+    /// Of what the line printed the first `sent` bytes were written.
     Write { sent: u128 },
+    /// Memory was wanting.
     NoMemory,
 }
 
@@ -367,24 +369,6 @@ fn none_held(alloc: Global, shards: u8) -> Result<Vec<bool>, AllocError>
         held.push(false)?;
     }
     Ok(held)
-}
-
-// Reads the next line with its end, if there is one.
-fn read_piece<R: BufRead>(reader: &mut R, line: &mut Vec<u8>) -> Result<bool, TurnFault>
-    ensures some { OnOk result ((xs : List ℕ) → R.remaining reader.old ≡ Some xs → line.new.items ≡ take_through 10 xs) }
-    ensures rest { OnOk result ((xs : List ℕ) → R.remaining reader.old ≡ Some xs → R.remaining reader.new ≡ Some (drop_through 10 xs)) }
-    ensures end { IfOk result (λ some. some ≡ false → (xs : List ℕ) → R.remaining reader.old ≡ Some xs → xs ≡ []) }
-    ensures more { IfOk result (λ some. some ≡ true → 0 < length line.new.items) }
-    ensures fault { (sent : ℕ) → result ≢ Err (TurnFault.Write sent) }
-{
-    line.clear();
-    match reader.read_until(b'\n', line) {
-        Ok(count) => Ok(count > 0),
-        Err(e) => match e.kind() {
-            ErrorKind::OutOfMemory => Err(TurnFault::NoMemory),
-            _ => Err(TurnFault::Read),
-        },
-    }
 }
 
 // A turn of the run: the next line is read and played, and what it printed is written. It gives the number of bytes written, or None
