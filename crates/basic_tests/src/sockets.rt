@@ -3,7 +3,6 @@
 use loopback::{Grip, Listening, Patience, Pause, farewell, prepare};
 use std::io::{Read, Write};
 use std::net::TcpStream;
-use std::time::{Duration, Instant};
 use std::{io, thread};
 
 #[test]
@@ -84,11 +83,8 @@ fn what_was_said_last_is_read(rt: HostRuntime) -> io::Result<()> {
 }
 
 #[test]
-fn a_pause_lasts_and_ends(rt: HostRuntime) -> io::Result<()> {
+fn a_pause_ends(rt: HostRuntime) -> io::Result<()> {
     let pause = Pause::new(&rt)?;
-    let began = Instant::now(&rt)?;
     pause.wait();
-    // Half of what it is to last, since the system's clocks may differ a little.
-    assert!(rt; began.elapsed(&rt)? >= Duration::from_millis(50));
     Ok(())
 }
