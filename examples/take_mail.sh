@@ -49,8 +49,8 @@ validity() {
     ask '' -X 'STATUS INBOX (UIDVALIDITY)' && tr -d '\r' <"$room/answer" | sed -n 's/^\* STATUS INBOX (UIDVALIDITY \([0-9]*\))$/\1/p'
 }
 
-# Forgets what mbsync has noted of a mailbox of an earlier start: it would stop at another UIDVALIDITY, and pull
-# nothing. $1 is the mailbox's Maildir.
+# Forgets what mbsync has noted of a mailbox under another UIDVALIDITY, where that was cut short before the server started
+# anew: mbsync would stop at it, and pull nothing. $1 is the mailbox's Maildir.
 forget_earlier_starts() {
     notes=$1/.mbsyncstate
     if ! grep -qsxF "FarUidValidity $valid" "$notes" && ! grep -qs "^| $valid " "$notes.journal"; then
@@ -103,11 +103,17 @@ remove_pulled() {
         ask "$1;UIDVALIDITY=$pulled" -X "UID STORE $first:$to +FLAGS.SILENT (\\Deleted)" &&
             ask "$1;UIDVALIDITY=$pulled" -X "UID EXPUNGE $first:$to" || return 1
     done
+    # What was pulled is gone from the server, so there is nothing to be noted any more.
+    rm -f "$notes"
 }
 
 take() {
     place=$folder/$user
     mkdir -p "$place" && mailboxes=$(names) && valid=$(validity) && [ -n "$mailboxes" ] && [ -n "$valid" ] || return 1
+    if [ "$valid" -eq 1 ]; then
+        echo 'take_mail: the server was given no UIDVALIDITY that grows' >&2
+        return 1
+    fi
     for name in $mailboxes; do
         forget_earlier_starts "$place/$name" || return 1
     done

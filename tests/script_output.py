@@ -5,7 +5,7 @@
 
 For each script of examples/, run by the line of its head: what its first k lines print is the beginning of what its
 first k + 1 lines print, so the difference is what line k + 1 printed; and a program that feeds the lines one by one has
-that difference to read before it feeds the next line. Then the message of examples/bare_line_ends, told from what the
+that difference to read before it feeds the next line; the mark `TAIL -` is behind the last. Then the message of examples/bare_line_ends, told from what the
 session said, by its count and by a tag that was drawn when the message stood.
 """
 
@@ -64,6 +64,8 @@ def look_at_feeding(program, words, lines, told):
                 came += piece
             came += read_some(stream, QUIET)
             assert came == wanted, f"line {number} printed {came!r}, and not {wanted!r}"
+        fed.stdin.write(b"TAIL -\n")
+        assert read_some(stream, PATIENCE) == b"? %d Nobody\n" % (len(lines) + 1)
         fed.stdin.close()
         assert os.read(stream, 1) == b"" and fed.wait() == 0
 

@@ -17,6 +17,8 @@ mod gates;
 #[cfg(test)]
 mod marking;
 #[cfg(test)]
+mod pauses;
+#[cfg(test)]
 mod rings;
 #[cfg(test)]
 mod sending;

@@ -4,8 +4,11 @@ use loopback::{Grip, Listening, Patience, Pause, Timely, farewell, prepare};
 use std::alloc::Global;
 use std::io::{ErrorKind, Read, Write};
 use std::net::TcpStream;
+<<<<<<< HEAD
 use std::sync::atomic::{AtomicBool, Ordering};
 use std::time::{Duration, Instant};
+=======
+>>>>>>> pages
 use std::{io, thread};
 
 /// More bytes than the system keeps for a peer that takes none.
@@ -92,12 +95,9 @@ fn what_was_said_last_is_read(rt: HostRuntime) -> io::Result<()> {
 }
 
 #[test]
-fn a_pause_lasts_and_ends(rt: HostRuntime) -> io::Result<()> {
+fn a_pause_ends(rt: HostRuntime) -> io::Result<()> {
     let pause = Pause::new(&rt)?;
-    let began = Instant::now(&rt)?;
     pause.wait();
-    // Half of what it is to last, since the system's clocks may differ a little.
-    assert!(rt; began.elapsed(&rt)? >= Duration::from_millis(50));
     Ok(())
 }
 
