@@ -56,6 +56,14 @@ all_shown c limit log within few =
     let whole : length (take limit (drop c log)) ≡ length (drop c log) = ap length (take_all limit (drop c log) (omega (arith, few, e))) in
     omega (arith, within, few, e, whole)
 
+-- where nothing is pending the session counts all that is there
+pub all_counted : (k : Config) (w : World) (n : ℕ) (s : Session) → Kept k w → w.session n ≡ Some s → pending (w.box s.mailbox) s ≡ [] → view_of w n ≡ messages_of (w.box s.mailbox)
+all_counted k w n s K is none =
+    let log : List Change = (w.box s.mailbox).log in
+    let ok : IsShown log s = subst (λ (o : Option Session). SessionOk w.box o) is (K.sessions n) in
+    let long : length (pending (w.box s.mailbox) s) ≡ length log - s.cursor = length-drop s.cursor log in
+    at_end w n s is (omega (arith, ok.within, ap length none, long))
+
 pub fed_current : (k : Config) (w : World) (n : ℕ) (met : List ℕ) (changes : List Change) (v : World) → Kept k w → Meets k n w (Feed unlimited) (Fed met changes) v → IsCurrent v n
 fed_current k w n met changes v K (step, (s, is, (D, shown))) t now =
     let log : List Change = (w.box s.mailbox).log in

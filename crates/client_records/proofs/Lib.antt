@@ -17,6 +17,8 @@ mod Entries
 pub mod Keeping
 mod Refuted
 mod Onward
+mod Since
+mod AtEntries
 pub mod OneLife
 mod Dialogues
 mod Texts

@@ -9,7 +9,7 @@ use Rattle.delivery_token.specs.declared.Job.{Job}
 use Rattle.delivery_token.specs.declared.Verdict.{Verdict}
 use Rattle.delivery_token.specs.declared.Verdict.TheVariants.{Stored, Refused as Was_refused}
 use Rattle.delivery_token.specs.declared.log.Noted.{Noted}
-use Rattle.world.specs.World.{Config, Event, IsWorld, Step, World, empty_world}
+use Rattle.world.specs.World.{Config, Event, IsWorld, Step, Steps, World, empty_world}
 use Rattle.world.specs.Law.{StandsOnce, pair_of, pairs}
 use Rattle.world.proofs.Always.{always, steps_join}
 use Rattle.world.proofs.Mails.{IsIn}
@@ -19,10 +19,11 @@ use Rattle.imap_session.specs.Commands.{greeting}
 use Rattle.imap_session.specs.Store.{Met}
 use Rattle.session_store.specs.Meets.{Meets}
 use Rattle.house_session.specs.Visitor.{Visitor}
-use Rattle.house_session.specs.SeatedVisitor.{SeatedVisitor}
+use Rattle.house_session.specs.SeatedVisitor as seated
+use Rattle.house_session.specs.SeatedVisitor.{GoesOn, SeatedVisitor, answers, rests, stalls, works}
 use Rattle.house.specs.Setup.{Setup, session_seat}
 use Rattle.house.specs.Printing.{Prints, Speaks, marked_session, of_session, prints_all, prints_none, still_unsaid}
-use Rattle.house.specs.Scene.{Lingers, Parts, SessionTalks, parts, remains, waits, fades}
+use Rattle.house.specs.Scene.{LeavesMailbox, Lingers, Parts, SessionTalks, parts, remains, waits, fades}
 use Rattle.house.proofs.Carried.{speaks_carried}
 use Rattle.exactly_once.specs.Promise.{Lines, text_of}
 use Rattle.exactly_once.proofs.Whole.{IsWhole, cut_of, goes_whole, whole_append}
@@ -127,49 +128,75 @@ still_whole n bytes still printed w (prints_none all p) = subst IsWhole (sym all
 
 -- ---- the client of a session that is there
 
-pub record Client (k : Setup) (place : ℕ) (user sent shown : List ℕ) (w : World) (v : Visitor) : Type 0 where
+-- who was let in, into which world, and whether its client stays
+pub record Arrival : Type 0 where
+  pub user : List ℕ
   pub began : World
+  pub stays : Bool
+
+pub record Client (k : Setup) (place : ℕ) (a : Arrival) (sent shown : List ℕ) (w : World) (v : Visitor) : Type 0 where
   pub events : List Event
-  pub came : IsWorld k.config events began
+  pub came : IsWorld k.config events a.began
   pub said : List ℕ
-  pub reached : Reached k.config place (first_standing k user) began sent said v w
+  pub reached : Reached k.config place (first_standing k a.user) a.began sent said v w
   pub printed : greeting ++ said ≡ shown ++ v.unsaid
   pub whole : IsWhole v.unsaid
 
-abbrev pub Watched : Setup → ℕ → List ℕ → List ℕ → List ℕ → World → Option SeatedVisitor → Type 0
-Watched k place user sent shown w None = Unit {0}
-Watched k place user sent shown w (Some v) = v.gone ≡ false → Client k place user sent shown w v.session
+-- one that has ended by itself, and left its mailbox
+pub record Finished (k : Setup) (place : ℕ) (a : Arrival) (sent shown : List ℕ) (w : World) : Type 0 where
+  pub last : World
+  pub visitor : Visitor
+  pub client : Client k place a sent shown last visitor
+  pub ended : visitor.standing.ended ≡ true
+  pub silent : visitor.unsaid ≡ []
+  pub left : World
+  pub leaves : LeavesMailbox k place last left
+  pub later : List Event
+  pub moved : Steps k.config left later w
+
+abbrev pub Watched : Setup → ℕ → Arrival → List ℕ → List ℕ → World → Option SeatedVisitor → Type 0
+Watched k place a sent shown w None = a.stays ≡ true → Finished k place a sent shown w
+Watched k place a sent shown w (Some v) = (v.gone ≡ false → Client k place a sent shown w v.session) × (v.gone ≡ true → a.stays ≡ false)
 
 -- an event of others
-pub client_others : (k : Setup) (n : ℕ) (user sent shown : List ℕ) (w : World) (v : Visitor) (event : Event) (u : World) → Client k n user sent shown w v → IsOfOthers n event → Step k.config w event u → Client k n user sent shown u v
-client_others k n user sent shown w v event u c o step = record {
-  began = c.began;
+pub client_others : (k : Setup) (n : ℕ) (a : Arrival) (sent shown : List ℕ) (w : World) (v : Visitor) (event : Event) (u : World) → Client k n a sent shown w v → IsOfOthers n event → Step k.config w event u → Client k n a sent shown u v
+client_others k n a sent shown w v event u c o step = record {
   events = c.events;
   came = c.came;
   said = c.said;
   reached = record {
     sent = c.reached.sent;
-    talked = talked_others k.config n (first_standing k user) c.began c.reached.sent c.said v.standing w event u c.reached.talked o step;
+    talked = talked_others k.config n (first_standing k a.user) a.began c.reached.sent c.said v.standing w event u c.reached.talked o step;
     waits = c.reached.waits;
   };
   printed = c.printed;
   whole = c.whole;
 }
 
-pub watched_others : (k : Setup) (n : ℕ) (user sent shown : List ℕ) (w : World) (o : Option SeatedVisitor) (event : Event) (u : World) → IsOfOthers n event → Step k.config w event u → Watched k n user sent shown w o → Watched k n user sent shown u o
-watched_others k n user sent shown w None event u own step c = tt
-watched_others k n user sent shown w (Some v) event u own step c = λ there. client_others k n user sent shown w v.session event u (c there) own step
+pub watched_others : (k : Setup) (n : ℕ) (a : Arrival) (sent shown : List ℕ) (w : World) (o : Option SeatedVisitor) (event : Event) (u : World) → IsOfOthers n event → Step k.config w event u → Watched k n a sent shown w o → Watched k n a sent shown u o
+watched_others k n a sent shown w None event u own step c = λ stays.
+    let f = c stays in record {
+      last = f.last;
+      visitor = f.visitor;
+      client = f.client;
+      ended = f.ended;
+      silent = f.silent;
+      left = f.left;
+      leaves = f.leaves;
+      later = f.later ++ event ∷ [];
+      moved = steps_join k.config f.left f.later w (event ∷ []) u f.moved (u, step, refl);
+    }
+watched_others k n a sent shown w (Some v) event u own step c = ((λ there. client_others k n a sent shown w v.session event u (c.0 there) own step), c.1)
 
-pub watched_walk : (k : Setup) (n q : ℕ) (user sent shown : List ℕ) (w : World) (o : Option SeatedVisitor) {u : World} → n ≢ q → Walk k.config q w u → Watched k n user sent shown w o → Watched k n user sent shown u o
-watched_walk k n q user sent shown w o other stands c = c
-watched_walk k n q user sent shown w o other (goes {u = u} walk event own v step) c =
-    watched_others k n user sent shown u o event v (own n other) step (watched_walk k n q user sent shown w o other walk c)
+pub watched_walk : (k : Setup) (n q : ℕ) (a : Arrival) (sent shown : List ℕ) (w : World) (o : Option SeatedVisitor) {u : World} → n ≢ q → Walk k.config q w u → Watched k n a sent shown w o → Watched k n a sent shown u o
+watched_walk k n q a sent shown w o other stands c = c
+watched_walk k n q a sent shown w o other (goes {u = u} walk event own v step) c =
+    watched_others k n a sent shown u o event v (own n other) step (watched_walk k n q a sent shown w o other walk c)
 
 -- more came
-pub client_more : (k : Setup) (n : ℕ) (user sent shown more : List ℕ) (w : World) (v : Visitor) → Client k n user sent shown w v
-    → Client k n user (sent ++ more) shown w (record { standing = v.standing; waits = v.waits ++ more; unsaid = v.unsaid })
-client_more k n user sent shown more w v c = record {
-  began = c.began;
+pub client_more : (k : Setup) (n : ℕ) (a : Arrival) (sent shown more : List ℕ) (w : World) (v : Visitor) → Client k n a sent shown w v
+    → Client k n a (sent ++ more) shown w (record { standing = v.standing; waits = v.waits ++ more; unsaid = v.unsaid })
+client_more k n a sent shown more w v c = record {
   events = c.events;
   came = c.came;
   said = c.said;
@@ -182,14 +209,13 @@ client_more k n user sent shown more w v c = record {
   whole = c.whole;
 }
 
-regroup : (g a b s u : List ℕ) → g ++ a ≡ s ++ u → g ++ (a ++ b) ≡ s ++ (u ++ b)
+pub regroup : (g a b s u : List ℕ) → g ++ a ≡ s ++ u → g ++ (a ++ b) ≡ s ++ (u ++ b)
 regroup g a b s u e = sym (append_assoc g a b) ∙ ap (λ (x : List ℕ). x ++ b) e ∙ append_assoc s u b
 
 -- it said more, of which this was printed
-pub client_said : (k : Setup) (n : ℕ) (user sent shown new said : List ℕ) (w u : World) (v after : Visitor) → (c : Client k n user sent shown w v) → Reached k.config n (first_standing k user) c.began sent (c.said ++ said) after u
-    → new ++ after.unsaid ≡ v.unsaid ++ said → IsWhole after.unsaid → Client k n user sent (shown ++ new) u after
-client_said k n user sent shown new said w u v after c reached fits whole = record {
-  began = c.began;
+pub client_said : (k : Setup) (n : ℕ) (a : Arrival) (sent shown new said : List ℕ) (w u : World) (v after : Visitor) → (c : Client k n a sent shown w v) → Reached k.config n (first_standing k a.user) a.began sent (c.said ++ said) after u
+    → new ++ after.unsaid ≡ v.unsaid ++ said → IsWhole after.unsaid → Client k n a sent (shown ++ new) u after
+client_said k n a sent shown new said w u v after c reached fits whole = record {
   events = c.events;
   came = c.came;
   said = c.said ++ said;
@@ -200,30 +226,41 @@ client_said k n user sent shown new said w u v after c reached fits whole = reco
 
 -- ---- a session that talks
 
-pub parted : (k : Setup) (whole : Bool) (n : ℕ) (user sent shown : List ℕ) (after : SeatedVisitor) (u v : World) (o : Option SeatedVisitor) → Client k n user sent shown u after.session → Parts k whole n after u v o → Watched k n user sent shown v o
-parted k whole n user sent shown after u v o c (parts ended said left e) = rw e tt
-parted k whole n user sent shown after u v o c (remains not e f) = rw (f, e) (λ there. c)
+pub parted : (k : Setup) (whole : Bool) (n : ℕ) (a : Arrival) (sent shown : List ℕ) (after : SeatedVisitor) (u v : World) (o : Option SeatedVisitor) → after.gone ≡ false → Client k n a sent shown u after.session → Parts k whole n after u v o → Watched k n a sent shown v o
+parted k whole n a sent shown after u v o there c (parts over silent leaves e) =
+    rw e (λ stays. record { last = u; visitor = after.session; client = c; ended = over; silent = silent; left = v; leaves = leaves; later = []; moved = refl })
+parted k whole n a sent shown after u v o there c (remains not e f) = rw (f, e) ((λ same. c), λ gone. absurd (false≢true (sym there ∙ gone)))
+
+-- its client is there as before
+goes_gone : (k : Config) (n : ℕ) (whole : Bool) (seat : ℕ) (heard : List Noted) (b after : SeatedVisitor) (w u : World) (said : List ℕ) → GoesOn (Meets k n) whole seat heard b w u after said → after.gone ≡ b.gone
+goes_gone k n whole seat heard b after w u said (works none g) = ap (λ (v : SeatedVisitor). v.gone) g.is
+goes_gone k n whole seat heard b after w u said (answers verdict mid one two how next known s g e) = ap (λ (v : SeatedVisitor). v.gone) g.is
+goes_gone k n whole seat heard b after w u said (seated.waits awaits e f g) = ap (λ (v : SeatedVisitor). v.gone) f
+goes_gone k n whole seat heard b after w u said (rests ended e f g) = ap (λ (v : SeatedVisitor). v.gone) f
+goes_gone k n whole seat heard b after w u said (stalls part e f g) = ap (λ (v : SeatedVisitor). v.gone) f
 
 -- what it said was printed so
-pub talks_watched : (k : Setup) (whole : Bool) (n : ℕ) (user sent shown new : List ℕ) (heard : List Noted) (w : World) (b : SeatedVisitor) (v : World) (o : Option SeatedVisitor) (printed : List ℕ) → AreHeardSmall heard
-    → (g : SessionTalks k whole n heard w b v o printed) → new ++ g.speaks.still ≡ b.session.unsaid ++ g.speaks.said → Client k n user sent shown w b.session → Watched k n user sent (shown ++ new) v o
-talks_watched k whole n user sent shown new heard w b v o printed small g fits c =
+pub talks_watched : (k : Setup) (whole : Bool) (n : ℕ) (a : Arrival) (sent shown new : List ℕ) (heard : List Noted) (w : World) (b : SeatedVisitor) (v : World) (o : Option SeatedVisitor) (printed : List ℕ) → AreHeardSmall heard → b.gone ≡ false
+    → (g : SessionTalks k whole n heard w b v o printed) → new ++ g.speaks.still ≡ b.session.unsaid ++ g.speaks.said → Client k n a sent shown w b.session → Watched k n a sent (shown ++ new) v o
+talks_watched k whole n a sent shown new heard w b v o printed small there g fits c =
     let spoken : SeatedVisitor = g.speaks.spoken in
-    let r : Reached k.config n (first_standing k user) c.began sent (c.said ++ g.speaks.said) spoken.session g.mid =
-    goes_reached k.config n whole (session_seat k n) heard (first_standing k user) c.began sent c.said b spoken w g.mid g.speaks.said small g.speaks.goes c.reached in
+    let r : Reached k.config n (first_standing k a.user) a.began sent (c.said ++ g.speaks.said) spoken.session g.mid =
+    goes_reached k.config n whole (session_seat k n) heard (first_standing k a.user) a.began sent c.said b spoken w g.mid g.speaks.said small g.speaks.goes c.reached in
     let still : SeatedVisitor = still_unsaid g.speaks.still spoken in
     let all : IsWhole (b.session.unsaid ++ g.speaks.said) =
     whole_append b.session.unsaid g.speaks.said c.whole (goes_whole (Meets k.config n) whole (session_seat k n) heard b w g.mid spoken g.speaks.said g.speaks.goes) in
-    let d : Client k n user sent (shown ++ new) g.mid still.session =
-    client_said k n user sent shown new g.speaks.said w g.mid b.session still.session c (record { sent = r.sent; talked = r.talked; waits = r.waits }) fits
+    let d : Client k n a sent (shown ++ new) g.mid still.session =
+    client_said k n a sent shown new g.speaks.said w g.mid b.session still.session c (record { sent = r.sent; talked = r.talked; waits = r.waits }) fits
     (still_whole (n + 1) (b.session.unsaid ++ g.speaks.said) g.speaks.still printed all g.speaks.prints) in
-    parted k whole n user sent (shown ++ new) g.after g.mid v o (subst (λ (x : SeatedVisitor). Client k n user sent (shown ++ new) g.mid x.session) (sym g.speaks.is) d) g.left
+    parted k whole n a sent (shown ++ new) g.after g.mid v o
+    (ap (λ (x : SeatedVisitor). x.gone) g.speaks.is ∙ goes_gone k.config n whole (session_seat k n) heard b spoken w g.mid g.speaks.said g.speaks.goes ∙ there)
+    (subst (λ (x : SeatedVisitor). Client k n a sent (shown ++ new) g.mid x.session) (sym g.speaks.is) d) g.left
 
 pub talks_walk : (k : Setup) (whole : Bool) (n : ℕ) (heard : List Noted) (w : World) (b : SeatedVisitor) (v : World) (o : Option SeatedVisitor) (printed : List ℕ) → SessionTalks k whole n heard w b v o printed → Walk k.config n w v
 talks_walk k whole n heard w b v o printed g =
     walk_parts k whole n w g.mid g.after v o (walk_speaks k.config n whole (session_seat k n) (n + 1) heard w g.mid b g.after printed g.speaks) g.left
 
 -- one whose client is gone isn't watched
-pub lingers_watched : (k : Setup) (n seat : ℕ) (user sent shown : List ℕ) (heard : List Noted) (w : World) (b : SeatedVisitor) (o : Option SeatedVisitor) → b.gone ≡ true → Lingers seat heard b o → Watched k n user sent shown w o
-lingers_watched k n seat user sent shown heard w b o gone (waits a e) = rw e (λ there. absurd (false≢true (sym there ∙ gone)))
-lingers_watched k n seat user sent shown heard w b o gone (fades a e) = rw e tt
+pub lingers_watched : (k : Setup) (n seat : ℕ) (a : Arrival) (sent shown : List ℕ) (heard : List Noted) (w : World) (b : SeatedVisitor) (o : Option SeatedVisitor) → b.gone ≡ true → a.stays ≡ false → Lingers seat heard b o → Watched k n a sent shown w o
+lingers_watched k n seat a sent shown heard w b o gone left (waits awaits e) = rw e ((λ there. absurd (false≢true (sym there ∙ gone))), λ same. left)
+lingers_watched k n seat a sent shown heard w b o gone left (fades settled e) = rw e (λ stays. absurd (false≢true (sym left ∙ stays)))

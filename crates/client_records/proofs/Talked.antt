@@ -38,7 +38,7 @@ line_bytes : (tag : Option (List ℕ)) (line bytes : List ℕ) → bytes_in (tol
 line_bytes None line bytes = refl
 line_bytes (Some tag) line bytes = refl
 
-told_bytes : (now : Standing) (happening : Happening) (bytes : List ℕ) → bytes_in (told_of now happening bytes) ≡ bytes
+pub told_bytes : (now : Standing) (happening : Happening) (bytes : List ℕ) → bytes_in (told_of now happening bytes) ≡ bytes
 told_bytes now (Line line answers) bytes = line_bytes (kept_tag now) line bytes
 told_bytes now LongLine bytes = refl
 told_bytes now (Turned answers) bytes = refl
@@ -115,7 +115,7 @@ works_reached k n seat first began came heard v after old new said w r = record 
   waits = r.waits ∙ ap (λ (x : List ℕ). r.sent ++ x) w.answers.waited ∙ sym (append_assoc r.sent (flat_map spelled w.answers.sent) after.session.waits);
 }
 
-verdict_printed : (seat : ℕ) (heard : List Noted) (v : SeatedVisitor) (verdict : Verdict) → AreHeardSmall heard → IsAnswered seat heard v verdict → IsPrinted verdict
+pub verdict_printed : (seat : ℕ) (heard : List Noted) (v : SeatedVisitor) (verdict : Verdict) → AreHeardSmall heard → IsAnswered seat heard v verdict → IsPrinted verdict
 verdict_printed seat heard v verdict small known = by (keys_of seat v.serial (sent_by v)) known.each
   where
     by : (keys : List CopyKey) → HeardFor heard keys (verdict ∷ []) → IsPrinted verdict

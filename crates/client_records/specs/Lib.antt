@@ -6,6 +6,7 @@ pub mod Turns
 pub mod Lives
 pub mod Current
 pub mod Records
+pub mod AtEntries
 pub mod Selecting
 pub mod One
 pub mod rows

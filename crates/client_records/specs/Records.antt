@@ -3,23 +3,23 @@ use Rattle.std.specs.Prelude.{◌≡◌, ℕ, ◌+◌, ◌<◌, ◌^◌, ◌==�
 use Rattle.envelope.specs.Directory.{Home}
 use Rattle.envelope.specs.Names.{is_folder}
 use Rattle.line_io.specs.Wire.{joined}
-use Rattle.world.specs.World.{Event as WorldEvent, IsWorld, Steps, World}
+use Rattle.world.specs.World.{Event as WorldEvent, IsWorld, Session, Steps, World, empty_world, pending}
 use Rattle.imap_session.specs.Commands.{greeting}
 use Rattle.imap_session.specs.Exchange.{Standing}
 use Rattle.house_session.specs.Folders.{folders_of}
 use Rattle.house_session.specs.Visitor.{greeted}
 use Rattle.house_session.specs.SeatedVisitor.{SeatedVisitor}
-use Rattle.house.specs.Scene.{Scene, empty_scene, place_of}
+use Rattle.house.specs.Scene.{LeavesMailbox, Scene, empty_scene, place_of}
 use Rattle.house.specs.Setup.{Setup}
 use Rattle.house.specs.declared.config.Config.{Config}
 use Rattle.house.specs.Settings.{IsInRange, config_fault, setup_of}
 use Rattle.house.specs.declared.event.Event as house
-use Rattle.house.specs.declared.event.Event.TheVariants.{Enter, Say}
+use Rattle.house.specs.declared.event.Event.TheVariants.{Enter, Leave, Say}
 use Rattle.exactly_once.specs.Promise.{Entry, ExactlyOnce, IsRecord, Lines, Piece}
 use Rattle.client_records.specs.Clients.{IsRightAbout, Told, bytes_in, hears_all}
 use Rattle.client_records.specs.Lives.{Lives}
 use Rattle.client_records.specs.Sizes.{HasShortTexts, HasSmallNumbers}
-use Rattle.client_records.specs.Views.{view_of}
+use Rattle.client_records.specs.Views.{messages_of, view_of}
 
 -- ---- what is settled at the start
 
@@ -46,6 +46,19 @@ abbrev pub user_in : (place : ℕ) → house.Event → List ℕ → List ℕ
 user_in place (Enter session user) before = if place_of session == place then user.now else before
 user_in place event before = before
 
+-- the world in which it was let in, as it was before that entry
+abbrev pub began_in : (place : ℕ) → Scene → house.Event → World → World
+began_in place s event before = if lets_in place event then s.world else before
+
+-- its client is gone at this event
+abbrev pub is_left : (place : ℕ) → house.Event → Bool
+is_left place (Leave session) = place_of session == place
+is_left place event = false
+
+-- whether a session was let in there whose client isn't gone, where it was so before
+abbrev pub stays_in : (place : ℕ) → house.Event → Bool → Bool
+stays_in place event before = if lets_in place event then true else if is_left place event then false else before
+
 -- its client sent these bytes
 abbrev pub sent_in : (place : ℕ) → house.Event → List ℕ
 sent_in place (Say session bytes) = if place_of session == place then bytes.now else []
@@ -66,6 +79,16 @@ abbrev pub user_by_then : (place : ℕ) → List ℕ → List Entry → List ℕ
 user_by_then place before [] = before
 user_by_then place before (entry ∷ entries) = user_by_then place (user_in place entry.event before) entries
 
+-- the world in which it was let in, from this scene on
+abbrev pub began_by_then : (place : ℕ) → World → Scene → List Entry → World
+began_by_then place before s [] = before
+began_by_then place before s (entry ∷ entries) = began_by_then place (began_in place s entry.event before) entry.after entries
+
+-- and whether its client stays
+abbrev pub stays_by_then : (place : ℕ) → Bool → List Entry → Bool
+stays_by_then place before [] = before
+stays_by_then place before (entry ∷ entries) = stays_by_then place (stays_in place entry.event before) entries
+
 -- what its client sent in all these entries since it was let in, behind what it sent before them
 abbrev pub sent_by_then : (place : ℕ) → List ℕ → List Entry → List ℕ
 sent_by_then place before [] = before
@@ -84,6 +107,7 @@ first_standing k user = (greeted (Some k.max_message) (folders_of k.directory us
 pub record KeepsUp (k : Setup) (entries : List Entry) (place : ℕ) (v : SeatedVisitor) (t : Scene) : Type 0 where
   -- the world in which it was let in, which came from the empty one
   pub began : World
+  pub let_in : began ≡ began_by_then place empty_world (empty_scene k) entries
   pub events : List WorldEvent
   pub came : IsWorld k.config events began
   -- what it sent and was told, answer by answer, and all that others did meanwhile
@@ -96,11 +120,44 @@ pub record KeepsUp (k : Setup) (entries : List Entry) (place : ℕ) (v : SeatedV
   pub printed : greeting ++ flat_map bytes_in told ≡ shown_by_then place [] entries ++ v.session.unsaid
   -- where it is in a mailbox it is right about what its session counts there
   pub right : IsRightAbout (view_of t.world place) (hears_all None told)
+  -- and where nothing is pending there, its list is the mailbox as it is
+  pub all : (s : Session) → t.world.session place ≡ Some s → pending (t.world.box s.mailbox) s ≡ [] → IsRightAbout (messages_of (t.world.box s.mailbox)) (hears_all None told)
+
+-- The client of a session that has ended by itself, as by LOGOUT: so it was to the end, of all that it was told.
+pub record KeptUp (k : Setup) (entries : List Entry) (place : ℕ) (t : Scene) : Type 0 where
+  pub began : World
+  pub let_in : began ≡ began_by_then place empty_world (empty_scene k) entries
+  pub events : List WorldEvent
+  pub came : IsWorld k.config events began
+  -- how it stood at its end, in which world, and which bytes waited then, that are dropped
+  pub sent : List ℕ
+  pub told : List Told
+  pub now : Standing
+  pub last : World
+  pub waits : List ℕ
+  pub lives : Lives k.config place (first_standing k (user_by_then place [] entries)) began sent told now last
+  pub ended : now.ended ≡ true
+  -- then it left its mailbox; and the world moved on
+  pub left : World
+  pub leaves : LeavesMailbox k place last left
+  pub later : List WorldEvent
+  pub moved : Steps k.config left later t.world
+  -- all that it sent was answered, but what waited
+  pub answered : sent_by_then place [] entries ≡ sent ++ waits
+  -- the greeting and these answers are all that was printed to it
+  pub printed : greeting ++ flat_map bytes_in told ≡ shown_by_then place [] entries
+  -- where it was in a mailbox it was right about what its session counted there
+  pub right : IsRightAbout (view_of last place) (hears_all None told)
 
 -- Over whatever record of a house that was new: whoever is there keeps up.
 abbrev pub ClientsKeepUp : Type 0
 ClientsKeepUp = (k : Setup) (entries : List Entry) (t : Scene) (place : ℕ) (v : SeatedVisitor) → IsPrintable k → IsRecord k entries (empty_scene k) t
     → t.visitor place ≡ Some v → v.gone ≡ false → KeepsUp k entries place v t
+
+-- And so did the client of a session that was let in there last, whose client isn't gone, and that is there no more
+abbrev pub ClientsKeptUp : Type 0
+ClientsKeptUp = (k : Setup) (entries : List Entry) (t : Scene) (place : ℕ) → IsPrintable k → IsRecord k entries (empty_scene k) t
+    → stays_by_then place false entries ≡ true → t.visitor place ≡ None → KeptUp k entries place t
 
 -- so it is of the record that `ExactlyOnce` has: of whatever events happened in the house
 abbrev pub ClientsOfHousesKeepUp : Type 0

@@ -2,12 +2,13 @@
 //! come to, its turns, and its whole life. Laws of what a client reads ask that the numbers can be printed (`HasSmallNumbers` of
 //! the settings) and that texts are short (`HasShortTexts` of the world): settings without a fault see to both (`clients_keep_up`).
 
+ghost use Rattle.client_records.specs.AtEntries.{AnswersMakeCurrent};
 ghost use Rattle.client_records.specs.Clients.{KnowsWhereItIs};
 ghost use Rattle.client_records.specs.Current.{DoneCommandsMakeCurrent, DoneMakesCurrent, FeedsMakeCurrent, ListsAreCurrent, NoopMakesCurrent};
 ghost use Rattle.client_records.specs.Laws.{CallsAreSeen, CountedAreGiven, EntriesAreCounted, GoneStayGone, LeaversCountNothing, OthersLeaveViews, UidsStay, ViewsAreNumbered};
 ghost use Rattle.client_records.specs.Lives.{LivesAreKnown};
 ghost use Rattle.client_records.specs.One.{OneLifeIsLived};
-ghost use Rattle.client_records.specs.Records.{ClientsKeepUp, ClientsOfHousesKeepUp, RecordsMoveOn, SettingsCanBePrinted, TextsStayShort};
+ghost use Rattle.client_records.specs.Records.{ClientsKeepUp, ClientsKeptUp, ClientsOfHousesKeepUp, RecordsMoveOn, SettingsCanBePrinted, TextsStayShort};
 ghost use Rattle.client_records.specs.Selecting.{KnowingIsSelected, RefusedSelectsNone};
 ghost use Rattle.client_records.specs.Turns.{StandsStill, TurnIsKnown};
 
@@ -97,15 +98,22 @@ pub fn lists_are_current()
 
     // Who knows where it is and has read the answer to such a command to its end has a list of the mailbox as it is.
     ensures list { ListsAreCurrent }
+
+    // So it is at each entry of a record with which a client's bytes came: where that is the last that it is told, its list is the mailbox behind the entry.
+    ensures entries { AnswersMakeCurrent }
 {}
 
 /// Over any record of a house that was new, of whatever events: the client of each session that is there, by all that it sent
 /// since it was let in and all that was printed to it since, is right about what its session counts, wherever it is in a mailbox
-/// that it knows: since a SELECT or EXAMINE was answered OK. Of the house it is asked that numbers and names can be printed
+/// that it knows: since a SELECT or EXAMINE was answered OK. The world in which it was let in is the one before that entry. So it is,
+/// too, of a session that was let in and has ended by itself, up to its end. Of the house it is asked that numbers and names can be printed
 /// and messages have less than 2 GiB, which settings that are right see to; then no text was accepted that is too long to be told of.
 pub fn clients_keep_up()
     // Over any record of a new house that is printable: the client of a session there keeps up with what it counts, by what it was told.
     ensures record { ClientsKeepUp }
+
+    // So did that of one that has ended by itself, as by LOGOUT, to its end, by all that it was told.
+    ensures ended { ClientsKeptUp }
 
     // So it is of the record that exactly-once delivery has, of whatever events.
     ensures house { ClientsOfHousesKeepUp }

@@ -185,7 +185,7 @@ close_did k told s shard t printed ok p =
 -- ---- sessions
 
 -- a session's calls, one after the other, come to events of the world
-speaks_reached : (k : Config) (place : ℕ) (whole : Bool) (seat n : ℕ) (heard : List Noted) (w mid : World) (before after : SeatedVisitor) (printed : List ℕ) → Speaks (Meets k place) whole seat n heard before w mid after printed → Reached k w mid
+pub speaks_reached : (k : Config) (place : ℕ) (whole : Bool) (seat n : ℕ) (heard : List Noted) (w mid : World) (before after : SeatedVisitor) (printed : List ℕ) → Speaks (Meets k place) whole seat n heard before w mid after printed → Reached k w mid
 speaks_reached k place whole seat n heard w mid before after printed s =
     (speaks_carried {S = World} {T = Unit {0}} (Meets k place) (λ a call answer b. Unit {0}) (λ v x. Reached k w v)
     (λ old new call answer x step r. (tt, tt, reached_then k w old new r (meets_reached k place old call answer new step)))
@@ -196,10 +196,10 @@ met_reached : (k : Config) (place : ℕ) (w : World) (events : List calls.Event)
 met_reached k place w [] v e = stays k w v e
 met_reached k place w (e ∷ es) v (mid, one, more) = reached_then k w mid v (meets_reached k place w e.call e.answer mid one) (met_reached k place mid es v more)
 
-leaves_reached : (k : Setup) (place : ℕ) (w v : World) → LeavesMailbox k place w v → Reached k.config w v
+pub leaves_reached : (k : Setup) (place : ℕ) (w v : World) → LeavesMailbox k place w v → Reached k.config w v
 leaves_reached k place w v l = meets_reached k.config place w (calls.Leave false) l.0 v l.1
 
-parts_reached : (k : Setup) (whole : Bool) (place : ℕ) (after : SeatedVisitor) (w v : World) (o : Option SeatedVisitor) → Parts k whole place after w v o → Reached k.config w v
+pub parts_reached : (k : Setup) (whole : Bool) (place : ℕ) (after : SeatedVisitor) (w v : World) (o : Option SeatedVisitor) → Parts k whole place after w v o → Reached k.config w v
 parts_reached k whole place after w v o (parts ended said l e) = leaves_reached k place w v l
 parts_reached k whole place after w v o (remains not e f) = stays k.config w v e
 
@@ -505,7 +505,7 @@ tells_once k t entries h ok = record {
     heard : (p : ℕ) → All (Contains (t.world.heard p)) (verdicts_of p entries)
     heard p = let a = at p in all_of_every (Contains (t.world.heard p)) (verdicts_of p entries) (every_weaker (IsTold p (t.world.heard p) a.0 a.1) (Contains (t.world.heard p)) (λ n x. x.1) (verdicts_of p entries) a.2.each)
 
-below_itself : (a b : CopyKey) → Below a b → a ≢ b
+pub below_itself : (a b : CopyKey) → Below a b → a ≢ b
 below_itself a b (inl l) e = let x = ap (λ (y : CopyKey). y.serial) e in absurd (omega (arith, l, x))
 below_itself a b (inr (s, inl l)) e = let x = ap (λ (y : CopyKey). y.message) e in absurd (omega (arith, l, x))
 below_itself a b (inr (s, inr (m, l))) e = let x = ap (λ (y : CopyKey). y.recipient) e in absurd (omega (arith, l, x))

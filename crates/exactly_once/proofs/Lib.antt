@@ -5,4 +5,5 @@ pub mod Whole
 pub mod Grown
 pub mod Going
 pub mod Playing
+pub mod Answering
 pub mod Refuted

@@ -1,13 +1,15 @@
 -- What the promise refuses: one copy told twice, and words that aren't the event's own.
-use Rattle.std.proofs.Common.{◌≡◌, ℕ, ◌≢◌, List, [], ◌∷◌, AllPairs, arith, subst}
+use Rattle.std.proofs.Common.{◌≡◌, ℕ, ◌≢◌, List, [], ◌∷◌, AllPairs, ap, arith, subst}
 use Rattle.std.specs.Borrow.{Bor}
+use Rattle.delivery_token.specs.declared.CopyKey.{CopyKey}
 use Rattle.delivery_token.specs.declared.log.Noted.{Noted}
 use Rattle.world.specs.World.{World}
 use Rattle.house.specs.Setup.{Setup}
 use Rattle.house.specs.declared.event.Event.TheVariants.{Bytes, Say, Take}
 use Rattle.house.specs.Scene.{Scene, seat_of}
 use Rattle.exactly_once.specs.Promise.{Entry, IsOwn, Lines, Replies, Said, TellsOnce, verdicts_of}
-use Rattle.exactly_once.proofs.Going.{none_twice}
+use Rattle.exactly_once.specs.Appended.{AnswersOnce}
+use Rattle.exactly_once.proofs.Going.{below_itself, none_twice}
 
 -- two lines about one copy, whatever they say of it
 one_copy_twice : (w : World) (entries : List Entry) (p : ℕ) (a b : Noted) → a.key ≡ b.key → verdicts_of p entries ≡ a ∷ b ∷ [] → TellsOnce w entries → ⊥
@@ -15,6 +17,10 @@ one_copy_twice w entries p a b same is h =
     let n = none_twice w entries h in
     let apart : AllPairs (λ x y. x.key ≢ y.key) (a ∷ b ∷ []) = subst (AllPairs (λ (x : Noted) (y : Noted). x.key ≢ y.key)) is (n.at_a_seat p) in
     apart 0 1 a (omega arith) (omega arith) same
+
+-- and one verdict that sessions answered twice
+one_answered_twice : (k : Setup) (w : World) (a b : Noted) → a.key ≡ b.key → AnswersOnce k w (a ∷ b ∷ []) → ⊥
+one_answered_twice k w a b same h = below_itself a.key b.key (h.in_order 0 1 a (omega arith) (omega arith) (ap (λ (x : CopyKey). x.seat) same)) same
 
 -- the lines of a session at an event of a connection
 lines_of_nobody : (k : Setup) (s t : Scene) (connection n : ℕ) (bytes : Bor (List ℕ)) (lines : List (List ℕ)) → IsOwn k s (Bytes connection bytes) t (Lines n lines) → ⊥

@@ -1,1 +1,2 @@
 pub mod Promise
+pub mod Appended

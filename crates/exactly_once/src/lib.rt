@@ -6,6 +6,7 @@ mod replay;
 
 ghost use Rattle.std.specs.Prelude.{List, ℕ};
 ghost use Rattle.house.specs.Setup.{Setup};
+ghost use Rattle.exactly_once.specs.Appended.{SessionsAnswerOnce};
 ghost use Rattle.exactly_once.specs.Promise.{Entry, ExactlyOnce, NoneTwice, TellsOnce};
 ghost use Rattle.house.specs.Scene.{Scene, empty_scene};
 ghost use Rattle.house.specs.Settling.{Happened};
@@ -27,4 +28,12 @@ pub fn exactly_once_delivery()
 /// No two verdicts that were told are about one copy, at one seat or at two. So no copy has two lines that say it was delivered.
 pub fn no_copy_is_told_twice()
     ensures { (w : World) (entries : List Entry) → TellsOnce w entries → NoneTwice entries }
+{}
+
+/// The same of what sessions are told of the messages that their clients append, over every record of a house, as `ExactlyOnce` has one: each verdict
+/// that a session answers is on a message of its own seat, as that seat has heard it; those of a seat come in the order of its messages,
+/// so none is told twice; and each that says that the message is stored under a UID is on a copy that stands in its
+/// mailbox's history exactly once, under that UID.
+pub fn no_verdict_is_answered_twice()
+    ensures { SessionsAnswerOnce }
 {}

@@ -4,12 +4,13 @@ use Rattle.std.proofs.Common.{refl}
 use Rattle.std.specs.Borrow.{Bor}
 use Rattle.change_ring.specs.declared.change.Change.TheVariants.{Add, Gone}
 use Rattle.imap_grammar.specs.Reading.{read}
-use Rattle.house.specs.declared.event.Event.TheVariants.{Enter, Say}
-use Rattle.exactly_once.specs.Promise.{Lines}
+use Rattle.house.specs.Scene.{Scene}
+use Rattle.house.specs.declared.event.Event.TheVariants.{Enter, Leave, Say}
+use Rattle.exactly_once.specs.Promise.{Entry, Lines, Silence}
 use Rattle.world.specs.World.{World, empty_world}
 use Rattle.client_list.specs.Client.{Known, knowing, unknown}
 use Rattle.client_records.specs.Clients.{Answer, Words, has_ok, hears, hears_all}
-use Rattle.client_records.specs.Records.{lets_in, sent_in, shown_in, user_in}
+use Rattle.client_records.specs.Records.{began_by_then, lets_in, sent_in, shown_in, stays_by_then, user_in}
 use Rattle.client_records.specs.Views.{messages_of, view_of}
 
 -- ---- SELECT, EXAMINE, CLOSE and UNSELECT
@@ -80,6 +81,24 @@ whose user = refl
 
 whose_else : (user : Bor (List ℕ)) → user_in 0 (Enter 2 user) (codes "bob") ≡ codes "bob"
 whose_else user = refl
+
+-- the first session was let in from the second scene, and gone behind the fourth; another was let in between
+abbrev pub visits : (user : Bor (List ℕ)) → (a b c d : Scene) → List Entry
+visits user a b c d =
+    record { event = Enter 2 user; after = a; piece = Silence } ∷ record { event = Enter 1 user; after = b; piece = Silence } ∷ record { event = Leave 2; after = c; piece = Silence }
+    ∷ record { event = Leave 1; after = d; piece = Silence } ∷ []
+
+let_in_there : (user : Bor (List ℕ)) → (s a b c d : Scene) → began_by_then 0 empty_world s (visits user a b c d) ≡ a.world
+let_in_there user s a b c d = refl
+
+the_other_there : (user : Bor (List ℕ)) → (s a b c d : Scene) → began_by_then 1 empty_world s (visits user a b c d) ≡ s.world
+the_other_there user s a b c d = refl
+
+stays_so_far : (user : Bor (List ℕ)) → (a b c : Scene) → stays_by_then 0 false (record { event = Enter 2 user; after = a; piece = Silence } ∷ record { event = Enter 1 user; after = b; piece = Silence } ∷ record { event = Leave 2; after = c; piece = Silence } ∷ []) ≡ true
+stays_so_far user a b c = refl
+
+gone_at_last : (user : Bor (List ℕ)) → (a b c d : Scene) → stays_by_then 0 false (visits user a b c d) ≡ false
+gone_at_last user a b c d = refl
 
 its_own : (bytes : Bor (List ℕ)) → sent_in 1 (Say 2 bytes) ≡ bytes.now
 its_own bytes = refl

@@ -1,9 +1,12 @@
 use Rattle.client_records.proofs.Folded.{settings_can_be_printed}
-use Rattle.client_records.proofs.Keeping.{clients_keep_up, clients_of_houses_keep_up, texts_stay_short}
+use Rattle.client_records.proofs.Keeping.{clients_keep_up, clients_kept_up, clients_of_houses_keep_up, texts_stay_short}
 use Rattle.client_records.proofs.laws.clients_keep_up.Goals as goal
 
 pub returns-clause-record : goal.returns-clause-record
 returns-clause-record c = clients_keep_up
+
+pub returns-clause-ended : goal.returns-clause-ended
+returns-clause-ended c = clients_kept_up
 
 pub returns-clause-house : goal.returns-clause-house
 returns-clause-house c = clients_of_houses_keep_up

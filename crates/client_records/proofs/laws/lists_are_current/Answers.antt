@@ -1,3 +1,4 @@
+use Rattle.client_records.proofs.AtEntries.{answers_make_current}
 use Rattle.client_records.proofs.Current.{done_makes_current, feeds_make_current, noop_makes_current}
 use Rattle.client_records.proofs.OkCurrent.{done_commands_make_current, lists_are_current}
 use Rattle.client_records.proofs.laws.lists_are_current.Goals as goal
@@ -16,3 +17,6 @@ returns-clause-list c = lists_are_current
 
 pub returns-clause-commands : goal.returns-clause-commands
 returns-clause-commands c = done_commands_make_current
+
+pub returns-clause-entries : goal.returns-clause-entries
+returns-clause-entries c = answers_make_current
