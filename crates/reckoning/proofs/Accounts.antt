@@ -1,19 +1,23 @@
 -- Each producer's account, said of what was taken of the queues.
-use Rattle.std.proofs.Common.{◌≡◌, ◌<◌, ◌+◌, ◌∙◌, ℕ, zero, suc, true, false, Bool, List, [], ◌∷◌, All, None, Some, Vec, length, map, slice_get, slice_index_or, refl, sym, ap, subst, arith}
+use Rattle.std.proofs.Common.{◌≡◌, ◌<◌, ◌+◌, ◌++◌, ◌∙◌, ℕ, zero, suc, true, false, Bool, List, [], ◌∷◌, All, None, Some, Vec, length, map, slice_get, slice_index_or, refl, sym, ap, subst, arith}
 use Rattle.std.specs.Global.{Global}
 use Rattle.std.proofs.lemmas.List.Elements.{All-cons, All-nil, All-head, All-tail}
 use Rattle.delivery_token.specs.declared.Job.{Job}
 use Rattle.delivery_token.specs.declared.log.Noted.{Noted}
 use Rattle.shard_queue.specs.declared.lane.Entry.{Entry}
+use Rattle.shard_queue.specs.declared.lane.Entry.TheVariants.{End}
 use Rattle.shard_queue.specs.declared.queue.Closed.{Closed}
 use Rattle.shard_queue.specs.declared.queue.ConsumerPermit.{ConsumerPermit}
 use Rattle.shard_queue.specs.declared.queue.Ended.{Ended}
+use Rattle.shard_queue.specs.declared.reply.ReceiverPermit.{ReceiverPermit}
 use Rattle.shard_queue.specs.declared.reply.ReplyClosed.{ReplyClosed}
 use Rattle.shard_queue.specs.declared.reply.SenderEnded.{SenderEnded}
 use Rattle.shard_queue.specs.Lane.{of}
-use Rattle.shard_queue.specs.Reply.{received, reply_history}
+use Rattle.shard_queue.specs.Reply.{received, reply_history, said_on}
 use Rattle.shard_queue.specs.Permits.{got, history, said}
 use Rattle.lane_work.specs.Account.{Account}
+use Rattle.lane_work.specs.Answering.{WereAnswered}
+use Rattle.lane_work.specs.Awaiting.{copies_in, verdicts_in}
 use Rattle.lane_work.specs.Consuming.{items_of}
 use Rattle.lane_work.specs.Speaking.{premises_of}
 use Rattle.lane_work.specs.declared.consumer.Consumed.{Consumed}
@@ -22,6 +26,7 @@ use Rattle.lane_work.specs.declared.worker.Fate.TheVariants as fates
 use Rattle.lane_work.specs.declared.worker.Worked.{Worked}
 use Rattle.lane_work.proofs.HistoryLaws.{said_is_taken}
 use Rattle.lane_permits.specs.rows.Rows.{AllIn, AreIn}
+use Rattle.lane_permits.specs.rows.SenderRows.{AllSendersIn, AreSendersIn}
 use Rattle.lane_permits.proofs.CloseLaws as lanes
 use Rattle.lane_permits.proofs.ChannelCloseLaws as channels
 use Rattle.house_floor.specs.Crew.{AllAt}
@@ -144,6 +149,12 @@ module _ (floor : Floor) (plans : Plans) (guests : List Guest) (ws : List Worked
       (subst (λ x. SessionAccount (premises_of floor.office) (length floor.depot.mailboxes.items) floor.turns p guest (map (λ b. b.items) l.0.replies.items) l.0.log.notes (received l.0.receiver) x) l.4
       (l.2.session k guest refl at l.3))
 
+  -- each producer heard as many verdicts as copies of it were taken
+  pub only_of : (p : ℕ) → p < length plans + length guests → verdicts_in (slice_index_or (map reply_history replied) p []) ≡ copies_in (map (of p) (map history closed))
+  only_of p under =
+      let l = left_by p under in
+      ap verdicts_in (ap (λ xs. slice_index_or xs p []) answers_are ∙ mapped_at (λ (v : Worked). received v.receiver) ws p l.0 [] l.1) ∙ l.2.only l.3 ∙ ap copies_in l.4
+
 -- ---- copies
 
 pub kept_of : (cs : List Consumed) → All (λ c. fault_of_consumer c ≡ None) cs → All (λ c. c.kept ≡ true) cs
@@ -168,3 +179,50 @@ copies_taken floor cs closed hands all count services are =
     thrice : (ds : List Consumed) → map items_of (map got (map (λ (c : Consumed). c.permit) ds)) ≡ map (λ (c : Consumed). items_of (got c.permit)) ds
     thrice [] = refl
     thrice (d ∷ ds) = ap (λ xs. items_of (got d.permit) ∷ xs) (thrice ds)
+
+-- ---- answers
+
+senders_at : {A : Type 0} (f : A → List (SenderEnded Noted)) (xs : List A) (lists : List (List (SenderEnded Noted))) (k : ℕ) (x : A) → AllSendersIn (map f xs) lists → slice_get xs k ≡ Some x → AreSendersIn (f x) lists
+senders_at f [] lists k x all is = absurd (cc)
+senders_at f (y ∷ xs) lists zero x all is =
+    let same : y ≡ x = cc in
+    subst (λ z. AreSendersIn (f z) lists) same all.0
+senders_at f (y ∷ xs) lists (suc k) x all is = senders_at f xs lists k x all.1 is
+
+-- nothing had been said before
+none_at : (before : List (List (Entry Noted))) (p : ℕ) → All (λ e. e ≡ []) before → slice_index_or before p [] ≡ []
+none_at [] p all = refl
+none_at (b ∷ before) zero all = All-head (λ (e : List (Entry Noted)). e ≡ []) b before all
+none_at (b ∷ before) (suc p) all = none_at before p (All-tail (λ (e : List (Entry Noted)). e ≡ []) b before all)
+
+of_at : (s : ℕ) (xs : List (List (Entry Noted))) (p : ℕ) → of s (slice_index_or xs p []) ≡ slice_index_or (map (of s) xs) p []
+of_at s [] p = refl
+of_at s (x ∷ xs) zero = refl
+of_at s (x ∷ xs) (suc p) = of_at s xs p
+
+got_twice : (cs : List Consumed) → map got (map (λ (c : Consumed). c.permit) cs) ≡ map (λ (c : Consumed). got c.permit) cs
+got_twice [] = refl
+got_twice (c ∷ cs) = ap (λ xs. got c.permit ∷ xs) (got_twice cs)
+
+-- what each consumer told each producer, of what it had taken, and then its end
+pub answers_of : (floor : Floor) (cs : List Consumed) (closed : List (Closed Job)) (hands : List (List (Ended Job))) (replied : List (ReplyClosed Noted)) (receivers : List (ReceiverPermit Noted))
+    → AllAt (IsServiceOf floor) 0 cs → length cs ≡ length floor.office.lanes.items
+    → AreClosedWith floor.office.lanes.items hands (map (λ c. c.permit) cs) closed
+    → AreChannelsClosedWith floor.depot.channels.items (map (λ c. c.senders.items) cs) receivers replied
+    → (s p : ℕ) → s < length floor.office.lanes.items → p < length floor.depot.channels.items
+    → (told : List (Entry Noted)) × WereAnswered (length floor.depot.mailboxes.items) s p (slice_index_or (map history closed) s []) told
+    × (of s (slice_index_or (map reply_history replied) p []) ≡ told ++ End s ∷ [])
+answers_of floor cs closed hands replied receivers all count are heard s p lane channel =
+    let c = some_at cs s (omega (arith, lane, count)) in
+    let q = some_at floor.office.lanes.items s lane in
+    let e : 0 + s ≡ s = omega arith in
+    let service : IsServiceOf floor s c.0 = subst (λ i. IsServiceOf floor i c.0) e (at_position (IsServiceOf floor) 0 s cs c.0 all c.1) in
+    let left = service.each q.0 q.1 in
+    let said = left.2.said p channel in
+    let taken : slice_index_or (map history closed) s [] ≡ got c.0.permit =
+    ap (λ xs. slice_index_or xs s []) (lanes.histories_taken are.2 ∙ got_twice cs) ∙ mapped_at (λ (d : Consumed). got d.permit) cs s c.0 [] c.1 in
+    let own = channels.said_on_is_history heard.2 s c.0.senders.items left.2.senders (senders_at (λ (d : Consumed). d.senders.items) cs heard.0 s c.0 heard.1 c.1) in (
+      said.0,
+      subst (λ entries. WereAnswered (length floor.depot.mailboxes.items) s p entries said.0) (sym taken) said.1,
+      of_at s (map reply_history replied) p ∙ ap (λ xs. slice_index_or xs p []) (sym own) ∙ said.2 ∙ ap (λ b. (b ++ said.0) ++ End s ∷ []) (none_at left.0 p left.1),
+    )

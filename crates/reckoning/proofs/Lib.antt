@@ -5,3 +5,4 @@ pub mod Accounts
 pub mod Balanced
 pub mod Spent
 pub mod Abandoned
+mod Numbered

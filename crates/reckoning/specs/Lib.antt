@@ -1,4 +1,5 @@
 pub mod Gathered
 pub mod Closing
 pub mod Balancing
+pub mod Shelves
 pub mod inner
