@@ -22,8 +22,10 @@ use Rattle.relay_replies.specs.Conclusions.{FrontsAreCut, TakenAreStored, WhatIs
 use Rattle.relay_replies.specs.Numbers.{MessagesAreNumbered}
 use Rattle.relay_accounts.specs.Concluding.{ConnectionConcludes, IsStored, IsTextOf, key_at, message_at}
 use Rattle.relay_accounts.specs.Entries.{StandsNowhere, StandsOnce, with_uid}
-use Rattle.relay_accounts.specs.Laws.{AccountsConclude, AccountsKeepClosed, ConnectionsAreKnown, TakenIsItsOwn}
-use Rattle.relay_accounts.proofs.Positions.{at_contains, at_map, at_unmap, at_within, kept, same_some, the_one, within_at}
+use Rattle.agreement.specs.Walk.{is_key}
+use Rattle.relay_accounts.specs.Laws.{AccountsConclude, AccountsKeepClosed, ConnectionsAreKnown, DoUidsRise, TakenIsItsOwn}
+use Rattle.relay_accounts.proofs.EntryLaws.{uids_alone}
+use Rattle.relay_accounts.proofs.Positions.{at_contains, at_map, at_unmap, at_within, kept, same_some, the_one, unkept, within_at}
 use Rattle.relay_accounts.proofs.FateLaws.{IsSame, Knows, front_read, front_same, front_taken, knows, named_at, one_number, stored_at, stored_is, taken_there}
 use Rattle.relay_accounts.proofs.Ledger.{connection_message, copy_noted, full_at, part_at}
 use Rattle.relay_accounts.proofs.Joined.{IsFrom, Joined, entered, entries_at, homes_in, noted_stands, notes_in, parts_in, stands_in_order, stands_nowhere, text_from}
@@ -154,15 +156,22 @@ text_alone g own serial messages h k n i mailbox uid e alone text there =
     let same : w.0 ≡ k = one_number g.house.directory messages _ _ h w.0 k from.key.message n w.1 e (ap (λ (x : CopyKey). x.message) key) in
     subst (λ (x : ℕ). IsTextOf (message_at messages x) text) same w.2
 
-front_stored : (laws : Grounds) (g : Joined) → TakenIsItsOwn g.seat g.copies g.said → (serial : ℕ) → serial < length g.connections
+the_first : {A : Type 0} (x : A) → Contains (x ∷ []) x
+the_first x = (0, omega arith, refl)
+
+front_stored : (laws : Grounds) (g : Joined) → DoUidsRise g.accepted → TakenIsItsOwn g.seat g.copies g.said → (serial : ℕ) → serial < length g.connections
     → (messages known : List Handed) (h : KnowsPart g serial messages) → AreCut known messages
     → (k i : ℕ) → is_taken (message_at known k) i ≡ true
     → (n : ℕ) × (h.number k ≡ Some n) × IsStored g.house.directory g.accepted g.texts (key_at g.seat serial n i) (message_at known k) i
-front_stored laws g own serial under messages known h c k i t =
+front_stored laws g rise own serial under messages known h c k i t =
     let t_all : is_taken (message_at messages k) i ≡ true = front_taken laws.stays known messages c k i t in
     let n = h.taken k i t_all in
     let is = had g serial under messages h k n.0 i n.1 t_all in
-    let same : IsSame (message_at known k) (message_at messages k) = front_same c k (taken_there known k i t) in (
+    let same : IsSame (message_at known k) (message_at messages k) = front_same c k (taken_there known k i t) in
+    let stands : Contains (entries_at g is.mailbox) (key_at g.seat serial n.0 i, is.uid) =
+    (unkept (λ (pair : CopyKey × ℕ). is_key pair.0 (key_at g.seat serial n.0 i)) (entries_at g is.mailbox) (key_at g.seat serial n.0 i, is.uid)
+    (subst (λ (ps : List (CopyKey × ℕ)). Contains ps (key_at g.seat serial n.0 i, is.uid)) (sym is.once.here) (the_first (key_at g.seat serial n.0 i, is.uid)))).0 in
+    let alone = uids_alone (entries_at g is.mailbox) (rise is.mailbox) (key_at g.seat serial n.0 i) is.uid stands in (
       n.0,
       n.1,
       record {
@@ -171,15 +180,16 @@ front_stored laws g own serial under messages known h c k i t =
         names = subst (λ (rs : List (List ℕ)). Names g.house.directory (slice_index_or rs i []) is.mailbox) (sym same.recipients) is.names;
         uid = is.uid;
         once = is.once;
-        text = λ alone text there. same_text (message_at known k) (message_at messages k) text same (text_alone g own serial messages h k n.0 i is.mailbox is.uid n.1 alone text there);
+        alone = alone;
+        text = λ text there. same_text (message_at known k) (message_at messages k) text same (text_alone g own serial messages h k n.0 i is.mailbox is.uid n.1 alone text there);
       },
     )
 
 -- ---- a connection, and all
 
-connection_concludes : (laws : Grounds) (g : Joined) → TakenIsItsOwn g.seat g.copies g.said → IsInLine g.house.host → (serial : ℕ) → serial < length g.connections → (more : List ℕ)
+connection_concludes : (laws : Grounds) (g : Joined) → DoUidsRise g.accepted → TakenIsItsOwn g.seat g.copies g.said → IsInLine g.house.host → (serial : ℕ) → serial < length g.connections → (more : List ℕ)
     → ConnectionConcludes g.house.directory g.seat serial (slice_index_or g.connections serial [] ++ more) (slice_index_or g.replies serial []) g.accepted g.texts
-connection_concludes laws g own i serial under more =
+connection_concludes laws g rise own i serial under more =
     let sent : List ℕ = slice_index_or g.connections serial [] ++ more in
     let replied : List ℕ = slice_index_or g.replies serial [] in
     let messages : List Handed = handed_over sent replied in
@@ -189,7 +199,7 @@ connection_concludes laws g own i serial under more =
     record {
       number = h.number;
       rises = h.rises;
-      taken = λ told untold e k r t. front_stored laws g own serial under messages (handed_over sent told) h (front told untold e) k r t;
+      taken = λ told untold e k r t. front_stored laws g rise own serial under messages (handed_over sent told) h (front told untold e) k r t;
       refused = λ told untold e k r u f n num.
           not_had g serial messages h k n r num (sym (front_read laws.stays (handed_over sent told) messages (front told untold e) k r u) ∙ f);
       answered = h.answered;
@@ -202,7 +212,7 @@ connection_concludes laws g own i serial under more =
     }
 
 pub accounts_conclude : (laws : Grounds) → AccountsConclude
-accounts_conclude laws house seat connections replies heard said all logs copies accepted texts i under account lists own =
+accounts_conclude laws house seat connections replies heard said all logs copies accepted texts i under account lists rise own =
     let g : Joined = record {
       house = house;
       seat = seat;
@@ -221,7 +231,7 @@ accounts_conclude laws house seat connections replies heard said all logs copies
     } in
     record {
       replied = account.dialogues.as_many_replies;
-      each = λ serial below more. connection_concludes laws g own i serial below more;
+      each = λ serial below more. connection_concludes laws g rise own i serial below more;
       nothing_else = λ mailbox uid key there of_seat.
           (let e = entered g mailbox uid key there of_seat in subst (λ (k : CopyKey). k.serial < length connections) e.stored.key_is e.of.serial);
       in_order = stands_in_order g;

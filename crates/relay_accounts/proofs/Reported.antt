@@ -1,6 +1,9 @@
 -- A report that agrees says of each worker what its account beside the lists comes to.
 use Rattle.std.proofs.Common.{◌≡◌, inl, inr, ℕ, zero, suc, ◌+◌, ◌-◌, ◌<◌, ◌==◌, List, [], ◌∷◌, length, map, Option, None, Some, refl, ap, sym, subst, ◌∙◌, Contains, arith}
-use Rattle.std.specs.Prelude.{Result, Ok, Err, slice_index_or}
+use Rattle.std.specs.Prelude.{◌≤◌, Result, Ok, Err, slice_index_or}
+use Rattle.std.specs.List.{range_with_len}
+use Rattle.std.specs.List.Sorted.{IsStrictlyIncreasing}
+use Rattle.std.proofs.lemmas.List.FromFn.{get_or-range_with_len, length-range_with_len}
 use Rattle.std.proofs.lemmas.Bool.Decides.{Decides-eqb}
 use Rattle.std.proofs.lemmas.List.{length-map}
 use Rattle.std.proofs.lemmas.List.Elements.{All-contains}
@@ -28,7 +31,7 @@ use Rattle.running_house.specs.Tells.{AccountsAreOfLines, TakenIsAProducers}
 use Rattle.running_house.specs.declared.plan.Plan.{Plan}
 use Rattle.running_house.specs.declared.plan.Report.{Report}
 use Rattle.running_house.proofs.TellLaws.{less_or_not, so_many}
-use Rattle.relay_accounts.specs.Laws.{AccountsConclude, AccountsKeepClosed, TakenIsItsOwn}
+use Rattle.relay_accounts.specs.Laws.{AccountsConclude, AccountsKeepClosed, DoUidsRise, TakenIsItsOwn}
 use Rattle.relay_accounts.specs.Reports.{ReportsConclude}
 use Rattle.relay_accounts.proofs.Hosts.{host_in_line}
 use Rattle.relay_accounts.proofs.Ledger.{copied_seat}
@@ -105,6 +108,28 @@ taken_is_its_own accounts taken plan r agrees w lane copy there seat =
     let same : p.0 ≡ w = sym (taken_seat accounts plan r agrees lane p.0 copy own.0 own.1) ∙ seat in
     subst (λ (x : ℕ). Contains (slice_index_or (map (of x) (histories r)) lane []) (Item x copy)) same own.1
 
+-- ---- UIDs
+
+range_rises : (first n : ℕ) → IsStrictlyIncreasing (range_with_len first n)
+range_rises first n k under =
+    let l = length-range_with_len first n in
+    let here = get_or-range_with_len first n k 0 (omega (arith, under, l)) in
+    let next = get_or-range_with_len first n (k + 1) 0 (omega (arith, under, l)) in
+    omega (arith, here, next)
+
+past_all : (xs : List (List (CopyKey × ℕ))) (m : ℕ) → length xs ≤ m → slice_index_or xs m [] ≡ []
+past_all [] m beyond = refl
+past_all (x ∷ xs) zero beyond = absurd (omega (arith, beyond))
+past_all (x ∷ xs) (suc m) beyond = past_all xs m (omega (arith, beyond))
+
+-- what each mailbox accepted has rising UIDs, and where there is no mailbox nothing was accepted
+uids_rise : (plan : Plan) (r : Report) → Agrees plan r → DoUidsRise (accepted_of r)
+uids_rise plan r agrees m = elim (less_or_not m (length (premises_for plan).directory.homes)) [
+  | inl there ↦ subst IsStrictlyIncreasing (sym (agrees.uids m there)) (range_rises plan.config.first_uid (length (slice_index_or (accepted_of r) m [])))
+  | inr beyond ↦ (let many = agrees.lists.mailboxes.0 in
+      subst (λ (l : List (CopyKey × ℕ)). IsStrictlyIncreasing (map (λ (pair : CopyKey × ℕ). pair.1) l)) (sym (past_all (accepted_of r) m (omega (arith, beyond, many)))) (range_rises 0 0))
+]
+
 -- ---- the report
 
 pub reports_conclude : (concludes : AccountsConclude) (closed : AccountsKeepClosed) (accounts : AccountsAreOfLines) (taken : TakenIsAProducers) → ReportsConclude
@@ -115,7 +140,7 @@ reports_conclude concludes closed accounts taken plan r range right agrees =
     record {
       workers = λ w under. concludes (premises_for plan) w (slice_index_or (connections_of plan) w []) (slice_index_or (replies_of r) w []) (slice_index_or (answers r) w []) (map (of w) (histories r))
           (length plan.sessions.items == 0) (notes_of r) (copies_taken r) (accepted_of r) (texts_of r)
-          (plan_host plan right) (omega (arith, under, logs, many)) (accounts plan r agrees w under) agrees.lists (taken_is_its_own accounts taken plan r agrees w);
+          (plan_host plan right) (omega (arith, under, logs, many)) (accounts plan r agrees w under) agrees.lists (uids_rise plan r agrees) (taken_is_its_own accounts taken plan r agrees w);
       closed = λ w under. closed (premises_for plan) w (slice_index_or (connections_of plan) w []) (slice_index_or (replies_of r) w []) (slice_index_or (answers r) w []) (map (of w) (histories r))
           (length plan.sessions.items == 0) (notes_of r) (copies_taken r) (accepted_of r) (texts_of r)
           some (omega (arith, under, logs, many)) (accounts plan r agrees w under) agrees.lists;

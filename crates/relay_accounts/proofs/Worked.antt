@@ -25,7 +25,7 @@ use Rattle.account_laws.specs.rows.Rows.{alice}
 use Rattle.account_laws.proofs.ListLaws.{contains_cases, contains_none, first_of}
 use Rattle.agreement.specs.Lists.{IsOfCopy, IsTold, ListsAgree, MailboxAgrees}
 use Rattle.relay_accounts.specs.Concluding.{RelaysConclude, key_at}
-use Rattle.relay_accounts.specs.Laws.{AccountsConclude, TakenIsItsOwn}
+use Rattle.relay_accounts.specs.Laws.{AccountsConclude, DoUidsRise, TakenIsItsOwn}
 use Rattle.relay_accounts.proofs.Positions.{the_one}
 
 -- ---- the connection
@@ -178,7 +178,11 @@ own : TakenIsItsOwn 0 ((copy ∷ []) ∷ []) (entries ∷ [])
 own zero c there seat = subst (λ (x : Job). Contains entries (Item 0 x)) (the_one copy c there) (first_of (Item 0 copy) (End 0 ∷ []))
 own (suc lane) c there seat = absurd (contains_none there)
 
+rise : DoUidsRise accepted
+rise zero k under = absurd (omega (arith, under))
+rise (suc m) k under = absurd (omega (arith, under))
+
 -- ---- so a relay may conclude
 
 worked : AccountsConclude → RelaysConclude alice 0 (one_message ∷ []) (replied ∷ []) accepted texts
-worked conclude = conclude house 0 (one_message ∷ []) (replied ∷ []) heard (entries ∷ []) true ((note ∷ []) ∷ []) ((copy ∷ []) ∷ []) accepted texts refl (omega arith) account agree own
+worked conclude = conclude house 0 (one_message ∷ []) (replied ∷ []) heard (entries ∷ []) true ((note ∷ []) ∷ []) ((copy ∷ []) ∷ []) accepted texts refl (omega arith) account agree rise own

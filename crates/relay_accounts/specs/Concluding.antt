@@ -27,9 +27,10 @@ pub record IsStored (directory : Directory) (accepted : List (List (CopyKey × �
   pub names : Names directory (slice_index_or message.recipients i []) mailbox
   pub uid : ℕ
   pub once : StandsOnce accepted key mailbox uid
-  -- where no other copy was accepted under its UID, a message with this UID has its text
-  pub text : with_uid uid (slice_index_or accepted mailbox []) ≡ (key, uid) ∷ []
-      → (text : List ℕ) → Contains (slice_index_or texts mailbox []) (uid, text) → IsTextOf message text
+  -- no other copy was accepted there under its UID
+  pub alone : with_uid uid (slice_index_or accepted mailbox []) ≡ (key, uid) ∷ []
+  -- a message with this UID has its text
+  pub text : (text : List ℕ) → Contains (slice_index_or texts mailbox []) (uid, text) → IsTextOf message text
 
 -- ---- a connection
 

@@ -36,6 +36,10 @@ abbrev pub ClosedHaveNothing : Premises → ℕ → List (List (CopyKey × ℕ))
 ClosedHaveNothing house seat accepted = (mailbox uid : ℕ) (key : CopyKey) → Contains (slice_index_or accepted mailbox []) (key, uid) → key.seat ≡ seat
     → list_any (is_closed_by key.serial (shard_of house.directory mailbox)) (closings_of house seat) ≡ false
 
+-- The UIDs of what each mailbox accepted rise.
+abbrev pub DoUidsRise : List (List (CopyKey × ℕ)) → Type 0
+DoUidsRise accepted = (mailbox : ℕ) → IsStrictlyIncreasing (map (λ (pair : CopyKey × ℕ). pair.1) (slice_index_or accepted mailbox []))
+
 -- A worker's account beside lists that agree: of each of its connections a relay may conclude.
 abbrev pub AccountsConclude : Type 0
 AccountsConclude = (house : Premises) (seat : ℕ) (connections replies : List (List ℕ)) (heard : List (Entry Noted)) (said : List (List (Entry Job)))
@@ -43,6 +47,7 @@ AccountsConclude = (house : Premises) (seat : ℕ) (connections replies : List (
     → IsInLine house.host → seat < length logs
     → AccountOfLines house seat connections replies (slice_index_or logs seat []) heard said
     → ListsAgree house.directory whole logs copies accepted texts
+    → DoUidsRise accepted
     → TakenIsItsOwn seat copies said
     → RelaysConclude house.directory seat connections replies accepted texts
 

@@ -2,3 +2,4 @@ pub mod Moves
 pub mod Reports
 pub mod Floors
 pub mod TellLaws
+pub mod Ordered

@@ -120,3 +120,7 @@ text_at (x ∷ ss) (t ∷ ts) (suc k) s text are is one = text_at ss ts k s text
 pub if_ok : {A E : Type 0} {P Q R : A → Type 0} (result : Result A E) → IfOk result P → IfOk result Q → ((x : A) → P x → Q x → R x) → IfOk result R
 if_ok (Ok x) p q both = both x p q
 if_ok (Err e) p q both = tt
+
+pub both : {A E : Type 0} (P Q : A → Type 0) (result : Result A E) → IfOk result P → IfOk result Q → IfOk result (λ x. P x × Q x)
+both P Q (Ok x) p q = (p, q)
+both P Q (Err e) p q = tt

@@ -3,11 +3,19 @@ use Rattle.std.proofs.Common.{◌≡◌, ◌<◌, ◌+◌, ◌==◌, ◌∙◌, 
 use Rattle.std.specs.Global.{Global}
 use Rattle.std.proofs.lemmas.List.{length-map, length-take-le}
 use Rattle.agreement.specs.Lists.{ListsAgree}
+use Rattle.agreement.specs.Walk.{ListsMet}
+use Rattle.envelope.specs.Directory.{Directory, shard_of}
+use Rattle.lane_work.specs.Answering.{WereAnswered}
+use Rattle.shard_queue.specs.declared.lane.Entry.TheVariants.{End}
+use Rattle.shard_queue.specs.declared.lane.Entry.{Entry}
+use Rattle.delivery_token.specs.declared.Job.{Job}
+use Rattle.delivery_token.specs.declared.log.Noted.{Noted}
 use Rattle.shard_queue.specs.Closing.{IsWhole}
 use Rattle.shard_queue.specs.Lane.{of}
 use Rattle.shard_queue.specs.Reply.{reply_history}
 use Rattle.shard_queue.specs.Permits.{history, numbers}
 use Rattle.lane_work.specs.Account.{Account}
+use Rattle.lane_work.specs.Awaiting.{copies_in, verdicts_in}
 use Rattle.lane_work.specs.Consuming.{items_of}
 use Rattle.lane_work.specs.Speaking.{premises_of}
 use Rattle.lane_work.specs.declared.consumer.Consumed.{Consumed}
@@ -21,15 +29,28 @@ use Rattle.house_floor.specs.declared.floor.Guest.{Guest}
 use Rattle.house_threads.specs.Crew.{IsProduceOf, IsServiceOf, SessionAccount}
 use Rattle.reckoning.specs.Balancing.{IsBalanced}
 use Rattle.reckoning.specs.declared.balancing.Books.{Books}
-use Rattle.reckoning.proofs.Accounts.{account_of, copies_taken, mapped_at, session_account_of}
+use Rattle.reckoning.proofs.Accounts.{account_of, answers_of, only_of, copies_taken, mapped_at, session_account_of}
 use Rattle.reckoning.proofs.Parts.{seats_of, some_at}
 use Rattle.running_house.specs.Agree as report
 use Rattle.running_house.specs.Agree.{Agrees}
-use Rattle.running_house.specs.inner.Agree.{AreTexts, IsFloorFor}
+use Rattle.running_house.specs.Agree.{IsEmptied, WasAnswered}
+use Rattle.std.proofs.lemmas.List.Elements.{All-cons, All-head, All-nil, All-tail}
+use Rattle.running_house.specs.Order.{AreInLaneOrder}
+use Rattle.running_house.specs.inner.Agree.{AreTexts, IsFloorFor, IsNumbered}
 use Rattle.running_house.specs.Plan.{connections_of, premises_for, producers_in}
 use Rattle.running_house.specs.declared.plan.Plan.{Plan}
 use Rattle.running_house.specs.declared.plan.Report.{Report}
+use Rattle.running_house.proofs.Ordered.{in_lane_order, numbered_from, told_once}
 use Rattle.running_house.proofs.Moves.{behind, below, first_at, get_mapped, map_twice, mapped_take, moved, text_at}
+
+-- nothing waits, so however much room there is will do
+all_emptied : {A T : Type 0} (f : A → List (Entry T)) (producers room : ℕ) (cs : List A) → All (λ c. IsWhole producers room (f c)) cs → All (λ c. IsEmptied producers (f c)) cs
+all_emptied {A} f producers room [] all = All-nil (λ (c : A). IsEmptied producers (f c))
+all_emptied {A} f producers room (c ∷ cs) all =
+    let one = All-head (λ (d : A). IsWhole producers room (f d)) c cs all in
+    All-cons (λ (d : A). IsEmptied producers (f d)) c cs
+    (record { merge = record { each = one.merge.each; known = one.merge.known; within = omega arith; legal = one.merge.legal }; closed = one.closed })
+    (all_emptied f producers room cs (All-tail (λ (d : A). IsWhole producers room (f d)) c cs all))
 
 module _ (plan : Plan) (floor : Floor) (is : IsFloorFor plan floor) (ws : List Worked) (cs : List Consumed)
     (worked : AllAt (IsProduceOf floor plan.workers.items plan.sessions.items) 0 ws) (services : AllAt (IsServiceOf floor) 0 cs)
@@ -107,21 +128,58 @@ module _ (plan : Plan) (floor : Floor) (is : IsFloorFor plan floor) (ws : List W
       let l = length-map ws (λ (w : Worked). map (λ b. b.items) w.replies.items) in
       ap length replies_same ∙ length-take-le (length plan.workers.items) all_replies (omega (arith, l, producers)) ∙ sym connections_count
 
+  shards_are : plan.config.shards ≡ length floor.office.lanes.items
+  shards_are = sym (sym is.house.shards ∙ ap (λ h. h.directory.shards) is.premises)
+
+  pub answered : (s p : ℕ) → s < plan.config.shards → p < producers_in plan
+      → WasAnswered (length (premises_for plan).directory.homes) s p (slice_index_or (report.histories r) s []) (slice_index_or (report.answers r) p [])
+  answered s p shard seat =
+      let channels_are = is.house.channels in
+      let a = answers_of floor cs books.closed.lanes.items _ books.closed.channels.items _ services shards balanced.lanes_closed balanced.channels_closed s p (omega (arith, shard, shards_are)) (omega (arith, seat, channels_are)) in
+      record {
+        told = a.0;
+        each = subst (λ (n : ℕ). WereAnswered n s p (slice_index_or (report.histories r) s []) a.0) is.mailboxes
+            (subst (λ (hs : List (List (Entry Job))). WereAnswered (length floor.depot.mailboxes.items) s p (slice_index_or hs s []) a.0) histories_same a.1);
+        ended = ap (λ (xs : List (List (Entry Noted))). of s (slice_index_or xs p [])) (sym answers_same) ∙ a.2;
+      }
+
+  pub only : (p : ℕ) → p < producers_in plan → verdicts_in (slice_index_or (report.answers r) p []) ≡ copies_in (map (of p) (report.histories r))
+  only p under =
+      ap (λ (xs : List (List (Entry Noted))). verdicts_in (slice_index_or xs p [])) (sym answers_same)
+      ∙ only_of floor plan.workers.items plan.sessions.items ws worked producers balanced.fates _ books.closed.lanes.items balanced.lanes_closed _ books.closed.channels.items balanced.channels_closed p under
+      ∙ ap (λ (hs : List (List (Entry Job))). copies_in (map (of p) hs)) histories_same
+
+  pub in_order : (whole : Bool) → ListsMet floor.office.directory whole (report.notes_of r) (map (λ c. c.items) books.copies.items) (report.accepted_of r) (report.texts_of r)
+      → (m : ℕ) → m < length (premises_for plan).directory.homes
+      → AreInLaneOrder m (slice_index_or (report.texts_of r) m []) (slice_index_or (report.accepted_of r) m []) (slice_index_or (report.copies_taken r) (shard_of (premises_for plan).directory m) [])
+  in_order whole met m under =
+      let same : floor.office.directory ≡ (premises_for plan).directory = ap (λ h. h.directory) is.premises in
+      let here = (subst (λ (d : Directory). ListsMet d whole (report.notes_of r) (map (λ c. c.items) books.copies.items) (report.accepted_of r) (report.texts_of r)) same met).mailbox m under in
+      subst (λ (copies : List (List Job)). AreInLaneOrder m (slice_index_or (report.texts_of r) m []) (slice_index_or (report.accepted_of r) m []) (slice_index_or copies (shard_of (premises_for plan).directory m) [])) copies_same
+      (in_lane_order m (slice_index_or (report.texts_of r) m []) (slice_index_or (report.accepted_of r) m []) (slice_index_or (map (λ c. c.items) books.copies.items) (shard_of (premises_for plan).directory m) []) here.met)
+
   pub agrees : (whole : Bool) → whole ≡ (length plan.sessions.items == 0)
-      → ListsAgree floor.office.directory whole (report.notes_of r) (map (λ c. c.items) books.copies.items) (report.accepted_of r) (report.texts_of r) → Agrees plan r
-  agrees whole all lists = record {
+      → ListsAgree floor.office.directory whole (report.notes_of r) (map (λ c. c.items) books.copies.items) (report.accepted_of r) (report.texts_of r)
+      → ListsMet floor.office.directory whole (report.notes_of r) (map (λ c. c.items) books.copies.items) (report.accepted_of r) (report.texts_of r)
+      → IsNumbered plan.config.first_uid r → Agrees plan r
+  agrees whole all lists met numbered = record {
     accounts = accounts;
     sessions = sessions;
     lists = subst (λ x. ListsAgree x.directory (length plan.sessions.items == 0) (report.notes_of r) (report.copies_taken r) (report.accepted_of r) (report.texts_of r)) is.premises
         (subst (λ x. ListsAgree floor.office.directory (length plan.sessions.items == 0) (report.notes_of r) x (report.accepted_of r) (report.texts_of r)) copies_same
         (subst (λ x. ListsAgree floor.office.directory x (report.notes_of r) (map (λ c. c.items) books.copies.items) (report.accepted_of r) (report.texts_of r)) all lists));
+    answered = answered;
+    only = only;
+    uids = λ m under. numbered_from plan.config.first_uid r.accepted.items numbered.accepted numbered.begins m;
+    once = λ m under. told_once r.texts.items numbered.once m;
+    in_order = in_order whole met;
     seats = seats_are;
     replies = replies_count;
     said = count;
     shards = sym (ap length histories_same) ∙ length-map books.closed.lanes.items history ∙ lanes.closed_length balanced.lanes_closed.2 ∙ sym is.house.shards ∙ ap (λ h. h.directory.shards) is.premises;
-    lanes = subst (λ c. All (λ d. IsWhole (producers_in plan) plan.config.depth (history d)) c.lanes.items) (sym closed_is)
-        (lanes.all_whole balanced.lanes_closed.2 (producers_in plan) plan.config.depth is.lanes);
+    lanes = subst (λ c. All (λ d. IsEmptied (producers_in plan) (history d)) c.lanes.items) (sym closed_is)
+        (all_emptied history (producers_in plan) plan.config.depth books.closed.lanes.items (lanes.all_whole balanced.lanes_closed.2 (producers_in plan) plan.config.depth is.lanes));
     producers = ap (λ c. length c.channels.items) closed_is ∙ channels.closed_length balanced.channels_closed.2 ∙ is.house.channels;
-    channels = subst (λ c. All (λ d. IsWhole plan.config.shards reply_room (reply_history d)) c.channels.items) (sym closed_is)
-        (channels.all_whole balanced.channels_closed.2 plan.config.shards reply_room is.channels);
+    channels = subst (λ c. All (λ d. IsEmptied plan.config.shards (reply_history d)) c.channels.items) (sym closed_is)
+        (all_emptied reply_history plan.config.shards reply_room books.closed.channels.items (channels.all_whole balanced.channels_closed.2 plan.config.shards reply_room is.channels));
   }

@@ -138,5 +138,5 @@ taken_is_a_producers plan r agrees lane p copy under there = (elim (less_or_not 
 
   nobodys : producers_in plan ≤ p → ⊥
   nobodys past =
-      let whole = All-map (λ h. IsWhole (producers_in plan) plan.config.depth h) history r.closed.lanes.items agrees.lanes lane [] under in
+      let whole = All-map (λ h. IsWhole (producers_in plan) 0 h) history r.closed.lanes.items agrees.lanes lane [] under in
       contains_none (subst (λ es. Contains es (Item p copy)) (whole.merge.known p past) own)

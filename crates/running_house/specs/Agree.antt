@@ -1,19 +1,25 @@
 -- What a report says of a run: how what the threads left agrees.
-use Rattle.std.specs.Prelude.{◌≡◌, ◌==◌, ◌+◌, ℕ, ◌<◌, List, [], ◌∷◌, length, map, All, Some, slice_get, slice_index_or}
+use Rattle.std.specs.Prelude.{◌≡◌, ◌==◌, ◌+◌, ◌++◌, ℕ, ◌<◌, List, [], ◌∷◌, length, map, All, Some, slice_get, slice_index_or}
+use Rattle.std.specs.List.{range_with_len}
 use Rattle.delivery_token.specs.declared.CopyKey.{CopyKey}
 use Rattle.delivery_token.specs.declared.Job.{Job}
 use Rattle.delivery_token.specs.declared.log.Noted.{Noted}
 use Rattle.agreement.specs.Lists.{ListsAgree}
+use Rattle.envelope.specs.Directory.{shard_of}
 use Rattle.shard_queue.specs.declared.lane.Entry.{Entry}
+use Rattle.shard_queue.specs.declared.lane.Entry.TheVariants.{End}
 use Rattle.shard_queue.specs.Closing.{IsWhole}
 use Rattle.shard_queue.specs.Lane.{of}
 use Rattle.shard_queue.specs.Reply.{reply_history}
 use Rattle.shard_queue.specs.Permits.{history, numbers}
 use Rattle.lane_work.specs.Account.{Account}
+use Rattle.lane_work.specs.Answering.{WereAnswered}
+use Rattle.lane_work.specs.Awaiting.{copies_in, verdicts_in}
 use Rattle.lane_work.specs.Consuming.{items_of}
-use Rattle.house_floor.specs.Opening.{reply_room}
 use Rattle.house_threads.specs.Crew.{SessionAccount}
 use Rattle.house_floor.specs.declared.floor.Guest.{Guest}
+use Rattle.reckoning.specs.Shelves.{AreToldOnce}
+use Rattle.running_house.specs.Order.{AreInLaneOrder}
 use Rattle.running_house.specs.Plan.{connections_of, premises_for, producers_in}
 use Rattle.running_house.specs.declared.plan.Plan.{Plan}
 use Rattle.running_house.specs.declared.plan.Report.{Report}
@@ -54,6 +60,18 @@ copies_taken r = map items_of (histories r)
 
 -- ---- the report
 
+-- All that was put on a queue was taken, each of so many has put its end, and nobody else put anything. How much room the queue had is not said: nothing waits there any more,
+-- so none is wanted.
+abbrev pub IsEmptied : {T : Type 0} → ℕ → List (Entry T) → Type 0
+IsEmptied producers got = IsWhole producers 0 got
+
+-- What the consumer of a shard told a producer: of these entries, which it took, one verdict on each copy of that producer, in their order, and then its end.
+-- It told nothing else. `heard`: all that came on the producer's reply channel
+pub record WasAnswered (mailboxes shard producer : ℕ) (taken : List (Entry Job)) (heard : List (Entry Noted)) : Type 0 where
+  pub told : List (Entry Noted)
+  pub each : WereAnswered mailboxes shard producer taken told
+  pub ended : of shard heard ≡ told ++ End shard ∷ []
+
 pub record Agrees (plan : Plan) (r : Report) : Type 0 where
   -- Each worker's replies and log are what its connections come to by the dialogue, where it heard what was received on its channel; and what was taken of
   -- it from each lane is what its connections submitted, then its end.
@@ -67,12 +85,24 @@ pub record Agrees (plan : Plan) (r : Report) : Type 0 where
   -- What each mailbox accepted of each of them is what the log has as stored there, and nothing else was accepted; each message that is there
   -- has the text of its copy, and where no session could remove one, every accepted copy is there.
   pub lists : ListsAgree (premises_for plan).directory (length plan.sessions.items == 0) (notes_of r) (copies_taken r) (accepted_of r) (texts_of r)
+  -- Each copy that was taken of one of them was answered once, by the consumer that took it, and nothing else was.
+  pub answered : (s p : ℕ) → s < plan.config.shards → p < producers_in plan
+      → WasAnswered (length (premises_for plan).directory.homes) s p (slice_index_or (histories r) s []) (slice_index_or (answers r) p [])
+  -- And each of them heard as many verdicts as copies of it were taken: it awaited each, and nothing else came but ends.
+  pub only : (p : ℕ) → p < producers_in plan → verdicts_in (slice_index_or (answers r) p []) ≡ copies_in (map (of p) (histories r))
+  -- The copies that a mailbox accepted have the UIDs from the first on, with no gap; no message that is there is told twice; and the messages stand in the
+  -- order in which their copies were taken.
+  pub uids : (m : ℕ) → m < length (premises_for plan).directory.homes
+      → map (λ pair. pair.1) (slice_index_or (accepted_of r) m []) ≡ range_with_len plan.config.first_uid (length (slice_index_or (accepted_of r) m []))
+  pub once : (m : ℕ) → m < length (premises_for plan).directory.homes → AreToldOnce (slice_index_or (texts_of r) m [])
+  pub in_order : (m : ℕ) → m < length (premises_for plan).directory.homes
+      → AreInLaneOrder m (slice_index_or (texts_of r) m []) (slice_index_or (accepted_of r) m []) (slice_index_or (copies_taken r) (shard_of (premises_for plan).directory m) [])
   -- There is one of each for each worker and session.
   pub seats : map (λ l. l.seat) r.logs.items ≡ numbers 0 (producers_in plan)
   pub replies : length (replies_of r) ≡ length (connections_of plan)
   pub said : length r.sessions.items ≡ length plan.sessions.items
   -- Each lane and each reply channel was closed: all that was put was taken, and nobody else put anything.
   pub shards : length (histories r) ≡ plan.config.shards
-  pub lanes : All (λ c. IsWhole (producers_in plan) plan.config.depth (history c)) r.closed.lanes.items
+  pub lanes : All (λ c. IsEmptied (producers_in plan) (history c)) r.closed.lanes.items
   pub producers : length r.closed.channels.items ≡ producers_in plan
-  pub channels : All (λ c. IsWhole plan.config.shards reply_room (reply_history c)) r.closed.channels.items
+  pub channels : All (λ c. IsEmptied plan.config.shards (reply_history c)) r.closed.channels.items

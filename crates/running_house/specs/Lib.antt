@@ -1,4 +1,5 @@
 pub mod Plan
+pub mod Order
 pub mod Agree
 pub mod Tells
 pub mod inner

@@ -3,6 +3,7 @@
 //! below, sockets and command lines elsewhere.
 #![tactic(auto)]
 
+mod begun;
 mod laws;
 mod plan;
 mod report;

@@ -1,15 +1,18 @@
 //! What the threads left is closed, compared and put together. Nothing runs any more.
 
 ghost use Rattle.std.specs.Global.{Global};
-ghost use Rattle.std.specs.Prelude.{◌≡◌, ◌==◌, ◌⊎◌, ◌≤◌, ◌+◌, ◌∷◌, ℕ, [], IfErr, IfOk, OnOk, Vec, drop, length, map, take, vec_len};
+ghost use Rattle.std.specs.Prelude.{◌≡◌, ◌==◌, ◌⊎◌, ◌≤◌, ◌+◌, ◌∷◌, ℕ, [], All, IfErr, IfOk, OnOk, Vec, drop, length, map, take, vec_len};
 ghost use Rattle.agreement.specs.Lists.{ListsAgree};
+ghost use Rattle.agreement.specs.Walk.{ListsMet};
 ghost use Rattle.house_floor.specs.Crew.{AllAt};
 ghost use Rattle.house_floor.specs.Opening.{AreBaskets};
 ghost use Rattle.house_threads.specs.Crew.{IsProduceOf, IsServiceOf, LeavesAll};
 ghost use Rattle.running_house.specs.Agree.{Agrees, accepted_of, notes_of, texts_of};
-ghost use Rattle.running_house.specs.inner.Agree.{AreTexts, IsFloorFor};
+ghost use Rattle.reckoning.specs.Shelves.{AreNumbered, AreToldOnce};
+ghost use Rattle.running_house.specs.inner.Agree.{AreTexts, IsFloorFor, IsNumbered};
 ghost use Rattle.running_house.specs.Plan.{of_reckoning, producers_in};
 
+use crate::begun::begin_at;
 use crate::plan::{Plan, Report, WorkFault};
 use agreement::lists_agree;
 use envelope::Directory;
@@ -55,13 +58,19 @@ fn compare(
     alloc: Global,
     directory: &Directory,
     whole: bool,
+    first_uid: u32,
     books: Books,
     shelves: Shelves,
     sessions: Vec<Vec<u8>>,
 ) -> Result<Report, WorkFault>
-    requires { directory.now.shards ≤ vec_len books.copies }
+    requires shards { directory.now.shards ≤ vec_len books.copies }
+    requires numbered { All (λ v. AreNumbered v.items) shelves.accepted.items }
+    requires once { All (λ v. AreToldOnce v.items) shelves.texts.items }
     ensures lists { IfOk result (λ r. ListsAgree directory.now whole (notes_of r) (map (λ c. c.items) books.copies.items) (accepted_of r)
         (texts_of r)) }
+    ensures met { IfOk result (λ r. ListsMet directory.now whole (notes_of r) (map (λ c. c.items) books.copies.items) (accepted_of r)
+        (texts_of r)) }
+    ensures numbered { IfOk result (IsNumbered first_uid) }
     ensures same { IfOk result (λ r. (r.replies ≡ books.replies) × (r.logs ≡ books.logs) × (r.sessions ≡ sessions) × (r.closed ≡ books.closed)) }
     ensures fault { IfErr result (λ fault. (fault ≡ WorkFault.NoMemory) ⊎ (fault ≡ WorkFault.Torn)) }
 {
@@ -82,6 +91,9 @@ fn compare(
         texts.as_slice(),
     )?;
     if !agree {
+        return Err(WorkFault::Torn);
+    }
+    if !begin_at(accepted.as_slice(), first_uid) {
         return Err(WorkFault::Torn);
     }
     Ok(Report {
@@ -106,6 +118,9 @@ fn report_on(
     requires workers { length plan.now.workers.items ≤ vec_len books.replies }
     ensures lists { IfOk result (λ r. ListsAgree directory.now (length plan.now.sessions.items == 0) (notes_of r)
         (map (λ c. c.items) books.copies.items) (accepted_of r) (texts_of r)) }
+    ensures met { IfOk result (λ r. ListsMet directory.now (length plan.now.sessions.items == 0) (notes_of r)
+        (map (λ c. c.items) books.copies.items) (accepted_of r) (texts_of r)) }
+    ensures numbered { IfOk result (IsNumbered plan.now.config.first_uid) }
     ensures parts { IfOk result (λ r. (r.replies.items ≡ take (length plan.now.workers.items) books.replies.items) × (r.logs ≡ books.logs) ×
         (r.closed ≡ books.closed) × AreTexts (drop (length plan.now.workers.items) books.replies.items) r.sessions.items ×
         (length plan.now.workers.items + vec_len r.sessions ≡ vec_len books.replies)) }
@@ -117,6 +132,7 @@ fn report_on(
         alloc,
         directory,
         plan.sessions.is_empty(),
+        plan.config.first_uid,
         books,
         shelves,
         sessions,

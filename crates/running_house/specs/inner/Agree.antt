@@ -1,5 +1,6 @@
 -- What bodies and proofs say besides: what a report says of a run: how what the threads left agrees.
-use Rattle.std.specs.Prelude.{◌≡◌, ◌<◌, ℕ, List, [], ◌∷◌, length, map, All, Vec}
+use Rattle.std.specs.Prelude.{◌≡◌, ◌<◌, ℕ, true, List, [], ◌∷◌, length, map, All, Vec}
+use Rattle.std.specs.List.{list_all}
 use Rattle.std.specs.Global.{Global}
 use Rattle.shard_queue.specs.Reply.{room_of, senders_of}
 use Rattle.shard_queue.specs.Permits.{capacity_of, history, producers_of}
@@ -9,8 +10,11 @@ use Rattle.house_floor.specs.Crew.{IsHouse}
 use Rattle.house_floor.specs.Opening.{reply_room}
 use Rattle.house_floor.specs.declared.floor.Floor.{Floor}
 use Rattle.house_floor.specs.declared.opening.Sizes.{Sizes}
+use Rattle.reckoning.specs.Shelves.{AreNumbered, AreToldOnce}
+use Rattle.running_house.specs.inner.Begun.{begins_at}
 use Rattle.running_house.specs.Plan.{premises_for, producers_in}
 use Rattle.running_house.specs.declared.plan.Plan.{Plan}
+use Rattle.running_house.specs.declared.plan.Report.{Report}
 
 -- ---- the house
 
@@ -43,3 +47,11 @@ AreTexts [] [] = Unit {0}
 AreTexts [] (t ∷ ts) = ⊥
 AreTexts (s ∷ ss) [] = ⊥
 AreTexts (s ∷ ss) (t ∷ ts) = ((text : Vec ℕ Global) → s.items ≡ text ∷ [] → t ≡ text) × AreTexts ss ts
+
+-- ---- what the mailboxes hold
+
+-- what each accepted is numbered from this UID on, and what is there is told once
+pub record IsNumbered (first : ℕ) (r : Report) : Type 0 where
+  pub accepted : All (λ v. AreNumbered v.items) r.accepted.items
+  pub begins : list_all (λ v. begins_at first v.items) r.accepted.items ≡ true
+  pub once : All (λ v. AreToldOnce v.items) r.texts.items
