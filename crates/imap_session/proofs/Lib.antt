@@ -13,4 +13,3 @@ pub mod Lines
 pub mod Turns
 pub mod Verdicts
 pub mod Telling
-pub mod Unkept

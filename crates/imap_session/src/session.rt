@@ -12,7 +12,6 @@ use crate::tag::Tag;
 use crate::turn::{
     FIRST, after_command, append_of, carry_out, end_idle, first_line, is_idle, put_fault,
 };
-use change_ring::Flags;
 use delivery_token::{Text, Verdict};
 use imap_grammar::{Append as AppendCommand, Command, Name, read_line};
 use line_io::put;
@@ -50,14 +49,14 @@ impl Model for Session {
 }
 
 impl Session {
-    ghost use Rattle.std.specs.Prelude.{◌≡◌, ◌≢◌, ◌==◌, ◌^◌, ◌⊎◌, ◌+◌, ◌<◌, ◌≤◌, ◌++◌, ◌↔◌, ℕ, List, IfErr, take, min, if◌then◌else◌, true, false, [], codes, length, is_some, None, Some, Err, OnOk, OnErr, IfOk, IfSome, vec_len};
+    ghost use Rattle.std.specs.Prelude.{◌≡◌, ◌≢◌, ◌==◌, ◌^◌, ◌⊎◌, ◌+◌, ◌<◌, ◌≤◌, ◌++◌, ◌↔◌, ℕ, List, IfErr, take, min, if◌then◌else◌, true, false, [], codes, length, is_some, None, Some, Err, OnOk, OnErr, IfOk, vec_len};
     ghost use Rattle.std.specs.Option.{option_copied, option_map};
     ghost use Rattle.std.specs.Vec.{vec_capacity};
     ghost use Rattle.imap_session.specs.Exchange.{Sent as SentSpec, kept_tag, nothing_sent, Feed, Refused, closed, is_idling, may_send, refusal_text, tagged};
-    ghost use Rattle.imap_session.specs.Commands.{appending, asking, coming, due_of, number_named, on_rest, on_verdict, wanting, greeting, long_line_text, most_changes, on_idle_line, turn_of_long_line};
-    ghost use Rattle.imap_session.specs.inner.Seen.{HasFirstRoom, appending_of, sent_of};
+    ghost use Rattle.imap_session.specs.Commands.{appending, awaiting, due_of, number_named, on_rest, on_verdict, wanting, greeting, long_line_text, most_changes, on_idle_line, turn_of_long_line};
+    ghost use Rattle.imap_session.specs.inner.Seen.{appending_of, sent_of};
     ghost use Rattle.imap_session.specs.inner.Appends.{Leads};
-    ghost use Rattle.imap_session.specs.Store.{Answers, AnswersVerdict, IdleTurns, Starves, TakesBytes, most_first_room, room_for, room_for_verdict};
+    ghost use Rattle.imap_session.specs.Store.{Answers, AnswersVerdict, IdleTurns, Starves, TakesBytes, room_for, room_for_verdict};
     ghost use Rattle.imap_session.specs.inner.Store.{Plays, behind_first_line, first_line, is_open};
 
     /// The session of a client whose mailboxes have these names, and which appends messages of so many bytes at most, or none. It has
@@ -173,42 +172,11 @@ impl Session {
         After::Idle
     }
 
-    // Waits for the bytes of a literal.
-    fn begin_literal(
-        &mut self,
-        tag: Tag,
-        mailbox: Option<u8>,
-        flags: Flags,
-        size: usize,
-        text: Option<Vec<u8>>,
-    ) -> After
-        requires going { self.old.ended ≡ false }
-        requires unsent { self.old.mailing.sent ≡ None }
-        requires room { IfSome text (λ t. min size most_first_room ≤ vec_capacity t) }
-        ensures begun { self.new ≡ record self.old {
-          mailing = record self.old.mailing {
-            begun = Some (record { tag = tag; mailbox = mailbox; flags = flags; size = size; due = size; text = option_map (λ t. t.items) text });
-          };
-        } }
-        ensures waits { result ≡ After.Literal size }
-        ensures sends { result ≡ may_send self.new }
-    {
-        self.mailing.begun = Some(Appending {
-            tag,
-            mailbox,
-            flags,
-            size,
-            due: size,
-            text,
-        });
-        After::Literal(size)
-    }
-
-    // Asks for a literal, and waits for its bytes. Where memory for the tag or the text is refused, that is told.
+    // Waits for the bytes of a literal, and asks for them where the client waits for that. Where memory for the tag is refused, that is told.
     fn await_literal(
         &mut self,
         alloc: Global,
-        mailbox: u8,
+        mailbox: Option<u8>,
         append: &AppendCommand<'_>,
         response: Response<'_>,
         out: &mut Vec<u8>,
@@ -218,23 +186,31 @@ impl Session {
         requires alone { self.old.mailing.begun ≡ None }
         requires unsent { self.old.mailing.sent ≡ None }
         requires size { append.now.literal.size < 2 ^ 32 }
-        ensures leads { Leads response.entry.tag self.old (wanting (asking mailbox append.now.flags append.now.literal.size))
+        ensures leads { Leads response.entry.tag self.old (wanting (awaiting
+            (if append.now.literal.waits then codes "+ ready\r\n" else []) mailbox append.now.flags append.now.literal.size))
             response.entry.text out.new.items result self.new }
         ensures folders { self.new.folders ≡ self.old.folders }
         ensures sends { result ≡ may_send self.new }
     {
-        let size = append.literal.size as usize;
         let tag = response.release(out);
         let Ok(own_tag) = Tag::new(alloc, tag) else {
             put_tagged(tag, b"NO Out of memory", out);
             return After::Go;
         };
-        let Ok(text) = begin_text(alloc, size) else {
-            put_tagged(tag, b"NO Out of memory", out);
-            return After::Go;
-        };
-        put(READY, out);
-        self.begin_literal(own_tag, Some(mailbox), append.flags, size, Some(text))
+        let size = append.literal.size as usize;
+        let text = begin_text(alloc, size);
+        self.mailing.begun = Some(Appending {
+            tag: own_tag,
+            mailbox,
+            flags: append.flags,
+            size,
+            due: size,
+            text: Some(text),
+        });
+        if append.literal.waits {
+            put(READY, out);
+        }
+        After::Literal(size)
     }
 
     // The number of the mailbox of this name, where there is one.
@@ -278,59 +254,7 @@ impl Session {
             response.end(words, out);
             return After::Go;
         }
-        self.await_literal(alloc, number, append, response, out)
-    }
-
-    // The mailbox that an APPEND names, where there is one, and room for its text.
-    fn prepare(
-        &self,
-        alloc: Global,
-        append: &AppendCommand<'_>,
-        size: usize,
-    ) -> Result<(Option<u8>, Vec<u8>), AllocError>
-        ensures number { IfOk result (λ made. made.0 ≡ number_named append.now.name self.now.folders) }
-        ensures empty { IfOk result (λ made. made.1.items ≡ []) }
-        ensures room { IfOk result (λ made. min size most_first_room ≤ vec_capacity made.1) }
-    {
-        let mailbox = self.number_of(alloc, &append.name)?;
-        let text = begin_text(alloc, size)?;
-        Ok((mailbox, text))
-    }
-
-    // Takes the line of an APPEND whose client sends the literal without being asked. Its bytes come whatever is refused, and are no commands: where
-    // memory for the name or the text is, they are dropped, and that is told behind them. Without a tag that can't be told, and the session ends.
-    fn expect_literal(
-        &mut self,
-        alloc: Global,
-        append: &AppendCommand<'_>,
-        response: Response<'_>,
-        out: &mut Vec<u8>,
-    ) -> After
-        requires going { self.old.ended ≡ false }
-        requires awake { self.old.idling ≡ None }
-        requires alone { self.old.mailing.begun ≡ None }
-        requires unsent { self.old.mailing.sent ≡ None }
-        requires size { append.now.literal.size < 2 ^ 32 }
-        ensures leads { Leads response.entry.tag self.old
-            (coming (number_named append.now.name self.old.folders) append.now.flags append.now.literal.size)
-            response.entry.text out.new.items result self.new }
-        ensures folders { self.new.folders ≡ self.old.folders }
-        ensures sends { result ≡ may_send self.new }
-    {
-        let size = append.literal.size as usize;
-        let prepared = self.prepare(alloc, append, size);
-        let tag = response.release(out);
-        let Ok(tag) = Tag::new(alloc, tag) else {
-            put(b"* BYE Out of memory\r\n", out);
-            self.ended = true;
-            return After::Bye;
-        };
-        match prepared {
-            Ok((mailbox, text)) => {
-                return self.begin_literal(tag, mailbox, append.flags, size, Some(text));
-            }
-            Err(_) => return self.begin_literal(tag, None, append.flags, size, None),
-        }
+        self.await_literal(alloc, Some(number), append, response, out)
     }
 
     // Takes the line of an APPEND.
@@ -359,7 +283,11 @@ impl Session {
             self.ended = true;
             return After::Bye;
         }
-        self.expect_literal(alloc, append, response, out)
+        let Ok(mailbox) = self.number_of(alloc, &append.name) else {
+            response.end(LastWords(b"NO Out of memory"), out);
+            return After::Go;
+        };
+        self.await_literal(alloc, mailbox, append, response, out)
     }
 
     // Answers a command other than IDLE and APPEND, behind its first line.
@@ -546,8 +474,7 @@ impl Session {
     }
 
     /// Takes bytes of the literal that APPEND announced, those at the front of the piece, and answers how many: as many as are due. When
-    /// none is due the rest of the line goes to `line`. Where memory is refused the bytes are dropped, and the command ends with that; but none of the
-    /// first 4,096, for which there is room once a literal is taken.
+    /// none is due the rest of the line goes to `line`. Where memory is refused the bytes are dropped, and the command ends with that.
     pub fn literal(&mut self, piece: &[u8]) -> usize
         // As many as are due, from the front of the piece: they are kept, or memory was refused to them.
         ensures count { result ≡ min (length piece.now) (due_of self.old.mailing.begun) }
@@ -590,7 +517,6 @@ impl Session {
         requires going { self.old.ended ≡ false }
         requires alone { self.old.mailing.begun ≡ None }
         requires unsent { self.old.mailing.sent ≡ None }
-        requires room { HasFirstRoom begun }
         ensures answered { IfOk result (λ after. Leads begun.tag (record self.old { idling = None })
             (on_rest self.old.mailing (appending_of begun) (length line.now == 0)) out.old.items out.new.items after self.new) }
         ensures lasts { result ≢ Err SessionFault.Ended }
