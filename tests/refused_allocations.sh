@@ -2,10 +2,11 @@
 # Worked cases, with each allocation of the program refused in turn: the Nth call of malloc or realloc answers NULL, for N from 1 until a
 # run meets none (`refuse.c`). Each run must end in one of these ways:
 # - with status 5, and what was written is a beginning of what the whole run writes;
-# - with status 0, and what was written is that up to a first line `451 4.3.0 Out of memory` of a connection, or `NO Out of memory` under a
-#   tag of a session, behind which the script goes on;
+# - with status 0, and what was written is that up to a first line `451 4.3.0 Out of memory` of a connection, `NO Out of memory` under a
+#   tag of a session, or `* BYE Out of memory`, behind which the script goes on;
 # - with status 0 and the whole output, where the program could do without that memory.
-# And where a copy was answered `Delivered`, or `OK` with APPENDUID, and the script came to its TAIL, the mailbox has it. Each case ends with a TAIL for that.
+# And where a copy was answered `Delivered`, or `OK` with APPENDUID, and the script came to its TAIL, the mailbox has it, under the UID that was told. Each case
+# ends with a TAIL for that. Whatever was refused, the text of a literal is never answered as a command: such texts have tags that begin with x.
 # Where a SELECT or EXAMINE isn't answered OK no mailbox is selected, as the next CLOSE tells; and one behind another tells first that the other is closed.
 # With no argument it builds the program; else the argument is the program.
 set -eu
@@ -30,7 +31,7 @@ done
 "${compiler:?there is no C compiler}" -O1 -shared -fPIC -o "$room/refuse.so" "$top/tests/refuse.c" -ldl
 
 words='script --depth 2 --ring 16 --messages 8 --uidvalidity 7 alice bob'
-refusal='^(L[1-8] 451 4[.]3[.]0|I[1-8] [^ *]+ NO) Out of memory$'
+refusal='^(L[1-8] 451 4[.]3[.]0|I[1-8] [^ *]+ NO|I[1-8] [*] BYE) Out of memory$'
 
 # Whether the bytes of a file are the first ones of what is wanted.
 is_beginning() {
@@ -51,12 +52,31 @@ is_right() {
     esac
 }
 
-# Whether a copy that was answered as delivered, or as appended, stands in the mailbox, where the script came that far.
+# Whether each copy that was answered as delivered, or as appended, stands in the mailbox, where the script came that far: the UIDs that were told are UIDs of
+# messages that were added, none is told twice, and no more copies are answered than were added.
 is_kept() {
     grep -q '^T alice total' "$room/out" || return 0
-    delivered=$(grep -cE '^(L1 250 2\.1\.5 Delivered|I1 [^ ]+ OK \[APPENDUID 7 [0-9]+\] .*)$' "$room/out" || true)
-    added=$(grep -c '^T alice add ' "$room/out" || true)
-    test "$delivered" -le "$added"
+    awk '
+        /^L1 250 2\.1\.5 Delivered$/ { answered++ }
+        $1 == "I1" && $3 == "OK" && $4 == "[APPENDUID" {
+            answered++
+            uid = $6
+            sub(/\]$/, "", uid)
+            if ($5 != 7 || uid in told) wrong = 1
+            told[uid] = 1
+        }
+        /^T alice add / { added[$4] = 1; count++ }
+        END {
+            for (uid in told)
+                if (!(uid in added)) wrong = 1
+            exit (wrong || answered > count)
+        }
+    ' "$room/out"
+}
+
+# Whether no text of a literal was answered as a command.
+is_unanswered() {
+    ! grep -q '^I1 x' "$room/out"
 }
 
 # Whether a mailbox is selected just where a SELECT or EXAMINE told so, and each is told to be closed behind which another is asked for. Their tags begin with
@@ -97,14 +117,14 @@ count() {
 try_case() {
     at=1
     while run_at "$at" && test -e "$room/met"; do
-        if is_right "$status" && is_kept && is_selected_as_told; then count "$at" right; else count "$at" wrong; fi
+        if is_right "$status" && is_kept && is_unanswered && is_selected_as_told; then count "$at" right; else count "$at" wrong; fi
         at=$((at + 1))
     done
     if test "$status" = 0 && cmp -s "$want" "$room/out"; then count none right; else count none wrong; fi
 }
 
 passed=0 failed=0
-for case in first-message two-recipients-one-unknown select-and-list select-behind-another expunge partial-and-seen idle append; do
+for case in first-message two-recipients-one-unknown select-and-list select-behind-another expunge partial-and-seen idle append commands-in-literals; do
     input=$top/tests/cases/$case.stdin want=$top/tests/cases/$case.stdout
     # The first message is what the program's stored run reads.
     if test "$case" = first-message; then

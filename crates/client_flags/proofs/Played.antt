@@ -3,10 +3,10 @@ use Rattle.std.proofs.Common.{zero, suc, ◌≡◌, ℕ, List, [], ◌∷◌, le
 use Rattle.std.specs.Prelude.{Some, nat_lt, ◌&&◌}
 use Rattle.std.proofs.lemmas.Option.{none-some}
 use Rattle.mailbox.specs.declared.clients.MailFault.TheVariants.{NoMemory}
-use Rattle.imap_session.specs.Exchange.{Answer, Entered, Looked, Found, Counted, Altered, Expunged, Fed, Left, Refused, Starved, Exchange, Done, Wait, Write, Put, Enter, Look, Read, Count, Alter, Expunge, Feed, Leave, Standing, Turn, after_waiting, keeps_tag, tagged, played, most_in_place, waiting}
+use Rattle.imap_session.specs.Exchange.{Answer, Entered, Looked, Found, Counted, Altered, Expunged, Fed, Left, Refused, Starved, Exchange, Done, Wait, Write, Put, Enter, Look, Read, Count, Alter, Expunge, Feed, Leave, Standing, Turn, after_waiting, tagged, played, waiting}
 use Rattle.client_flags.specs.Flags.{Point}
 use Rattle.client_flags.specs.Turns.{LeadsFlags, SeesAllFlags}
-use Rattle.client_flags.proofs.Turning.{Refusals, SaysFlags, calls, ends, gives_up, gives_up_if, is_refused, shows, waits_on, writes}
+use Rattle.client_flags.proofs.Turning.{Refusals, SaysFlags, calls, ends, gives_up, goes_without, is_refused, shows, waits_on, writes}
 
 pub turn_tells : (tag : List ℕ) (refusals : Refusals tag) (p : Point) (now : Standing) (x : Exchange) (answers : List Answer) (turn : Turn) (q : Point)
     → played tag now x answers ≡ Some turn → SaysFlags tag p x → SeesAllFlags p turn.events q → LeadsFlags p turn.bytes q
@@ -22,9 +22,8 @@ turn_tells tag refusals p now (Wait bytes w) (Expunged a b c ∷ more) turn q e 
 turn_tells tag refusals p now (Wait bytes w) (Fed a b ∷ more) turn q e says sees = absurd (none-some turn e)
 turn_tells tag refusals p now (Wait bytes w) (Left a ∷ more) turn q e says sees = absurd (none-some turn e)
 turn_tells tag refusals p now (Wait bytes w) (Refused a ∷ more) turn q e says sees = absurd (none-some turn e)
-turn_tells tag refusals p now (Wait bytes w) (Starved zero ∷ []) turn q e says sees = gives_up_if (keeps_tag w && nat_lt most_in_place (length tag)) tag refusals p now NoMemory turn q e sees
-turn_tells tag refusals p now (Wait bytes w) (Starved zero ∷ b ∷ more) turn q e says sees = absurd (none-some turn e)
-turn_tells tag refusals p now (Wait bytes w) (Starved (suc n) ∷ more) turn q e says sees = absurd (none-some turn e)
+turn_tells tag refusals p now (Wait bytes w) (Starved n ∷ []) turn q e says sees = goes_without tag refusals p now w n turn q e sees
+turn_tells tag refusals p now (Wait bytes w) (Starved n ∷ b ∷ more) turn q e says sees = absurd (none-some turn e)
 turn_tells tag refusals p now (Write bytes x) [] turn q e says sees = writes p bytes (played tag now x []) turn q e sees says.0 (λ t d s. turn_tells tag refusals p now x [] t q d says.1 s)
 turn_tells tag refusals p now (Write bytes x) (Entered a ∷ more) turn q e says sees = writes p bytes (played tag now x (Entered a ∷ more)) turn q e sees says.0 (λ t d s. turn_tells tag refusals p now x (Entered a ∷ more) t q d says.1 s)
 turn_tells tag refusals p now (Write bytes x) (Looked a ∷ more) turn q e says sees = writes p bytes (played tag now x (Looked a ∷ more)) turn q e sees says.0 (λ t d s. turn_tells tag refusals p now x (Looked a ∷ more) t q d says.1 s)
@@ -53,9 +52,7 @@ turn_tells tag refusals p now (Look next) (Fed a b ∷ more) turn q e says sees 
 turn_tells tag refusals p now (Look next) (Left a ∷ more) turn q e says sees = absurd (none-some turn e)
 turn_tells tag refusals p now (Look next) (Refused a ∷ []) turn q e says sees = is_refused tag refusals p now Look a turn q e sees
 turn_tells tag refusals p now (Look next) (Refused a ∷ b ∷ more) turn q e says sees = absurd (none-some turn e)
-turn_tells tag refusals p now (Look next) (Starved zero ∷ []) turn q e says sees = gives_up tag refusals p now NoMemory turn q e sees
-turn_tells tag refusals p now (Look next) (Starved zero ∷ b ∷ more) turn q e says sees = absurd (none-some turn e)
-turn_tells tag refusals p now (Look next) (Starved (suc n) ∷ more) turn q e says sees = absurd (none-some turn e)
+turn_tells tag refusals p now (Look next) (Starved n ∷ more) turn q e says sees = absurd (none-some turn e)
 turn_tells tag refusals p now (Read uid mark next) [] turn q e says sees = absurd (none-some turn e)
 turn_tells tag refusals p now (Read uid mark next) (Entered a ∷ more) turn q e says sees = absurd (none-some turn e)
 turn_tells tag refusals p now (Read uid mark next) (Looked a ∷ more) turn q e says sees = absurd (none-some turn e)

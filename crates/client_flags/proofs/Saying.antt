@@ -26,7 +26,7 @@ use Rattle.imap_grammar.specs.declared.command.ImapFault.{ImapFault}
 use Rattle.imap_session.specs.declared.standing.After.TheVariants.{Go}
 use Rattle.imap_session.specs.declared.standing.Selected.{Selected}
 use Rattle.imap_session.specs.Exchange.{Alter, Altered, Answer, Appending, Exchange, Expunge, Feed, Folder, ForNothing, ForVerdict, Found, Mailing, Read, Sent, Standing, Turn, Wait, Write, bye, kept_behind}
-use Rattle.imap_session.specs.Commands.{appended_words, appending, awaiting, last_number, most_unasked, nowhere, number_named, on_rest, on_text, on_verdict, is_over, over, turn_behind, turn_with, wanting, without_begun, without_sent, completed, counting, expunge_set, fault_text, fetch_messages, fetched, fetching, folder_of, in_selected, in_writable, messages_done, on_chosen, on_command, on_found, on_idle_line, on_read, on_set, only_says, says, showing, store_messages, stored, storing, turn_while, unlimited, verb_text, wrong_state}
+use Rattle.imap_session.specs.Commands.{appended_words, appending, last_number, most_unasked, nowhere, number_named, on_rest, on_text, on_verdict, is_over, over, turn_behind, turn_with, wanting, without_begun, without_sent, completed, counting, expunge_set, fault_text, fetch_messages, fetched, fetching, folder_of, in_selected, in_writable, messages_done, on_chosen, on_command, on_found, on_idle_line, on_read, on_set, only_says, says, showing, store_messages, stored, storing, turn_while, unlimited, verb_text, wrong_state, asking, coming}
 use Rattle.client_list.specs.Turns.{IsPlain, IsTag}
 use Rattle.client_list.specs.Fetches.{AreToldParts, IsNumbered}
 use Rattle.client_list.specs.Commands.{AreNames, IsFollowed, IsPrinted, MayAnswer, MayAsk}
@@ -75,9 +75,9 @@ set_expunged tag p set t = λ copied r s. by r (named_in true set copied)
     done : (q : Point) → SaysFlags tag q (completed (commands.UidExpunge set))
     done q = last tag q (codes "OK UID EXPUNGE complete") 100 t (plain_words (codes "OK UID EXPUNGE complete") 100 refl refl)
 
-    by : (r : Point) (chosen : Option (List ℕ)) → SaysFlags tag r (on_chosen chosen (λ uids. Expunge (Some uids) (Feed unlimited (completed (commands.UidExpunge set)))))
+    by : (r : Point) (chosen : Option (List ℕ)) → SaysFlags tag r (on_chosen chosen (λ uids. wanting (Expunge (Some uids) (Feed unlimited (completed (commands.UidExpunge set))))))
     by r None = last tag r (codes "BAD Sequence number too hig") 104 t (plain_words (codes "BAD Sequence number too hig") 104 refl refl)
-    by r (Some uids) = λ q newer. done newer
+    by r (Some uids) = (leaves r [] (λ messages. refl), λ q newer. done newer)
 
 -- ---- FETCH and STORE
 
@@ -121,19 +121,22 @@ storing_says : (tag view : List ℕ) (store : Store) (done : Bool → Exchange) 
 storing_says tag view store done ends numbered [] p gone same there = ends p gone
 storing_says tag view store done ends numbered (uid ∷ uids) p gone same there = by (storing_says tag view store done ends numbered uids)
   where
-    silent_or : (q : Point) (b : Bool) (flags : Flags) → counted q ≡ view → flags_at uid q.log ≡ Some flags → q.cursor ≤ length q.log → LeavesFlags q (if b then [] else flags_answer store.by_uid (position uid view) uid flags)
-    silent_or q true flags is has within = leaves q [] (λ messages. refl)
-    silent_or q false flags is has within =
-        subst (λ (v : List ℕ). LeavesFlags q (flags_answer store.by_uid (position uid v) uid flags)) is
-        (store_tells q uid store.by_uid flags (subst (λ (v : List ℕ). IsIn uid v) (sym is) there.0) (subst (λ (v : List ℕ). length v + 1 < 2 ^ 64) (sym is) numbered.few) (small_in uid view numbered.small there.0) has within)
+    silent_or : (q : Point) (b : Bool) (flags : Flags) (x : Exchange) → counted q ≡ view → flags_at uid q.log ≡ Some flags → q.cursor ≤ length q.log → SaysFlags tag q x
+        → SaysFlags tag q (if b then x else Write (flags_answer store.by_uid (position uid view) uid flags) x)
+    silent_or q true flags x is has within says = says
+    silent_or q false flags x is has within says = (
+      subst (λ (v : List ℕ). LeavesFlags q (flags_answer store.by_uid (position uid v) uid flags)) is
+          (store_tells q uid store.by_uid flags (subst (λ (v : List ℕ). IsIn uid v) (sym is) there.0) (subst (λ (v : List ℕ). length v + 1 < 2 ^ 64) (sym is) numbered.few) (small_in uid view numbered.small there.0) has within),
+      says,
+    )
 
     by : ((q : Point) (gone : Bool) → counted q ≡ view → AreIn uids view → SaysFlags tag q (storing store view done uids gone)) → (flags : Option Flags) (q : Point)
         → SeesFlags p (record { call = Alter uid store.change; answer = Altered flags }) q
-        → SaysFlags tag q (on_found (λ flags. Write (stored store view uid flags) (storing store view done uids gone)) (storing store view done uids true) flags)
+        → SaysFlags tag q (on_found (λ flags. stored store view uid flags (storing store view done uids gone)) (storing store view done uids true) flags)
     by more None q s = more q true (s.sees.leads ∙ same) there.1
     by more (Some flags) q s =
         let is : counted q ≡ view = s.sees.leads ∙ same in
-        (silent_or q store.silent flags is s.tells (still_within p (record { call = Alter uid store.change; answer = Altered (Some flags) }) q s), more q gone is there.1)
+        silent_or q store.silent flags (storing store view done uids gone) is s.tells (still_within p (record { call = Alter uid store.change; answer = Altered (Some flags) }) q s) (more q gone is there.1)
 
 -- the messages that a set names, or one that isn't there
 chosen_says : (tag : List ℕ) (p : Point) (by_uid : Bool) (set : List SeqRange) (next : List ℕ → List ℕ → Exchange) → IsTag tag
@@ -147,11 +150,13 @@ chosen_says tag p by_uid set next t h = λ copied q s.
     by q same (Some uids) there = h q uids same there
 
 fetch_says : (tag : List ℕ) (p : Point) (fetch : Fetch) (selected : Selected) → IsTag tag → AreToldParts fetch.items → IsNumbered (counted p) → SaysFlags tag p (fetch_messages fetch selected)
-fetch_says tag p fetch selected t parts numbered =
-    chosen_says tag p fetch.by_uid fetch.set
-    (λ view uids. fetching fetch (list_any marks_seen fetch.items && not selected.read_only) view (messages_done (commands.Fetch fetch) fetch.by_uid) uids false) t
-    (λ q uids same there. fetching_says tag (counted p) fetch (list_any marks_seen fetch.items && not selected.read_only) (messages_done (commands.Fetch fetch) fetch.by_uid)
-    (λ r gone. fetch_done tag r fetch gone t) parts numbered uids q false same there)
+fetch_says tag p fetch selected t parts numbered = (
+  leaves p [] (λ messages. refl),
+  chosen_says tag p fetch.by_uid fetch.set
+      (λ view uids. fetching fetch (list_any marks_seen fetch.items && not selected.read_only) view (messages_done (commands.Fetch fetch) fetch.by_uid) uids false) t
+      (λ q uids same there. fetching_says tag (counted p) fetch (list_any marks_seen fetch.items && not selected.read_only) (messages_done (commands.Fetch fetch) fetch.by_uid)
+      (λ r gone. fetch_done tag r fetch gone t) parts numbered uids q false same there),
+)
 
 store_says : (tag : List ℕ) (p : Point) (store : Store) → IsTag tag → IsNumbered (counted p) → SaysFlags tag p (store_messages store)
 store_says tag p store t numbered =
@@ -197,20 +202,20 @@ over_says tag p (Some most) t = last tag p (codes "NO Message too bi") 103 t (pl
 append_says : (tag : List ℕ) (p : Point) (most : Option ℕ) (folders : List Folder) (a : Append) → IsTag tag → SaysFlags tag p (appending most folders a)
 append_says tag p most folders a t = by a.literal.waits (is_over most a.literal.size) (nat_lt most_unasked a.literal.size) (number_named a.name folders)
   where
-    fits : (big : Bool) (mailbox : ℕ) → SaysFlags tag p (if big then over most else awaiting (codes "+ ready\r\n") (Some mailbox) a.flags a.literal.size)
+    fits : (big : Bool) (mailbox : ℕ) → SaysFlags tag p (if big then over most else asking mailbox a.flags a.literal.size)
     fits true mailbox = over_says tag p most t
     fits false mailbox = leaves p _ (λ messages. refl)
 
-    found : (big : Bool) (o : Option ℕ) → SaysFlags tag p (on_found (λ mailbox. if big then over most else awaiting (codes "+ ready\r\n") (Some mailbox) a.flags a.literal.size) nowhere o)
+    found : (big : Bool) (o : Option ℕ) → SaysFlags tag p (on_found (λ mailbox. if big then over most else asking mailbox a.flags a.literal.size) nowhere o)
     found big None = nowhere_says tag p t
     found big (Some mailbox) = fits big mailbox
 
     by : (waits big long : Bool) (o : Option ℕ)
-        → SaysFlags tag p (if waits then wanting (on_found (λ mailbox. if big then over most else awaiting (codes "+ ready\r\n") (Some mailbox) a.flags a.literal.size) nowhere o)
-        else (if long then Wait (bye (codes "Literal too big")) ForNothing else wanting (awaiting [] o a.flags a.literal.size)))
+        → SaysFlags tag p (if waits then wanting (on_found (λ mailbox. if big then over most else asking mailbox a.flags a.literal.size) nowhere o)
+        else (if long then Wait (bye (codes "Literal too big")) ForNothing else coming o a.flags a.literal.size))
     by true big long o = (nothing_leaves p, found big o)
     by false big true o = leaves p _ (λ messages. refl)
-    by false big false o = (nothing_leaves p, nothing_leaves p)
+    by false big false o = nothing_leaves p
 
 -- what stands behind a literal
 rest_says : (tag : List ℕ) (p : Point) (mailing : Mailing) (a : Appending) (empty : Bool) → IsTag tag → SaysFlags tag p (on_rest mailing a empty)

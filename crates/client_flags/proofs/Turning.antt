@@ -1,5 +1,5 @@
 -- What a client reads of a turn, by the session's first call and its answer.
-use Rattle.std.proofs.Common.{◌≡◌, ℕ, ◌+◌, ◌≤◌, List, [], ◌∷◌, ◌++◌, Bool, true, false, length, drop, ap, ap₂, ◌∙◌, sym, refl, subst, arith, append-nil, length-append}
+use Rattle.std.proofs.Common.{◌≡◌, ℕ, ◌+◌, ◌≤◌, List, [], ◌∷◌, ◌++◌, Bool, true, false, length, drop, ap, ap₂, ◌∙◌, sym, refl, subst, arith, append-nil, length-append, codes}
 use Rattle.std.specs.Prelude.{Option, Some, None, if◌then◌else◌}
 use Rattle.std.specs.Option.{option_map}
 use Rattle.std.proofs.lemmas.List.{length-drop, take-append-le}
@@ -11,8 +11,12 @@ use Rattle.mailbox.specs.declared.clients.MailFault.{MailFault}
 use Rattle.mailbox.specs.declared.clients.Row.{Row}
 use Rattle.mailbox.specs.declared.mailbox.Status.{Status}
 use Rattle.change_ring.specs.declared.change.Flags.{Flags}
+use Rattle.mailbox.specs.declared.clients.MailFault.TheVariants.{NoMemory}
 use Rattle.imap_session.specs.declared.standing.After.{After}
-use Rattle.imap_session.specs.Exchange.{Call, Answer, Looked, Found, Counted, Altered, Refused, Event, Exchange, Done, Wait, Write, Put, Enter, Look, Read, Count, Alter, Expunge, Feed, Leave, Standing, Turn, refusal_text, refusal_after, refused, closed, nothing_more, having, saying, tagged}
+use Rattle.imap_session.specs.declared.standing.After.TheVariants.{Bye}
+use Rattle.imap_session.specs.declared.standing.After.TheVariants as afters
+use Rattle.imap_session.proofs.Unkept.{unkept_by}
+use Rattle.imap_session.specs.Exchange.{Call, Answer, Looked, Found, Counted, Altered, Refused, Event, Exchange, Done, Wait, Write, Put, Enter, Look, Read, Count, Alter, Expunge, Feed, Leave, Standing, Turn, refusal_text, refusal_after, refused, closed, nothing_more, having, saying, tagged, Dropped, ForLiteral, ForNothing, Waiting, bye, unkept, waiting}
 use Rattle.client_list.specs.Client.{Known, Client, knowing, reads}
 use Rattle.client_list.specs.Beliefs.{Each, Follows, MayShow, TellsNothing}
 use Rattle.client_list.proofs.Bytes.{reads-append}
@@ -167,10 +171,14 @@ pub gives_up : (tag : List ℕ) (refusals : Refusals tag) (p : Point) (now : Sta
     → SeesAllFlags p turn.events q → LeadsFlags p turn.bytes q
 gives_up tag refusals p now fault turn q e sees = ends p now (refusal_text tag fault) (refusal_after fault) turn q e (refusals p fault) sees
 
-pub gives_up_if : (b : Bool) (tag : List ℕ) (refusals : Refusals tag) (p : Point) (now : Standing) (fault : MailFault) (turn : Turn) (q : Point)
-    → (if b then Some (refused tag now fault) else None) ≡ Some turn → SeesAllFlags p turn.events q → LeadsFlags p turn.bytes q
-gives_up_if true tag refusals p now fault turn q e sees = gives_up tag refusals p now fault turn q e sees
-gives_up_if false tag refusals p now fault turn q e sees = absurd (none-some turn e)
+-- memory was refused to who was to wait: it is told so, the bytes of its literal are dropped, or the session ends
+pub goes_without : (tag : List ℕ) (refusals : Refusals tag) (p : Point) (now : Standing) (waits : Waiting) (n : ℕ) (turn : Turn) (q : Point) → unkept tag waits now n ≡ Some turn
+    → SeesAllFlags p turn.events q → LeadsFlags p turn.bytes q
+goes_without tag refusals p now waits n turn q e sees =
+    let P : Option Turn → Type 0 = λ o. o ≡ Some turn → LeadsFlags p turn.bytes q in
+    unkept_by P (λ d. absurd (none-some turn d)) tag now (λ d. gives_up tag refusals p now NoMemory turn q d sees)
+    (λ flags size d. waits_on p [] (afters.Literal size) (waiting tag (ForLiteral Dropped None flags size) now) turn q d (leaves p [] (λ messages. refl)) sees)
+    (λ d. waits_on p (bye (codes "Out of memory")) Bye (waiting tag ForNothing now) turn q d (leaves p _ (λ messages. refl)) sees) waits n e
 
 pub is_refused : (tag : List ℕ) (refusals : Refusals tag) (p : Point) (now : Standing) (call : Call) (fault : MailFault) (turn : Turn) (q : Point)
     → Some (having call (Refused fault) (refused tag now fault)) ≡ Some turn → SeesAllFlags p turn.events q → LeadsFlags p turn.bytes q

@@ -26,7 +26,7 @@ use Rattle.imap_grammar.specs.declared.command.ImapFault.TheVariants.{NoTag, Unk
 use Rattle.imap_session.specs.declared.standing.After.TheVariants.{Go}
 use Rattle.imap_session.specs.declared.standing.Selected.{Selected}
 use Rattle.imap_session.specs.Exchange.{Answer, Appending, Exchange, Expunge, Feed, Folder, ForNothing, ForVerdict, Mailing, Sent, Standing, Turn, Wait, Write, bye, kept_behind, tagged}
-use Rattle.imap_session.specs.Commands.{appended_words, appending, awaiting, last_number, long_idle_text, long_rest_words, long_text, most_unasked, nowhere, number_named, on_rest, on_text, on_verdict, is_over, over, turn_behind, turn_with, wanting, without_begun, without_sent, completed, counting, expunge_set, fault_text, fetch_messages, fetched, fetching, folder_of, in_selected, in_writable, messages_done, on_chosen, on_command, on_found, on_idle_line, on_read, on_set, only_says, says, showing, store_messages, stored, storing, turn_while, unlimited, verb_text, wrong_state}
+use Rattle.imap_session.specs.Commands.{appended_words, appending, last_number, long_idle_text, long_rest_words, long_text, most_unasked, nowhere, number_named, on_rest, on_text, on_verdict, is_over, over, turn_behind, turn_with, wanting, without_begun, without_sent, completed, counting, expunge_set, fault_text, fetch_messages, fetched, fetching, folder_of, in_selected, in_writable, messages_done, on_chosen, on_command, on_found, on_idle_line, on_read, on_set, only_says, says, showing, store_messages, stored, storing, turn_while, unlimited, verb_text, wrong_state, asking, coming}
 use Rattle.imap_answers.specs.Answers.{flags_answer}
 use Rattle.client_list.specs.Beliefs.{Leads, Leaves, TellsNothing}
 use Rattle.client_list.specs.Turns.{is_inner, IsPlain, IsRowOf, IsTag, Says, SeesAll}
@@ -62,6 +62,9 @@ writable tag view (Some selected) now x e t h = rw e (by selected.read_only)
     by true = last tag view (codes "NO Mailbox is read-onl") 121 t (plain_words (codes "NO Mailbox is read-onl") 121 refl refl)
     by false = h
 
+nothing_leaves : (view : List ℕ) → Leaves view []
+nothing_leaves view = leaves view [] (λ messages. refl)
+
 expunged : (tag new : List ℕ) → IsTag tag → Says tag new (completed commands.Expunge)
 expunged tag new t = last tag new (codes "OK EXPUNGE complete") 100 t (plain_words (codes "OK EXPUNGE complete") 100 refl refl)
 
@@ -71,9 +74,9 @@ set_expunged tag view set t = by (named_in true set view)
     done : (new : List ℕ) → Says tag new (completed (commands.UidExpunge set))
     done new = last tag new (codes "OK UID EXPUNGE complete") 100 t (plain_words (codes "OK UID EXPUNGE complete") 100 refl refl)
 
-    by : (chosen : Option (List ℕ)) → Says tag view (on_chosen chosen (λ uids. Expunge (Some uids) (Feed unlimited (completed (commands.UidExpunge set)))))
+    by : (chosen : Option (List ℕ)) → Says tag view (on_chosen chosen (λ uids. wanting (Expunge (Some uids) (Feed unlimited (completed (commands.UidExpunge set))))))
     by None = last tag view (codes "BAD Sequence number too hig") 104 t (plain_words (codes "BAD Sequence number too hig") 104 refl refl)
-    by (Some uids) = λ new newer. done newer
+    by (Some uids) = (nothing_leaves view, λ new newer. done newer)
 
 -- ---- FETCH and STORE
 
@@ -109,14 +112,14 @@ storing_says : (tag view : List ℕ) (store : Store) (done : Bool → Exchange) 
 storing_says tag view store done ends numbered [] gone there = ends gone
 storing_says tag view store done ends numbered (uid ∷ uids) gone there = by (storing_says tag view store done ends numbered uids)
   where
-    silent_or : (b : Bool) (flags : Flags) → Leaves view (if b then [] else flags_answer store.by_uid (position uid view) uid flags)
-    silent_or true flags = leaves view [] (λ messages. refl)
-    silent_or false flags = flags_leave view uid store.by_uid flags there.0 numbered.few (small_in uid view numbered.small there.0)
+    silent_or : (b : Bool) (flags : Flags) (x : Exchange) → Says tag view x → Says tag view (if b then x else Write (flags_answer store.by_uid (position uid view) uid flags) x)
+    silent_or true flags x s = s
+    silent_or false flags x s = (flags_leave view uid store.by_uid flags there.0 numbered.few (small_in uid view numbered.small there.0), s)
 
     by : ((gone : Bool) → AreIn uids view → Says tag view (storing store view done uids gone)) → (flags : Option Flags)
-        → Says tag view (on_found (λ flags. Write (stored store view uid flags) (storing store view done uids gone)) (storing store view done uids true) flags)
+        → Says tag view (on_found (λ flags. stored store view uid flags (storing store view done uids gone)) (storing store view done uids true) flags)
     by more None = more true there.1
-    by more (Some flags) = (silent_or store.silent flags, more gone there.1)
+    by more (Some flags) = silent_or store.silent flags (storing store view done uids gone) (more gone there.1)
 
 -- the messages that a set names, or one that isn't there
 chosen_says : (tag view : List ℕ) (by_uid : Bool) (set : List SeqRange) (next : List ℕ → List ℕ → Exchange) → IsTag tag → ((uids : List ℕ) → AreIn uids view → Says tag view (next view uids))
@@ -128,11 +131,13 @@ chosen_says tag view by_uid set next t h = by (named_in by_uid set view) (named_
     by (Some uids) there = h uids there
 
 fetch_says : (tag view : List ℕ) (fetch : Fetch) (selected : Selected) → IsTag tag → AreToldParts fetch.items → IsNumbered view → Says tag view (fetch_messages fetch selected)
-fetch_says tag view fetch selected t parts numbered =
-    chosen_says tag view fetch.by_uid fetch.set
-    (λ view uids. fetching fetch (list_any marks_seen fetch.items && not selected.read_only) view (messages_done (commands.Fetch fetch) fetch.by_uid) uids false) t
-    (λ uids there. fetching_says tag view fetch (list_any marks_seen fetch.items && not selected.read_only) (messages_done (commands.Fetch fetch) fetch.by_uid)
-    (λ gone. fetch_done tag view fetch gone t) parts numbered uids false there)
+fetch_says tag view fetch selected t parts numbered = (
+  nothing_leaves view,
+  chosen_says tag view fetch.by_uid fetch.set
+      (λ view uids. fetching fetch (list_any marks_seen fetch.items && not selected.read_only) view (messages_done (commands.Fetch fetch) fetch.by_uid) uids false) t
+      (λ uids there. fetching_says tag view fetch (list_any marks_seen fetch.items && not selected.read_only) (messages_done (commands.Fetch fetch) fetch.by_uid)
+      (λ gone. fetch_done tag view fetch gone t) parts numbered uids false there),
+)
 
 store_says : (tag view : List ℕ) (store : Store) → IsTag tag → IsNumbered view → Says tag view (store_messages store)
 store_says tag view store t numbered =
@@ -165,9 +170,6 @@ status_says tag view now name items t names = (leaves view [] (λ messages. refl
 
 -- ---- APPEND
 
-nothing_leaves : (view : List ℕ) → Leaves view []
-nothing_leaves view = leaves view [] (λ messages. refl)
-
 nowhere_says : (tag view : List ℕ) → IsTag tag → Says tag view nowhere
 nowhere_says tag view t = last tag view (codes "NO [TRYCREATE] No such mailbo") 120 t (plain_words (codes "NO [TRYCREATE] No such mailbo") 120 refl refl)
 
@@ -178,20 +180,20 @@ over_says tag view (Some most) t = last tag view (codes "NO Message too bi") 103
 append_says : (tag view : List ℕ) (most : Option ℕ) (folders : List Folder) (a : Append) → IsTag tag → Says tag view (appending most folders a)
 append_says tag view most folders a t = by a.literal.waits (is_over most a.literal.size) (nat_lt most_unasked a.literal.size) (number_named a.name folders)
   where
-    fits : (big : Bool) (mailbox : ℕ) → Says tag view (if big then over most else awaiting (codes "+ ready\r\n") (Some mailbox) a.flags a.literal.size)
+    fits : (big : Bool) (mailbox : ℕ) → Says tag view (if big then over most else asking mailbox a.flags a.literal.size)
     fits true mailbox = over_says tag view most t
     fits false mailbox = leaves view _ (λ messages. refl)
 
-    found : (big : Bool) (o : Option ℕ) → Says tag view (on_found (λ mailbox. if big then over most else awaiting (codes "+ ready\r\n") (Some mailbox) a.flags a.literal.size) nowhere o)
+    found : (big : Bool) (o : Option ℕ) → Says tag view (on_found (λ mailbox. if big then over most else asking mailbox a.flags a.literal.size) nowhere o)
     found big None = nowhere_says tag view t
     found big (Some mailbox) = fits big mailbox
 
     by : (waits big long : Bool) (o : Option ℕ)
-        → Says tag view (if waits then wanting (on_found (λ mailbox. if big then over most else awaiting (codes "+ ready\r\n") (Some mailbox) a.flags a.literal.size) nowhere o)
-        else (if long then Wait (bye (codes "Literal too big")) ForNothing else wanting (awaiting [] o a.flags a.literal.size)))
+        → Says tag view (if waits then wanting (on_found (λ mailbox. if big then over most else asking mailbox a.flags a.literal.size) nowhere o)
+        else (if long then Wait (bye (codes "Literal too big")) ForNothing else coming o a.flags a.literal.size))
     by true big long o = (nothing_leaves view, found big o)
     by false big true o = leaves view _ (λ messages. refl)
-    by false big false o = (nothing_leaves view, nothing_leaves view)
+    by false big false o = nothing_leaves view
 
 -- what stands behind a literal
 rest_says : (tag view : List ℕ) (mailing : Mailing) (a : Appending) (empty : Bool) → IsTag tag → Says tag view (on_rest mailing a empty)

@@ -12,7 +12,8 @@ use Rattle.imap_grammar.specs.declared.command.ImapFault.{ImapFault}
 use Rattle.imap_session.specs.declared.standing.After.{After}
 use Rattle.imap_session.specs.declared.standing.After.TheVariants.{Go, Bye}
 use Rattle.imap_session.specs.declared.standing.After.TheVariants as afters
-use Rattle.imap_session.specs.Exchange.{Answer, Entered, Looked, Found, Counted, Altered, Expunged, Fed, Left, Refused, Starved, Exchange, ForDone, ForLiteral, ForVerdict, ForNothing, Done, Wait, Write, Put, Enter, Look, Read, Count, Alter, Expunge, Feed, Leave, Standing, Turn, Appending, Sent, Waiting, closed, having, keeps_tag, most_in_place, played, refusal_after, refusal_text, refused, saying, tagged, waiting}
+use Rattle.imap_session.specs.Exchange.{Answer, Entered, Looked, Found, Counted, Altered, Expunged, Fed, Left, Refused, Starved, Exchange, ForDone, ForLiteral, ForVerdict, ForNothing, Done, Wait, Write, Put, Enter, Look, Read, Count, Alter, Expunge, Feed, Leave, Standing, Turn, Appending, Sent, Waiting, closed, having, played, refusal_after, refusal_text, refused, saying, tagged, waiting, Dropped, unkept}
+use Rattle.imap_session.proofs.Unkept.{unkept_by}
 use Rattle.imap_session.specs.Commands.{fault_text, on_command, on_idle_line, on_read, on_rest, on_verdict, only_says, taking, turn_behind, turn_of_verdict, turn_while, turn_with, with_bytes, without_begun, without_sent}
 use Rattle.delivery_token.specs.declared.Verdict.{Verdict}
 use Rattle.client_list.specs.Turns.{AreTags, IsTag}
@@ -43,15 +44,19 @@ told now f same how turn k e = maps f same (Some (closed now how)) turn e (λ mo
 given_up : (tag : List ℕ) (now : Standing) (fault : MailFault) (turn : Turn) → AreTags now → Some (refused tag now fault) ≡ Some turn → Kept turn
 given_up tag now fault turn k e = told now (saying (refusal_text tag fault)) (λ s. refl) (refusal_after fault) turn k e
 
-given_up_if : (b : Bool) (tag : List ℕ) (now : Standing) (fault : MailFault) (turn : Turn) → AreTags now → (if b then Some (refused tag now fault) else None) ≡ Some turn → Kept turn
-given_up_if true tag now fault turn k e = given_up tag now fault turn k e
-given_up_if false tag now fault turn k e = absurd (none-some turn e)
-
 waiting_keeps : (tag : List ℕ) → IsTag tag → (now : Standing) (w : Waiting) → AreTags now → AreTags (waiting tag w now)
 waiting_keeps tag t now ForDone k = (t, k.1, k.2)
-waiting_keeps tag t now (ForLiteral mailbox flags size) k = (k.0, t, k.2)
+waiting_keeps tag t now (ForLiteral coming mailbox flags size) k = (k.0, t, k.2)
 waiting_keeps tag t now (ForVerdict mailbox flags text) k = (k.0, k.1, t)
 waiting_keeps tag t now ForNothing k = k
+
+-- memory is refused to who was to wait
+goes_without : (tag : List ℕ) → IsTag tag → (now : Standing) (w : Waiting) (n : ℕ) (turn : Turn) → AreTags now → unkept tag w now n ≡ Some turn → Kept turn
+goes_without tag t now w n turn k e =
+    let P : Option Turn → Type 0 = λ o. o ≡ Some turn → Kept turn in
+    unkept_by P (λ d. absurd (none-some turn d)) tag now (λ d. given_up tag now NoMemory turn k d)
+    (λ flags size d. subst (λ (s : Turn). Kept s) (ap (the_turn turn) d) (waiting_keeps tag t now (ForLiteral Dropped None flags size) k))
+    (λ d. subst (λ (s : Turn). Kept s) (ap (the_turn turn) d) (waiting_keeps tag t now ForNothing k)) w n e
 
 played_keeps : (tag : List ℕ) → IsTag tag → (now : Standing) (x : Exchange) (answers : List Answer) (turn : Turn) → AreTags now → played tag now x answers ≡ Some turn → Kept turn
 played_keeps tag t now (Done words how) [] turn k e = told now (saying (tagged tag words)) (λ s. refl) how turn k e
@@ -66,9 +71,8 @@ played_keeps tag t now (Wait bytes w) (Expunged a b c ∷ more) turn k e = absur
 played_keeps tag t now (Wait bytes w) (Fed a b ∷ more) turn k e = absurd (none-some turn e)
 played_keeps tag t now (Wait bytes w) (Left a ∷ more) turn k e = absurd (none-some turn e)
 played_keeps tag t now (Wait bytes w) (Refused a ∷ more) turn k e = absurd (none-some turn e)
-played_keeps tag t now (Wait bytes w) (Starved zero ∷ []) turn k e = given_up_if (keeps_tag w && nat_lt most_in_place (length tag)) tag now NoMemory turn k e
-played_keeps tag t now (Wait bytes w) (Starved zero ∷ b ∷ more) turn k e = absurd (none-some turn e)
-played_keeps tag t now (Wait bytes w) (Starved (suc n) ∷ more) turn k e = absurd (none-some turn e)
+played_keeps tag t now (Wait bytes w) (Starved n ∷ []) turn k e = goes_without tag t now w n turn k e
+played_keeps tag t now (Wait bytes w) (Starved n ∷ b ∷ more) turn k e = absurd (none-some turn e)
 played_keeps tag t now (Write bytes x) [] turn k e = maps (saying bytes) (λ s. refl) (played tag now x []) turn e (λ s d. played_keeps tag t now x [] s k d)
 played_keeps tag t now (Write bytes x) (Entered a ∷ more) turn k e = maps (saying bytes) (λ s. refl) (played tag now x (Entered a ∷ more)) turn e (λ s d. played_keeps tag t now x (Entered a ∷ more) s k d)
 played_keeps tag t now (Write bytes x) (Looked a ∷ more) turn k e = maps (saying bytes) (λ s. refl) (played tag now x (Looked a ∷ more)) turn e (λ s d. played_keeps tag t now x (Looked a ∷ more) s k d)
@@ -107,9 +111,7 @@ played_keeps tag t now (Look next) (Fed a b ∷ more) turn k e = absurd (none-so
 played_keeps tag t now (Look next) (Left a ∷ more) turn k e = absurd (none-some turn e)
 played_keeps tag t now (Look next) (Refused a ∷ []) turn k e = told now (λ s. having Look (Refused a) (saying (refusal_text tag a) s)) (λ s. refl) (refusal_after a) turn k e
 played_keeps tag t now (Look next) (Refused a ∷ b ∷ more) turn k e = absurd (none-some turn e)
-played_keeps tag t now (Look next) (Starved zero ∷ []) turn k e = given_up tag now NoMemory turn k e
-played_keeps tag t now (Look next) (Starved zero ∷ b ∷ more) turn k e = absurd (none-some turn e)
-played_keeps tag t now (Look next) (Starved (suc n) ∷ more) turn k e = absurd (none-some turn e)
+played_keeps tag t now (Look next) (Starved n ∷ more) turn k e = absurd (none-some turn e)
 played_keeps tag t now (Read uid mark next) [] turn k e = absurd (none-some turn e)
 played_keeps tag t now (Read uid mark next) (Entered a ∷ more) turn k e = absurd (none-some turn e)
 played_keeps tag t now (Read uid mark next) (Looked a ∷ more) turn k e = absurd (none-some turn e)

@@ -1,12 +1,25 @@
 -- A client reads what a session says in a turn, over whatever store: by induction over the exchange, a clause for each answer that there is.
-use Rattle.std.proofs.Common.{zero, suc, ◌≡◌, ℕ, List, [], ◌∷◌, length, sym, subst}
-use Rattle.std.specs.Prelude.{Some, nat_lt, ◌&&◌}
+use Rattle.std.proofs.Common.{zero, suc, ◌≡◌, ℕ, List, [], ◌∷◌, sym, subst, refl}
+use Rattle.std.specs.Prelude.{Option, Some, None, codes}
 use Rattle.std.proofs.lemmas.Option.{none-some}
 use Rattle.mailbox.specs.declared.clients.MailFault.TheVariants.{NoMemory}
-use Rattle.imap_session.specs.Exchange.{Answer, Entered, Looked, Found, Counted, Altered, Expunged, Fed, Left, Refused, Starved, Exchange, Done, Wait, Write, Put, Enter, Look, Read, Count, Alter, Expunge, Feed, Leave, Standing, Turn, after_waiting, keeps_tag, tagged, played, most_in_place, waiting}
+use Rattle.imap_session.specs.Exchange.{Answer, Entered, Looked, Found, Counted, Altered, Expunged, Fed, Left, Refused, Starved, Exchange, Done, Wait, Write, Put, Enter, Look, Read, Count, Alter, Expunge, Feed, Leave, Standing, Turn, after_waiting, tagged, played, waiting, Dropped, ForLiteral, ForNothing, Waiting, bye, unkept}
+use Rattle.imap_session.specs.declared.standing.After.TheVariants.{Bye}
+use Rattle.imap_session.specs.declared.standing.After.TheVariants as afters
+use Rattle.imap_session.proofs.Unkept.{unkept_by}
 use Rattle.client_list.specs.Beliefs.{Leads}
 use Rattle.client_list.specs.Turns.{SeesAll, Says}
-use Rattle.client_list.proofs.Turns.{Refusals, writes, calls, shows, ends, waits_on, gives_up, gives_up_if, is_refused}
+use Rattle.client_list.proofs.Ends.{leaves}
+use Rattle.client_list.proofs.Turns.{Refusals, writes, calls, shows, ends, waits_on, gives_up, is_refused}
+
+-- memory was refused to who was to wait: it is told so, the bytes of its literal are dropped, or the session ends
+goes_without : (tag : List ℕ) (refusals : Refusals tag) (view : List ℕ) (now : Standing) (waits : Waiting) (n : ℕ) (turn : Turn) (new : List ℕ) → unkept tag waits now n ≡ Some turn
+    → SeesAll view turn.events new → Leads view turn.bytes new
+goes_without tag refusals view now waits n turn new e sees =
+    let P : Option Turn → Type 0 = λ o. o ≡ Some turn → Leads view turn.bytes new in
+    unkept_by P (λ d. absurd (none-some turn d)) tag now (λ d. gives_up tag refusals view now NoMemory turn new d sees)
+    (λ flags size d. waits_on view [] (afters.Literal size) (waiting tag (ForLiteral Dropped None flags size) now) turn new d (leaves view [] (λ messages. refl)) sees)
+    (λ d. waits_on view (bye (codes "Out of memory")) Bye (waiting tag ForNothing now) turn new d (leaves view _ (λ messages. refl)) sees) waits n e
 
 pub turn_follows : (tag : List ℕ) (refusals : Refusals tag) (view : List ℕ) (now : Standing) (x : Exchange) (answers : List Answer) (turn : Turn) (new : List ℕ)
     → played tag now x answers ≡ Some turn → Says tag view x → SeesAll view turn.events new → Leads view turn.bytes new
@@ -22,9 +35,8 @@ turn_follows tag refusals view now (Wait bytes w) (Expunged a b c ∷ more) turn
 turn_follows tag refusals view now (Wait bytes w) (Fed a b ∷ more) turn new e says sees = absurd (none-some turn e)
 turn_follows tag refusals view now (Wait bytes w) (Left a ∷ more) turn new e says sees = absurd (none-some turn e)
 turn_follows tag refusals view now (Wait bytes w) (Refused a ∷ more) turn new e says sees = absurd (none-some turn e)
-turn_follows tag refusals view now (Wait bytes w) (Starved zero ∷ []) turn new e says sees = gives_up_if (keeps_tag w && nat_lt most_in_place (length tag)) tag refusals view now NoMemory turn new e sees
-turn_follows tag refusals view now (Wait bytes w) (Starved zero ∷ b ∷ more) turn new e says sees = absurd (none-some turn e)
-turn_follows tag refusals view now (Wait bytes w) (Starved (suc n) ∷ more) turn new e says sees = absurd (none-some turn e)
+turn_follows tag refusals view now (Wait bytes w) (Starved n ∷ []) turn new e says sees = goes_without tag refusals view now w n turn new e sees
+turn_follows tag refusals view now (Wait bytes w) (Starved n ∷ b ∷ more) turn new e says sees = absurd (none-some turn e)
 turn_follows tag refusals view now (Write bytes x) [] turn new e says sees = writes view bytes (played tag now x []) turn new e sees says.0 (λ t d s. turn_follows tag refusals view now x [] t new d says.1 s)
 turn_follows tag refusals view now (Write bytes x) (Entered a ∷ more) turn new e says sees = writes view bytes (played tag now x (Entered a ∷ more)) turn new e sees says.0 (λ t d s. turn_follows tag refusals view now x (Entered a ∷ more) t new d says.1 s)
 turn_follows tag refusals view now (Write bytes x) (Looked a ∷ more) turn new e says sees = writes view bytes (played tag now x (Looked a ∷ more)) turn new e sees says.0 (λ t d s. turn_follows tag refusals view now x (Looked a ∷ more) t new d says.1 s)
@@ -53,9 +65,7 @@ turn_follows tag refusals view now (Look next) (Fed a b ∷ more) turn new e say
 turn_follows tag refusals view now (Look next) (Left a ∷ more) turn new e says sees = absurd (none-some turn e)
 turn_follows tag refusals view now (Look next) (Refused a ∷ []) turn new e says sees = is_refused tag refusals view now Look a turn new e sees
 turn_follows tag refusals view now (Look next) (Refused a ∷ b ∷ more) turn new e says sees = absurd (none-some turn e)
-turn_follows tag refusals view now (Look next) (Starved zero ∷ []) turn new e says sees = gives_up tag refusals view now NoMemory turn new e sees
-turn_follows tag refusals view now (Look next) (Starved zero ∷ b ∷ more) turn new e says sees = absurd (none-some turn e)
-turn_follows tag refusals view now (Look next) (Starved (suc n) ∷ more) turn new e says sees = absurd (none-some turn e)
+turn_follows tag refusals view now (Look next) (Starved n ∷ more) turn new e says sees = absurd (none-some turn e)
 turn_follows tag refusals view now (Read uid mark next) [] turn new e says sees = absurd (none-some turn e)
 turn_follows tag refusals view now (Read uid mark next) (Entered a ∷ more) turn new e says sees = absurd (none-some turn e)
 turn_follows tag refusals view now (Read uid mark next) (Looked a ∷ more) turn new e says sees = absurd (none-some turn e)

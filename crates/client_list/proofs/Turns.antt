@@ -1,6 +1,6 @@
 -- What a client reads of a turn, by the session's first call and its answer.
-use Rattle.std.proofs.Common.{◌≡◌, ℕ, List, [], ◌∷◌, ◌++◌, Bool, true, false, ap, ◌∙◌, sym, refl, subst}
-use Rattle.std.specs.Prelude.{Option, Some, None, if◌then◌else◌}
+use Rattle.std.proofs.Common.{◌≡◌, ℕ, List, [], ◌∷◌, ◌++◌, ap, ◌∙◌, sym, refl, subst}
+use Rattle.std.specs.Prelude.{Option, Some, None}
 use Rattle.std.specs.Option.{option_map}
 use Rattle.std.proofs.lemmas.List.{append-nil}
 use Rattle.std.proofs.lemmas.Option.{none-some}
@@ -139,11 +139,6 @@ waits_on view bytes how now turn new e leaves sees =
 pub gives_up : (tag : List ℕ) (refusals : Refusals tag) (view : List ℕ) (now : Standing) (fault : MailFault) (turn : Turn) (new : List ℕ) → Some (refused tag now fault) ≡ Some turn
     → SeesAll view turn.events new → Leads view turn.bytes new
 gives_up tag refusals view now fault turn new e sees = ends view now (refusal_text tag fault) (refusal_after fault) turn new e (refusals view fault) sees
-
-pub gives_up_if : (b : Bool) (tag : List ℕ) (refusals : Refusals tag) (view : List ℕ) (now : Standing) (fault : MailFault) (turn : Turn) (new : List ℕ)
-    → (if b then Some (refused tag now fault) else None) ≡ Some turn → SeesAll view turn.events new → Leads view turn.bytes new
-gives_up_if true tag refusals view now fault turn new e sees = gives_up tag refusals view now fault turn new e sees
-gives_up_if false tag refusals view now fault turn new e sees = absurd (none-some turn e)
 
 pub is_refused : (tag : List ℕ) (refusals : Refusals tag) (view : List ℕ) (now : Standing) (call : Call) (fault : MailFault) (turn : Turn) (new : List ℕ)
     → Some (having call (Refused fault) (refused tag now fault)) ≡ Some turn → SeesAll view turn.events new → Leads view turn.bytes new

@@ -13,7 +13,8 @@ use Rattle.imap_session.specs.declared.standing.After.{After}
 use Rattle.imap_session.specs.declared.standing.After.TheVariants.{Go, Bye}
 use Rattle.imap_session.specs.declared.standing.After.TheVariants as afters
 use Rattle.imap_session.specs.declared.standing.Selected.{Selected}
-use Rattle.imap_session.specs.Exchange.{Answer, Entered, Looked, Found, Counted, Altered, Expunged, Fed, Left, Refused, Starved, Exchange, ForDone, ForLiteral, ForVerdict, ForNothing, Done, Wait, Write, Put, Enter, Look, Read, Count, Alter, Expunge, Feed, Leave, Standing, Turn, Appending, Sent, Waiting, closed, having, keeps_tag, most_in_place, played, refusal_after, refusal_text, refused, saying, tagged, waiting}
+use Rattle.imap_session.specs.Exchange.{Answer, Entered, Looked, Found, Counted, Altered, Expunged, Fed, Left, Refused, Starved, Exchange, ForDone, ForLiteral, ForVerdict, ForNothing, Done, Wait, Write, Put, Enter, Look, Read, Count, Alter, Expunge, Feed, Leave, Standing, Turn, Appending, Sent, Waiting, closed, having, played, refusal_after, refusal_text, refused, saying, tagged, waiting, unkept}
+use Rattle.imap_session.proofs.Unkept.{unkept_by}
 use Rattle.imap_session.specs.Commands.{idle_turn_in, turn_of, fault_text, on_command, on_idle_line, on_read, on_rest, on_verdict, only_says, turn_behind, turn_of_verdict, turn_while, turn_with, without_begun, without_sent}
 use Rattle.delivery_token.specs.declared.Verdict.{Verdict}
 
@@ -41,15 +42,18 @@ told now f keeps how turn e = maps now f keeps (Some (closed now how)) turn e (�
 given_up : (tag : List ℕ) (now : Standing) (fault : MailFault) (turn : Turn) → Some (refused tag now fault) ≡ Some turn → turn.standing.folders ≡ now.folders
 given_up tag now fault turn e = told now (saying (refusal_text tag fault)) (λ s. refl) (refusal_after fault) turn e
 
-given_up_if : (b : Bool) (tag : List ℕ) (now : Standing) (fault : MailFault) (turn : Turn) → (if b then Some (refused tag now fault) else None) ≡ Some turn → turn.standing.folders ≡ now.folders
-given_up_if true tag now fault turn e = given_up tag now fault turn e
-given_up_if false tag now fault turn e = absurd (none-some turn e)
-
 waiting_keeps : (tag : List ℕ) (now : Standing) (w : Waiting) → (waiting tag w now).folders ≡ now.folders
 waiting_keeps tag now ForDone = refl
-waiting_keeps tag now (ForLiteral mailbox flags size) = refl
+waiting_keeps tag now (ForLiteral coming mailbox flags size) = refl
 waiting_keeps tag now (ForVerdict mailbox flags text) = refl
 waiting_keeps tag now ForNothing = refl
+
+-- memory is refused to who was to wait
+goes_without : (tag : List ℕ) (now : Standing) (w : Waiting) (n : ℕ) (turn : Turn) → unkept tag w now n ≡ Some turn → turn.standing.folders ≡ now.folders
+goes_without tag now w n turn e =
+    let P : Option Turn → Type 0 = λ o. o ≡ Some turn → turn.standing.folders ≡ now.folders in
+    unkept_by P (λ d. absurd (none-some turn d)) tag now (λ d. given_up tag now NoMemory turn d) (λ flags size d. ap (λ (s : Turn). s.standing.folders) (sym (ap (the_turn turn) d)))
+    (λ d. ap (λ (s : Turn). s.standing.folders) (sym (ap (the_turn turn) d))) w n e
 
 pub folders_stay : (tag : List ℕ) (now : Standing) (x : Exchange) (answers : List Answer) (turn : Turn) → played tag now x answers ≡ Some turn → turn.standing.folders ≡ now.folders
 folders_stay tag now (Done words how) [] turn e = told now (saying (tagged tag words)) (λ s. refl) how turn e
@@ -64,9 +68,8 @@ folders_stay tag now (Wait bytes w) (Expunged a b c ∷ more) turn e = absurd (n
 folders_stay tag now (Wait bytes w) (Fed a b ∷ more) turn e = absurd (none-some turn e)
 folders_stay tag now (Wait bytes w) (Left a ∷ more) turn e = absurd (none-some turn e)
 folders_stay tag now (Wait bytes w) (Refused a ∷ more) turn e = absurd (none-some turn e)
-folders_stay tag now (Wait bytes w) (Starved zero ∷ []) turn e = given_up_if (keeps_tag w && nat_lt most_in_place (length tag)) tag now NoMemory turn e
-folders_stay tag now (Wait bytes w) (Starved zero ∷ b ∷ more) turn e = absurd (none-some turn e)
-folders_stay tag now (Wait bytes w) (Starved (suc n) ∷ more) turn e = absurd (none-some turn e)
+folders_stay tag now (Wait bytes w) (Starved n ∷ []) turn e = goes_without tag now w n turn e
+folders_stay tag now (Wait bytes w) (Starved n ∷ b ∷ more) turn e = absurd (none-some turn e)
 folders_stay tag now (Write bytes x) [] turn e = maps now (saying bytes) (λ s. refl) (played tag now x []) turn e (λ s d. folders_stay tag now x [] s d)
 folders_stay tag now (Write bytes x) (Entered a ∷ more) turn e = maps now (saying bytes) (λ s. refl) (played tag now x (Entered a ∷ more)) turn e (λ s d. folders_stay tag now x (Entered a ∷ more) s d)
 folders_stay tag now (Write bytes x) (Looked a ∷ more) turn e = maps now (saying bytes) (λ s. refl) (played tag now x (Looked a ∷ more)) turn e (λ s d. folders_stay tag now x (Looked a ∷ more) s d)
@@ -105,9 +108,7 @@ folders_stay tag now (Look next) (Fed a b ∷ more) turn e = absurd (none-some t
 folders_stay tag now (Look next) (Left a ∷ more) turn e = absurd (none-some turn e)
 folders_stay tag now (Look next) (Refused a ∷ []) turn e = told now (λ s. having Look (Refused a) (saying (refusal_text tag a) s)) (λ s. refl) (refusal_after a) turn e
 folders_stay tag now (Look next) (Refused a ∷ b ∷ more) turn e = absurd (none-some turn e)
-folders_stay tag now (Look next) (Starved zero ∷ []) turn e = given_up tag now NoMemory turn e
-folders_stay tag now (Look next) (Starved zero ∷ b ∷ more) turn e = absurd (none-some turn e)
-folders_stay tag now (Look next) (Starved (suc n) ∷ more) turn e = absurd (none-some turn e)
+folders_stay tag now (Look next) (Starved n ∷ more) turn e = absurd (none-some turn e)
 folders_stay tag now (Read uid mark next) [] turn e = absurd (none-some turn e)
 folders_stay tag now (Read uid mark next) (Entered a ∷ more) turn e = absurd (none-some turn e)
 folders_stay tag now (Read uid mark next) (Looked a ∷ more) turn e = absurd (none-some turn e)

@@ -25,8 +25,9 @@ use Rattle.imap_session.specs.declared.standing.After.{After}
 use Rattle.imap_session.specs.declared.standing.After.TheVariants.{Go, Bye}
 use Rattle.imap_session.specs.declared.standing.After.TheVariants as afters
 use Rattle.imap_session.specs.declared.standing.Selected.{Selected}
-use Rattle.imap_session.specs.Exchange.{Answer, Entered, Looked, Found, Counted, Altered, Expunged, Fed, Left, Refused, Starved, Exchange, ForDone, ForLiteral, ForVerdict, ForNothing, Done, Wait, Write, Put, Enter, Look, Read, Count, Alter, Expunge, Feed, Leave, Folder, Mailing, Standing, Turn, Appending, Sent, Waiting, closed, having, keeps_tag, most_in_place, played, refusal_after, refusal_text, refused, saying, tagged, waiting}
-use Rattle.imap_session.specs.Commands.{appending, awaiting, closing, completed, counting, entering, expunge_set, fault_text, fetch_messages, fetched, fetching, folder_of, idle_turn_in, if_writable, in_writable, is_over, kept_text, last_number, messages_done, most_unasked, nowhere, number_named, on_chosen, on_command, on_folder, on_found, on_idle_line, on_read, on_rest, on_set, on_text, on_verdict, only_says, over, says, selecting, showing, store_messages, stored, storing, taking, turn_behind, turn_of, turn_of_long_line, turn_of_verdict, turn_while, turn_with, unlimited, wanting, with_bytes, without_begun, without_sent, wrong_state}
+use Rattle.imap_session.specs.Exchange.{Answer, Entered, Looked, Found, Counted, Altered, Expunged, Fed, Left, Refused, Starved, Exchange, ForDone, ForLiteral, ForVerdict, ForNothing, Done, Wait, Write, Put, Enter, Look, Read, Count, Alter, Expunge, Feed, Leave, Folder, Mailing, Standing, Turn, Appending, Sent, Waiting, closed, having, played, refusal_after, refusal_text, refused, saying, tagged, waiting, unkept, Asked, Dropped, Unasked}
+use Rattle.imap_session.proofs.Unkept.{unkept_by}
+use Rattle.imap_session.specs.Commands.{appending, closing, completed, counting, entering, expunge_set, fault_text, fetch_messages, fetched, fetching, folder_of, idle_turn_in, if_writable, in_writable, is_over, kept_text, last_number, messages_done, most_unasked, nowhere, number_named, on_chosen, on_command, on_folder, on_found, on_idle_line, on_read, on_rest, on_set, on_text, on_verdict, only_says, over, says, selecting, showing, store_messages, stored, storing, taking, turn_behind, turn_of, turn_of_long_line, turn_of_verdict, turn_while, turn_with, unlimited, wanting, with_bytes, without_begun, without_sent, wrong_state, asking, coming}
 use Rattle.delivery_token.specs.declared.Verdict.{Verdict}
 use Rattle.delivery_token.specs.declared.Verdict.TheVariants as verdicts
 use Rattle.client_list.proofs.Turns.{the_turn}
@@ -80,15 +81,21 @@ told most now f same how turn k e = maps most f same (Some (closed now how)) tur
 given_up : (most : ℕ) (tag : List ℕ) (now : Standing) (fault : MailFault) (turn : Turn) → IsMailShort most now.mailing → Some (refused tag now fault) ≡ Some turn → Kept most turn
 given_up most tag now fault turn k e = told most now (saying (refusal_text tag fault)) (λ s. refl) (refusal_after fault) turn k e
 
-given_up_if : (most : ℕ) (b : Bool) (tag : List ℕ) (now : Standing) (fault : MailFault) (turn : Turn) → IsMailShort most now.mailing → (if b then Some (refused tag now fault) else None) ≡ Some turn → Kept most turn
-given_up_if most true tag now fault turn k e = given_up most tag now fault turn k e
-given_up_if most false tag now fault turn k e = absurd (none-some turn e)
-
 waiting_keeps : (most : ℕ) (tag : List ℕ) (now : Standing) (w : Waiting) → WaitFits most w → IsMailShort most now.mailing → IsMailShort most (waiting tag w now).mailing
 waiting_keeps most tag now ForDone p k = k
-waiting_keeps most tag now (ForLiteral mailbox flags size) p k = record { takes = k.takes; begun = omega arith; sent = k.sent }
+waiting_keeps most tag now (ForLiteral Asked mailbox flags size) p k = record { takes = k.takes; begun = omega arith; sent = k.sent }
+waiting_keeps most tag now (ForLiteral Unasked mailbox flags size) p k = record { takes = k.takes; begun = omega arith; sent = k.sent }
+waiting_keeps most tag now (ForLiteral Dropped mailbox flags size) p k = record { takes = k.takes; begun = tt; sent = k.sent }
 waiting_keeps most tag now (ForVerdict mailbox flags text) p k = record { takes = k.takes; begun = k.begun; sent = p }
 waiting_keeps most tag now ForNothing p k = k
+
+-- memory is refused to who was to wait
+goes_without : (most : ℕ) (tag : List ℕ) (now : Standing) (w : Waiting) (n : ℕ) (turn : Turn) → IsMailShort most now.mailing → unkept tag w now n ≡ Some turn → Kept most turn
+goes_without most tag now w n turn k e =
+    let P : Option Turn → Type 0 = λ o. o ≡ Some turn → Kept most turn in
+    unkept_by P (λ d. absurd (none-some turn d)) tag now (λ d. given_up most tag now NoMemory turn k d)
+    (λ flags size d. subst (λ (s : Turn). Kept most s) (ap (the_turn turn) d) (waiting_keeps most tag now (ForLiteral Dropped None flags size) tt k))
+    (λ d. subst (λ (s : Turn). Kept most s) (ap (the_turn turn) d) (waiting_keeps most tag now ForNothing tt k)) w n e
 
 mail_stays : (most : ℕ) (tag : List ℕ) (now : Standing) (x : Exchange) (answers : List Answer) (turn : Turn) → TextsFit most x → IsMailShort most now.mailing → played tag now x answers ≡ Some turn → Kept most turn
 mail_stays most tag now (Done words how) [] turn p k e = told most now (saying (tagged tag words)) (λ s. refl) how turn k e
@@ -103,9 +110,8 @@ mail_stays most tag now (Wait bytes w) (Expunged a b c ∷ more) turn p k e = ab
 mail_stays most tag now (Wait bytes w) (Fed a b ∷ more) turn p k e = absurd (none-some turn e)
 mail_stays most tag now (Wait bytes w) (Left a ∷ more) turn p k e = absurd (none-some turn e)
 mail_stays most tag now (Wait bytes w) (Refused a ∷ more) turn p k e = absurd (none-some turn e)
-mail_stays most tag now (Wait bytes w) (Starved zero ∷ []) turn p k e = given_up_if most (keeps_tag w && nat_lt most_in_place (length tag)) tag now NoMemory turn k e
-mail_stays most tag now (Wait bytes w) (Starved zero ∷ b ∷ more) turn p k e = absurd (none-some turn e)
-mail_stays most tag now (Wait bytes w) (Starved (suc n) ∷ more) turn p k e = absurd (none-some turn e)
+mail_stays most tag now (Wait bytes w) (Starved n ∷ []) turn p k e = goes_without most tag now w n turn k e
+mail_stays most tag now (Wait bytes w) (Starved n ∷ b ∷ more) turn p k e = absurd (none-some turn e)
 mail_stays most tag now (Write bytes x) [] turn p k e = maps most (saying bytes) (λ s. refl) (played tag now x []) turn e (λ s d. mail_stays most tag now x [] s p k d)
 mail_stays most tag now (Write bytes x) (Entered a ∷ more) turn p k e = maps most (saying bytes) (λ s. refl) (played tag now x (Entered a ∷ more)) turn e (λ s d. mail_stays most tag now x (Entered a ∷ more) s p k d)
 mail_stays most tag now (Write bytes x) (Looked a ∷ more) turn p k e = maps most (saying bytes) (λ s. refl) (played tag now x (Looked a ∷ more)) turn e (λ s d. mail_stays most tag now x (Looked a ∷ more) s p k d)
@@ -144,9 +150,7 @@ mail_stays most tag now (Look next) (Fed a b ∷ more) turn p k e = absurd (none
 mail_stays most tag now (Look next) (Left a ∷ more) turn p k e = absurd (none-some turn e)
 mail_stays most tag now (Look next) (Refused a ∷ []) turn p k e = told most now (λ s. having Look (Refused a) (saying (refusal_text tag a) s)) (λ s. refl) (refusal_after a) turn k e
 mail_stays most tag now (Look next) (Refused a ∷ b ∷ more) turn p k e = absurd (none-some turn e)
-mail_stays most tag now (Look next) (Starved zero ∷ []) turn p k e = given_up most tag now NoMemory turn k e
-mail_stays most tag now (Look next) (Starved zero ∷ b ∷ more) turn p k e = absurd (none-some turn e)
-mail_stays most tag now (Look next) (Starved (suc n) ∷ more) turn p k e = absurd (none-some turn e)
+mail_stays most tag now (Look next) (Starved n ∷ more) turn p k e = absurd (none-some turn e)
 mail_stays most tag now (Read uid mark next) [] turn p k e = absurd (none-some turn e)
 mail_stays most tag now (Read uid mark next) (Entered a ∷ more) turn p k e = absurd (none-some turn e)
 mail_stays most tag now (Read uid mark next) (Looked a ∷ more) turn p k e = absurd (none-some turn e)
@@ -255,7 +259,8 @@ fit_fetching most fetch mark view done (uid ∷ uids) gone h = λ row.
 fit_storing : (most : ℕ) (store : Store) (view : List ℕ) (done : Bool → Exchange) (uids : List ℕ) (gone : Bool) → ((b : Bool) → TextsFit most (done b)) → TextsFit most (storing store view done uids gone)
 fit_storing most store view done [] gone h = h gone
 fit_storing most store view done (uid ∷ uids) gone h = λ flags.
-    fit_found most (λ f. Write (stored store view uid f) (storing store view done uids gone)) (storing store view done uids true) flags (λ f. fit_storing most store view done uids gone h) (fit_storing most store view done uids true h)
+    fit_found most (λ f. stored store view uid f (storing store view done uids gone)) (storing store view done uids true) flags
+    (λ f. fit_if most store.silent _ _ (fit_storing most store view done uids gone h) (fit_storing most store view done uids gone h)) (fit_storing most store view done uids true h)
 
 fit_chosen : (most : ℕ) (by_uid : Bool) (set : List SeqRange) (next : List ℕ → List ℕ → Exchange) → ((view uids : List ℕ) → TextsFit most (next view uids)) → TextsFit most (on_set by_uid set next)
 fit_chosen most by_uid set next h = λ view. by view (named_in by_uid set view)
@@ -274,11 +279,11 @@ fit_over most (Some n) = tt
 fit_append : (most : ℕ) (o : Option ℕ) (folders : List Folder) (a : Append) → TextsFit most (appending o folders a)
 fit_append most o folders a =
     fit_if most a.literal.waits
-    (wanting (on_found (λ mailbox. if is_over o a.literal.size then over o else awaiting (codes "+ ready\r\n") (Some mailbox) a.flags a.literal.size) nowhere (number_named a.name folders)))
-    (if nat_lt most_unasked a.literal.size then Wait (codes "* BYE Literal too big\r\n") ForNothing else wanting (awaiting [] (number_named a.name folders) a.flags a.literal.size))
-    (fit_found most (λ mailbox. if is_over o a.literal.size then over o else awaiting (codes "+ ready\r\n") (Some mailbox) a.flags a.literal.size) nowhere (number_named a.name folders)
-    (λ mailbox. fit_if most (is_over o a.literal.size) (over o) (awaiting (codes "+ ready\r\n") (Some mailbox) a.flags a.literal.size) (fit_over most o) tt) tt)
-    (fit_if most (nat_lt most_unasked a.literal.size) (Wait (codes "* BYE Literal too big\r\n") ForNothing) (wanting (awaiting [] (number_named a.name folders) a.flags a.literal.size)) tt tt)
+    (wanting (on_found (λ mailbox. if is_over o a.literal.size then over o else asking mailbox a.flags a.literal.size) nowhere (number_named a.name folders)))
+    (if nat_lt most_unasked a.literal.size then Wait (codes "* BYE Literal too big\r\n") ForNothing else coming (number_named a.name folders) a.flags a.literal.size)
+    (fit_found most (λ mailbox. if is_over o a.literal.size then over o else asking mailbox a.flags a.literal.size) nowhere (number_named a.name folders)
+    (λ mailbox. fit_if most (is_over o a.literal.size) (over o) (asking mailbox a.flags a.literal.size) (fit_over most o) tt) tt)
+    (fit_if most (nat_lt most_unasked a.literal.size) (Wait (codes "* BYE Literal too big\r\n") ForNothing) (coming (number_named a.name folders) a.flags a.literal.size) tt tt)
 
 fit_command : (most : ℕ) (now : Standing) (command : Command) → TextsFit most (on_command now command)
 fit_command most now commands.Noop = fit_showing most now.selected (completed commands.Noop) tt
@@ -291,7 +296,7 @@ fit_command most now commands.Close = fit_found most (λ (selected : Selected). 
 fit_command most now commands.Unselect = fit_found most (λ (selected : Selected). Leave false (completed commands.Unselect)) wrong_state now.selected (λ s. tt) tt
 fit_command most now commands.Expunge = fit_writable most now (Expunge None (Feed unlimited (completed commands.Expunge))) tt
 fit_command most now (commands.UidExpunge set) =
-    fit_writable most now (expunge_set set) (fit_chosen most true set (λ view uids. Expunge (Some uids) (Feed unlimited (completed (commands.UidExpunge set)))) (λ view uids. tt))
+    fit_writable most now (expunge_set set) (fit_chosen most true set (λ view uids. wanting (Expunge (Some uids) (Feed unlimited (completed (commands.UidExpunge set))))) (λ view uids. tt))
 fit_command most now (commands.Fetch fetch) = fit_found most (fetch_messages fetch) wrong_state now.selected
     (λ (selected : Selected). fit_chosen most fetch.by_uid fetch.set
     (λ view uids. fetching fetch (list_any marks_seen fetch.items && not selected.read_only) view (messages_done (commands.Fetch fetch) fetch.by_uid) uids false)

@@ -29,7 +29,7 @@ use Rattle.imap_grammar.specs.declared.command.Store.{Store}
 use Rattle.imap_session.specs.declared.standing.After.{After}
 use Rattle.imap_session.specs.declared.standing.Selected.{Selected}
 use Rattle.imap_session.specs.Exchange.{Appending, kept_behind, kept_tag, Call, Answer, Event, Entered, Looked, Found, Counted, Altered, Expunged, Fed, Left, Refused, Starved, Exchange, Done, Wait, Write, Put, Enter, Look, Read, Count, Alter, Expunge, Feed, Leave, Standing, Turn, having, played, refusal_text, refused, saying, tagged}
-use Rattle.imap_session.specs.Commands.{completed, counting, expunge_set, fetch_messages, fetched, fetching, folder_of, if_writable, in_writable, messages_done, on_chosen, on_command, on_found, on_read, on_set, turn_behind, turn_while, verb_text, says, showing, store_messages, stored, storing, unlimited, wrong_state}
+use Rattle.imap_session.specs.Commands.{completed, counting, expunge_set, fetch_messages, fetched, fetching, folder_of, if_writable, in_writable, messages_done, on_chosen, on_command, on_found, on_read, on_set, turn_behind, turn_while, verb_text, says, showing, store_messages, stored, storing, unlimited, wrong_state, wanting}
 use Rattle.imap_session.specs.Store.{Met}
 use Rattle.session_store.specs.Meets.{Meets}
 use Rattle.client_list.specs.Turns.{IsTag}
@@ -161,9 +161,7 @@ ok_current k n tag front fed now w (Wait bytes how) (Expunged a b c0 ∷ more) t
 ok_current k n tag front fed now w (Wait bytes how) (Fed a b ∷ more) turn v K t c p e met ends = absurd (none-some turn e)
 ok_current k n tag front fed now w (Wait bytes how) (Left a ∷ more) turn v K t c p e met ends = absurd (none-some turn e)
 ok_current k n tag front fed now w (Wait bytes how) (Refused a ∷ more) turn v K t c p e met ends = absurd (none-some turn e)
-ok_current k n tag front fed now w (Wait bytes how) (Starved zero ∷ []) turn v K t c p e met ends = absurd p
-ok_current k n tag front fed now w (Wait bytes how) (Starved zero ∷ b ∷ more) turn v K t c p e met ends = absurd (none-some turn e)
-ok_current k n tag front fed now w (Wait bytes how) (Starved (suc j) ∷ more) turn v K t c p e met ends = absurd (none-some turn e)
+ok_current k n tag front fed now w (Wait bytes how) (Starved j ∷ more) turn v K t c p e met ends = absurd p
 ok_current k n tag front fed now w (Write bytes x) [] turn v K t c p e met ends = said tag front bytes (played tag now x []) turn v k n w e met ends (λ s d m f. ok_current k n tag (front ++ bytes) fed now w x [] s v K t c p d m f)
 ok_current k n tag front fed now w (Write bytes x) (Entered a ∷ more) turn v K t c p e met ends = said tag front bytes (played tag now x (Entered a ∷ more)) turn v k n w e met ends (λ s d m f. ok_current k n tag (front ++ bytes) fed now w x (Entered a ∷ more) s v K t c p d m f)
 ok_current k n tag front fed now w (Write bytes x) (Looked a ∷ more) turn v K t c p e met ends = said tag front bytes (played tag now x (Looked a ∷ more)) turn v k n w e met ends (λ s d m f. ok_current k n tag (front ++ bytes) fed now w x (Looked a ∷ more) s v K t c p d m f)
@@ -202,9 +200,7 @@ ok_current k n tag front fed now w (Look next) (Fed a b ∷ more) turn v K t c p
 ok_current k n tag front fed now w (Look next) (Left a ∷ more) turn v K t c p e met ends = absurd (none-some turn e)
 ok_current k n tag front fed now w (Look next) (Refused a ∷ []) turn v K t c p e met ends = was_given_up tag front now Look a turn v n t e ends
 ok_current k n tag front fed now w (Look next) (Refused a ∷ b ∷ more) turn v K t c p e met ends = absurd (none-some turn e)
-ok_current k n tag front fed now w (Look next) (Starved zero ∷ []) turn v K t c p e met ends = given_up tag front now NoMemory turn v n t e ends
-ok_current k n tag front fed now w (Look next) (Starved zero ∷ b ∷ more) turn v K t c p e met ends = absurd (none-some turn e)
-ok_current k n tag front fed now w (Look next) (Starved (suc j) ∷ more) turn v K t c p e met ends = absurd (none-some turn e)
+ok_current k n tag front fed now w (Look next) (Starved j ∷ more) turn v K t c p e met ends = absurd (none-some turn e)
 ok_current k n tag front fed now w (Read uid mark next) [] turn v K t c p e met ends = absurd (none-some turn e)
 ok_current k n tag front fed now w (Read uid mark next) (Entered a ∷ more) turn v K t c p e met ends = absurd (none-some turn e)
 ok_current k n tag front fed now w (Read uid mark next) (Looked a ∷ more) turn v K t c p e met ends = absurd (none-some turn e)
@@ -315,10 +311,14 @@ fetching_last fetch mark view done [] gone h = h gone
 fetching_last fetch mark view done (uid ∷ uids) gone h = λ row.
     found_last (λ r. Write (fetched fetch view uid r) (fetching fetch mark view done uids gone)) (fetching fetch mark view done uids true) row (λ r. fetching_last fetch mark view done uids gone h) (fetching_last fetch mark view done uids true h)
 
+silent_last : (silent : Bool) (text : List ℕ) (x : Exchange) → ShowsLast false x → ShowsLast false (if silent then x else Write text x)
+silent_last true text x h = h
+silent_last false text x h = h
+
 storing_last : (store : Store) (view : List ℕ) (done : Bool → Exchange) (uids : List ℕ) (gone : Bool) → ((b : Bool) → ShowsLast false (done b)) → ShowsLast false (storing store view done uids gone)
 storing_last store view done [] gone h = h gone
 storing_last store view done (uid ∷ uids) gone h = λ flags.
-    found_last (λ f. Write (stored store view uid f) (storing store view done uids gone)) (storing store view done uids true) flags (λ f. storing_last store view done uids gone h) (storing_last store view done uids true h)
+    found_last (λ f. stored store view uid f (storing store view done uids gone)) (storing store view done uids true) flags (λ f. silent_last store.silent _ _ (storing_last store view done uids gone h)) (storing_last store view done uids true h)
 
 messages_last : (command : Command) (by_uid gone : Bool) → by_uid ≡ true → ShowsLast false (messages_done command by_uid gone)
 messages_last command true gone e = (refl, inl refl)
@@ -332,7 +332,7 @@ command_last now selected (commands.Status name items) is e =
     (λ folder status. subst (λ (o : Option Selected). ShowsLast false (showing o (completed (commands.Status name items)))) (sym is) (refl, inl refl)) (inr missing)
 command_last now selected commands.Expunge is e = writable_last now (Expunge None (Feed unlimited (completed commands.Expunge))) (refl, inl refl)
 command_last now selected (commands.UidExpunge set) is e =
-    writable_last now (expunge_set set) (chosen_last true set (λ view uids. Expunge (Some uids) (Feed unlimited (completed (commands.UidExpunge set)))) (λ view uids. (refl, inl refl)))
+    writable_last now (expunge_set set) (chosen_last true set (λ view uids. wanting (Expunge (Some uids) (Feed unlimited (completed (commands.UidExpunge set))))) (λ view uids. (refl, inl refl)))
 command_last now selected (commands.Fetch fetch) is e = found_last (fetch_messages fetch) wrong_state now.selected
     (λ (s : Selected). chosen_last fetch.by_uid fetch.set
     (λ view uids. fetching fetch (list_any marks_seen fetch.items && not s.read_only) view (messages_done (commands.Fetch fetch) fetch.by_uid) uids false)

@@ -13,8 +13,9 @@ use Rattle.imap_session.specs.declared.standing.After.{After}
 use Rattle.imap_session.specs.declared.standing.After.TheVariants.{Go, Bye}
 use Rattle.imap_session.specs.declared.standing.After.TheVariants as afters
 use Rattle.imap_session.specs.declared.standing.Selected.{Selected}
-use Rattle.imap_session.specs.Exchange.{Answer, Entered, Looked, Found, Counted, Altered, Expunged, Fed, Left, Refused, Starved, Exchange, ForDone, ForLiteral, ForVerdict, ForNothing, Done, Wait, Write, Put, Enter, Look, Read, Count, Alter, Expunge, Feed, Leave, Standing, Turn, Appending, Sent, Waiting, closed, having, keeps_tag, most_in_place, played, refusal_after, refusal_text, refused, saying, tagged, waiting, Folder, Mailing, kept_behind, kept_tag, is_idling}
-use Rattle.imap_session.specs.Commands.{idle_turn_in, turn_of, fault_text, on_command, on_idle_line, on_read, on_rest, on_verdict, only_says, turn_behind, turn_while, turn_with, without_begun, without_sent, appending, awaiting, closing, completed, counting, entering, expunge_set, fetch_messages, fetched, fetching, folder_of, if_writable, in_writable, is_over, last_number, messages_done, most_unasked, nowhere, number_named, on_chosen, on_folder, on_found, on_set, on_text, over, says, selecting, showing, store_messages, stored, storing, unlimited, wanting, wrong_state, opened}
+use Rattle.imap_session.specs.Exchange.{Answer, Entered, Looked, Found, Counted, Altered, Expunged, Fed, Left, Refused, Starved, Exchange, ForDone, ForLiteral, ForVerdict, ForNothing, Done, Wait, Write, Put, Enter, Look, Read, Count, Alter, Expunge, Feed, Leave, Standing, Turn, Appending, Sent, Waiting, closed, having, played, refusal_after, refusal_text, refused, saying, tagged, waiting, Folder, Mailing, kept_behind, kept_tag, is_idling, unkept}
+use Rattle.imap_session.proofs.Unkept.{unkept_by}
+use Rattle.imap_session.specs.Commands.{idle_turn_in, turn_of, fault_text, on_command, on_idle_line, on_read, on_rest, on_verdict, only_says, turn_behind, turn_while, turn_with, without_begun, without_sent, appending, closing, completed, counting, entering, expunge_set, fetch_messages, fetched, fetching, folder_of, if_writable, in_writable, is_over, last_number, messages_done, most_unasked, nowhere, number_named, on_chosen, on_folder, on_found, on_set, on_text, over, says, selecting, showing, store_messages, stored, storing, unlimited, wanting, wrong_state, opened, asking, coming}
 use Rattle.delivery_token.specs.declared.Verdict.{Verdict}
 use Rattle.std.specs.List.{list_any}
 use Rattle.change_ring.specs.declared.change.Flags.{Flags}
@@ -81,15 +82,18 @@ told now f keeps how turn e = maps now f keeps (Some (closed now how)) turn e (�
 pub given_up : (tag : List ℕ) (now : Standing) (fault : MailFault) (turn : Turn) → Some (refused tag now fault) ≡ Some turn → turn.standing.selected ≡ now.selected
 given_up tag now fault turn e = told now (saying (refusal_text tag fault)) (λ s. refl) (refusal_after fault) turn e
 
-given_up_if : (b : Bool) (tag : List ℕ) (now : Standing) (fault : MailFault) (turn : Turn) → (if b then Some (refused tag now fault) else None) ≡ Some turn → turn.standing.selected ≡ now.selected
-given_up_if true tag now fault turn e = given_up tag now fault turn e
-given_up_if false tag now fault turn e = absurd (none-some turn e)
-
 waiting_keeps : (tag : List ℕ) (now : Standing) (w : Waiting) → (waiting tag w now).selected ≡ now.selected
 waiting_keeps tag now ForDone = refl
-waiting_keeps tag now (ForLiteral mailbox flags size) = refl
+waiting_keeps tag now (ForLiteral coming mailbox flags size) = refl
 waiting_keeps tag now (ForVerdict mailbox flags text) = refl
 waiting_keeps tag now ForNothing = refl
+
+-- memory is refused to who was to wait
+goes_without : (tag : List ℕ) (now : Standing) (w : Waiting) (n : ℕ) (turn : Turn) → unkept tag w now n ≡ Some turn → turn.standing.selected ≡ now.selected
+goes_without tag now w n turn e =
+    let P : Option Turn → Type 0 = λ o. o ≡ Some turn → turn.standing.selected ≡ now.selected in
+    unkept_by P (λ d. absurd (none-some turn d)) tag now (λ d. given_up tag now NoMemory turn d) (λ flags size d. ap (λ (s : Turn). s.standing.selected) (sym (ap (the_turn turn) d)))
+    (λ d. ap (λ (s : Turn). s.standing.selected) (sym (ap (the_turn turn) d))) w n e
 
 pub selected_stays : (tag : List ℕ) (now : Standing) (x : Exchange) (answers : List Answer) (turn : Turn) → StaysIn x → played tag now x answers ≡ Some turn → turn.standing.selected ≡ now.selected
 selected_stays tag now (Done words how) [] turn p e = told now (saying (tagged tag words)) (λ s. refl) how turn e
@@ -104,9 +108,8 @@ selected_stays tag now (Wait bytes w) (Expunged a b c ∷ more) turn p e = absur
 selected_stays tag now (Wait bytes w) (Fed a b ∷ more) turn p e = absurd (none-some turn e)
 selected_stays tag now (Wait bytes w) (Left a ∷ more) turn p e = absurd (none-some turn e)
 selected_stays tag now (Wait bytes w) (Refused a ∷ more) turn p e = absurd (none-some turn e)
-selected_stays tag now (Wait bytes w) (Starved zero ∷ []) turn p e = given_up_if (keeps_tag w && nat_lt most_in_place (length tag)) tag now NoMemory turn e
-selected_stays tag now (Wait bytes w) (Starved zero ∷ b ∷ more) turn p e = absurd (none-some turn e)
-selected_stays tag now (Wait bytes w) (Starved (suc n) ∷ more) turn p e = absurd (none-some turn e)
+selected_stays tag now (Wait bytes w) (Starved n ∷ []) turn p e = goes_without tag now w n turn e
+selected_stays tag now (Wait bytes w) (Starved n ∷ b ∷ more) turn p e = absurd (none-some turn e)
 selected_stays tag now (Write bytes x) [] turn p e = maps now (saying bytes) (λ s. refl) (played tag now x []) turn e (λ s d. selected_stays tag now x [] s p d)
 selected_stays tag now (Write bytes x) (Entered a ∷ more) turn p e = maps now (saying bytes) (λ s. refl) (played tag now x (Entered a ∷ more)) turn e (λ s d. selected_stays tag now x (Entered a ∷ more) s p d)
 selected_stays tag now (Write bytes x) (Looked a ∷ more) turn p e = maps now (saying bytes) (λ s. refl) (played tag now x (Looked a ∷ more)) turn e (λ s d. selected_stays tag now x (Looked a ∷ more) s p d)
@@ -145,9 +148,7 @@ selected_stays tag now (Look next) (Fed a b ∷ more) turn p e = absurd (none-so
 selected_stays tag now (Look next) (Left a ∷ more) turn p e = absurd (none-some turn e)
 selected_stays tag now (Look next) (Refused a ∷ []) turn p e = told now (λ s. having Look (Refused a) (saying (refusal_text tag a) s)) (λ s. refl) (refusal_after a) turn e
 selected_stays tag now (Look next) (Refused a ∷ b ∷ more) turn p e = absurd (none-some turn e)
-selected_stays tag now (Look next) (Starved zero ∷ []) turn p e = given_up tag now NoMemory turn e
-selected_stays tag now (Look next) (Starved zero ∷ b ∷ more) turn p e = absurd (none-some turn e)
-selected_stays tag now (Look next) (Starved (suc n) ∷ more) turn p e = absurd (none-some turn e)
+selected_stays tag now (Look next) (Starved n ∷ more) turn p e = absurd (none-some turn e)
 selected_stays tag now (Read uid mark next) [] turn p e = absurd (none-some turn e)
 selected_stays tag now (Read uid mark next) (Entered a ∷ more) turn p e = absurd (none-some turn e)
 selected_stays tag now (Read uid mark next) (Looked a ∷ more) turn p e = absurd (none-some turn e)
@@ -248,7 +249,8 @@ in_fetching fetch mark view done (uid ∷ uids) gone h = λ row.
 in_storing : (store : Store) (view : List ℕ) (done : Bool → Exchange) (uids : List ℕ) (gone : Bool) → ((b : Bool) → StaysIn (done b)) → StaysIn (storing store view done uids gone)
 in_storing store view done [] gone h = h gone
 in_storing store view done (uid ∷ uids) gone h = λ flags.
-    in_found (λ f. Write (stored store view uid f) (storing store view done uids gone)) (storing store view done uids true) flags (λ f. in_storing store view done uids gone h) (in_storing store view done uids true h)
+    in_found (λ f. stored store view uid f (storing store view done uids gone)) (storing store view done uids true) flags
+    (λ f. in_if store.silent _ _ (in_storing store view done uids gone h) (in_storing store view done uids gone h)) (in_storing store view done uids true h)
 
 in_chosen : (by_uid : Bool) (set : List SeqRange) (next : List ℕ → List ℕ → Exchange) → ((view uids : List ℕ) → StaysIn (next view uids)) → StaysIn (on_set by_uid set next)
 in_chosen by_uid set next h = λ view. by view (named_in by_uid set view)
@@ -267,11 +269,11 @@ in_over (Some n) = tt
 in_append : (o : Option ℕ) (folders : List Folder) (a : Append) → StaysIn (appending o folders a)
 in_append o folders a =
     in_if a.literal.waits
-    (wanting (on_found (λ mailbox. if is_over o a.literal.size then over o else awaiting (codes "+ ready\r\n") (Some mailbox) a.flags a.literal.size) nowhere (number_named a.name folders)))
-    (if nat_lt most_unasked a.literal.size then Wait (codes "* BYE Literal too big\r\n") ForNothing else wanting (awaiting [] (number_named a.name folders) a.flags a.literal.size))
-    (in_found (λ mailbox. if is_over o a.literal.size then over o else awaiting (codes "+ ready\r\n") (Some mailbox) a.flags a.literal.size) nowhere (number_named a.name folders)
-    (λ mailbox. in_if (is_over o a.literal.size) (over o) (awaiting (codes "+ ready\r\n") (Some mailbox) a.flags a.literal.size) (in_over o) tt) tt)
-    (in_if (nat_lt most_unasked a.literal.size) (Wait (codes "* BYE Literal too big\r\n") ForNothing) (wanting (awaiting [] (number_named a.name folders) a.flags a.literal.size)) tt tt)
+    (wanting (on_found (λ mailbox. if is_over o a.literal.size then over o else asking mailbox a.flags a.literal.size) nowhere (number_named a.name folders)))
+    (if nat_lt most_unasked a.literal.size then Wait (codes "* BYE Literal too big\r\n") ForNothing else coming (number_named a.name folders) a.flags a.literal.size)
+    (in_found (λ mailbox. if is_over o a.literal.size then over o else asking mailbox a.flags a.literal.size) nowhere (number_named a.name folders)
+    (λ mailbox. in_if (is_over o a.literal.size) (over o) (asking mailbox a.flags a.literal.size) (in_over o) tt) tt)
+    (in_if (nat_lt most_unasked a.literal.size) (Wait (codes "* BYE Literal too big\r\n") ForNothing) (coming (number_named a.name folders) a.flags a.literal.size) tt tt)
 
 in_command : (now : Standing) (command : Command) → stays command ≡ true → StaysIn (on_command now command)
 in_command now commands.Noop e = in_showing now.selected (completed commands.Noop) tt
@@ -284,7 +286,7 @@ in_command now commands.Close e = absurd (false≢true e)
 in_command now commands.Unselect e = absurd (false≢true e)
 in_command now commands.Expunge e = stay_writable now (Expunge None (Feed unlimited (completed commands.Expunge))) tt
 in_command now (commands.UidExpunge set) e =
-    stay_writable now (expunge_set set) (in_chosen true set (λ view uids. Expunge (Some uids) (Feed unlimited (completed (commands.UidExpunge set)))) (λ view uids. tt))
+    stay_writable now (expunge_set set) (in_chosen true set (λ view uids. wanting (Expunge (Some uids) (Feed unlimited (completed (commands.UidExpunge set))))) (λ view uids. tt))
 in_command now (commands.Fetch fetch) e = in_found (fetch_messages fetch) wrong_state now.selected
     (λ (selected : Selected). in_chosen fetch.by_uid fetch.set
     (λ view uids. fetching fetch (list_any marks_seen fetch.items && not selected.read_only) view (messages_done (commands.Fetch fetch) fetch.by_uid) uids false)

@@ -128,7 +128,7 @@ line_short step most now line old new said how next (too_long many s w h e) k = 
 
 one_short : {S : Type 0} (step : S → calls.Call → calls.Answer → S → Type 0) (most : ℕ) (now : Standing) (one : Sends) (old new : S) (said : List ℕ) (how : After) (next : Standing) → AnswersOne step now one old new [] said how next
     → IsMailShort most now.mailing → IsMailShort most next.mailing
-one_short step most now (imap.Line line) old new said how next a k = line_short step most now line old new said how next a.1 k
+one_short step most now (imap.Line line) old new said how next a k = line_short step most now line old new said how next a.2 k
 one_short step most now (imap.Bytes bytes) old new said how next a k =
     subst (λ (x : Standing). IsMailShort most x.mailing) (sym a.takes.1) (bytes_mail most now a.takes.0 bytes k (due_some (length bytes) now.mailing.begun a.due))
 
@@ -151,7 +151,7 @@ session_works step most seat v old new after said small k w =
 session_on : {S : Type 0} (step : S → calls.Call → calls.Answer → S → Type 0) (most : ℕ) (whole : Bool) (seat : ℕ) (heard : List Noted) (v : SeatedVisitor) (old new : S) (after : SeatedVisitor) (said : List ℕ) → most < 2 ^ 31 → SessionShort most v
     → GoesOn step whole seat heard v old new after said → SessionShort most after
 session_on step most whole seat heard v old new after said small B (seated.works n w) = session_works step most seat v old new after said small B.mail w
-session_on step most whole seat heard v old new after said small B (seated.answers verdict mid first second how next known a w e) =
+session_on step most whole seat heard v old new after said small B (seated.answers verdict mid first second how next still known a w e) =
     session_works step most seat (seated.told v next) mid new after second small
     (verdict_mail most v.session.standing verdict a.answers (record { events = a.events; bytes = a.bytes; after = how; standing = next }) B.mail a.played) w
 session_on step most whole seat heard v old new after said small B (seated.waits a n e f) = rw e B

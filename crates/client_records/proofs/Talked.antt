@@ -76,7 +76,7 @@ line_talked k n first began sent heard now line old new said how next (too_long 
 
 one_talked : (k : Config) (n : ℕ) (first : Standing) (began : World) (sent heard : List ℕ) (now : Standing) (one : Sends) (old new : World) (said : List ℕ) (how : After) (next : Standing)
     → AnswersOne (Calls k n) now one old new [] said how next → Talked k n first began sent heard now old → Talked k n first began (sent ++ spelled one) (heard ++ said) next new
-one_talked k n first began sent heard now (dialogue.Line line) old new said how next a t = line_talked k n first began sent heard now line old new said how next a.1 t
+one_talked k n first began sent heard now (dialogue.Line line) old new said how next a t = line_talked k n first began sent heard now line old new said how next a.2 t
 one_talked k n first began sent heard now (dialogue.Bytes bytes) old new said how next a t =
     let kept : Bool = a.takes.0 in
     let turn : Turn = nothing_more (may_send (with_bytes kept bytes now)) (with_bytes kept bytes now) in
@@ -136,7 +136,7 @@ same_reached k n first began came heard v after old new said e f g r = rw (e, f,
 pub goes_reached : (k : Config) (n : ℕ) (whole : Bool) (seat : ℕ) (notes : List Noted) (first : Standing) (began : World) (came heard : List ℕ) (v after : SeatedVisitor) (old new : World) (said : List ℕ) → AreHeardSmall notes
     → GoesOn (Calls k n) whole seat notes v old new after said → Reached k n first began came heard v.session old → Reached k n first began came (heard ++ said) after.session new
 goes_reached k n whole seat notes first began came heard v after old new said small (seated.works none w) r = works_reached k n seat first began came heard v after old new said w r
-goes_reached k n whole seat notes first began came heard v after old new said small (seated.answers verdict mid one two how next known a w e) r =
+goes_reached k n whole seat notes first began came heard v after old new said small (seated.answers verdict mid one two how next still known a w e) r =
     let t = verdict_talked k n first began r.sent heard v.session.standing verdict old mid one how next (verdict_printed seat notes v verdict small known) a r.talked in
     let between : Reached k n first began came (heard ++ one) (record { standing = next; waits = v.session.waits; unsaid = v.session.unsaid }) mid =
     record { sent = r.sent ++ []; talked = t; waits = r.waits ∙ ap (λ (s : List ℕ). s ++ v.session.waits) (sym (append-nil r.sent)) } in

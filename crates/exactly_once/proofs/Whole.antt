@@ -33,6 +33,7 @@ use Rattle.imap_session.specs.Exchange as ex
 use Rattle.imap_session.specs.Exchange.{Answer, Appending, ForVerdict, Mailing, Call, Entered, Looked, Found, Counted, Altered, Expunged, Fed, Left, Refused, Starved, Exchange, Folder, Standing, Turn, played, refused, refusal_text, refusal_after, saying, having, closed, tagged, bye, is_idling}
 use Rattle.imap_session.specs.Commands.{appending, is_over, last_number, most_unasked, nowhere, number_named, on_rest, on_text, over, wanting, closing, completed, counting, entering, expunge_set, fetch_messages, fetched, fetching, folder_of, greeting, idle_turn_in, messages_done, on_chosen, on_command, on_found, on_idle_line, says, showing, store_messages, storing, unlimited, wrong_state, notice, noticing}
 use Rattle.imap_session.specs.Commands as commands_of
+use Rattle.imap_session.proofs.Unkept.{unkept_by}
 use Rattle.imap_session.specs.Store.{AnswersVerdict, IdleTurns}
 use Rattle.delivery_token.specs.declared.Verdict.{Verdict}
 use Rattle.delivery_token.specs.declared.Verdict.TheVariants as verdicts
@@ -129,10 +130,6 @@ then_showing : (call : Call) (answer : Answer) (view : List ℕ) (changes : List
 then_showing call answer view changes None p = tt
 then_showing call answer view changes (Some turn) p = whole_append (lines view changes) turn.bytes (lines_whole view changes) p
 
-either : (b : Bool) (turn : Turn) → IsWhole turn.bytes → TurnWhole (if b then Some turn else None)
-either true turn p = p
-either false turn p = tt
-
 played_whole : (tag : List ℕ) (now : Standing) (x : Exchange) (answers : List Answer) → SaysWhole x → TurnWhole (played tag now x answers)
 played_whole tag now (ex.Done words how) [] p = whole_append (tagged tag words) (closed now how).bytes (tagged_whole tag words) (closed_whole now how)
 played_whole tag now (ex.Done words how) (answer ∷ more) p = tt
@@ -146,9 +143,9 @@ played_whole tag now (ex.Wait bytes waits) ((Expunged a b c) ∷ more) p = tt
 played_whole tag now (ex.Wait bytes waits) ((Fed a b) ∷ more) p = tt
 played_whole tag now (ex.Wait bytes waits) ((Left a) ∷ more) p = tt
 played_whole tag now (ex.Wait bytes waits) ((Refused a) ∷ more) p = tt
-played_whole tag now (ex.Wait bytes waits) (Starved zero ∷ []) p = either (ex.keeps_tag waits && nat_lt ex.most_in_place (length tag)) (refused tag now NoMemory) (refused_whole tag now NoMemory)
-played_whole tag now (ex.Wait bytes waits) (Starved zero ∷ d ∷ more) p = tt
-played_whole tag now (ex.Wait bytes waits) ((Starved (suc a)) ∷ more) p = tt
+played_whole tag now (ex.Wait bytes waits) (Starved n ∷ []) p =
+    unkept_by TurnWhole tt tag now (refused_whole tag now NoMemory) (λ flags size. inl refl) (whole_append (ex.bye (codes "Out of memory")) [] (bye_whole (codes "Out of memory")) (inl refl)) waits n
+played_whole tag now (ex.Wait bytes waits) (Starved n ∷ d ∷ more) p = tt
 played_whole tag now (ex.Write bytes x) [] p = then_saying bytes (played tag now x []) p.0 (played_whole tag now x [] p.1)
 played_whole tag now (ex.Write bytes x) ((Entered a) ∷ more) p = then_saying bytes (played tag now x ((Entered a) ∷ more)) p.0 (played_whole tag now x ((Entered a) ∷ more) p.1)
 played_whole tag now (ex.Write bytes x) ((Looked a) ∷ more) p = then_saying bytes (played tag now x ((Looked a) ∷ more)) p.0 (played_whole tag now x ((Looked a) ∷ more) p.1)
@@ -188,9 +185,7 @@ played_whole tag now (ex.Look next) ((Fed a b) ∷ more) p = tt
 played_whole tag now (ex.Look next) ((Left a) ∷ more) p = tt
 played_whole tag now (ex.Look next) (Refused a ∷ []) p = refused_whole tag now a
 played_whole tag now (ex.Look next) (Refused a ∷ d ∷ more) p = tt
-played_whole tag now (ex.Look next) (Starved zero ∷ []) p = refused_whole tag now NoMemory
-played_whole tag now (ex.Look next) (Starved zero ∷ d ∷ more) p = tt
-played_whole tag now (ex.Look next) ((Starved (suc a)) ∷ more) p = tt
+played_whole tag now (ex.Look next) (Starved a ∷ more) p = tt
 played_whole tag now (ex.Read uid mark next) [] p = tt
 played_whole tag now (ex.Read uid mark next) ((Entered a) ∷ more) p = tt
 played_whole tag now (ex.Read uid mark next) ((Looked a) ∷ more) p = tt
@@ -309,14 +304,14 @@ flags_whole : (by_uid : Bool) (k uid : ℕ) (flags : Flags) → IsWhole (flags_a
 flags_whole by_uid k uid flags =
     ends (codes "* " ++ decimal k ++ codes " FETCH (" ++ (if by_uid then codes "UID " ++ decimal uid ++ codes " " else []) ++ codes "FLAGS (" ++ spaced (flag_words flags)) (codes "))")
 
-stored_whole : (silent : Bool) (text : List ℕ) → IsWhole text → IsWhole (if silent then [] else text)
-stored_whole true text p = inl refl
-stored_whole false text p = p
+in_silence : (silent : Bool) (text : List ℕ) (x : Exchange) → IsWhole text → SaysWhole x → SaysWhole (if silent then x else ex.Write text x)
+in_silence true text x p q = q
+in_silence false text x p q = (p, q)
 
 in_storing : (store : Store) (view : List ℕ) (done : Bool → Exchange) → ((gone : Bool) → SaysWhole (done gone)) → (uids : List ℕ) (gone : Bool) → SaysWhole (storing store view done uids gone)
 in_storing store view done p [] gone = p gone
 in_storing store view done p (uid ∷ uids) gone =
-    elim [ None ↦ in_storing store view done p uids true | Some flags ↦ (stored_whole store.silent _ (flags_whole store.by_uid (position uid view) uid flags), in_storing store view done p uids gone) ]
+    elim [ None ↦ in_storing store view done p uids true | Some flags ↦ in_silence store.silent _ _ (flags_whole store.by_uid (position uid view) uid flags) (in_storing store view done p uids gone) ]
 
 opening_whole : (read_only : Bool) (name : List ℕ) (opening : Opening) → IsWhole (opening_text read_only name opening)
 opening_whole read_only name opening = inr (
@@ -357,7 +352,7 @@ in_append : (most : Option ℕ) (folders : List Folder) (a : Append) → SaysWho
 in_append most folders a =
     in_either a.literal.waits _ _
     (inl refl, in_found _ nowhere (λ (mailbox : ℕ). in_either (is_over most a.literal.size) (over most) _ (in_over most) (inr (codes "+ ready", refl))) tt (number_named a.name folders))
-    (in_either (nat_lt most_unasked a.literal.size) _ _ (bye_whole (codes "Literal too big")) (inl refl, inl refl))
+    (in_either (nat_lt most_unasked a.literal.size) _ _ (bye_whole (codes "Literal too big")) (inl refl))
 
 in_text : (mailing : Mailing) (a : Appending) (text : List ℕ) (mailbox : ℕ) → SaysWhole (on_text mailing a text mailbox)
 in_text mailing a text mailbox =
@@ -392,10 +387,10 @@ command_whole now (commands.Status name items) = (
 command_whole now commands.Close = in_found _ wrong_state (λ s. tt) tt now.selected
 command_whole now commands.Unselect = in_found _ wrong_state (λ s. tt) tt now.selected
 command_whole now commands.Expunge = in_found _ wrong_state (λ (s : Selected). in_either s.read_only _ _ tt tt) tt now.selected
-command_whole now (commands.UidExpunge set) = in_found _ wrong_state (λ (s : Selected). in_either s.read_only _ (expunge_set set) tt (λ view. in_chosen (named_in true set view) (λ uids. ex.Expunge (Some uids) (ex.Feed unlimited (completed (commands.UidExpunge set)))) (λ uids. tt))) tt now.selected
+command_whole now (commands.UidExpunge set) = in_found _ wrong_state (λ (s : Selected). in_either s.read_only _ (expunge_set set) tt (λ view. in_chosen (named_in true set view) (λ uids. wanting (ex.Expunge (Some uids) (ex.Feed unlimited (completed (commands.UidExpunge set))))) (λ uids. (inl refl, tt)))) tt now.selected
 command_whole now (commands.Fetch fetch) =
     in_found (fetch_messages fetch) wrong_state
-    (λ (s : Selected) view. in_chosen (named_in fetch.by_uid fetch.set view) _ (λ uids. in_fetching fetch _ view (messages_done (commands.Fetch fetch) fetch.by_uid) (in_done (commands.Fetch fetch) fetch.by_uid) uids false)) tt now.selected
+    (λ (s : Selected). (inl refl, λ view. in_chosen (named_in fetch.by_uid fetch.set view) _ (λ uids. in_fetching fetch _ view (messages_done (commands.Fetch fetch) fetch.by_uid) (in_done (commands.Fetch fetch) fetch.by_uid) uids false))) tt now.selected
 command_whole now (commands.Store store) =
     in_found _ wrong_state
     (λ (s : Selected). in_either s.read_only _ (store_messages store) tt
@@ -438,7 +433,7 @@ line_answered step now l old new said how next (reads few a) = subst IsWhole (sy
 line_answered step now l old new said how next (too_long many s w h n) = subst IsWhole (sym w) (long_whole now.mailing.begun now.idling)
 
 one_answered : {S : Type 0} (step : S → Call → Answer → S → Type 0) (now : Standing) (one : Sends) (old new : S) (said : List ℕ) (how : After) (next : Standing) → AnswersOne step now one old new [] said how next → IsWhole said
-one_answered step now (dialogue.Line line) old new said how next a = line_answered step now line old new said how next a.1
+one_answered step now (dialogue.Line line) old new said how next a = line_answered step now line old new said how next a.2
 one_answered step now (dialogue.Bytes bytes) old new said how next t = inl t.silent
 
 pub converses_whole : {S : Type 0} (step : S → Call → Answer → S → Type 0) {now next : Standing} {sent : List Sends} {old new : S} {said : List ℕ} {how : After} → Converses step now sent old new said how next → IsWhole said
@@ -463,7 +458,7 @@ verdict_answered step now verdict old new said how next a = subst IsWhole (sym a
 
 pub goes_whole : {S : Type 0} (step : S → Call → Answer → S → Type 0) (whole : Bool) (seat : ℕ) (heard : List Noted) (v : SeatedVisitor) (old new : S) (after : SeatedVisitor) (said : List ℕ) → GoesOn step whole seat heard v old new after said → IsWhole said
 goes_whole step whole seat heard v old new after said (seated.works n w) = converses_whole step w.answers.converses
-goes_whole step whole seat heard v old new after said (seated.answers verdict mid first second how next known a w e) =
+goes_whole step whole seat heard v old new after said (seated.answers verdict mid first second how next still known a w e) =
     subst IsWhole (sym e) (whole_append first second (verdict_answered step v.session.standing verdict old mid first how next a) (converses_whole step w.answers.converses))
 goes_whole step whole seat heard v old new after said (seated.waits a n e f) = inl f
 goes_whole step whole seat heard v old new after said (seated.rests a n e f) = inl f

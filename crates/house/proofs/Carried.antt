@@ -20,10 +20,10 @@ goes_carried : {S T : Type 0} (step : S → Call → Answer → S → Type 0) (o
 goes_carried step other Stands carries whole seat heard v old new after said t (works n w) stands =
     let c = works_carried step other Stands carries seat v old new after said t w stands in
     (c.0, works n c.1, c.2)
-goes_carried step other Stands carries whole seat heard v old new after said t (answers verdict mid first second how next known a w e) stands =
+goes_carried step other Stands carries whole seat heard v old new after said t (answers verdict mid first second how next still known a w e) stands =
     let one = verdict_carried step other Stands carries v.session.standing verdict old mid [] first how next t a stands in
     let two = works_carried step other Stands carries seat (told v next) mid new after second one.0 w one.2 in
-    (two.0, answers verdict one.0 first second how next known one.1 two.1 e, two.2)
+    (two.0, answers verdict one.0 first second how next still known one.1 two.1 e, two.2)
 goes_carried step other Stands carries whole seat heard v old new after said t (waits awaited same is silent) stands =
     (t, waits awaited refl is silent, subst (λ s. Stands s t) (sym same) stands)
 goes_carried step other Stands carries whole seat heard v old new after said t (rests over same is silent) stands =

@@ -136,7 +136,7 @@ module _ (k : Terms) (seat : ℕ) (next : CopyKey) (heard : List Noted) where
 pub said_in_part : {S : Type 0} (step : S → Call → Answer → S → Type 0) (seat : ℕ) (heard : List Noted) (v : SeatedVisitor) (old new : S) (after : SeatedVisitor) (said : List ℕ) → seated.GoesOn step true seat heard v old new after said
     → seated.GoesOn step false seat heard v old new after said
 said_in_part step seat heard v old new after said (seated.works n w) = seated.works n w
-said_in_part step seat heard v old new after said (seated.answers verdict mid first second how next known a w e) = seated.answers verdict mid first second how next known a w e
+said_in_part step seat heard v old new after said (seated.answers verdict mid first second how next still known a w e) = seated.answers verdict mid first second how next still known a w e
 said_in_part step seat heard v old new after said (seated.waits a n e f) = seated.waits a n e f
 said_in_part step seat heard v old new after said (seated.rests a n e f) = seated.rests a n e f
 said_in_part step seat heard v old new after said (seated.stalls w n e f) = seated.stalls refl n e f

@@ -122,7 +122,7 @@ same_serial a b e = let x : a ≡ b = cc in ap (λ (v : SeatedVisitor). v.serial
 
 spoken_serial : {S : Type 0} (step : S → calls.Call → Answer → S → Type 0) (whole : Bool) (seat : ℕ) (heard : List Noted) (a : SeatedVisitor) (old new : S) (after : SeatedVisitor) (said : List ℕ) → GoesOn step whole seat heard a old new after said → after.serial ≡ a.serial
 spoken_serial step whole seat heard a old new after said (seated.works n w) = ap (λ (v : SeatedVisitor). v.serial) w.is
-spoken_serial step whole seat heard a old new after said (seated.answers verdict mid first second how next known b w e) = ap (λ (v : SeatedVisitor). v.serial) w.is
+spoken_serial step whole seat heard a old new after said (seated.answers verdict mid first second how next still known b w e) = ap (λ (v : SeatedVisitor). v.serial) w.is
 spoken_serial step whole seat heard a old new after said (seated.waits x n e f) = ap (λ (v : SeatedVisitor). v.serial) e
 spoken_serial step whole seat heard a old new after said (seated.rests x n e f) = ap (λ (v : SeatedVisitor). v.serial) e
 spoken_serial step whole seat heard a old new after said (seated.stalls x n e f) = ap (λ (v : SeatedVisitor). v.serial) e

@@ -3,3 +3,4 @@ pub mod FolderLaws
 pub mod Seating
 pub mod Rising
 pub mod Putting
+pub mod Ended

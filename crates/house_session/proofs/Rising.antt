@@ -15,8 +15,9 @@ use Rattle.imap_session.specs.declared.standing.After.TheVariants as afters
 use Rattle.imap_session.specs.declared.standing.Selected.{Selected}
 use Rattle.imap_session.specs.Store.{IdleTurns}
 use Rattle.imap_session.specs.Exchange as ex
-use Rattle.imap_session.specs.Exchange.{Answer, Appending, Call, Entered, Looked, Found, Counted, Altered, Expunged, Fed, ForDone, ForLiteral, ForNothing, ForVerdict, Left, Mailing, Refused, Sent, Starved, Exchange, Standing, Turn, Waiting, closed, having, is_idling, played, refusal_after, refused, saying, waiting}
+use Rattle.imap_session.specs.Exchange.{Answer, Appending, Call, Entered, Looked, Found, Counted, Altered, Expunged, Fed, ForDone, ForLiteral, ForNothing, ForVerdict, Left, Mailing, Refused, Sent, Starved, Exchange, Standing, Turn, Waiting, closed, having, is_idling, played, refusal_after, refused, saying, waiting, Dropped}
 use Rattle.imap_session.specs.Commands as commands_of
+use Rattle.imap_session.proofs.Unkept.{unkept_by}
 use Rattle.imap_session.specs.Commands.{on_idle_line, on_rest, on_verdict, without_begun, without_sent}
 use Rattle.imap_connection.specs.Dialogue as dialogue
 use Rattle.imap_connection.specs.Dialogue.{AnswersLine, AnswersOne, Converses, Sends, goes_on, parts, reads, silent, too_long}
@@ -51,7 +52,7 @@ closed_rises now afters.Submit = same_rises now.mailing now.mailing refl refl
 
 waiting_rises : (tag : List ℕ) (waits : Waiting) (now : Standing) → NumbersRise now.mailing (waiting tag waits now).mailing
 waiting_rises tag ForDone now = same_rises now.mailing now.mailing refl refl
-waiting_rises tag (ForLiteral mailbox flags size) now = same_rises now.mailing (waiting tag (ForLiteral mailbox flags size) now).mailing refl refl
+waiting_rises tag (ForLiteral coming mailbox flags size) now = same_rises now.mailing (waiting tag (ForLiteral coming mailbox flags size) now).mailing refl refl
 waiting_rises tag (ForVerdict mailbox flags text) now = (
   omega arith,
   λ s is. let e : record { tag = tag; append = record { message = now.mailing.number; mailbox = mailbox; text = text; flags = flags } } ≡ s = cc in let m : now.mailing.number ≡ s.append.message = ap (λ (x : Sent). x.append.message) e in
@@ -84,11 +85,6 @@ unfolding TurnRises
 again a b None p q = tt
 again a b (Some turn) p q = then_rises b a turn.standing.mailing p q
 
-either : (b : Bool) (now : Mailing) (turn : Turn) → NumbersRise now turn.standing.mailing → TurnRises now (if b then Some turn else None)
-unfolding TurnRises
-either true now turn p = p
-either false now turn p = tt
-
 played_rises : (tag : List ℕ) (now : Standing) (x : Exchange) (answers : List Answer) → TurnRises now.mailing (played tag now x answers)
 unfolding TurnRises
 played_rises tag now (ex.Done words how) [] = closed_rises now how
@@ -103,9 +99,9 @@ played_rises tag now (ex.Wait bytes waits) ((Expunged a b c) ∷ more) = tt
 played_rises tag now (ex.Wait bytes waits) ((Fed a b) ∷ more) = tt
 played_rises tag now (ex.Wait bytes waits) ((Left a) ∷ more) = tt
 played_rises tag now (ex.Wait bytes waits) ((Refused a) ∷ more) = tt
-played_rises tag now (ex.Wait bytes waits) (Starved zero ∷ []) = either (ex.keeps_tag waits && nat_lt ex.most_in_place (length tag)) now.mailing (refused tag now NoMemory) (closed_rises now (refusal_after NoMemory))
-played_rises tag now (ex.Wait bytes waits) (Starved zero ∷ d ∷ more) = tt
-played_rises tag now (ex.Wait bytes waits) ((Starved (suc a)) ∷ more) = tt
+played_rises tag now (ex.Wait bytes waits) (Starved n ∷ []) =
+    unkept_by (TurnRises now.mailing) tt tag now (closed_rises now (refusal_after NoMemory)) (λ flags size. waiting_rises tag (ForLiteral Dropped None flags size) now) (waiting_rises tag ForNothing now) waits n
+played_rises tag now (ex.Wait bytes waits) (Starved n ∷ d ∷ more) = tt
 played_rises tag now (ex.Write bytes x) [] = then_saying now.mailing bytes (played tag now x []) (played_rises tag now x [])
 played_rises tag now (ex.Write bytes x) ((Entered a) ∷ more) = then_saying now.mailing bytes (played tag now x ((Entered a) ∷ more)) (played_rises tag now x ((Entered a) ∷ more))
 played_rises tag now (ex.Write bytes x) ((Looked a) ∷ more) = then_saying now.mailing bytes (played tag now x ((Looked a) ∷ more)) (played_rises tag now x ((Looked a) ∷ more))
@@ -145,9 +141,7 @@ played_rises tag now (ex.Look next) ((Fed a b) ∷ more) = tt
 played_rises tag now (ex.Look next) ((Left a) ∷ more) = tt
 played_rises tag now (ex.Look next) (Refused a ∷ []) = closed_rises now (refusal_after a)
 played_rises tag now (ex.Look next) (Refused a ∷ d ∷ more) = tt
-played_rises tag now (ex.Look next) (Starved zero ∷ []) = closed_rises now (refusal_after NoMemory)
-played_rises tag now (ex.Look next) (Starved zero ∷ d ∷ more) = tt
-played_rises tag now (ex.Look next) ((Starved (suc a)) ∷ more) = tt
+played_rises tag now (ex.Look next) (Starved a ∷ more) = tt
 played_rises tag now (ex.Read uid mark next) [] = tt
 played_rises tag now (ex.Read uid mark next) ((Entered a) ∷ more) = tt
 played_rises tag now (ex.Read uid mark next) ((Looked a) ∷ more) = tt
@@ -257,7 +251,7 @@ line_rises step now line old new before after how next (too_long many s w h n) =
     subst (λ (x : Standing). NumbersRise now.mailing x.mailing) (sym n) (same_rises now.mailing (commands_of.turn_of_long_line now).standing.mailing refl refl)
 
 one_rises : {S : Type 0} (step : S → Call → Answer → S → Type 0) (now : Standing) (one : Sends) (old new : S) (before after : List ℕ) (how : After) (next : Standing) → AnswersOne step now one old new before after how next → NumbersRise now.mailing next.mailing
-one_rises step now (dialogue.Line line) old new before after how next a = line_rises step now line old new before after how next a.1
+one_rises step now (dialogue.Line line) old new before after how next a = line_rises step now line old new before after how next a.2
 one_rises step now (dialogue.Bytes bytes) old new before after how next t =
     subst (λ (x : Standing). NumbersRise now.mailing x.mailing) (sym t.takes.1) (same_rises now.mailing (commands_of.with_bytes t.takes.0 bytes now).mailing refl refl)
 

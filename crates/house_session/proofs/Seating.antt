@@ -158,9 +158,9 @@ worked step whole seat next heard v old new p q s there none goes =
 
 -- the verdict is known: it answers that, and then what waits
 pub told_and_worked : {S : Type 0} (step : S → Call → Answer → S → Type 0) (whole : Bool) (seat : ℕ) (next : CopyKey) (heard : List Noted) (v : SeatedVisitor) (old mid new : S) (p : SeatedSession) (q r : HouseSession) (verdict : Verdict) → StandsForSeated seat next heard p v
-    → p.gone ≡ false → is_some p.place.link.session.mailing.sent ≡ true → AreKnown 1 p.slots (verdict ∷ []) → ((w : Visitor) → place.StandsFor p.place w → AnsweredVerdict step verdict w old mid q) → q.link.session.mailing.sent ≡ None
+    → p.gone ≡ false → p.place.link.session.ended ≡ false → is_some p.place.link.session.mailing.sent ≡ true → AreKnown 1 p.slots (verdict ∷ []) → ((w : Visitor) → place.StandsFor p.place w → AnsweredVerdict step verdict w old mid q) → q.link.session.mailing.sent ≡ None
     → ((w : Visitor) → place.StandsFor q w → Answered step whole w mid new r) → Proceeded step whole seat next heard v old new (record { place = r; number = p.number; serial = p.serial; gone = p.gone; slots = [] })
-told_and_worked step whole seat next heard v old mid new p q r verdict s there sent known tells done goes =
+told_and_worked step whole seat next heard v old mid new p q r verdict s there live sent known tells done goes =
     let a = tells v.session (s.place there) in
     let awaited : is_some (sent_by v) ≡ true = ap (λ (o : Option Sent). is_some o) (sym s.submitted) ∙ sent in
     let unsent : a.after.standing.mailing.sent ≡ None = ap (λ (x : Standing). x.mailing.sent) (sym a.stands.connection.session) ∙ done in
@@ -185,7 +185,7 @@ told_and_worked step whole seat next heard v old mid new p q r verdict s there s
     record {
       after = w.after;
       said = a.said ++ w.said;
-      proceeds = seated.talks (sym s.gone ∙ there) (seated.answers verdict mid a.said w.said a.how a.after.standing answered a.answered works refl);
+      proceeds = seated.talks (sym s.gone ∙ there) (seated.answers verdict mid a.said w.said a.how a.after.standing (ap (λ (x : Standing). x.ended) (sym (s.place there).connection.session) ∙ live) answered a.answered works refl);
       kept = w.kept ∙ ap (λ (t : List ℕ). t ++ w.said) a.kept ∙ append_assoc v.session.unsaid a.said w.said;
       all = λ all live. w.all all;
       stands = w.stands;

@@ -62,9 +62,10 @@ abbrev pub told : SeatedVisitor → Standing → SeatedVisitor
 told v next = record { session = record { standing = next; waits = v.session.waits; unsaid = v.session.unsaid }; serial = v.serial; gone = v.gone; to_put = [] }
 
 -- It goes on over a store as far as it can, by what its seat has heard: where a verdict is awaited it waits for that, and answers it; then it answers what waits.
+-- Where its session has ended nothing is answered.
 pub data GoesOn {S : Type 0} (step : S → Call → Answer → S → Type 0) (whole : Bool) (seat : ℕ) (heard : List Noted) (v : SeatedVisitor) (old new : S) (after : SeatedVisitor) (said : List ℕ) : Type 0 where
   works : sent_by v ≡ None → Works step seat v old new after said → GoesOn step whole seat heard v old new after said
-  answers : (verdict : Verdict) (mid : S) (first second : List ℕ) (how : After) (next : Standing) → IsAnswered seat heard v verdict → AnswersVerdict step v.session.standing verdict old mid [] first how next
+  answers : (verdict : Verdict) (mid : S) (first second : List ℕ) (how : After) (next : Standing) → v.session.standing.ended ≡ false → IsAnswered seat heard v verdict → AnswersVerdict step v.session.standing verdict old mid [] first how next
       → Works step seat (told v next) mid new after second → said ≡ first ++ second → GoesOn step whole seat heard v old new after said
   waits : Awaits seat heard v → new ≡ old → after ≡ v → said ≡ [] → GoesOn step whole seat heard v old new after said
   -- its session has ended

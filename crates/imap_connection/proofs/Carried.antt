@@ -31,10 +31,10 @@ pub one_carried : {S T : Type 0} (step : S → Call → Answer → S → Type 0)
     → (now : Standing) (one : Sends) (old new : S) (before after : List ℕ) (how : After) (next : Standing) (t : T) → AnswersOne step now one old new before after how next → Stands old t
     → (u : T) × AnswersOne other now one t u before after how next × Stands new u
 one_carried step other Stands carries now (Line line) old new before after how next t a stands =
-    let k = line_carried step other Stands carries now line old new before after how next t a.1 stands in
-    (k.0, (a.0, k.1), k.2)
+    let k = line_carried step other Stands carries now line old new before after how next t a.2 stands in
+    (k.0, (a.0, a.1, k.1), k.2)
 one_carried step other Stands carries now (Bytes bytes) old new before after how next t a stands =
-    (t, record { some = a.some; due = a.due; takes = a.takes; unasked = refl; silent = a.silent; waits = a.waits }, subst (λ s. Stands s t) (sym a.unasked) stands)
+    (t, record { goes = a.goes; some = a.some; due = a.due; takes = a.takes; unasked = refl; silent = a.silent; waits = a.waits }, subst (λ s. Stands s t) (sym a.unasked) stands)
 
 pub converses_carried : {S T : Type 0} (step : S → Call → Answer → S → Type 0) (other : T → Call → Answer → T → Type 0) (Stands : S → T → Type 0) → Carries step other Stands
     → (now : Standing) (sent : List Sends) (old new : S) (said : List ℕ) (how : After) (next : Standing) (t : T) → Converses step now sent old new said how next → Stands old t

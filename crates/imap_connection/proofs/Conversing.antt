@@ -104,10 +104,10 @@ took_more {S} step d between bytes piece old mid new said before after fed link 
     }
 took_more {S} step d between bytes piece old mid new said before after fed link h live f sends (ends line next o whole uncut z a stands) =
     let one = said_alone step between.standing line mid new before after fed.after next a in
-    one_more step d between bytes (take fed.used piece) old mid new said one.0 before after fed.after next link (Line line) h f (sends ∙ ap may_send stands.session) whole (z, one.2) stands one.1
+    one_more step d between bytes (take fed.used piece) old mid new said one.0 before after fed.after next link (Line line) h f (sends ∙ ap may_send stands.session) whole (o, z, one.2) stands one.1
 took_more {S} step d between bytes piece old mid new said before after fed link h live f sends (takes next o none t stands) =
     one_more step d between bytes (take fed.used piece) old mid new said [] before after fed.after next link (Bytes (take fed.used piece)) h f (sends ∙ ap may_send stands.session) (ap (λ (b : List ℕ). b ++ take fed.used piece) none)
-    (record { some = t.some; due = t.due; takes = t.takes; unasked = t.unasked; silent = refl; waits = t.waits }) stands (t.silent ∙ sym (append-nil before))
+    (record { goes = t.goes; some = t.some; due = t.due; takes = t.takes; unasked = t.unasked; silent = refl; waits = t.waits }) stands (t.silent ∙ sym (append-nil before))
 
 -- what was taken of a piece so far, and what it came to
 pub record TookTo {S : Type 0} (step : S → Call → Answer → S → Type 0) (d : Dialogue) (bytes : List ℕ) (old new : S) (before after : List ℕ) (how : After) (link : ImapConnection) : Type 0 where

@@ -105,6 +105,7 @@ literal_taken step d (x ∷ xs) store text fed old new s live due used none took
     let many : length (take fed.used (x ∷ xs)) ≡ min fed.used (length (x ∷ xs)) = length-take fed.used (x ∷ xs) in
     takes new.session live (s.alone due)
     (record {
+      goes = live;
       some = omega (arith, many, used, due);
       due = omega (arith, many, used);
       takes = bytes;

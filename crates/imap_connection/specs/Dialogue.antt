@@ -59,8 +59,9 @@ pub data AnswersLine {S : Type 0} (step : S → Call → Answer → S → Type 0
   reads : length line + 2 ≤ most_bytes → Answers step now line old new before after how next → AnswersLine step now line old new before after how next
   too_long : most_bytes < length line + 2 → new ≡ old → after ≡ before ++ (turn_of_long_line now).bytes → how ≡ (turn_of_long_line now).after → next ≡ (turn_of_long_line now).standing → AnswersLine step now line old new before after how next
 
--- Bytes of a literal were taken, some and no more than were due. Nothing is said of them, and the store isn't asked.
+-- Bytes of a literal were taken, some and no more than were due, by a session that goes on. Nothing is said of them, and the store isn't asked.
 pub record TakesLiteral {S : Type 0} (now : Standing) (bytes : List ℕ) (old new : S) (before after : List ℕ) (how : After) (next : Standing) : Type 0 where
+  pub goes : now.ended ≡ false
   pub some : 0 < length bytes
   pub due : length bytes ≤ due_of now.mailing.begun
   pub takes : TakesBytes now bytes next
@@ -68,9 +69,9 @@ pub record TakesLiteral {S : Type 0} (now : Standing) (bytes : List ℕ) (old ne
   pub silent : after ≡ before
   pub waits : how ≡ waits_for next
 
--- What a client sent was answered. It is no line where bytes of a literal are due.
+-- What a client sent was answered, by a session that goes on: nothing is answered behind its end. It is no line where bytes of a literal are due.
 abbrev pub AnswersOne : {S : Type 0} → (S → Call → Answer → S → Type 0) → Standing → Sends → S → S → List ℕ → List ℕ → After → Standing → Type 0
-AnswersOne step now (Line line) old new before after how next = (due_of now.mailing.begun ≡ 0) × AnswersLine step now line old new before after how next
+AnswersOne step now (Line line) old new before after how next = (now.ended ≡ false) × (due_of now.mailing.begun ≡ 0) × AnswersLine step now line old new before after how next
 AnswersOne step now (Bytes bytes) old new before after how next = TakesLiteral now bytes old new before after how next
 
 -- What a call took of a piece: nothing where the session has ended, all of it where no line ends in it, the end of the line that has begun, which was answered,

@@ -1,13 +1,13 @@
 -- What is said of a message that a client appends.
 use Rattle.std.specs.Prelude.{nat_lt, if◌then◌else◌}
 use Rattle.std.proofs.lemmas.Bool.Decides.{nat_tests}
-use Rattle.std.proofs.Common.{◌≡◌, ◌<◌, ◌≤◌, arith, ℕ, Bool, true, false, codes, Option, List, [], ◌∷◌, ◌++◌, None, Some, ap, sym, ◌∙◌, append-nil, refl, subst}
-use Rattle.imap_session.specs.declared.standing.After.TheVariants.{Go}
-use Rattle.imap_session.specs.Exchange.{Exchange, Folder, ForLiteral, ForNothing, ForVerdict, Standing, Starved, Wait, Waiting, after_waiting, bye, played, tagged, waiting}
+use Rattle.std.proofs.Common.{◌≡◌, ◌<◌, ◌≤◌, arith, ℕ, Bool, true, false, codes, Option, List, [], ◌∷◌, ◌++◌, None, Some, ap, sym, ◌∙◌, append-nil, length, refl, subst}
+use Rattle.imap_session.specs.declared.standing.After.TheVariants.{Go, Bye, Literal}
+use Rattle.imap_session.specs.Exchange.{Coming, Dropped, Exchange, Folder, ForLiteral, ForNothing, ForVerdict, Standing, Starved, Wait, Waiting, after_waiting, bye, most_in_place, played, tagged, text_before, waiting}
 use Rattle.change_ring.specs.declared.change.Flags.{Flags}
 use Rattle.imap_grammar.specs.declared.command.Append.{Append}
 use Rattle.imap_session.specs.inner.Appends.{Leads}
-use Rattle.imap_session.specs.Commands.{appending, awaiting, most_unasked, nowhere, is_over, number_named, on_found, over, says, wanting}
+use Rattle.imap_session.specs.Commands.{appending, asking, coming, most_unasked, nowhere, is_over, number_named, on_found, over, says, wanting}
 
 -- ---- what was said behind what was written before
 
@@ -54,31 +54,52 @@ submitted_again {s} {now} mailbox flags t u tag e f =
 
 -- ---- the line of an APPEND
 
-pub begun_again : {s now : Standing} (mailbox : Option ℕ) (flags : Flags) (size : ℕ) (t tag y : List ℕ) → t ≡ tag → y ≡ [] → s ≡ now
-    → record s { mailing = record s.mailing { begun = Some (record { tag = t; mailbox = mailbox; flags = flags; size = size; due = size; text = Some y }) } } ≡ waiting tag (ForLiteral mailbox flags size) now
-begun_again {s} {now} mailbox flags size t tag y e f same =
-    ap (λ (z : List ℕ). record s { mailing = record s.mailing { begun = Some (record { tag = t; mailbox = mailbox; flags = flags; size = size; due = size; text = Some z }) } }) f
-    ∙ ap (λ (z : List ℕ). waiting z (ForLiteral mailbox flags size) s) e
-    ∙ ap (waiting tag (ForLiteral mailbox flags size)) same
+abbrev begins : List ℕ → Option ℕ → Flags → ℕ → Option (List ℕ) → Standing → Standing
+begins tag mailbox flags size text s = record s { mailing = record s.mailing { begun = Some (record { tag = tag; mailbox = mailbox; flags = flags; size = size; due = size; text = text }) } }
 
--- a literal that is asked for
-abbrev pub asked_at : Option ℕ → Append → Option ℕ → Exchange
-asked_at most a o = on_found (λ mailbox. if is_over most a.literal.size then over most else awaiting (codes "+ ready\r\n") (Some mailbox) a.flags a.literal.size) nowhere o
-
-pub asked : (most : Option ℕ) (folders : List Folder) (a : Append) → a.literal.waits ≡ true → appending most folders a ≡ wanting (asked_at most a (number_named a.name folders))
-asked most folders a e = rw e refl
-
-abbrev pub sent_at : Option ℕ → Append → Option ℕ → Exchange
-sent_at most a o = if nat_lt most_unasked a.literal.size then Wait (bye (codes "Literal too big")) ForNothing else wanting (awaiting [] o a.flags a.literal.size)
-
-pub unasked : (most : Option ℕ) (folders : List Folder) (a : Append) → a.literal.waits ≡ false → appending most folders a ≡ sent_at most a (number_named a.name folders)
-unasked most folders a e = rw e refl
+pub begun_again : {s now : Standing} (how : Coming) (m mailbox : Option ℕ) (flags : Flags) (size : ℕ) (t tag : List ℕ) (y : Option (List ℕ)) → m ≡ mailbox → t ≡ tag → y ≡ text_before how → s ≡ now
+    → begins t m flags size y s ≡ waiting tag (ForLiteral how mailbox flags size) now
+begun_again {s} {now} how m mailbox flags size t tag y named e f same =
+    ap (λ (z : Option (List ℕ)). begins t m flags size z s) f
+    ∙ ap (λ (o : Option ℕ). begins t o flags size (text_before how) s) named
+    ∙ ap (λ (z : List ℕ). waiting z (ForLiteral how mailbox flags size) s) e
+    ∙ ap (waiting tag (ForLiteral how mailbox flags size)) same
 
 less_true : (a b : ℕ) → a < b → nat_lt a b ≡ true
 less_true a b l = grind (arith, nat_tests)
 
 not_less : (a b : ℕ) → b ≤ a → nat_lt a b ≡ false
 not_less a b l = grind (arith, nat_tests)
+
+-- memory is refused for a literal that comes unasked: its bytes are dropped, or, where the tag is too long to be kept, the session ends
+pub leads_dropping : (tag : List ℕ) (mailbox : Option ℕ) (flags : Flags) (size : ℕ) (now next : Standing) (before text : List ℕ) → text ≡ before → next ≡ waiting tag (ForLiteral Dropped None flags size) now
+    → Leads tag now (coming mailbox flags size) before text (Literal size) next
+leads_dropping tag mailbox flags size now next before text w same =
+    subst (λ (n : Standing). Leads tag now (coming mailbox flags size) before text (Literal size) n) (sym same)
+    (Starved 0 ∷ [], [], refl, w ∙ sym (append-nil before))
+
+pub leads_parting : (tag : List ℕ) (mailbox : Option ℕ) (flags : Flags) (size : ℕ) (now next : Standing) (before text : List ℕ) → most_in_place < length tag → text ≡ before ++ bye (codes "Out of memory")
+    → next ≡ record now { ended = true } → Leads tag now (coming mailbox flags size) before text Bye next
+leads_parting tag mailbox flags size now next before text long w same =
+    subst (λ (n : Standing). Leads tag now (coming mailbox flags size) before text Bye n) (sym same) (
+      Starved 1 ∷ [],
+      bye (codes "Out of memory") ++ [],
+      ap (λ (b : Bool). if b then Some (record { events = []; bytes = bye (codes "Out of memory") ++ []; after = Bye; standing = record now { ended = true } }) else None) (less_true most_in_place (length tag) long),
+      w ∙ ap (λ t. before ++ t) (sym (append-nil (bye (codes "Out of memory")))),
+    )
+
+-- a literal that is asked for
+abbrev pub asked_at : Option ℕ → Append → Option ℕ → Exchange
+asked_at most a o = on_found (λ mailbox. if is_over most a.literal.size then over most else asking mailbox a.flags a.literal.size) nowhere o
+
+pub asked : (most : Option ℕ) (folders : List Folder) (a : Append) → a.literal.waits ≡ true → appending most folders a ≡ wanting (asked_at most a (number_named a.name folders))
+asked most folders a e = rw e refl
+
+abbrev pub sent_at : Option ℕ → Append → Option ℕ → Exchange
+sent_at most a o = if nat_lt most_unasked a.literal.size then Wait (bye (codes "Literal too big")) ForNothing else coming o a.flags a.literal.size
+
+pub unasked : (most : Option ℕ) (folders : List Folder) (a : Append) → a.literal.waits ≡ false → appending most folders a ≡ sent_at most a (number_named a.name folders)
+unasked most folders a e = rw e refl
 
 pub ended_again : {s now : Standing} → s ≡ now → record s { ended = true } ≡ record now { ended = true }
 ended_again {s} {now} e = ap (λ (x : Standing). record x { ended = true }) e
@@ -88,7 +109,7 @@ pub asked_nowhere : (most : Option ℕ) (folders : List Folder) (a : Append) →
 asked_nowhere most folders a e none = asked most folders a e ∙ ap (λ o. wanting (asked_at most a o)) none
 
 if_fits : Option ℕ → Append → ℕ → Bool → Exchange
-if_fits most a number big = wanting (if big then over most else awaiting (codes "+ ready\r\n") (Some number) a.flags a.literal.size)
+if_fits most a number big = wanting (if big then over most else asking number a.flags a.literal.size)
 
 pub asked_over : (most : Option ℕ) (number : ℕ) (folders : List Folder) (a : Append) → a.literal.waits ≡ true → number_named a.name folders ≡ Some number → is_over most a.literal.size ≡ true → appending most folders a ≡ wanting (over most)
 unfolding if_fits
@@ -96,12 +117,12 @@ asked_over most number folders a e some big =
     asked most folders a e ∙ ap (λ o. wanting (asked_at most a o)) some ∙ ap (if_fits most a number) big
 
 if_asked : Option ℕ → Append → Option ℕ → Bool → Exchange
-if_asked most a o big = if big then Wait (bye (codes "Literal too big")) ForNothing else wanting (awaiting [] o a.flags a.literal.size)
+if_asked most a o big = if big then Wait (bye (codes "Literal too big")) ForNothing else coming o a.flags a.literal.size
 
 pub sent_too_big : (most : Option ℕ) (folders : List Folder) (a : Append) → a.literal.waits ≡ false → most_unasked < a.literal.size → appending most folders a ≡ Wait (bye (codes "Literal too big")) ForNothing
 unfolding if_asked
 sent_too_big most folders a e big = unasked most folders a e ∙ ap (if_asked most a (number_named a.name folders)) (less_true most_unasked a.literal.size big)
 
-pub sent_fits : (most : Option ℕ) (folders : List Folder) (a : Append) → a.literal.waits ≡ false → a.literal.size ≤ most_unasked → appending most folders a ≡ wanting (awaiting [] (number_named a.name folders) a.flags a.literal.size)
+pub sent_fits : (most : Option ℕ) (folders : List Folder) (a : Append) → a.literal.waits ≡ false → a.literal.size ≤ most_unasked → appending most folders a ≡ coming (number_named a.name folders) a.flags a.literal.size
 unfolding if_asked
 sent_fits most folders a e fits = unasked most folders a e ∙ ap (if_asked most a (number_named a.name folders)) (not_less most_unasked a.literal.size fits)

@@ -13,3 +13,4 @@ pub mod Lines
 pub mod Turns
 pub mod Verdicts
 pub mod Telling
+pub mod Unkept

@@ -204,17 +204,6 @@ stops_look step tag now next fault s text h = record {
   wrote = nothing_added text;
 }
 
--- memory is refused to the session before it has found its messages in the view
-pub starves_look : {S : Type 0} (step : S → Call → Answer → S → Type 0) (tag : List ℕ) (now : Standing) (next : List ℕ → Exchange) (s : S) (text : Response)
-    → Stops step tag now now (ex.Look next) NoMemory s s text text
-starves_look step tag now next s text = record {
-  events = [];
-  bytes = [];
-  leads = (Starved zero ∷ [], refl);
-  met = refl;
-  wrote = nothing_added text;
-}
-
 -- ---- mailboxes entered and left
 
 pub reaches_leave : {S : Type 0} (step : S → Call → Answer → S → Type 0) (tag : List ℕ) (now : Standing) (remove : Bool) (x : Exchange) (gone : ℕ) (old new : S) (text : Response)

@@ -15,8 +15,8 @@ use Rattle.imap_grammar.specs.declared.command.Store.{Store}
 use Rattle.imap_session.specs.declared.standing.Selected.{Selected}
 use Rattle.std.specs.Prelude.{nat_lt}
 use Rattle.imap_grammar.specs.declared.command.Append.{Append}
-use Rattle.imap_session.specs.Exchange.{Exchange, Expunge, Feed, Folder, ForNothing, Standing, Wait, bye}
-use Rattle.imap_session.specs.Commands.{awaiting, most_unasked, nowhere, is_over, number_named, over, wanting, on_command, on_idle_line, counting, folder_of, showing, completed, closing, entering, on_folder, on_chosen, messages_done, on_found, fetching, storing, fetched, stored, if_writable, expunge_set, store_messages, fetch_messages, unlimited, wrong_state, says, notice, noticing}
+use Rattle.imap_session.specs.Exchange.{Exchange, Expunge, Feed, Folder, ForNothing, Standing, Wait, Write, bye}
+use Rattle.imap_session.specs.Commands.{asking, coming, most_unasked, nowhere, is_over, number_named, over, wanting, on_command, on_idle_line, counting, folder_of, showing, completed, closing, entering, on_folder, on_chosen, messages_done, on_found, fetching, storing, fetched, stored, if_writable, expunge_set, store_messages, fetch_messages, unlimited, wrong_state, says, notice, noticing}
 use Rattle.imap_session.proofs.Appends.{asked_at, sent_at}
 use Rattle.imap_session.specs.Shows.{DoneShowsInOrder, IsFetchLine, IsNotice, MaySay, ShowsBefore, ShowsInOrder, may_show}
 
@@ -64,16 +64,17 @@ in_fetching now command fetch mark view done p s [] gone = p gone
 in_fetching now command fetch mark view done p s (uid ∷ uids) gone =
     elim [ None ↦ in_fetching now command fetch mark view done p s uids true | Some row ↦ (s uid row, in_fetching now command fetch mark view done p s uids gone) ]
 
+in_silence : (now : Standing) (command : Command) (silent : Bool) (text : List ℕ) (x : Exchange) → MaySay now command text → ShowsInOrder now command x
+    → ShowsInOrder now command (if silent then x else Write text x)
+in_silence now command true text x s p = p
+in_silence now command false text x s p = (s, p)
+
 in_storing : (now : Standing) (command : Command) (store : Store) (view : List ℕ) (done : Bool → Exchange) → ((gone : Bool) → ShowsInOrder now command (done gone))
-    → ((uid : ℕ) (flags : Flags) → MaySay now command (stored store view uid flags))
+    → ((uid : ℕ) (flags : Flags) → MaySay now command (flags_answer store.by_uid (position uid view) uid flags))
     → (uids : List ℕ) (gone : Bool) → ShowsInOrder now command (storing store view done uids gone)
 in_storing now command store view done p s [] gone = p gone
 in_storing now command store view done p s (uid ∷ uids) gone =
-    elim [ None ↦ in_storing now command store view done p s uids true | Some flags ↦ (s uid flags, in_storing now command store view done p s uids gone) ]
-
-in_silence : (silent : Bool) (text : List ℕ) → IsFetchLine text → ((if silent then [] else text) ≡ []) ⊎ IsFetchLine (if silent then [] else text)
-in_silence true text p = inl refl
-in_silence false text p = inr p
+    elim [ None ↦ in_storing now command store view done p s uids true | Some flags ↦ in_silence now command store.silent _ _ (s uid flags) (in_storing now command store view done p s uids gone) ]
 
 joined : (x a b c d : List ℕ) → x ++ a ++ b ++ c ++ d ≡ x ++ (a ++ (b ++ (c ++ d)))
 joined x a b c d = simp append_assoc refl
@@ -109,11 +110,11 @@ in_append : (now : Standing) (most : Option ℕ) (a : Append) (found : Option �
 in_append now most a found =
     in_either now (commands.Append a) a.literal.waits (wanting (asked_at most a found)) (sent_at most a found) (
       inl refl,
-      in_named now (commands.Append a) (λ m. if is_over most a.literal.size then over most else awaiting (codes "+ ready\r\n") (Some m) a.flags a.literal.size)
-          (λ m. in_either now (commands.Append a) (is_over most a.literal.size) (over most) (awaiting (codes "+ ready\r\n") (Some m) a.flags a.literal.size) (in_over now (commands.Append a) most) (inr (inl refl), refl)) found,
+      in_named now (commands.Append a) (λ m. if is_over most a.literal.size then over most else asking m a.flags a.literal.size)
+          (λ m. in_either now (commands.Append a) (is_over most a.literal.size) (over most) (asking m a.flags a.literal.size) (in_over now (commands.Append a) most) (inr (inl refl), refl)) found,
     )
-    (in_either now (commands.Append a) (nat_lt most_unasked a.literal.size) (Wait (bye (codes "Literal too big")) ForNothing) (wanting (awaiting [] found a.flags a.literal.size))
-    (inr (inr refl), refl) (inl refl, (inl refl, refl)))
+    (in_either now (commands.Append a) (nat_lt most_unasked a.literal.size) (Wait (bye (codes "Literal too big")) ForNothing) (coming found a.flags a.literal.size)
+    (inr (inr refl), refl) (inl refl, refl))
 
 notice_shown : (now : Standing) (command : Command) (said : Option (List ℕ)) → ((bytes : List ℕ) → IsNotice said bytes → MaySay now command bytes) → may_show command ≡ false
     → ShowsInOrder now command (noticing said (completed command))
@@ -149,16 +150,19 @@ shown_in_order now commands.Expunge = in_writable now commands.Expunge now.selec
 shown_in_order now (commands.UidExpunge set) =
     in_writable now (commands.UidExpunge set) now.selected (expunge_set set)
     (λ view. in_chosen now (commands.UidExpunge set) (named_in true set view)
-    (λ uids. Expunge (Some uids) (Feed unlimited (completed (commands.UidExpunge set)))) (λ uids. (refl, (refl, refl, refl))))
+    (λ uids. wanting (Expunge (Some uids) (Feed unlimited (completed (commands.UidExpunge set))))) (λ uids. (refl, (refl, (refl, refl, refl)))))
 shown_in_order now (commands.Fetch fetch) =
     in_found now (commands.Fetch fetch) now.selected (fetch_messages fetch)
-    (λ s view. in_chosen now (commands.Fetch fetch) (named_in fetch.by_uid fetch.set view) _
-    (λ uids. in_fetching now (commands.Fetch fetch) fetch _ view _ (λ gone. in_done now (commands.Fetch fetch) fetch.by_uid gone refl) (λ uid row. fetch_form (position uid view) (map (item_text row) (answered fetch.by_uid row.newly_seen fetch.items))) uids false))
+    (λ s. (
+      inl refl,
+      λ view. in_chosen now (commands.Fetch fetch) (named_in fetch.by_uid fetch.set view) _
+          (λ uids. in_fetching now (commands.Fetch fetch) fetch _ view _ (λ gone. in_done now (commands.Fetch fetch) fetch.by_uid gone refl) (λ uid row. inr (fetch_form (position uid view) (map (item_text row) (answered fetch.by_uid row.newly_seen fetch.items)))) uids false),
+    ))
 shown_in_order now (commands.Store store) =
     in_writable now (commands.Store store) now.selected (store_messages store)
     (λ view. in_chosen now (commands.Store store) (named_in store.by_uid store.set view) _
     (λ uids. in_storing now (commands.Store store) store view _ (λ gone. in_done now (commands.Store store) store.by_uid gone refl)
-    (λ uid flags. in_silence store.silent (flags_answer store.by_uid (position uid view) uid flags) (flags_form store.by_uid (position uid view) uid flags)) uids false))
+    (λ uid flags. flags_form store.by_uid (position uid view) uid flags) uids false))
 shown_in_order now (commands.Append append) = in_append now now.mailing.most append (number_named append.name now.folders)
 shown_in_order now command = notice_shown now command (notice command) (λ bytes is. is) refl
 

@@ -26,8 +26,8 @@ use Rattle.delivery_token.specs.declared.Refusal.TheVariants.{Full, MailboxFull,
 use Rattle.delivery_token.specs.declared.Verdict.{Verdict}
 use Rattle.delivery_token.specs.declared.Verdict.TheVariants.{Stored, Refused}
 use Rattle.imap_session.specs.declared.standing.Selected.{Selected}
-use Rattle.imap_session.specs.Exchange.{Appending, Exchange, Expunge, Feed, Folder, ForNothing, ForVerdict, Mailing, Standing, Wait, bye, kept_behind, kept_tag, refusal_text}
-use Rattle.imap_session.specs.Commands.{appended_words, awaiting, closing, completed, counting, entering, expunge_set, fault_text, fetch_messages, fetching, folder_of, if_writable, is_over, last_number, long_rest_words, long_text, most_unasked, messages_done, nowhere, number_named, on_chosen, on_command, on_folder, on_found, on_idle_line, on_rest, on_text, on_verdict, over, refused_words, says, showing, store_messages, storing, turn_of_long_line, unlimited, verb_text, wanting, wrong_state}
+use Rattle.imap_session.specs.Exchange.{Appending, Exchange, Expunge, Feed, Folder, ForNothing, ForVerdict, Mailing, Standing, Wait, Write, bye, kept_behind, kept_tag, refusal_text}
+use Rattle.imap_session.specs.Commands.{appended_words, asking, coming, closing, completed, counting, entering, expunge_set, fault_text, fetch_messages, fetching, folder_of, if_writable, is_over, last_number, long_rest_words, long_text, most_unasked, messages_done, nowhere, number_named, on_chosen, on_command, on_folder, on_found, on_idle_line, on_rest, on_text, on_verdict, over, refused_words, says, showing, store_messages, storing, turn_of_long_line, unlimited, verb_text, wanting, wrong_state}
 use Rattle.imap_session.specs.Telling.{LineTellsNoUid, RefusalTellsNoUid, TellsNoUid, VerdictTellsUid, WordsTellWhich, fault_tag, tells_uid}
 use Rattle.imap_session.proofs.Appends.{asked_at, sent_at}
 
@@ -70,11 +70,15 @@ in_fetching fetch mark view done p [] gone = p gone
 in_fetching fetch mark view done p (uid ∷ uids) gone =
     elim [ None ↦ in_fetching fetch mark view done p uids true | Some row ↦ in_fetching fetch mark view done p uids gone ]
 
+in_silence : (silent : Bool) (text : List ℕ) (x : Exchange) → TellsNoUid x → TellsNoUid (if silent then x else Write text x)
+in_silence true text x p = p
+in_silence false text x p = p
+
 in_storing : (store : Store) (view : List ℕ) (done : Bool → Exchange) → ((gone : Bool) → TellsNoUid (done gone))
     → (uids : List ℕ) (gone : Bool) → TellsNoUid (storing store view done uids gone)
 in_storing store view done p [] gone = p gone
 in_storing store view done p (uid ∷ uids) gone =
-    elim [ None ↦ in_storing store view done p uids true | Some flags ↦ in_storing store view done p uids gone ]
+    elim [ None ↦ in_storing store view done p uids true | Some flags ↦ in_silence store.silent _ _ (in_storing store view done p uids gone) ]
 
 -- the words of FETCH and STORE, and of their UID forms
 fetch_words : (by_uid : Bool) → tells_uid (codes "OK " ++ verb_text (if by_uid then verbs.UidFetch else verbs.Fetch) ++ codes " completed") ≡ false
@@ -102,9 +106,9 @@ selecting_tells_none now read_only name =
 append_tells_none : (most : Option ℕ) (a : Append) (found : Option ℕ) → TellsNoUid (if a.literal.waits then wanting (asked_at most a found) else sent_at most a found)
 append_tells_none most a found =
     in_either a.literal.waits (wanting (asked_at most a found)) (sent_at most a found)
-    (in_found (λ m. if is_over most a.literal.size then over most else awaiting (codes "+ ready\r\n") (Some m) a.flags a.literal.size) nowhere
-    (λ m. in_either (is_over most a.literal.size) (over most) (awaiting (codes "+ ready\r\n") (Some m) a.flags a.literal.size) (over_tells_none most) tt) refl found)
-    (in_either (nat_lt most_unasked a.literal.size) (Wait (bye (codes "Literal too big")) ForNothing) (wanting (awaiting [] found a.flags a.literal.size)) tt tt)
+    (in_found (λ m. if is_over most a.literal.size then over most else asking m a.flags a.literal.size) nowhere
+    (λ m. in_either (is_over most a.literal.size) (over most) (asking m a.flags a.literal.size) (over_tells_none most) tt) refl found)
+    (in_either (nat_lt most_unasked a.literal.size) (Wait (bye (codes "Literal too big")) ForNothing) (coming found a.flags a.literal.size) tt tt)
 
 pub command_tells_none : (now : Standing) (command : Command) → TellsNoUid (on_command now command)
 command_tells_none now commands.Noop = in_showing now.selected (completed commands.Noop) refl
@@ -119,7 +123,7 @@ command_tells_none now commands.Unselect = in_found _ wrong_state (λ s. refl) r
 command_tells_none now commands.Expunge = in_writable now.selected (Expunge None (Feed unlimited (completed commands.Expunge))) refl
 command_tells_none now (commands.UidExpunge set) =
     in_writable now.selected (expunge_set set)
-    (λ view. in_chosen (named_in true set view) (λ uids. Expunge (Some uids) (Feed unlimited (completed (commands.UidExpunge set)))) (λ uids. refl))
+    (λ view. in_chosen (named_in true set view) (λ uids. wanting (Expunge (Some uids) (Feed unlimited (completed (commands.UidExpunge set))))) (λ uids. refl))
 command_tells_none now (commands.Fetch fetch) =
     in_found (fetch_messages fetch) wrong_state
     (λ s view. in_chosen (named_in fetch.by_uid fetch.set view) _

@@ -30,7 +30,7 @@ use Rattle.imap_answers.specs.Answers.{crlf, flags_answer, is_inbox, list_answer
 use Rattle.imap_session.specs.declared.standing.After.TheVariants.{Go, Bye}
 use Rattle.imap_session.specs.declared.standing.After.TheVariants as afters
 use Rattle.imap_session.specs.declared.standing.Selected.{Selected}
-use Rattle.imap_session.specs.Exchange.{Answer, Appending, Mailing, Sent, Fed, Refused, having, saying, nothing_more, refused, is_idling, Turn, Standing, Folder, Exchange, ForDone, ForLiteral, ForVerdict, ForNothing, Done, Wait, Write, Put, Enter, Look, Read, Count, Alter, Expunge, Feed, Leave, tagged, bye, played}
+use Rattle.imap_session.specs.Exchange.{Answer, Appending, Mailing, Sent, Fed, Refused, having, saying, nothing_more, refused, is_idling, Turn, Standing, Folder, Exchange, ForDone, ForLiteral, ForVerdict, ForNothing, Done, Wait, Write, Put, Enter, Look, Read, Count, Alter, Expunge, Feed, Leave, tagged, bye, played, Asked, Unasked}
 
 -- ---- how an answer ends
 
@@ -128,15 +128,15 @@ fetching fetch mark view done (uid ∷ uids) gone =
     Read uid mark (on_found (λ row. Write (fetched fetch view uid row) (fetching fetch mark view done uids gone))
     (fetching fetch mark view done uids true))
 
--- the answer for a message at its position in the view whose flags were changed, or nothing where the client asked for silence
-abbrev pub stored : Store → List ℕ → ℕ → Flags → List ℕ
-stored store view uid flags = if store.silent then [] else flags_answer store.by_uid (position uid view) uid flags
+-- tells of a message at its position in the view whose flags were changed; where the client asked for silence nothing is told, and no memory wanted
+abbrev pub stored : Store → List ℕ → ℕ → Flags → Exchange → Exchange
+stored store view uid flags x = if store.silent then x else Write (flags_answer store.by_uid (position uid view) uid flags) x
 
 -- changes the flags of each message, and tells of those that are there
 abbrev pub storing : Store → List ℕ → (Bool → Exchange) → List ℕ → Bool → Exchange
 storing store view done [] gone = done gone
 storing store view done (uid ∷ uids) gone =
-    Alter uid store.change (on_found (λ flags. Write (stored store view uid flags) (storing store view done uids gone))
+    Alter uid store.change (on_found (λ flags. stored store view uid flags (storing store view done uids gone))
     (storing store view done uids true))
 
 -- ---- commands
@@ -154,21 +154,21 @@ if_writable x selected = if selected.read_only then says (codes "NO Mailbox is r
 abbrev pub in_writable : Standing → Exchange → Exchange
 in_writable now x = in_selected now (if_writable x)
 
--- a FETCH sets \Seen for its items' sake, unless the mailbox was selected by EXAMINE
+-- Memory is wanted for the items, before the messages are looked for. A FETCH sets \Seen for its items' sake, unless the mailbox was selected by EXAMINE.
 abbrev pub fetch_messages : Fetch → Selected → Exchange
 fetch_messages fetch selected =
-    on_set fetch.by_uid fetch.set (λ view uids.
+    wanting (on_set fetch.by_uid fetch.set (λ view uids.
     fetching fetch (list_any marks_seen fetch.items && not selected.read_only) view
-    (messages_done (commands.Fetch fetch) fetch.by_uid) uids false)
+    (messages_done (commands.Fetch fetch) fetch.by_uid) uids false))
 
 abbrev pub store_messages : Store → Exchange
 store_messages store =
     on_set store.by_uid store.set (λ view uids.
     storing store view (messages_done (commands.Store store) store.by_uid) uids false)
 
--- the set is resolved on the view before the changes are shown, and what they showed can't come into it
+-- The set is resolved on the view before the changes are shown, and what they showed can't come into it. Then memory is wanted, for the UIDs that it names.
 abbrev pub expunge_set : List SeqRange → Exchange
-expunge_set set = on_set true set (λ view uids. Expunge (Some uids) (Feed unlimited (completed (commands.UidExpunge set))))
+expunge_set set = on_set true set (λ view uids. wanting (Expunge (Some uids) (Feed unlimited (completed (commands.UidExpunge set)))))
 
 -- the mailbox is counted as it is, and then what is pending is shown
 abbrev pub counting : Standing → List ℕ → List StatusItem → Folder → Exchange
@@ -197,22 +197,26 @@ abbrev pub over : Option ℕ → Exchange
 over None = says (codes "NO [CANNOT] Not offered here")
 over (Some most) = says (codes "NO Message too big")
 
--- the literal is due, and this is said
-abbrev pub awaiting : List ℕ → Option ℕ → Flags → ℕ → Exchange
-awaiting bytes mailbox flags size = Wait bytes (ForLiteral mailbox flags size)
+-- the client is asked for its literal
+abbrev pub asking : (mailbox : ℕ) → Flags → (size : ℕ) → Exchange
+asking mailbox flags size = Wait (codes "+ ready\r\n") (ForLiteral Asked (Some mailbox) flags size)
+
+-- its literal comes without that, and nothing is said
+abbrev pub coming : (mailbox : Option ℕ) → Flags → (size : ℕ) → Exchange
+coming mailbox flags size = Wait [] (ForLiteral Unasked mailbox flags size)
 
 -- a literal that the client sends without being asked has at most so many bytes
 abbrev pub most_unasked : ℕ
 most_unasked = 4096
 
--- Where the client waits to be asked, its message is refused before that; where it doesn't, its bytes are taken first. Memory is wanted for the name.
+-- Where the client waits to be asked, its message is refused before that; where it doesn't, its bytes are taken first. Memory is wanted for the name, the tag and the text.
 abbrev pub appending : Option ℕ → List Folder → Append → Exchange
 appending most folders append =
     if append.literal.waits
-    then wanting (on_found (λ mailbox. if is_over most append.literal.size then over most else awaiting (codes "+ ready\r\n") (Some mailbox) append.flags append.literal.size)
+    then wanting (on_found (λ mailbox. if is_over most append.literal.size then over most else asking mailbox append.flags append.literal.size)
     nowhere (number_named append.name folders))
     else (if nat_lt most_unasked append.literal.size then Wait (bye (codes "Literal too big")) ForNothing
-    else wanting (awaiting [] (number_named append.name folders) append.flags append.literal.size))
+    else coming (number_named append.name folders) append.flags append.literal.size)
 
 -- message numbers have 32 bits, and the last is never given
 abbrev pub last_number : ℕ

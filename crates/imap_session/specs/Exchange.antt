@@ -128,11 +128,20 @@ kept_tag now = kept_behind now.mailing.begun now.idling
 abbrev pub is_idling : Standing → Bool
 is_idling now = is_some now.idling && not now.ended
 
+-- how the bytes of a literal come
+pub data Coming : Type 0 where
+  -- the client waits till it is asked for them
+  Asked : Coming
+  -- it sends them without that
+  Unasked : Coming
+  -- the same, and they are counted and dropped, since memory was refused
+  Dropped : Coming
+
 -- what a session waits for while its last line isn't due
 pub data Waiting : Type 0 where
   ForDone : Waiting
   -- so many bytes of a literal, and the rest of the line behind them
-  ForLiteral : (mailbox : Option ℕ) → Flags → (size : ℕ) → Waiting
+  ForLiteral : Coming → (mailbox : Option ℕ) → Flags → (size : ℕ) → Waiting
   -- the verdict on a message, which is submitted under the next number
   ForVerdict : (mailbox : ℕ) → Flags → (text : List ℕ) → Waiting
   -- nothing more: it has ended
@@ -140,15 +149,21 @@ pub data Waiting : Type 0 where
 
 abbrev pub after_waiting : Waiting → After
 after_waiting ForDone = afters.Idle
-after_waiting (ForLiteral mailbox flags size) = afters.Literal size
+after_waiting (ForLiteral coming mailbox flags size) = afters.Literal size
 after_waiting (ForVerdict mailbox flags text) = afters.Submit
 after_waiting ForNothing = Bye
+
+-- what is kept of a literal before its bytes come, unless they are dropped
+abbrev pub text_before : Coming → Option (List ℕ)
+text_before Asked = Some []
+text_before Unasked = Some []
+text_before Dropped = None
 
 -- the standing of a session that waits so, with this tag
 abbrev pub waiting : List ℕ → Waiting → Standing → Standing
 waiting tag ForDone now = record now { idling = Some tag }
-waiting tag (ForLiteral mailbox flags size) now =
-    record now { mailing = record now.mailing { begun = Some (record { tag = tag; mailbox = mailbox; flags = flags; size = size; due = size; text = Some [] }) } }
+waiting tag (ForLiteral coming mailbox flags size) now =
+    record now { mailing = record now.mailing { begun = Some (record { tag = tag; mailbox = mailbox; flags = flags; size = size; due = size; text = text_before coming }) } }
 waiting tag (ForVerdict mailbox flags text) now =
     record now {
       mailing = record now.mailing {
@@ -163,14 +178,13 @@ waiting tag ForNothing now = record now { ended = true }
 pub data Exchange : Type 0 where
   -- the last line: the tag, and these words. Room for it is reserved before anything is done, so memory can't be refused to it
   Done : (words : List ℕ) → After → Exchange
-  -- No last line: this is said, and the session waits. Memory may be wanting for a tag of more than 32 bytes, where one is to be kept
+  -- No last line: this is said, and the session waits. What it does where memory is refused for that stands in `unkept`
   Wait : (bytes : List ℕ) → Waiting → Exchange
   -- room for these may be wanting, and then the exchange ends here
   Write : List ℕ → Exchange → Exchange
   -- room for these was reserved before anything was done, as for the last line, so memory can't be refused to them
   Put : List ℕ → Exchange → Exchange
   Enter : Selected → (Opening → Exchange) → Exchange
-  -- memory may be wanting for the messages that are to be found in the view
   Look : (List ℕ → Exchange) → Exchange
   Read : ℕ → Bool → (Option Row → Exchange) → Exchange
   Count : ℕ → (Status → Exchange) → Exchange
@@ -227,20 +241,32 @@ refused tag now fault = saying (refusal_text tag fault) (closed now (refusal_aft
 abbrev pub most_in_place : ℕ
 most_in_place = 32
 
--- who waits for more of an IDLE or an APPEND keeps its tag till then; behind a literal it is kept already
-abbrev pub keeps_tag : Waiting → Bool
-keeps_tag ForDone = true
-keeps_tag (ForLiteral mailbox flags size) = true
-keeps_tag _ = false
+-- this is said, and the session waits
+abbrev pub waits_so : List ℕ → List ℕ → Waiting → Standing → Turn
+waits_so tag bytes waits now = saying bytes (nothing_more (after_waiting waits) (waiting tag waits now))
+
+-- it comes to this where the tag is too long to be kept in place
+abbrev pub where_long : List ℕ → Turn → Option Turn
+where_long tag turn = if nat_lt most_in_place (length tag) then Some turn else None
+
+-- What a session does in place of waiting where memory is refused to it. Who waits for more of an IDLE or an APPEND keeps its tag till then; behind a literal it is
+-- kept already. Where a client waits to be asked for a literal, it is told so at once. But the bytes of a literal that isn't asked for come whatever was refused, and
+-- they are no commands: they are counted and dropped, and it is told behind them. Only where the tag can't be kept, with which that is to be told, the session ends.
+abbrev pub unkept : List ℕ → Waiting → Standing → ℕ → Option Turn
+unkept tag ForDone now zero = where_long tag (refused tag now NoMemory)
+unkept tag (ForLiteral Asked mailbox flags size) now zero = where_long tag (refused tag now NoMemory)
+unkept tag (ForLiteral Unasked mailbox flags size) now zero = Some (waits_so tag [] (ForLiteral Dropped None flags size) now)
+unkept tag (ForLiteral Unasked mailbox flags size) now (suc zero) = where_long tag (waits_so tag (bye (codes "Out of memory")) ForNothing now)
+unkept tag waits now n = None
 
 -- Where an exchange leads with these answers; nowhere where they are none to its calls. Memory is refused to the session itself only where it
--- may want some: at a Write, at a Look, and for a long tag that is kept. Nobody is told so who asks to leave a mailbox, or for lines whose room was reserved:
+-- may want some: at a Write, and where it is to wait. Nobody is told so who asks to leave a mailbox, or for lines whose room was reserved:
 -- so no mailbox is left or entered by SELECT or EXAMINE without a word.
 abbrev pub played : List ℕ → Standing → Exchange → List Answer → Option Turn
 played tag now (Done words how) [] = Some (saying (tagged tag words) (closed now how))
 played tag now (Done words how) (answer ∷ more) = None
-played tag now (Wait bytes waits) [] = Some (saying bytes (nothing_more (after_waiting waits) (waiting tag waits now)))
-played tag now (Wait bytes waits) (Starved zero ∷ []) = if keeps_tag waits && nat_lt most_in_place (length tag) then Some (refused tag now NoMemory) else None
+played tag now (Wait bytes waits) [] = Some (waits_so tag bytes waits now)
+played tag now (Wait bytes waits) (Starved n ∷ []) = unkept tag waits now n
 played tag now (Wait bytes waits) (answer ∷ more) = None
 played tag now (Write bytes x) (Starved zero ∷ []) = Some (refused tag now NoMemory)
 played tag now (Write bytes x) (Starved (suc n) ∷ []) = option_map (saying bytes) (played tag now x (Starved n ∷ []))
@@ -250,7 +276,6 @@ played tag now (Enter selected next) (Entered opening ∷ more) =
     option_map (having (Enter selected.mailbox) (Entered opening)) (played tag (record now { selected = Some selected }) (next opening) more)
 played tag now (Enter selected next) (Refused fault ∷ []) = Some (having (Enter selected.mailbox) (Refused fault) (refused tag now fault))
 played tag now (Look next) (Looked view ∷ more) = option_map (having Look (Looked view)) (played tag now (next view) more)
-played tag now (Look next) (Starved zero ∷ []) = Some (refused tag now NoMemory)
 played tag now (Look next) (Refused fault ∷ []) = Some (having Look (Refused fault) (refused tag now fault))
 played tag now (Read uid mark next) (Found row ∷ more) =
     option_map (having (Read uid mark) (Found row)) (played tag now (next row) more)

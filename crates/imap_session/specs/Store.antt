@@ -3,7 +3,7 @@ use Rattle.std.specs.Global.{Global}
 use Rattle.imap_grammar.specs.Sets.{messages_in}
 use Rattle.imap_grammar.specs.declared.set.SeqRange.{SeqRange}
 use Rattle.imap_grammar.specs.declared.view.Named.{Named}
-use Rattle.std.specs.Prelude.{◌≡◌, ◌≤◌, ◌⊎◌, ◌+◌, length, ℕ, Vec, Bool, List, [], ◌∷◌, ◌++◌, Option, Some, None, option_map, Result, Ok, Err}
+use Rattle.std.specs.Prelude.{◌≡◌, ◌<◌, ◌≤◌, ◌⊎◌, ◌+◌, length, min, IfSome, ℕ, Vec, Bool, false, List, [], ◌∷◌, ◌++◌, Option, Some, None, option_map, Result, Ok, Err}
 use Rattle.change_ring.specs.declared.change.Change.{Change}
 use Rattle.mailbox.specs.declared.clients.MailFault.{MailFault}
 use Rattle.mailbox.specs.declared.clients.MailFault.TheVariants.{NoMemory}
@@ -74,9 +74,17 @@ pub record AnswersVerdict {S : Type 0} (step : S → Call → Answer → S → T
   pub met : Met step old events new
   pub wrote : after ≡ before ++ bytes
 
--- these bytes of the literal were taken, or dropped where memory was refused
+-- Where bytes of a literal are taken its room is there for all of them, up to so many. Where memory for that was refused, it is told so at once or its bytes are dropped from the first.
+abbrev pub most_first_room : ℕ
+most_first_room = 4096
+
+-- With these bytes the text of the literal, where one is kept, is longer than the room that was made for it before its bytes came.
+abbrev pub IsBeyondRoom : Option Appending → List ℕ → Type 0
+IsBeyondRoom begun bytes = IfSome begun (λ (a : Appending). IfSome a.text (λ text. min a.size most_first_room < length text + length bytes))
+
+-- These bytes of the literal were taken. They are dropped, with those before them, only where they want more room than was made before its bytes came.
 abbrev pub TakesBytes : Standing → List ℕ → Standing → Type 0
-TakesBytes now bytes next = (kept : Bool) × (next ≡ with_bytes kept bytes now)
+TakesBytes now bytes next = (kept : Bool) × (next ≡ with_bytes kept bytes now) × (kept ≡ false → IsBeyondRoom now.mailing.begun bytes)
 
 -- The session `now` had a turn while it idles, over any store, and showed so many changes.
 pub record IdleTurns {S : Type 0} (step : S → Call → Answer → S → Type 0) (now : Standing) (old new : S) (before after : List ℕ) (count : ℕ) (next : Standing) : Type 0 where

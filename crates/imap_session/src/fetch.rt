@@ -4,7 +4,7 @@ ghost use Rattle.std.specs.Prelude.{◌≡◌, Bool, false, List, ℕ, map, OnOk
 ghost use Rattle.imap_answers.specs.Answers.{row_answer};
 ghost use Rattle.imap_grammar.specs.Sets.{named_at};
 ghost use Rattle.imap_session.specs.Exchange.{Exchange, Read, Write};
-ghost use Rattle.imap_session.specs.Commands.{on_found, fetched, fetching, messages_done, on_set};
+ghost use Rattle.imap_session.specs.Commands.{on_found, fetched, fetching, messages_done, on_set, wanting};
 ghost use Rattle.imap_session.specs.inner.Response.{adding};
 ghost use Rattle.imap_session.specs.inner.Store.{Does, last};
 ghost use Rattle.imap_grammar.specs.declared.command.Command.TheVariants as commands;
@@ -106,8 +106,8 @@ pub(crate) fn fetch_messages<S: Store>(
     response: &mut Response<'_>,
 ) -> Result<LastWords, MailFault>
     ensures { Does S.step
-        (on_set fetch.now.by_uid fetch.now.set (λ view uids. fetching fetch.now mark_seen view
-        (messages_done (commands.Fetch fetch.now) fetch.now.by_uid) uids false))
+        (wanting (on_set fetch.now.by_uid fetch.now.set (λ view uids. fetching fetch.now mark_seen view
+        (messages_done (commands.Fetch fetch.now) fetch.now.by_uid) uids false)))
         last store.old store.new response.old response.new result }
 {
     let items = fetch.items.list(alloc)?;

@@ -3,6 +3,7 @@
 #![tactic(auto)]
 
 mod appended;
+mod appending;
 mod count;
 mod expunge;
 mod fetch;

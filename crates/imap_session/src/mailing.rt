@@ -1,18 +1,20 @@
 //! A message that a client appends: its bytes as they come, what is said of it when all are there, and its way to the mailbox.
 //! What is said where is told in specs/Commands.antt; no mailbox is asked here.
 
-ghost use Rattle.std.specs.Prelude.{◌≡◌, ◌^◌, ◌<◌, ◌≤◌, ◌==◌, Bool, [], length, IfErr, IfOk, IfSome, None, true, false};
+ghost use Rattle.std.specs.Prelude.{◌≡◌, ◌^◌, ◌<◌, ◌≤◌, ◌==◌, Bool, [], length, min, IfErr, IfOk, IfSome, None, Some, true, false};
+ghost use Rattle.std.specs.Vec.{vec_capacity};
 ghost use Rattle.std.specs.List.{list_any};
 ghost use Rattle.std.specs.Option.{option_map};
 ghost use Rattle.imap_session.specs.Commands.{is_over, on_rest, over, says, taking, wanting};
 ghost use Rattle.imap_session.specs.Exchange.{Appending as AppendingSpec, Mailing as MailingSpec, ForVerdict, Wait};
-ghost use Rattle.imap_session.specs.inner.Seen.{appending_of};
+ghost use Rattle.imap_session.specs.Store.{IsBeyondRoom, most_first_room};
+ghost use Rattle.imap_session.specs.inner.Seen.{HasFirstRoom, appending_of};
 
 use crate::response::LastWords;
 use crate::standing::Append;
 use crate::tag::Tag;
 use change_ring::Flags;
-use std::alloc::Global;
+use std::alloc::{AllocError, Global};
 use std::marker::Model;
 
 /// The greatest number of a message, which none has.
@@ -52,20 +54,27 @@ pub(crate) struct Mailing {
 }
 
 impl Model for Mailing {
+    ghost use Rattle.std.specs.Prelude.{IfSome};
     ghost use Rattle.std.specs.Option.{option_map};
     ghost use Rattle.imap_session.specs.Exchange.{Mailing as Known};
-    ghost use Rattle.imap_session.specs.inner.Seen.{appending_of, sent_of};
+    ghost use Rattle.imap_session.specs.inner.Seen.{HasFirstRoom, appending_of, sent_of};
 
     ghost Value = { Known };
 
     ghost view = { λ m. record { most = m.most; number = m.number; begun = option_map appending_of m.begun; sent = option_map sent_of m.sent } };
+
+    // Room for the first bytes of a literal is made before it is awaited.
+    ghost invariant = { λ m. IfSome m.begun HasFirstRoom };
 }
 
 impl Appending {
-    // Keeps bytes that came, or drops all where memory is refused.
+    // Keeps bytes that came, or drops all where memory is refused. For the first bytes it isn't asked.
     pub(crate) fn keep(&mut self, bytes: &[u8])
         requires fits { length bytes.now ≤ self.old.due }
-        ensures { (kept : Bool) × (appending_of self.new ≡ taking kept bytes.now (appending_of self.old)) }
+        requires first { HasFirstRoom self.old }
+        ensures taken { (kept : Bool) × (appending_of self.new ≡ taking kept bytes.now (appending_of self.old)) ×
+            (kept ≡ false → IsBeyondRoom (Some (appending_of self.old)) bytes.now) }
+        ensures room { HasFirstRoom self.new }
     {
         self.due -= bytes.len();
         let Some(mut text) = self.text.take() else {
@@ -77,15 +86,13 @@ impl Appending {
     }
 }
 
-// A message's text, before its bytes come. A client may announce more than it sends, so room for all is asked only as they come; where memory
-// for the first is refused, it is asked again then.
-pub(crate) fn begin_text(alloc: Global, size: usize) -> Vec<u8>
-    ensures { result.items ≡ [] }
+// A message's text, before its bytes come, with room for the first of them. A client may announce more than it sends, so room for more is asked
+// only as they come.
+pub(crate) fn begin_text(alloc: Global, size: usize) -> Result<Vec<u8>, AllocError>
+    ensures empty { IfOk result (λ text. text.items ≡ []) }
+    ensures room { IfOk result (λ text. min size most_first_room ≤ vec_capacity text) }
 {
-    match Vec::with_capacity(alloc, size.min(FIRST_ROOM)) {
-        Ok(text) => text,
-        Err(_) => Vec::new(alloc),
-    }
+    Vec::with_capacity(alloc, size.min(FIRST_ROOM))
 }
 
 // Gives back the room that a text has over, which may be kept for long, unless it is little. Where that is refused, the room stays.

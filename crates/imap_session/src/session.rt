@@ -2,10 +2,9 @@
 //! What it answers to a line is told in specs/Commands.antt, and how one line is carried out in `turn`.
 
 use crate::appended::{STORED, tell_verdict};
-use crate::folders::find_folder;
-use crate::mailing::{Appending, Mailing, Sent, begin_text, judge, refused_size};
+use crate::mailing::{Appending, Mailing, Sent, judge};
 use crate::response::{LAST, LastWords, Response};
-use crate::say::{GREETING, IDLING, LONG_LINE, NOT_DONE, READY, put_tagged};
+use crate::say::{GREETING, IDLING, LONG_LINE, NOT_DONE, put_tagged};
 use crate::standing::{After, Append, Folder, Selected, SessionFault};
 use crate::store::Store;
 use crate::tag::Tag;
@@ -13,14 +12,11 @@ use crate::turn::{
     FIRST, after_command, append_of, carry_out, end_idle, first_line, is_idle, put_fault,
 };
 use delivery_token::{Text, Verdict};
-use imap_grammar::{Append as AppendCommand, Command, Name, read_line};
+use imap_grammar::{Command, read_line};
 use line_io::put;
 use mailbox::MailFault;
 use std::alloc::{AllocError, Global};
 use std::marker::Model;
-
-/// A literal that the client sends without being asked has at most so many bytes.
-const MOST_UNASKED: u64 = 4_096;
 
 /// At most so many changes are shown in a turn of a session that idles.
 const MOST_SHOWN_A_TURN: usize = 64;
@@ -32,12 +28,12 @@ const MOST_SHOWN_A_TURN: usize = 64;
 /// mailbox may still be selected, and whoever holds the session leaves it.
 #[derive(Drop)]
 pub struct Session {
-    folders: Vec<Folder>,
+    pub(crate) folders: Vec<Folder>,
     selected: Option<Selected>,
     // The tag of the IDLE that isn't done yet.
     idling: Option<Tag>,
-    ended: bool,
-    mailing: Mailing,
+    pub(crate) ended: bool,
+    pub(crate) mailing: Mailing,
 }
 
 impl Model for Session {
@@ -53,8 +49,8 @@ impl Session {
     ghost use Rattle.std.specs.Option.{option_copied, option_map};
     ghost use Rattle.std.specs.Vec.{vec_capacity};
     ghost use Rattle.imap_session.specs.Exchange.{Sent as SentSpec, kept_tag, nothing_sent, Feed, Refused, closed, is_idling, may_send, refusal_text, tagged};
-    ghost use Rattle.imap_session.specs.Commands.{appending, awaiting, due_of, number_named, on_rest, on_verdict, wanting, greeting, long_line_text, most_changes, on_idle_line, turn_of_long_line};
-    ghost use Rattle.imap_session.specs.inner.Seen.{appending_of, sent_of};
+    ghost use Rattle.imap_session.specs.Commands.{due_of, on_rest, on_verdict, greeting, long_line_text, most_changes, on_idle_line, turn_of_long_line};
+    ghost use Rattle.imap_session.specs.inner.Seen.{HasFirstRoom, appending_of, sent_of};
     ghost use Rattle.imap_session.specs.inner.Appends.{Leads};
     ghost use Rattle.imap_session.specs.Store.{Answers, AnswersVerdict, IdleTurns, Starves, TakesBytes, room_for, room_for_verdict};
     ghost use Rattle.imap_session.specs.inner.Store.{Plays, behind_first_line, first_line, is_open};
@@ -170,124 +166,6 @@ impl Session {
         self.idling = Some(kept);
         put(IDLING, out);
         After::Idle
-    }
-
-    // Waits for the bytes of a literal, and asks for them where the client waits for that. Where memory for the tag is refused, that is told.
-    fn await_literal(
-        &mut self,
-        alloc: Global,
-        mailbox: Option<u8>,
-        append: &AppendCommand<'_>,
-        response: Response<'_>,
-        out: &mut Vec<u8>,
-    ) -> After
-        requires going { self.old.ended ≡ false }
-        requires awake { self.old.idling ≡ None }
-        requires alone { self.old.mailing.begun ≡ None }
-        requires unsent { self.old.mailing.sent ≡ None }
-        requires size { append.now.literal.size < 2 ^ 32 }
-        ensures leads { Leads response.entry.tag self.old (wanting (awaiting
-            (if append.now.literal.waits then codes "+ ready\r\n" else []) mailbox append.now.flags append.now.literal.size))
-            response.entry.text out.new.items result self.new }
-        ensures folders { self.new.folders ≡ self.old.folders }
-        ensures sends { result ≡ may_send self.new }
-    {
-        let tag = response.release(out);
-        let Ok(own_tag) = Tag::new(alloc, tag) else {
-            put_tagged(tag, b"NO Out of memory", out);
-            return After::Go;
-        };
-        let size = append.literal.size as usize;
-        let text = begin_text(alloc, size);
-        self.mailing.begun = Some(Appending {
-            tag: own_tag,
-            mailbox,
-            flags: append.flags,
-            size,
-            due: size,
-            text: Some(text),
-        });
-        if append.literal.waits {
-            put(READY, out);
-        }
-        After::Literal(size)
-    }
-
-    // The number of the mailbox of this name, where there is one.
-    fn number_of(&self, alloc: Global, name: &Name<'_>) -> Result<Option<u8>, AllocError>
-        ensures { IfOk result (λ number. number ≡ number_named name.now self.now.folders) }
-    {
-        let name = name.to_bytes(alloc)?;
-        match find_folder(&name, &self.folders) {
-            None => Ok(None),
-            Some(folder) => Ok(Some(folder.mailbox())),
-        }
-    }
-
-    // Takes the line of an APPEND whose client waits to be asked for the literal.
-    fn ask_for_literal(
-        &mut self,
-        alloc: Global,
-        append: &AppendCommand<'_>,
-        response: Response<'_>,
-        out: &mut Vec<u8>,
-    ) -> After
-        requires going { self.old.ended ≡ false }
-        requires awake { self.old.idling ≡ None }
-        requires alone { self.old.mailing.begun ≡ None }
-        requires unsent { self.old.mailing.sent ≡ None }
-        requires waits { append.now.literal.waits ≡ true }
-        ensures leads { Leads response.entry.tag self.old
-            (appending self.old.mailing.most self.old.folders append.now) response.entry.text out.new.items result self.new }
-        ensures folders { self.new.folders ≡ self.old.folders }
-        ensures sends { result ≡ may_send self.new }
-    {
-        let Ok(mailbox) = self.number_of(alloc, &append.name) else {
-            response.end(LastWords(b"NO Out of memory"), out);
-            return After::Go;
-        };
-        let Some(number) = mailbox else {
-            response.end(LastWords(b"NO [TRYCREATE] No such mailbox"), out);
-            return After::Go;
-        };
-        if let Some(words) = refused_size(self.mailing.most, append.literal.size) {
-            response.end(words, out);
-            return After::Go;
-        }
-        self.await_literal(alloc, Some(number), append, response, out)
-    }
-
-    // Takes the line of an APPEND.
-    fn begin_append(
-        &mut self,
-        alloc: Global,
-        append: &AppendCommand<'_>,
-        response: Response<'_>,
-        out: &mut Vec<u8>,
-    ) -> After
-        requires going { self.old.ended ≡ false }
-        requires awake { self.old.idling ≡ None }
-        requires alone { self.old.mailing.begun ≡ None }
-        requires unsent { self.old.mailing.sent ≡ None }
-        ensures leads { Leads response.entry.tag self.old
-            (appending self.old.mailing.most self.old.folders append.now) response.entry.text out.new.items result self.new }
-        ensures folders { self.new.folders ≡ self.old.folders }
-        ensures sends { result ≡ may_send self.new }
-    {
-        if append.literal.waits {
-            return self.ask_for_literal(alloc, append, response, out);
-        }
-        if append.literal.size > MOST_UNASKED {
-            response.release(out);
-            put(b"* BYE Literal too big\r\n", out);
-            self.ended = true;
-            return After::Bye;
-        }
-        let Ok(mailbox) = self.number_of(alloc, &append.name) else {
-            response.end(LastWords(b"NO Out of memory"), out);
-            return After::Go;
-        };
-        self.await_literal(alloc, mailbox, append, response, out)
     }
 
     // Answers a command other than IDLE and APPEND, behind its first line.
@@ -474,7 +352,8 @@ impl Session {
     }
 
     /// Takes bytes of the literal that APPEND announced, those at the front of the piece, and answers how many: as many as are due. When
-    /// none is due the rest of the line goes to `line`. Where memory is refused the bytes are dropped, and the command ends with that.
+    /// none is due the rest of the line goes to `line`. Where memory is refused the bytes are dropped, and the command ends with that; but none of the
+    /// first 4,096, for which there is room once a literal is taken.
     pub fn literal(&mut self, piece: &[u8]) -> usize
         // As many as are due, from the front of the piece: they are kept, or memory was refused to them.
         ensures count { result ≡ min (length piece.now) (due_of self.old.mailing.begun) }
@@ -517,6 +396,7 @@ impl Session {
         requires going { self.old.ended ≡ false }
         requires alone { self.old.mailing.begun ≡ None }
         requires unsent { self.old.mailing.sent ≡ None }
+        requires room { HasFirstRoom begun }
         ensures answered { IfOk result (λ after. Leads begun.tag (record self.old { idling = None })
             (on_rest self.old.mailing (appending_of begun) (length line.now == 0)) out.old.items out.new.items after self.new) }
         ensures lasts { result ≢ Err SessionFault.Ended }

@@ -3,7 +3,7 @@
 ghost use Rattle.std.specs.Prelude.{◌≡◌, Bool, false, List, [], ℕ, map, OnOk, OnErr, IfErr, if◌then◌else◌};
 ghost use Rattle.imap_grammar.specs.declared.command.Command.TheVariants as commands;
 ghost use Rattle.imap_grammar.specs.Sets.{named_at};
-ghost use Rattle.imap_session.specs.Exchange.{Exchange, Alter, Write};
+ghost use Rattle.imap_session.specs.Exchange.{Exchange, Alter};
 ghost use Rattle.imap_session.specs.Commands.{on_found, on_set, stored, storing, messages_done};
 ghost use Rattle.imap_answers.specs.Answers.{flags_answer};
 ghost use Rattle.imap_session.specs.inner.Response.{adding};
@@ -28,6 +28,7 @@ fn write_changed(
         (if command.now.silent then [] else flags_answer command.now.by_uid message.position message.uid flags) response.old) }
     ensures err { OnErr result (response.new ≡ response.old) }
     ensures fault { IfErr result (λ f. f ≡ MailFault.NoMemory) }
+    ensures told { OnErr result (command.now.silent ≡ false) }
 {
     if command.silent {
         return Ok(());
@@ -48,7 +49,7 @@ fn store_one<S: Store>(
     response: &mut Response<'_>,
 ) -> Result<bool, MailFault>
     ensures { (view : List ℕ) (uid : ℕ) → message ≡ named_at view uid → (x y : Exchange) → Does S.step
-        (Alter uid command.now.change (on_found (λ flags. Write (stored command.now view uid flags) x) y))
+        (Alter uid command.now.change (on_found (λ flags. stored command.now view uid flags x) y))
         (λ here. if here then x else y) store.old store.new response.old response.new result }
 {
     let Some(flags) = store.store(message.uid, command.change)? else {

@@ -10,7 +10,7 @@ use Rattle.mailbox.specs.declared.mailbox.Status.{Status}
 use Rattle.imap_session.specs.declared.standing.After.TheVariants.{Go, Submit}
 use Rattle.imap_session.specs.declared.standing.After.TheVariants as afters
 use Rattle.imap_session.specs.Commands.{unlimited, with_bytes, without_begun, without_sent}
-use Rattle.imap_session.specs.Exchange.{Count, Counted, Fed, Feed, ForLiteral, ForVerdict, Standing, nothing_sent, waiting}
+use Rattle.imap_session.specs.Exchange.{Count, Counted, Fed, Feed, ForLiteral, ForVerdict, Standing, nothing_sent, waiting, Unasked}
 use Rattle.client_list.specs.Talks.{Heard, Line, Literal, Talks}
 
 abbrev pub selected : Standing
@@ -34,7 +34,7 @@ abbrev pub with_inbox : Standing
 with_inbox = record selected { folders = record { name = codes "INBOX"; mailbox = 0 } ∷ [] }
 
 abbrev pub announced : Standing
-announced = waiting (codes "a1") (ForLiteral (Some 0) no_flags 1) with_inbox
+announced = waiting (codes "a1") (ForLiteral Unasked (Some 0) no_flags 1) with_inbox
 
 abbrev pub come : Standing
 come = with_bytes true (codes "x") announced

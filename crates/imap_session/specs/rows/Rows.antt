@@ -296,6 +296,25 @@ noop_without_memory : turn_of in_inbox (codes "a2 NOOP") (Starved 0 ∷ []) ≡ 
 unfolding read digits
 noop_without_memory = refl
 
+-- only FETCH wants memory before the messages of a set are looked for, and UID EXPUNGE behind that
+store_without_memory : turn_of in_inbox (codes "a2 STORE 1 FLAGS ()") (Starved 0 ∷ []) ≡ None
+unfolding read digits
+store_without_memory = refl
+
+uid_expunge_without_memory : turn_of in_inbox (codes "a2 UID EXPUNGE 1") (Starved 0 ∷ []) ≡ None
+unfolding read digits
+uid_expunge_without_memory = refl
+
+wanting_memory_for_sets : written in_inbox (Line (codes "a2 FETCH 1 (FLAGS)") (Starved 0 ∷ []) ∷ Line (codes "a3 UID EXPUNGE 1") (Looked (1 ∷ []) ∷ Starved 0 ∷ []) ∷ [])
+    ≡ Some (codes "a2 NO Out of memory\r\na3 NO Out of memory\r\n")
+unfolding read digits
+wanting_memory_for_sets = refl
+
+-- where nothing is told of a message none is wanted
+silent_without_memory : turn_of in_inbox (codes "a2 STORE 1 +FLAGS.SILENT (\\Deleted)") (Looked (1 ∷ []) ∷ Altered (Some (flags false false true false false)) ∷ Starved 0 ∷ []) ≡ None
+unfolding read digits
+silent_without_memory = refl
+
 -- ---- what the law of shown changes forbids
 
 -- a NOOP that shows nothing, where a mailbox is selected
@@ -401,6 +420,23 @@ starved_appends : written awake
     ≡ Some (codes "a1 NO Out of memory\r\na2 NO Out of memory\r\na3 NO Out of memory\r\na4 NO Out of memory\r\n")
 unfolding read digits
 starved_appends = refl
+
+-- The client doesn't wait to be asked, and memory is refused for the mailbox's name: the bytes come all the same, and are no command. It is told behind them.
+starved_unasked : written awake
+    (Line (codes "a1 APPEND INBOX {6+}") (Starved 0 ∷ []) ∷ Literal true (codes "x NOOP") ∷ Line [] [] ∷ Line (codes "a2 APPEND INBOX {0+}") (Starved 0 ∷ []) ∷ Line [] [] ∷ Line (codes "a3 NOOP") [] ∷ [])
+    ≡ Some (codes "a1 NO Out of memory\r\na2 NO Out of memory\r\na3 OK NOOP completed\r\n")
+unfolding read digits
+starved_unasked = refl
+
+-- memory is refused for the tag with which that is to be told: the session ends
+starved_tag : written awake (Line (codes "a23456789012345678901234567890123 APPEND INBOX {6+}") (Starved 1 ∷ []) ∷ []) ≡ Some (codes "* BYE Out of memory\r\n")
+unfolding read digits
+starved_tag = refl
+
+-- a tag that is kept in place wants none
+kept_in_place : turn_of awake (codes "a2345678901234567890123456789012 APPEND INBOX {6+}") (Starved 1 ∷ []) ≡ None
+unfolding read digits
+kept_in_place = refl
 
 -- the selected mailbox shows its new message before the OK
 appended_in_selected : written in_inbox

@@ -20,11 +20,11 @@ pub returns-in_err-write_changed : goal.returns-in_err-write_changed
 returns-in_err-write_changed g c view uid is x y =
     let same : c.args.message.uid ≡ uid = ap (λ (m : Named). m.uid) is in
     let p = err_from_is_err_and c.from_residual-in_err-write_changed.result c.from_residual-in_err-write_changed.ensures.1 in
-    rw (p.1, p.2) (λ tag now. alters_starved g.S.Store.step tag now uid _ _ x y c.in-Some.flags _ _ _ _ _
-    (rw (same, c.in-Some.is) at c.in_ok-flags.ensures) c.in_err-write_changed.ensures.fault c.in_err-write_changed.ensures.err)
+    rw (p.1, p.2) (λ tag now. alters_starved g.S.Store.step tag now c.args.command.now view uid x y c.in-Some.flags _ _ _ _ _
+    (rw (same, c.in-Some.is) at c.in_ok-flags.ensures) c.in_err-write_changed.ensures.fault c.in_err-write_changed.ensures.told c.in_err-write_changed.ensures.err)
 
 pub returns : goal.returns
 returns g c view uid is x y tag now =
     let same : c.args.message.uid ≡ uid = ap (λ (m : Named). m.uid) is in
-    alters_there g.S.Store.step tag now uid _ _ x y c.in-Some.flags _ _ _ _
+    alters_there g.S.Store.step tag now c.args.command.now view uid x y c.in-Some.flags _ _ _ _
     (rw (same, c.in-Some.is) at c.in_ok-flags.ensures) (rw is at c.in_ok-write_changed.ensures.text)

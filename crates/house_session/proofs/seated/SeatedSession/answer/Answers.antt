@@ -38,7 +38,7 @@ returns-clause-err g c =
     (sym (ap (λ (x : Verdicts). x.slots) c.clear.ensures))
     (told_and_worked g.S.Store.step false seat next heard v c.args.store.now c.answer.new.store c.go_on.new.store here c.answer.new.self c.go_on.new.self c.in-Some.verdict
     (subst (λ (p : SeatedSession). StandsForSeated seat next heard p v) (sym c.self.view_is) s) (ap (λ (p : SeatedSession). p.gone) c.self.view_is ∙ c.requires.there)
-    (ap (λ (p : SeatedSession). is_some p.place.link.session.mailing.sent) c.self.view_is ∙ c.requires.waits) c.in-Some.ensures.known c.in_ok-answer.ensures.ok c.in_ok-answer.ensures.done went)) c.go_on.ensures.err
+    (ap (λ (p : SeatedSession). p.place.link.session.ended) c.self.view_is ∙ c.requires.going) (ap (λ (p : SeatedSession). is_some p.place.link.session.mailing.sent) c.self.view_is ∙ c.requires.waits) c.in-Some.ensures.known c.in_ok-answer.ensures.ok c.in_ok-answer.ensures.done went)) c.go_on.ensures.err
 
 pub returns-clause-ok : goal.returns-clause-ok
 returns-clause-ok g c =
@@ -49,7 +49,7 @@ returns-clause-ok g c =
     (sym (ap (λ (x : Verdicts). x.slots) c.clear.ensures))
     (told_and_worked g.S.Store.step true seat next heard v c.args.store.now c.answer.new.store c.go_on.new.store here c.answer.new.self c.go_on.new.self c.in-Some.verdict
     (subst (λ (p : SeatedSession). StandsForSeated seat next heard p v) (sym c.self.view_is) s) (ap (λ (p : SeatedSession). p.gone) c.self.view_is ∙ c.requires.there)
-    (ap (λ (p : SeatedSession). is_some p.place.link.session.mailing.sent) c.self.view_is ∙ c.requires.waits) c.in-Some.ensures.known c.in_ok-answer.ensures.ok c.in_ok-answer.ensures.done went)) c.go_on.ensures.ok
+    (ap (λ (p : SeatedSession). p.place.link.session.ended) c.self.view_is ∙ c.requires.going) (ap (λ (p : SeatedSession). is_some p.place.link.session.mailing.sent) c.self.view_is ∙ c.requires.waits) c.in-Some.ensures.known c.in_ok-answer.ensures.ok c.in_ok-answer.ensures.done went)) c.go_on.ensures.ok
 
 pub returns-clause-asked : goal.returns-clause-asked
 returns-clause-asked g c = asks_then g.S.Store.step c.args.store.now c.answer.new.store c.go_on.new.store c.in_ok-answer.ensures.asked c.go_on.ensures.asked

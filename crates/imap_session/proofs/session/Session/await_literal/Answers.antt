@@ -1,33 +1,27 @@
-use Rattle.std.proofs.Common.{◌++◌, ◌∙◌, ap, refl, sym, Bool, List, [], append-nil, codes, ℕ}
-use Rattle.std.specs.Prelude.{if◌then◌else◌}
-use Rattle.imap_session.specs.contracts.session.Session.{the_view}
-use Rattle.imap_session.specs.Exchange.{ForLiteral}
-use Rattle.imap_session.specs.Commands.{awaiting, wanting}
+use Rattle.std.proofs.Common.{◌++◌, ◌∙◌, ap, refl, codes, List, ℕ, Option, Some}
+use Rattle.imap_session.specs.Exchange.{Asked, ForLiteral}
+use Rattle.imap_session.specs.Commands.{asking, wanting}
 use Rattle.imap_session.proofs.Appends.{begun_again, leads_starved, leads_wanting_waits, said_under}
 use Rattle.imap_session.proofs.session.Session.await_literal.Goals as goal
-
-abbrev ready : Bool → List ℕ
-ready waits = if waits then codes "+ ready\r\n" else []
 
 pub returns-in_default-clause-leads : goal.returns-in_default-clause-leads
 returns-in_default-clause-leads c =
     let a = c.args.append.now in
-    let x = awaiting (ready a.literal.waits) c.args.mailbox a.flags a.literal.size in
+    let x = asking c.args.mailbox a.flags a.literal.size in
     leads_starved c.args.response.tag c.args.self.now c.args.self.now (wanting x) x c.args.response.text c.put_tagged.new.out.items refl
     (said_under (codes "NO Out of memory") _ _ _ _ _ c.put_tagged.ensures.text c.release-tag.ensures.text c.release-tag.ensures.tag) refl
 
-pub returns-then-append-clause-leads : goal.returns-then-append-clause-leads
-returns-then-append-clause-leads c =
+pub returns-in_default-begin_text-clause-leads : goal.returns-in_default-begin_text-clause-leads
+returns-in_default-begin_text-clause-leads c =
     let a = c.args.append.now in
-    let same = ap the_view c.self-inside.view_is ∙ c.self.view_is in
-    leads_wanting_waits c.args.response.tag (ready a.literal.waits) (ForLiteral c.args.mailbox a.flags a.literal.size) c.args.self.now _ _ c.args.response.text c.put.new.out.items refl
-    (c.put.ensures.items ∙ ap (λ (t : List ℕ). t ++ codes "+ ready\r\n") c.release-tag.ensures.text ∙ ap (λ (b : Bool). c.args.response.text ++ ready b) (sym c.if-append.true))
-    (begun_again c.args.mailbox a.flags a.literal.size c.in-Ok.own_tag c.args.response.tag c.begin_text-text.result.items (c.in-Ok.ensures.ok ∙ c.release-tag.ensures.tag) c.begin_text-text.ensures same)
+    let x = asking c.args.mailbox a.flags a.literal.size in
+    leads_starved c.args.response.tag c.args.self.now c.args.self.now (wanting x) x c.args.response.text c.put_tagged-in_default-begin_text.new.out.items refl
+    (said_under (codes "NO Out of memory") _ _ _ _ _ c.put_tagged-in_default-begin_text.ensures.text c.release-tag.ensures.text c.release-tag.ensures.tag) refl
 
-pub returns-else-append-clause-leads : goal.returns-else-append-clause-leads
-returns-else-append-clause-leads c =
+pub returns-clause-leads : goal.returns-clause-leads
+returns-clause-leads c =
     let a = c.args.append.now in
-    let same = ap the_view c.self-inside.view_is ∙ c.self.view_is in
-    leads_wanting_waits c.args.response.tag (ready a.literal.waits) (ForLiteral c.args.mailbox a.flags a.literal.size) c.args.self.now _ _ c.args.response.text c.release-tag.new.out.items refl
-    (c.release-tag.ensures.text ∙ sym (append-nil c.args.response.text) ∙ ap (λ (b : Bool). c.args.response.text ++ ready b) (sym c.if-append.false))
-    (begun_again c.args.mailbox a.flags a.literal.size c.in-Ok.own_tag c.args.response.tag c.begin_text-text.result.items (c.in-Ok.ensures.ok ∙ c.release-tag.ensures.tag) c.begin_text-text.ensures same)
+    rw c.begin_literal.ensures.waits (leads_wanting_waits c.args.response.tag (codes "+ ready\r\n") (ForLiteral Asked (Some c.args.mailbox) a.flags a.literal.size) c.args.self.now _ _ c.args.response.text c.put.new.out.items refl
+    (c.put.ensures.items ∙ ap (λ (t : List ℕ). t ++ codes "+ ready\r\n") c.release-tag.ensures.text)
+    (c.begin_literal.ensures.begun ∙ begun_again {s = c.args.self.now} Asked (Some c.args.mailbox) (Some c.args.mailbox) a.flags a.literal.size c.in-Ok.own_tag c.args.response.tag (Some c.in-Ok-begin_text.text.items) refl (c.in-Ok.ensures.ok ∙ c.release-tag.ensures.tag)
+    (ap (λ (t : List ℕ). Some t) c.in-Ok-begin_text.ensures.empty) refl))

@@ -1,0 +1,216 @@
+//! The line of an APPEND, and the literal that it announces: whether that is asked for, and what becomes of it where memory is refused.
+//! What is said where is told in specs/Commands.antt; what comes behind the literal in `session`.
+
+use crate::folders::find_folder;
+use crate::mailing::{Appending, begin_text, refused_size};
+use crate::response::{LastWords, Response};
+use crate::say::{READY, put_tagged};
+use crate::session::Session;
+use crate::standing::After;
+use crate::tag::Tag;
+use change_ring::Flags;
+use imap_grammar::{Append as AppendCommand, Name};
+use line_io::put;
+use std::alloc::{AllocError, Global};
+
+/// A literal that the client sends without being asked has at most so many bytes.
+const MOST_UNASKED: u64 = 4_096;
+
+impl Session {
+    ghost use Rattle.std.specs.Prelude.{◌≡◌, ◌^◌, ◌<◌, ◌≤◌, min, true, false, [], length, None, Some, IfOk, IfSome};
+    ghost use Rattle.std.specs.Option.{option_map};
+    ghost use Rattle.std.specs.Vec.{vec_capacity};
+    ghost use Rattle.imap_session.specs.Exchange.{may_send};
+    ghost use Rattle.imap_session.specs.Commands.{appending, asking, coming, number_named, wanting};
+    ghost use Rattle.imap_session.specs.Store.{most_first_room};
+    ghost use Rattle.imap_session.specs.inner.Appends.{Leads};
+
+    // Waits for the bytes of a literal.
+    fn begin_literal(
+        &mut self,
+        tag: Tag,
+        mailbox: Option<u8>,
+        flags: Flags,
+        size: usize,
+        text: Option<Vec<u8>>,
+    ) -> After
+        requires going { self.old.ended ≡ false }
+        requires unsent { self.old.mailing.sent ≡ None }
+        requires room { IfSome text (λ t. min size most_first_room ≤ vec_capacity t) }
+        ensures begun { self.new ≡ record self.old {
+          mailing = record self.old.mailing {
+            begun = Some (record { tag = tag; mailbox = mailbox; flags = flags; size = size; due = size; text = option_map (λ t. t.items) text });
+          };
+        } }
+        ensures waits { result ≡ After.Literal size }
+        ensures sends { result ≡ may_send self.new }
+    {
+        self.mailing.begun = Some(Appending {
+            tag,
+            mailbox,
+            flags,
+            size,
+            due: size,
+            text,
+        });
+        After::Literal(size)
+    }
+
+    // Asks for a literal, and waits for its bytes. Where memory for the tag or the text is refused, that is told.
+    fn await_literal(
+        &mut self,
+        alloc: Global,
+        mailbox: u8,
+        append: &AppendCommand<'_>,
+        response: Response<'_>,
+        out: &mut Vec<u8>,
+    ) -> After
+        requires going { self.old.ended ≡ false }
+        requires awake { self.old.idling ≡ None }
+        requires alone { self.old.mailing.begun ≡ None }
+        requires unsent { self.old.mailing.sent ≡ None }
+        requires size { append.now.literal.size < 2 ^ 32 }
+        ensures leads { Leads response.entry.tag self.old (wanting (asking mailbox append.now.flags append.now.literal.size))
+            response.entry.text out.new.items result self.new }
+        ensures folders { self.new.folders ≡ self.old.folders }
+        ensures sends { result ≡ may_send self.new }
+    {
+        let size = append.literal.size as usize;
+        let tag = response.release(out);
+        let Ok(own_tag) = Tag::new(alloc, tag) else {
+            put_tagged(tag, b"NO Out of memory", out);
+            return After::Go;
+        };
+        let Ok(text) = begin_text(alloc, size) else {
+            put_tagged(tag, b"NO Out of memory", out);
+            return After::Go;
+        };
+        put(READY, out);
+        self.begin_literal(own_tag, Some(mailbox), append.flags, size, Some(text))
+    }
+
+    // The number of the mailbox of this name, where there is one.
+    fn number_of(&self, alloc: Global, name: &Name<'_>) -> Result<Option<u8>, AllocError>
+        ensures { IfOk result (λ number. number ≡ number_named name.now self.now.folders) }
+    {
+        let name = name.to_bytes(alloc)?;
+        match find_folder(&name, &self.folders) {
+            None => Ok(None),
+            Some(folder) => Ok(Some(folder.mailbox())),
+        }
+    }
+
+    // Takes the line of an APPEND whose client waits to be asked for the literal.
+    fn ask_for_literal(
+        &mut self,
+        alloc: Global,
+        append: &AppendCommand<'_>,
+        response: Response<'_>,
+        out: &mut Vec<u8>,
+    ) -> After
+        requires going { self.old.ended ≡ false }
+        requires awake { self.old.idling ≡ None }
+        requires alone { self.old.mailing.begun ≡ None }
+        requires unsent { self.old.mailing.sent ≡ None }
+        requires waits { append.now.literal.waits ≡ true }
+        ensures leads { Leads response.entry.tag self.old
+            (appending self.old.mailing.most self.old.folders append.now) response.entry.text out.new.items result self.new }
+        ensures folders { self.new.folders ≡ self.old.folders }
+        ensures sends { result ≡ may_send self.new }
+    {
+        let Ok(mailbox) = self.number_of(alloc, &append.name) else {
+            response.end(LastWords(b"NO Out of memory"), out);
+            return After::Go;
+        };
+        let Some(number) = mailbox else {
+            response.end(LastWords(b"NO [TRYCREATE] No such mailbox"), out);
+            return After::Go;
+        };
+        if let Some(words) = refused_size(self.mailing.most, append.literal.size) {
+            response.end(words, out);
+            return After::Go;
+        }
+        self.await_literal(alloc, number, append, response, out)
+    }
+
+    // The mailbox that an APPEND names, where there is one, and room for its text.
+    fn prepare(
+        &self,
+        alloc: Global,
+        append: &AppendCommand<'_>,
+        size: usize,
+    ) -> Result<(Option<u8>, Vec<u8>), AllocError>
+        ensures number { IfOk result (λ made. made.0 ≡ number_named append.now.name self.now.folders) }
+        ensures empty { IfOk result (λ made. made.1.items ≡ []) }
+        ensures room { IfOk result (λ made. min size most_first_room ≤ vec_capacity made.1) }
+    {
+        let mailbox = self.number_of(alloc, &append.name)?;
+        let text = begin_text(alloc, size)?;
+        Ok((mailbox, text))
+    }
+
+    // Takes the line of an APPEND whose client sends the literal without being asked. Its bytes come whatever is refused, and are no commands: where
+    // memory for the name or the text is, they are dropped, and that is told behind them. Without a tag that can't be told, and the session ends.
+    fn expect_literal(
+        &mut self,
+        alloc: Global,
+        append: &AppendCommand<'_>,
+        response: Response<'_>,
+        out: &mut Vec<u8>,
+    ) -> After
+        requires going { self.old.ended ≡ false }
+        requires awake { self.old.idling ≡ None }
+        requires alone { self.old.mailing.begun ≡ None }
+        requires unsent { self.old.mailing.sent ≡ None }
+        requires size { append.now.literal.size < 2 ^ 32 }
+        ensures leads { Leads response.entry.tag self.old
+            (coming (number_named append.now.name self.old.folders) append.now.flags append.now.literal.size)
+            response.entry.text out.new.items result self.new }
+        ensures folders { self.new.folders ≡ self.old.folders }
+        ensures sends { result ≡ may_send self.new }
+    {
+        let size = append.literal.size as usize;
+        let prepared = self.prepare(alloc, append, size);
+        let tag = response.release(out);
+        let Ok(tag) = Tag::new(alloc, tag) else {
+            put(b"* BYE Out of memory\r\n", out);
+            self.ended = true;
+            return After::Bye;
+        };
+        match prepared {
+            Ok((mailbox, text)) => {
+                return self.begin_literal(tag, mailbox, append.flags, size, Some(text));
+            }
+            Err(_) => return self.begin_literal(tag, None, append.flags, size, None),
+        }
+    }
+
+    // Takes the line of an APPEND.
+    pub(crate) fn begin_append(
+        &mut self,
+        alloc: Global,
+        append: &AppendCommand<'_>,
+        response: Response<'_>,
+        out: &mut Vec<u8>,
+    ) -> After
+        requires going { self.old.ended ≡ false }
+        requires awake { self.old.idling ≡ None }
+        requires alone { self.old.mailing.begun ≡ None }
+        requires unsent { self.old.mailing.sent ≡ None }
+        ensures leads { Leads response.entry.tag self.old
+            (appending self.old.mailing.most self.old.folders append.now) response.entry.text out.new.items result self.new }
+        ensures folders { self.new.folders ≡ self.old.folders }
+        ensures sends { result ≡ may_send self.new }
+    {
+        if append.literal.waits {
+            return self.ask_for_literal(alloc, append, response, out);
+        }
+        if append.literal.size > MOST_UNASKED {
+            response.release(out);
+            put(b"* BYE Literal too big\r\n", out);
+            self.ended = true;
+            return After::Bye;
+        }
+        self.expect_literal(alloc, append, response, out)
+    }
+}
