@@ -4,11 +4,8 @@ use loopback::{Grip, Listening, Patience, Pause, Timely, farewell, prepare};
 use std::alloc::Global;
 use std::io::{ErrorKind, Read, Write};
 use std::net::TcpStream;
-<<<<<<< HEAD
 use std::sync::atomic::{AtomicBool, Ordering};
-use std::time::{Duration, Instant};
-=======
->>>>>>> pages
+use std::time::Duration;
 use std::{io, thread};
 
 /// More bytes than the system keeps for a peer that takes none.
@@ -91,13 +88,6 @@ fn what_was_said_last_is_read(rt: HostRuntime) -> io::Result<()> {
     drop(stream);
     let mut told = [0u8; 8];
     assert_eq!(rt; client.read(&mut told)?, 3);
-    Ok(())
-}
-
-#[test]
-fn a_pause_ends(rt: HostRuntime) -> io::Result<()> {
-    let pause = Pause::new(&rt)?;
-    pause.wait();
     Ok(())
 }
 
