@@ -7,6 +7,7 @@ pub mod Turns
 pub mod Ended
 pub mod TailLaws
 pub mod NewHouse
+pub mod InPart
 pub mod Settlement
 pub mod Closing
 pub mod Visiting

@@ -1,5 +1,5 @@
 -- When bytes that came may want memory, from who stands there once they were appended.
-use Rattle.std.proofs.Common.{◌≡◌, ℕ, ◌<◌, ◌⊎◌, inl, inr, List, [], ◌∷◌, length, refl, ap, sym, ◌∙◌, subst, arith, append-nil, Option, Some, None, get_or, set, get_or-set_same}
+use Rattle.std.proofs.Common.{◌≡◌, ℕ, ◌<◌, ◌⊎◌, inl, inr, List, [], ◌∷◌, length, refl, sym, ◌∙◌, subst, arith, append-nil, Option, Some, None, get_or, set, get_or-set_same}
 use Rattle.std.specs.Option.{option_map}
 use Rattle.house_connection.specs.HouseConnection.{HouseConnection}
 use Rattle.house_connection.specs.Taking as connection
