@@ -1,9 +1,12 @@
 -- What a relay may conclude, by the record of a house.
-use Rattle.std.proofs.Common.{◌≡◌, ℕ, ◌<◌, ◌≤◌, ◌⊎◌, inl, inr, false, List, [], ◌++◌, refl, subst, ◌∙◌, arith, Some}
-use Rattle.std.specs.Prelude.{Contains}
+use Rattle.std.proofs.Common.{◌≡◌, ◌≢◌, ◌==◌, eqb, ℕ, ◌<◌, ◌≤◌, ◌⊎◌, inl, inr, true, false, List, [], ◌++◌, refl, ap, sym, subst, ◌∙◌, arith, Option, Some, None}
+use Rattle.std.specs.Prelude.{Contains, if◌then◌else◌}
 use Rattle.std.proofs.lemmas.Bool.{cases_lt}
+use Rattle.std.proofs.lemmas.Bool.Decides.{eqb_tells}
 use Rattle.delivery_token.specs.declared.Job.{Job}
 use Rattle.house.specs.Scene.{empty_scene}
+use Rattle.house_connection.specs.Caller.{Caller}
+use Rattle.lmtp_machine.specs.Replies.{wire}
 use Rattle.shard_queue.specs.declared.lane.Entry.TheVariants.{Item}
 use Rattle.script.specs.Promise.{entries_of}
 use Rattle.script.proofs.Parts.{parts_record}
@@ -11,16 +14,35 @@ use Rattle.world.specs.World.{shard_of}
 use Rattle.world.proofs.Always.{always, kept_always}
 use Rattle.world.proofs.Kept.{Kept}
 use Rattle.relay_records.specs.Concluded.{KnowsAll, MayConclude}
-use Rattle.relay_records.specs.Laws.{ByTheRecord, IsDone, OfAllEvents, OfScripts}
+use Rattle.relay_records.specs.Laws.{ByTheRecord, IsDone, OfAllEvents, OfScripts, unsaid_by}
 use Rattle.relay_records.specs.Record.{came_for, has_vanished, told_to}
 use Rattle.relay_records.proofs.Happening.{no_pasts, nothing_known, past_after, record_known}
 use Rattle.relay_records.proofs.Histories.{every_in, history_was_put}
-use Rattle.relay_records.proofs.Joined.{connection_concludes, connection_knows_all}
+use Rattle.relay_records.proofs.Joined.{Concludes, connection_concludes, connection_knows_all}
 use Rattle.relay_records.proofs.Moving.{sent_by}
 use Rattle.relay_records.proofs.Printed.{HasEnded}
 use Rattle.relay_records.proofs.Scenes.{SceneKnown}
 use Rattle.relay_records.proofs.Seated.{IsOneOf}
 use Rattle.relay_records.proofs.Seats.{Opened, opened_below, own_terms}
+
+abbrev serial_in : Option Caller → ℕ
+serial_in None = 0
+serial_in (Some c) = c.serial
+
+-- what who stood there last has still to print
+still_unsaid : (serial : ℕ) (o : Option Caller) (last : Caller) → last.serial ≡ serial → last.gone ≡ false → HasEnded last ⊎ (o ≡ Some last) → ((b : Caller) → o ≡ Some b → b.serial ≡ serial → b ≡ last)
+    → last.talk.unsaid ≡ unsaid_by serial o
+still_unsaid serial None last is there (inl ended) only = (ended there).1
+still_unsaid serial None last is there (inr stands) only = absurd (let x : ◌≡◌ {A = Option Caller} None (Some last) = stands in cc)
+still_unsaid serial (Some b) last is there ended only = by (eqb_tells b.serial serial)
+  where
+    away : b.serial ≢ serial → HasEnded last ⊎ (Some b ≡ Some last) → last.talk.unsaid ≡ []
+    away other (inl e) = (e there).1
+    away other (inr e) = absurd (other (ap (λ (o : Option Caller). serial_in o) e ∙ is))
+
+    by : ((eqb b.serial serial ≡ true) × (b.serial ≡ serial)) ⊎ ((eqb b.serial serial ≡ false) × (b.serial ≢ serial)) → last.talk.unsaid ≡ (if b.serial == serial then b.talk.unsaid else [])
+    by (inl (t, e)) = rw t (ap (λ (c : Caller). c.talk.unsaid) (sym (only b refl e)))
+    by (inr (f, other)) = rw f (away other ended)
 
 pub by_the_record : ByTheRecord
 by_the_record k entries after steps in_line r came = record { each = each; all = knows_all; opened = opened }
@@ -31,14 +53,16 @@ by_the_record k entries after steps in_line r came = record { each = each; all =
     kept : Kept k.config after.world
     kept = kept_always k.config steps after.world came
 
-    each : (seat serial : ℕ) → seat < k.connections → serial < after.next seat → (later told untold : List ℕ) → told ++ untold ≡ told_to k seat serial (empty_scene k) entries
-        → MayConclude k.host k.directory after.world seat serial (came_for seat serial (empty_scene k) entries ++ later) told
-    each seat serial l m later told untold e =
+    each : (seat serial : ℕ) → seat < k.connections → serial < after.next seat → (later told unread : List ℕ) → told ++ unread ≡ told_to k seat serial (empty_scene k) entries
+        → (may : MayConclude k.host k.directory after.world seat serial (came_for seat serial (empty_scene k) entries ++ later) told unread)
+        × (has_vanished seat serial (empty_scene k) entries ≡ false → may.unprinted ≡ unsaid_by serial (after.caller seat))
+    each seat serial l m later told unread e =
         let was = opened_below k seat (after.world.heard seat) (sent_by after.world seat) (after.next seat) (past_after k no_pasts (empty_scene k) entries seat) (after.caller seat)
         (all.seats seat l) serial m in
-        subst (λ (n : ℕ). MayConclude k.host k.directory after.world seat n (came_for seat serial (empty_scene k) entries ++ later) told) was.serial_is
+        let c = subst (λ (n : ℕ). Concludes k.host k.directory after.world seat n (came_for seat serial (empty_scene k) entries ++ later) told unread (wire k.host was.known.unprinted)) was.serial_is
         (connection_concludes k.config after.world kept (always k.config steps after.world came) (own_terms k) in_line seat was.last (came_for seat serial (empty_scene k) entries)
-        (told_to k seat serial (empty_scene k) entries) was.known later told untold e)
+        (told_to k seat serial (empty_scene k) entries) was.known later told unread e) in
+        (c.may, λ stays. c.rest ∙ sym (was.known.says (was.gone_is ∙ stays)) ∙ still_unsaid serial (after.caller seat) was.last was.serial_is (was.gone_is ∙ stays) was.ended was.only)
 
     knows_all : (seat serial : ℕ) → seat < k.connections → serial < after.next seat → has_vanished seat serial (empty_scene k) entries ≡ false → IsDone after seat serial
         → (later : List ℕ) → KnowsAll k.host k.directory after.world seat serial (came_for seat serial (empty_scene k) entries ++ later) (told_to k seat serial (empty_scene k) entries)

@@ -272,15 +272,18 @@ facts_of k w kept world g seat b came told h known whole front m = record {
 }
 
 -- what may be concluded of that
-abbrev may_of : (k : Config) (w : World) → Headline k w → (g : Terms) (seat serial : ℕ) (sent heard untold : List ℕ) (replies : List Reply) → heard ++ untold ≡ wire g.host (Greeting ∷ replies)
-    → Facts k w g.host g.directory (setting_of g seat serial) (handed_over sent heard) (handed_over sent (heard ++ untold)) → MayConclude g.host g.directory w seat serial sent heard
-may_of k w world g seat serial sent heard untold replies said f =
+abbrev may_of : (k : Config) (w : World) → Headline k w → (g : Terms) (seat serial : ℕ) (sent heard unread unprinted untold : List ℕ) (replies : List Reply) → untold ≡ unread ++ unprinted
+    → heard ++ untold ≡ wire g.host (Greeting ∷ replies)
+    → Facts k w g.host g.directory (setting_of g seat serial) (handed_over sent heard) (handed_over sent (heard ++ untold)) → MayConclude g.host g.directory w seat serial sent heard unread
+may_of k w world g seat serial sent heard unread unprinted untold replies begins said f =
     let setting : Setting = setting_of g seat serial in
     let known : List Handed = handed_over sent heard in
     let whole : List Handed = handed_over sent (heard ++ untold) in
     record {
       replies = replies;
+      unprinted = unprinted;
       untold = untold;
+      begins = begins;
       said = said;
       fates = f.fates;
       each = f.each;
@@ -302,12 +305,18 @@ said_is : (g : Terms) (seat : ℕ) (heard : List Noted) (sent : ℕ → List (En
 said_is g seat heard sent came told b h =
     ap (λ (l : List ℕ). l ++ wire g.host h.unprinted) h.told_is ∙ sym (wire-append g.host h.printed h.unprinted) ∙ ap (wire g.host) (sym h.said_is)
 
+-- it may conclude that, and these bytes weren't printed
+pub record Concludes (host : List ℕ) (directory : Directory) (w : World) (seat serial : ℕ) (sent told unread unprinted : List ℕ) : Type 0 where
+  pub may : MayConclude host directory w seat serial sent told unread
+  pub rest : may.unprinted ≡ unprinted
+
 pub connection_concludes : (k : Config) (w : World) → Kept k w → Headline k w → (g : Terms) → IsInLine g.host → (seat : ℕ) (b : Caller) (came told : List ℕ)
-    → IsKnown g seat (w.heard seat) (sent_by w seat) came told b
-    → (later heard unheard : List ℕ) → heard ++ unheard ≡ told → MayConclude g.host g.directory w seat b.serial (came ++ later) heard
+    → (h : IsKnown g seat (w.heard seat) (sent_by w seat) came told b)
+    → (later heard unheard : List ℕ) → heard ++ unheard ≡ told → Concludes g.host g.directory w seat b.serial (came ++ later) heard unheard (wire g.host h.unprinted)
 connection_concludes k w kept world g in_line seat b came told h later heard unheard e =
     let setting : Setting = setting_of g seat b.serial in
-    let untold : List ℕ = unheard ++ wire g.host h.unprinted in
+    let unprinted : List ℕ = wire g.host h.unprinted in
+    let untold : List ℕ = unheard ++ unprinted in
     let sent : List ℕ = h.taken ++ (h.waited ++ later) in
     let known : List Handed = handed_over sent heard in
     let whole : List Handed = handed_over sent (heard ++ untold) in
@@ -315,8 +324,8 @@ connection_concludes k w kept world g in_line seat b came told h later heard unh
     sym (append_assoc heard unheard (wire g.host h.unprinted)) ∙ ap (λ (l : List ℕ). l ++ wire g.host h.unprinted) e ∙ said_is g seat (w.heard seat) (sent_by w seat) came told b h in
     let m = concludes g.host setting g.directory h.taken h.said h.submitted h.answered b.talk.at in_line h.come (h.waited ++ later) heard untold said in
     let f : Facts k w g.host g.directory setting known whole = facts_of k w kept world g seat b came told h known whole (fronts_are_cut sent heard untold) m in
-    subst (λ (x : List ℕ). MayConclude g.host g.directory w seat b.serial x heard) (sent_is g seat (w.heard seat) (sent_by w seat) came told later b h)
-    (may_of k w world g seat b.serial sent heard untold h.said said f)
+    subst (λ (x : List ℕ). Concludes g.host g.directory w seat b.serial x heard unheard unprinted) (sent_is g seat (w.heard seat) (sent_by w seat) came told later b h)
+    (record { may = may_of k w world g seat b.serial sent heard unheard unprinted untold h.said refl said f; rest = refl })
 
 -- ---- where nothing more is to be said
 
@@ -368,7 +377,7 @@ connection_knows_all k w kept world g in_line seat b came told h there none sile
     let m = concludes g.host setting g.directory h.taken h.said h.submitted h.answered b.talk.at in_line h.come (h.waited ++ later) told [] said in
     let f : Facts k w g.host g.directory setting known whole = facts_of k w kept world g seat b came told h known whole (fronts_are_cut sent told []) m in
     let all : KnowsAll g.host g.directory w seat b.serial sent told = record {
-      may = may_of k w world g seat b.serial sent told [] h.said said f;
+      may = may_of k w world g seat b.serial sent told [] [] [] h.said refl said f;
       none_untold = refl;
       read = each_is_read k w g.host g.directory setting known whole f (ap (handed_over sent) (sym (append-nil told))) none;
     } in

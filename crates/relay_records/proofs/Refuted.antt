@@ -4,6 +4,7 @@ use Rattle.std.specs.Prelude.{Contains, codes, slice_index_or}
 use Rattle.change_ring.specs.Log.{no_flags}
 use Rattle.delivery_token.specs.declared.CopyKey.{CopyKey}
 use Rattle.delivery_token.specs.declared.Job.{Job}
+use Rattle.envelope.specs.Directory.{Directory}
 use Rattle.envelope.specs.Reading.{read, forward_at}
 use Rattle.envelope.specs.Values.{To}
 use Rattle.lmtp_machine.specs.Message.{stored_text}
@@ -15,7 +16,7 @@ use Rattle.house.specs.Setup.{terms_of}
 use Rattle.house_connection.specs.Caller.{Caller, greeted}
 use Rattle.relay_records.specs.Laws.{IsDone}
 use Rattle.relay_records.specs.rows.Rows.{left, opened, setup, start}
-use Rattle.relay_records.specs.Concluded.{StandsAsSent, StandsNowhere}
+use Rattle.relay_records.specs.Concluded.{MayConclude, StandsAsSent, StandsNowhere}
 
 abbrev key : CopyKey
 key = record { seat = 0; serial = 0; message = 0; recipient = 0 }
@@ -126,6 +127,15 @@ other_text h = by h.mailbox (h.copy, h.uid) h.here (ap (λ (c : Job). c.text) h.
     by (suc zero) a (zero, l, same) e = differs _ (ap (λ (x : Job × ℕ). x.0.text) same ∙ e)
     by (suc zero) a (suc k, l, same) e = omega (arith, l)
     by (suc (suc m)) a c e = none_there a c
+
+-- ---- what is to come
+
+-- it begins with what was printed and hasn't reached the relay
+another_rest : (host : List ℕ) (directory : Directory) (w : World) (seat serial : ℕ) (sent told rest : List ℕ) → (may : MayConclude host directory w seat serial sent told (50 ∷ [])) → may.untold ≡ 51 ∷ rest → ⊥
+unfolding first_byte
+another_rest host directory w seat serial sent told rest may e =
+    let x : 51 ≡ 50 = ap first_byte (sym e ∙ may.begins) in
+    omega (arith, x)
 
 -- ---- whether more is to be said
 

@@ -127,6 +127,10 @@ seat_went k seat heard more sent later next pasts now o serial grows puts same n
 
 -- ---- who stood there
 
+abbrev the_caller : Caller → Option Caller → Caller
+the_caller d None = d
+the_caller d (Some c) = c
+
 -- of a connection that was opened: as it is, or was last. Where its peer was never gone, it awaits nothing and has nothing to print, unless it stands there
 pub record Opened (k : Setup) (seat : ℕ) (heard : List Noted) (sent : ℕ → List (Entry Job)) (serial : ℕ) (past : Past) (o : Option Caller) : Type 0 where
   pub last : Caller
@@ -134,16 +138,17 @@ pub record Opened (k : Setup) (seat : ℕ) (heard : List Noted) (sent : ℕ → 
   pub known : IsKnown (own_terms k) seat heard sent past.came past.told last
   pub gone_is : last.gone ≡ past.gone
   pub ended : HasEnded last ⊎ (o ≡ Some last)
+  pub only : (b : Caller) → o ≡ Some b → b.serial ≡ serial → b ≡ last
 
 pub opened_below : (k : Setup) (seat : ℕ) (heard : List Noted) (sent : ℕ → List (Entry Job)) (next : ℕ) (pasts : ℕ → Past) (o : Option Caller) → SeatKnown k seat heard sent next pasts o
     → (n : ℕ) → n < next → Opened k seat heard sent n (pasts n) o
 opened_below k seat heard sent next pasts o h = by o h.there
   where
-    was : (p : Option Caller) (n : ℕ) → WasKnown k seat heard sent n (pasts n) → Opened k seat heard sent n (pasts n) p
-    was p n w = record { last = w.last; serial_is = w.serial_is; known = w.known; gone_is = w.gone_is; ended = inl w.ended }
+    was : (p : Option Caller) (n : ℕ) → ((b : Caller) → p ≡ Some b → b.serial ≡ n → ⊥) → WasKnown k seat heard sent n (pasts n) → Opened k seat heard sent n (pasts n) p
+    was p n other w = record { last = w.last; serial_is = w.serial_is; known = w.known; gone_is = w.gone_is; ended = inl w.ended; only = λ b e s. absurd (other b e s) }
 
     by : (p : Option Caller) → StandsThere k seat heard sent next pasts p → (n : ℕ) → n < next → Opened k seat heard sent n (pasts n) p
-    by None there n l = was None n (there n l)
+    by None there n l = was None n (λ b e s. cc) (there n l)
     by (Some b) there n l = each (eqb_tells n b.serial)
       where
         below : n ≢ b.serial → (n < b.serial) ⊎ (b.serial ≤ n) → n < b.serial
@@ -151,5 +156,5 @@ opened_below k seat heard sent next pasts o h = by o h.there
         below d (inr x) = let e : next ≡ b.serial + 1 = there.0 in absurd (d (omega (arith, l, e, x)))
 
         each : ((eqb n b.serial ≡ true) × (n ≡ b.serial)) ⊎ ((eqb n b.serial ≡ false) × (n ≢ b.serial)) → Opened k seat heard sent n (pasts n) (Some b)
-        each (inl (t, e)) = subst (λ (x : ℕ). Opened k seat heard sent x (pasts x) (Some b)) (sym e) (record { last = b; serial_is = refl; known = there.1; gone_is = there.2; ended = inr refl })
-        each (inr (t, d)) = was (Some b) n (there.3 n (below d (cases_lt n b.serial)))
+        each (inl (t, e)) = subst (λ (x : ℕ). Opened k seat heard sent x (pasts x) (Some b)) (sym e) (record { last = b; serial_is = refl; known = there.1; gone_is = there.2; ended = inr refl; only = λ c same s. sym (ap (the_caller b) same) })
+        each (inr (t, d)) = was (Some b) n (λ c same s. d (sym s ∙ sym (ap (λ (x : Option Caller). (the_caller b x).serial) same))) (there.3 n (below d (cases_lt n b.serial)))

@@ -61,11 +61,13 @@ pub record IsHandedOver (directory : Directory) (seat serial : ℕ) (fates : Lis
   pub text : copy.text ≡ stored_text sender (message_at whole i).lines
   pub read : (is_taken (message_at known i) j ≡ true) ⊎ (length (message_at known i).replies ≤ j)
 
--- Of a relay that sent these bytes on the connection of this serial at this seat, and was told those:
-pub record MayConclude (host : List ℕ) (directory : Directory) (w : World) (seat serial : ℕ) (sent told : List ℕ) : Type 0 where
-  -- what else was said, and didn't reach it: it isn't printed yet, or was dropped when the peer was gone
+-- Of a relay that sent these bytes on the connection of this serial at this seat, and was told those; these others were printed for it too, and haven't reached it:
+pub record MayConclude (host : List ℕ) (directory : Directory) (w : World) (seat serial : ℕ) (sent told unread : List ℕ) : Type 0 where
+  -- what else was said: what hasn't reached it, and then what wasn't printed, since it is still to be, or was dropped when the peer was gone
   pub replies : List Reply
+  pub unprinted : List ℕ
   pub untold : List ℕ
+  pub begins : untold ≡ unread ++ unprinted
   pub said : told ++ untold ≡ wire host (Greeting ∷ replies)
   -- what became of each message that it handed over, by all that was said
   pub fates : List Fate
@@ -86,7 +88,7 @@ pub record MayConclude (host : List ℕ) (directory : Directory) (w : World) (se
 
 -- Of a relay that was told all that was said on a connection on which nothing more is to be said: it has read of each copy that stands that it does.
 pub record KnowsAll (host : List ℕ) (directory : Directory) (w : World) (seat serial : ℕ) (sent told : List ℕ) : Type 0 where
-  pub may : MayConclude host directory w seat serial sent told
+  pub may : MayConclude host directory w seat serial sent told []
   pub none_untold : may.untold ≡ []
   pub read : (mailbox : ℕ) (entry : Job × ℕ) → Contains (w.box mailbox).accepted entry → entry.0.key.seat ≡ seat → entry.0.key.serial ≡ serial
       → (i : ℕ) × (j : ℕ) × IsKeyOf seat serial may.fates i j entry.0.key × (is_taken (message_at (handed_over sent told) i) j ≡ true)

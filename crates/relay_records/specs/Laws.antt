@@ -1,5 +1,5 @@
 -- What holds of each connection of a house, whatever happened there.
-use Rattle.std.specs.Prelude.{◌≡◌, ℕ, ◌<◌, List, [], ◌++◌, Contains, false, None, Some}
+use Rattle.std.specs.Prelude.{◌≡◌, ◌==◌, ℕ, ◌<◌, List, [], ◌++◌, Contains, false, Option, None, Some, if◌then◌else◌}
 use Rattle.delivery_token.specs.declared.Job.{Job}
 use Rattle.house.specs.Scene.{Scene, empty_scene}
 use Rattle.house.specs.Settings.{config_fault, setup_of}
@@ -19,12 +19,18 @@ use Rattle.relay_records.specs.Record.{came_for, has_vanished, told_to}
 abbrev pub IsDone : Scene → (seat serial : ℕ) → Type 0
 IsDone s seat serial = (b : Caller) → s.caller seat ≡ Some b → b.serial ≡ serial → (b.talk.pending ≡ []) × (b.talk.unsaid ≡ [])
 
--- Of each connection that was opened: a relay that sent what came for it, and perhaps more, and was told a front of what was said to it, may conclude which copies stand. And
--- there are no copies of other connections.
+-- What the connection of this serial has still to print, by who stands at its seat. One that stands there no more has nothing.
+abbrev pub unsaid_by : (serial : ℕ) → Option Caller → List ℕ
+unsaid_by serial None = []
+unsaid_by serial (Some b) = if b.serial == serial then b.talk.unsaid else []
+
+-- Of each connection that was opened: a relay that sent what came for it, and perhaps more, and was told a front of what was said to it, may conclude which copies stand: by that
+-- front, by what was printed behind it, and, where its peer was never gone, by what the connection has still to print. And there are no copies of other connections.
 pub record RelaysMayConclude (k : Setup) (entries : List Entry) (after : Scene) : Type 0 where
   pub each : (seat serial : ℕ) → seat < k.connections → serial < after.next seat
-      → (later told untold : List ℕ) → told ++ untold ≡ told_to k seat serial (empty_scene k) entries
-      → MayConclude k.host k.directory after.world seat serial (came_for seat serial (empty_scene k) entries ++ later) told
+      → (later told unread : List ℕ) → told ++ unread ≡ told_to k seat serial (empty_scene k) entries
+      → (may : MayConclude k.host k.directory after.world seat serial (came_for seat serial (empty_scene k) entries ++ later) told unread)
+      × (has_vanished seat serial (empty_scene k) entries ≡ false → may.unprinted ≡ unsaid_by serial (after.caller seat))
   -- where its peer was never gone and nothing more is to be said, a relay that was told all has read of each copy that stands that it does
   pub all : (seat serial : ℕ) → seat < k.connections → serial < after.next seat → has_vanished seat serial (empty_scene k) entries ≡ false → IsDone after seat serial
       → (later : List ℕ) → KnowsAll k.host k.directory after.world seat serial (came_for seat serial (empty_scene k) entries ++ later) (told_to k seat serial (empty_scene k) entries)
