@@ -1,6 +1,7 @@
 -- What the promise refuses: one copy told twice, and words that aren't the event's own.
-use Rattle.std.proofs.Common.{◌≡◌, ℕ, ◌≢◌, List, [], ◌∷◌, AllPairs, ap, arith, subst}
+use Rattle.std.proofs.Common.{◌≡◌, ℕ, ◌≢◌, List, [], ◌∷◌, AllPairs, ap, arith, subst, Some, refl}
 use Rattle.std.specs.Borrow.{Bor}
+use Rattle.std.specs.Prelude.{Contains}
 use Rattle.delivery_token.specs.declared.CopyKey.{CopyKey}
 use Rattle.delivery_token.specs.declared.log.Noted.{Noted}
 use Rattle.world.specs.World.{World}
@@ -8,7 +9,10 @@ use Rattle.house.specs.Setup.{Setup}
 use Rattle.house.specs.declared.event.Event.TheVariants.{Bytes, Say, Take}
 use Rattle.house.specs.Scene.{Scene, seat_of}
 use Rattle.exactly_once.specs.Promise.{Entry, IsOwn, Lines, Replies, Said, TellsOnce, verdicts_of}
-use Rattle.exactly_once.specs.Appended.{AnswersOnce}
+use Rattle.delivery_token.specs.declared.Verdict.{Verdict}
+use Rattle.imap_session.specs.Exchange.{Sent}
+use Rattle.house_session.specs.SeatedVisitor.{keys_of}
+use Rattle.exactly_once.specs.Appended.{AnswersOnce, noted_for}
 use Rattle.exactly_once.proofs.Going.{below_itself, none_twice}
 
 -- two lines about one copy, whatever they say of it
@@ -21,6 +25,11 @@ one_copy_twice w entries p a b same is h =
 -- and one verdict that sessions answered twice
 one_answered_twice : (k : Setup) (w : World) (a b : Noted) → a.key ≡ b.key → AnswersOnce k w (a ∷ b ∷ []) → ⊥
 one_answered_twice k w a b same h = below_itself a.key b.key (h.in_order 0 1 a (omega arith) (omega arith) (ap (λ (x : CopyKey). x.seat) same)) same
+
+-- the verdict on a message that a session awaits is counted, and as its seat has heard it
+one_is_counted : (heard : List Noted) (seat serial mailbox : ℕ) (sent : Sent) (verdict : Verdict) → (there : Contains heard (record { key = record { seat = seat; serial = serial; message = sent.append.message; recipient = 0 }; mailbox = mailbox; verdict = verdict }))
+    → noted_for heard (keys_of seat serial (Some sent)) verdict ((mailbox, there), tt) ≡ record { key = record { seat = seat; serial = serial; message = sent.append.message; recipient = 0 }; mailbox = mailbox; verdict = verdict } ∷ []
+one_is_counted heard seat serial mailbox sent verdict there = refl
 
 -- the lines of a session at an event of a connection
 lines_of_nobody : (k : Setup) (s t : Scene) (connection n : ℕ) (bytes : Bor (List ℕ)) (lines : List (List ℕ)) → IsOwn k s (Bytes connection bytes) t (Lines n lines) → ⊥
