@@ -3,7 +3,7 @@ use Rattle.std.proofs.Common.{◌≡◌, ℕ, true, List, refl, sym, subst}
 use Rattle.imap_session.specs.Exchange.{is_idling}
 use Rattle.imap_connection.specs.Dialogue.{Dialogue, ImapConnection, StandsFor}
 use Rattle.session_thread.specs.Locks.{LockedStore}
-use Rattle.session_thread.specs.Life.{HasShown, IsShort, Moment, moment}
+use Rattle.session_thread.specs.Life.{HasShown, IsShortInTurn, Moment, moment}
 use Rattle.session_thread.proofs.Living.{idle_of}
 use Rattle.courier.specs.Carried.{Carried}
 use Rattle.courier.specs.declared.Lost.TheVariants as lost
@@ -11,7 +11,7 @@ use Rattle.session_thread.specs.Life.{Says}
 use Rattle.imap_stream.specs.Visits.{GoesOnShowing, Hears, HearsInPart, ShowsAll, ShowsInPart, nothing_left, within_turns}
 
 pub shows_in_part : (room : ℕ) (first : Moment) (d : Dialogue) (old new : LockedStore) (before after : List ℕ) (was : ImapConnection) → StandsFor was d → is_idling was.session ≡ true → GoesOnShowing first (moment d old before)
-    → moment d new after ≡ moment d old before → IsShort room (moment d new after) → ShowsInPart room first (moment d new after)
+    → moment d new after ≡ moment d old before → IsShortInTurn room (moment d new after) → ShowsInPart room first (moment d new after)
 shows_in_part room first d old new before after was s idles showed same short = record {
   showed = subst (λ (m : Moment). GoesOnShowing first m) (sym same) showed;
   idles = idle_of d was s idles;

@@ -7,7 +7,7 @@ use Rattle.imap_session.specs.Exchange.{Folder, bye, is_idling, may_send, nothin
 use Rattle.imap_session.specs.Commands.{greeting}
 use Rattle.imap_connection.specs.Dialogue.{Dialogue, ImapConnection, StandsFor, may_follow}
 use Rattle.session_thread.specs.Locks.{LockedStore}
-use Rattle.session_thread.specs.Life.{HasShown, IsShort, Moment, Says, SaysInPart, moment}
+use Rattle.session_thread.specs.Life.{HasShown, IsShortInTurn, Moment, Says, SaysInPart, moment}
 use Rattle.courier.specs.Carried.{Carried}
 use Rattle.courier.specs.declared.Lost.{Lost}
 use Rattle.courier.specs.declared.Lost.TheVariants as lost
@@ -53,7 +53,7 @@ pub data ShowsAll (first last : Moment) : Type 0 where
 pub record ShowsInPart (room : ℕ) (first last : Moment) : Type 0 where
   pub showed : GoesOnShowing first last
   pub idles : is_idling last.dialogue.standing ≡ true
-  pub short : IsShort room last
+  pub short : IsShortInTurn room last
 
 -- ---- a piece of the client's bytes
 

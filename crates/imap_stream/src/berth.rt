@@ -221,7 +221,8 @@ impl<'a, R: Wait, G: Gate, W: Sink + Drop> Berth<'a, R, G, W> {
         let mut held = self.visit.lock(rt);
         self.idles.store(false, Ordering::SeqCst);
         if let Some(mut visit) = held.take() {
-            visit.leave();
+            // A mailbox that doesn't know the session has no cursor of it.
+            let _ = visit.leave();
         }
     }
 }

@@ -6,7 +6,7 @@ ghost use Rattle.std.specs.Io.KnownBytes.{Appends};
 ghost use Rattle.std.specs.Vec.{vec_capacity};
 ghost use Rattle.courier.specs.Carried.{Carried};
 ghost use Rattle.courier.specs.declared.Lost.{Lost};
-ghost use Rattle.session_thread.specs.Life.{Departs};
+ghost use Rattle.session_thread.specs.Life.{Departs, IsForgotten};
 ghost use Rattle.imap_connection.specs.Dialogue.{StandsFor};
 ghost use Rattle.imap_session.specs.Commands.{greeting};
 ghost use Rattle.imap_session.specs.Exchange.{nothing_sent};
@@ -18,7 +18,7 @@ use imap_connection::ImapConnection;
 use imap_session::{After, Folder, Store};
 use line_io::{Sink, send};
 use pace::Gate;
-use session_thread::{LockedStore, takes_more};
+use session_thread::{LockedStore, depart, takes_more};
 use std::alloc::{AllocError, Global};
 use std::marker::Model;
 use std::sync::Wait;
@@ -377,11 +377,21 @@ impl<'a, R: Wait, G: Gate, W: Sink> Visit<'a, R, G, W> {
     /// Leaves the mailbox that the session is in, if any, without removal; the visit is over. Whoever
     /// lets a visit go calls this before, whatever happened: else the mailbox keeps the session's
     /// cursor.
-    pub fn leave(&mut self)
-        ensures departs { Departs self.old.selection self.new.selection }
+    ///
+    /// Errors: `Torn` where the mailbox that was found doesn't know the session's handle.
+    pub fn leave(&mut self) -> Result<(), VisitFault>
+        // Without an error the session was in no mailbox, or left the one that it was in; after one the mailbox that was found doesn't know it.
+        ensures departs { OnOk result (Departs self.old.selection self.new.selection) }
+        ensures forgotten { OnErr result (IsForgotten self.old.selection self.new.selection) }
+        ensures fault { IfErr result (λ fault. fault ≡ VisitFault.Torn) }
+
+        // After either the visit is over, and nothing else of it has changed.
         ensures rest { self.new ≡ record self.old { selection = self.new.selection; closed = true } }
     {
         self.is_closed = true;
-        let _ = self.store.leave(false);
+        match depart(&mut self.store) {
+            Ok(()) => Ok(()),
+            Err(_) => Err(VisitFault::Torn),
+        }
     }
 }

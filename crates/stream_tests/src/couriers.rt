@@ -9,7 +9,7 @@ use courier::{Courier, Lost};
 use delivery_token::{CopyKey, Job, Text, Verdict};
 use imap_session::After;
 use imap_stream::{Visit, VisitFault};
-use mailbox::Mailbox;
+use mailbox::{Mailbox, verdict_of};
 use pace::{Gate, Pace};
 use std::alloc::{AllocError, Global};
 use std::sync::atomic::AtomicBool;
@@ -47,10 +47,7 @@ impl<'a, R: Wait> TestCourier<'a, R> {
         let Some(lock) = self.mailboxes.get(usize::from(job.mailbox)) else {
             return Err(Lost::Torn);
         };
-        match lock.lock(self.rt).deliver(job) {
-            Ok(receipt) => Ok(Verdict::Stored { uid: receipt.uid() }),
-            Err(why) => Ok(Verdict::Refused(why)),
-        }
+        Ok(verdict_of(lock.lock(self.rt).deliver(job)))
     }
 }
 
@@ -151,7 +148,7 @@ fn answers<R: Wait>(
     let idles = AtomicBool::new(false);
     let first = visit.hear(alloc, courier, case.first, &idles);
     let second = visit.hear(alloc, courier, case.second, &idles);
-    visit.leave();
+    let _ = visit.leave();
     (first, second)
 }
 

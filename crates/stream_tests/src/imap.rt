@@ -6,11 +6,11 @@ ghost use Rattle.std.specs.Prelude.{◌≡◌, false};
 use crate::couriers::TestCourier;
 use change_ring::NO_FLAGS;
 use courier::{Courier, Lost};
-use delivery_token::{CopyKey, Job, Text};
+use delivery_token::{CopyKey, Job, Text, Verdict};
 use imap_session::{After, Folder};
 use imap_stream::{Berth, Hush, Visit, VisitFault};
 use line_io::{Sink, Watched};
-use mailbox::{History, Limits, Mailbox};
+use mailbox::{History, Limits, Mailbox, verdict_of};
 use pace::{Actor, Gate};
 use session_bells::{SessionBell, Sleeper};
 use session_thread::LockedStore;
@@ -237,7 +237,10 @@ fn copy(alloc: Global) -> Result<Job, AllocError> {
 
 fn deliver<R: Wait>(rt: &R, mailboxes: &[Mutex<Mailbox>], job: &Job) -> bool {
     match mailboxes.first() {
-        Some(lock) => lock.lock(rt).deliver(job).is_ok(),
+        Some(lock) => matches!(
+            verdict_of(lock.lock(rt).deliver(job)),
+            Verdict::Stored { uid: _ }
+        ),
         None => false,
     }
 }
@@ -634,7 +637,7 @@ fn answers<'x, R: Wait>(
     }
     let looked = visit.look();
     let dismissed = visit.dismiss();
-    visit.leave();
+    let _ = visit.leave();
     Some((heard, looked, dismissed))
 }
 
