@@ -39,7 +39,7 @@ pub(crate) fn enter<R: Wait>(
         lock,
         |mailbox: &mut Mailbox| -> Result<(CursorHandle, Opening), MailFault>
             ensures { DoesEnterAt number mailbox.old result mailbox.new }
-        { let _ = number; holds::enter(mailbox) },
+        { enter_at(mailbox, number) },
     )
 }
 
