@@ -234,7 +234,7 @@ parted k whole n a sent shown after u v o there c (remains not e f) = rw (f, e) 
 -- its client is there as before
 goes_gone : (k : Config) (n : ℕ) (whole : Bool) (seat : ℕ) (heard : List Noted) (b after : SeatedVisitor) (w u : World) (said : List ℕ) → GoesOn (Meets k n) whole seat heard b w u after said → after.gone ≡ b.gone
 goes_gone k n whole seat heard b after w u said (works none g) = ap (λ (v : SeatedVisitor). v.gone) g.is
-goes_gone k n whole seat heard b after w u said (answers verdict mid one two how next known s g e) = ap (λ (v : SeatedVisitor). v.gone) g.is
+goes_gone k n whole seat heard b after w u said (answers verdict mid one two how next going known s g e) = ap (λ (v : SeatedVisitor). v.gone) g.is
 goes_gone k n whole seat heard b after w u said (seated.waits awaits e f g) = ap (λ (v : SeatedVisitor). v.gone) f
 goes_gone k n whole seat heard b after w u said (rests ended e f g) = ap (λ (v : SeatedVisitor). v.gone) f
 goes_gone k n whole seat heard b after w u said (stalls part e f g) = ap (λ (v : SeatedVisitor). v.gone) f

@@ -67,7 +67,7 @@ line_since k n first began base sent heard now line old new said how next (too_l
 
 one_since : (k : Config) (n : ℕ) (first : Standing) (began : World) (base : List Told) (sent heard : List ℕ) (now : Standing) (one : Sends) (old new : World) (said : List ℕ) (how : After) (next : Standing)
     → AnswersOne (Calls k n) now one old new [] said how next → Since k n first began base sent heard now old → Since k n first began base (sent ++ spelled one) (heard ++ said) next new
-one_since k n first began base sent heard now (dialogue.Line line) old new said how next a t = line_since k n first began base sent heard now line old new said how next a.1 t
+one_since k n first began base sent heard now (dialogue.Line line) old new said how next a t = line_since k n first began base sent heard now line old new said how next a.2 t
 one_since k n first began base sent heard now (dialogue.Bytes bytes) old new said how next a t =
     let kept : Bool = a.takes.0 in
     let turn : Turn = nothing_more (may_send (with_bytes kept bytes now)) (with_bytes kept bytes now) in
@@ -116,7 +116,7 @@ same_lately k n first began base came heard v after old new said e f g r = rw (e
 pub goes_lately : (k : Config) (n : ℕ) (whole : Bool) (seat : ℕ) (notes : List Noted) (first : Standing) (began : World) (base : List Told) (came heard : List ℕ) (v after : SeatedVisitor) (old new : World) (said : List ℕ) → AreHeardSmall notes
     → GoesOn (Calls k n) whole seat notes v old new after said → Lately k n first began base came heard v.session old → Lately k n first began base came (heard ++ said) after.session new
 goes_lately k n whole seat notes first began base came heard v after old new said small (seated.works none w) r = works_lately k n seat first began base came heard v after old new said w r
-goes_lately k n whole seat notes first began base came heard v after old new said small (seated.answers verdict mid one two how next known a w e) r =
+goes_lately k n whole seat notes first began base came heard v after old new said small (seated.answers verdict mid one two how next still known a w e) r =
     let t = verdict_since k n first began base r.sent heard v.session.standing verdict old mid one how next (verdict_printed seat notes v verdict small known) a r.since in
     let between : Lately k n first began base came (heard ++ one) (record { standing = next; waits = v.session.waits; unsaid = v.session.unsaid }) mid =
     record { sent = r.sent ++ []; since = t; waits = r.waits ∙ ap (λ (s : List ℕ). s ++ v.session.waits) (sym (append-nil r.sent)) } in

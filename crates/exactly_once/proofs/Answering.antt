@@ -114,7 +114,7 @@ goes_told : (k : Setup) (place : ℕ) (w : World) (done : List Noted) (v after :
     → (g : GoesOn (Meets k.config place) false (session_seat k place) (w.heard (session_seat k place)) v old new after said) → Rising InOrder done → VisitorOk k place done v
     → Talked k place w done (answered_as (Meets k.config place) false (session_seat k place) (w.heard (session_seat k place)) v old new after said g) after
 goes_told k place w done v after old new said (works none g) order ok = silent_talk k place w done after order (works_ok k place done v after old new said g)
-goes_told k place w done v after old new said (answers verdict mid one two how next known a g e) order ok =
+goes_told k place w done v after old new said (answers verdict mid one two how next still known a g e) order ok =
     let n = noting k place w done v.serial (sent_by v) verdict known.each (ok.above known.put) order in record {
       heard = n.heard;
       own = n.own;

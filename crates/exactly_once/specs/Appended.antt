@@ -30,7 +30,7 @@ noted_for heard (key ∷ keys) verdict h = record { key = key; mailbox = h.0.0; 
 -- the verdict that a session answers as it goes on: what it awaits, by what its seat has heard
 abbrev pub answered_as : {S : Type 0} (step : S → Call → StoreAnswer → S → Type 0) (whole : Bool) (seat : ℕ) (heard : List Noted) (v : SeatedVisitor) (old new : S) (after : SeatedVisitor) (said : List ℕ)
     → GoesOn step whole seat heard v old new after said → List Noted
-answered_as step whole seat heard v old new after said (answers verdict mid first second how next known answer more is) = noted_for heard (keys_of seat v.serial (sent_by v)) verdict known.each
+answered_as step whole seat heard v old new after said (answers verdict mid first second how next going known answer more is) = noted_for heard (keys_of seat v.serial (sent_by v)) verdict known.each
 answered_as step whole seat heard v old new after said (works none answer) = []
 answered_as step whole seat heard v old new after said (waits unheard same stays silent) = []
 answered_as step whole seat heard v old new after said (rests ended same stays silent) = []
