@@ -107,7 +107,7 @@ nothing_came xs kept (inr long) none = absurd (omega (arith, long.0, none))
 -- where something was kept there was a line
 pub something_came : (xs : List ℕ) (kept : List ℕ) → IsKept kept (take_through 10 xs) → 0 < length kept → 0 < length (take_through 10 xs)
 something_came xs kept (inl same) some = subst (λ (l : List ℕ). 0 < length l) same some
-something_came xs kept (inr long) some = let split = long.2 in omega (arith, some, ap length split.1, length-append kept split.0)
+something_came xs kept (inr long) some = omega (arith, some, ap length long.2, length-append kept long.1)
 
 -- ---- a front that is long enough asks for what the whole line asks for
 

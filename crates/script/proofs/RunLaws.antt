@@ -333,7 +333,7 @@ turn_unwritten k number held s input h holds left old new f is tells = subst (λ
 -- memory was wanting as a line was played
 pub turn_wanting : (k : Setup) (number : ℕ) (held : List Bool) (s : Scene) (input piece : List ℕ) (h : House) (old new : Option (List ℕ))
     → asked (line_of piece) ≡ asked (line_of (take_through 10 input)) → 0 < length (take_through 10 input) → PlayWanting k number held (asked (line_of piece)) s h → new ≡ old
-    → IsUnwritten k number s input h old new
+    → IsUnwritten k number held s input h old new
 turn_wanting k number held s input piece h old new e some p same = record {
   left = unwritten (asked (line_of piece)) (script_of (drop_through 10 input))
       (first_line input some ∙ ap (λ (x : ScriptLine). x ∷ script_of (drop_through 10 input)) (sym e)) p;

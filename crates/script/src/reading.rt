@@ -116,7 +116,7 @@ fn skip_rest<R: BufRead>(reader: &mut R, ended: bool) -> Result<(), TurnFault>
 
 /// Reads the next line with its end, if there is one. One that is too long, or a long comment, is passed over as it comes: a front is
 /// kept, which asks for the same.
-pub fn read_piece<R: BufRead>(reader: &mut R, line: &mut Vec<u8>) -> Result<bool, TurnFault>
+pub(crate) fn read_piece<R: BufRead>(reader: &mut R, line: &mut Vec<u8>) -> Result<bool, TurnFault>
     ensures some { OnOk result ((xs : List ℕ) → R.remaining reader.old ≡ Some xs → asked (line_of line.new.items) ≡ asked (line_of (take_through 10 xs))) }
     ensures rest { OnOk result ((xs : List ℕ) → R.remaining reader.old ≡ Some xs → R.remaining reader.new ≡ Some (drop_through 10 xs)) }
     ensures end { IfOk result (λ some. some ≡ false → (xs : List ℕ) → R.remaining reader.old ≡ Some xs → xs ≡ []) }

@@ -48,7 +48,7 @@ pub enum RunFault {
 
 /// Why a turn of a run failed.
 #[derive(Clone, Copy, Debug, PartialEq, Eq)]
-pub enum TurnFault {
+pub(crate) enum TurnFault {
     /// The input could not be read.
     Read,
     /// Of what the line printed the first `sent` bytes were written.

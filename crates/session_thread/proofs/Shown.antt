@@ -17,7 +17,8 @@ use Rattle.imap_session.specs.Exchange.{Alter, Altered, Answer, Feed, Expunge, F
 use Rattle.imap_session.specs.Store.{Feeds, Expunges, answer}
 use Rattle.session_thread.specs.declared.locked_store.Entry.{Entry}
 use Rattle.session_thread.specs.Locks.{Holds, LockedStore}
-use Rattle.session_thread.specs.Locks.{DoesEnterAt, ShowsOf, StaysOut, another_there, entered_at, not_let_in, refused_here}
+use Rattle.session_thread.specs.inner.Entering.{DoesEnterAt}
+use Rattle.session_thread.specs.Locks.{ShowsOf, StaysOut, another_there, entered_at, not_let_in, refused_here}
 
 -- ---- of the log
 

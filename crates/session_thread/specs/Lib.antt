@@ -1,3 +1,4 @@
 pub mod Locks
 pub mod Life
 pub mod Abut
+pub mod inner

@@ -10,7 +10,6 @@ use Rattle.mailbox.specs.Mailbox.{Mailbox, message_with, rows}
 use Rattle.mailbox.specs.Stands.{IsKept, Stands, next_of}
 use Rattle.mailbox.specs.declared.clients.MailFault.{MailFault}
 use Rattle.mailbox.specs.declared.clients.MailFault.TheVariants.{Stranger}
-use Rattle.mailbox.specs.declared.clients.Opening.{Opening}
 use Rattle.mailbox.specs.declared.mailbox.Status.{Status}
 use Rattle.mailbox_holds.specs.Holds.{Alters, Counts, DoesLook, Enters, EntersNot, Expunges, Feeds, IsRefused, HasCursor, Leaves, LeavesNot, Reads, UnderLock}
 use Rattle.imap_session.specs.Exchange.{Call, Answer, Enter, Look, Read, Count, Alter, Expunge, Feed, Leave, Entered, Looked, Found, Counted, Altered, Expunged, Fed, Left, Refused}
@@ -52,11 +51,6 @@ pub data StaysOut (selection : LockedStore) (mailbox : ℕ) (fault : MailFault) 
   not_let_in : (found left : Mailbox) → selection.entered ≡ None → mailbox < selection.mailboxes → found.number ≡ mailbox → IsKept found → left ≡ found → EntersNot fault found
       → StaysOut selection mailbox fault
   another_there : (found left : Mailbox) → selection.entered ≡ None → mailbox < selection.mailboxes → found.number ≢ mailbox → left ≡ found → fault ≡ Stranger → StaysOut selection mailbox fault
-
--- A client was let into the mailbox of this number, or not: the one that was found has the number, and did so; or it has another, and nothing was done.
-abbrev pub DoesEnterAt : ℕ → Mailbox → Result (CursorHandle × Opening) MailFault → Mailbox → Type 0
-DoesEnterAt number found (Ok entered) left = (found.number ≡ number) × Enters found entered.1 left entered.0
-DoesEnterAt number found (Err fault) left = (left ≡ found) × ((found.number ≡ number) × IsKept found × EntersNot fault found ⊎ (found.number ≢ number) × (fault ≡ Stranger))
 
 -- the mailbox of this number was counted, or another was found; and nothing was changed
 abbrev pub DoesCountAt : ℕ → Mailbox → Result Status MailFault → Mailbox → Type 0

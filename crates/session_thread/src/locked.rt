@@ -6,7 +6,8 @@ ghost use Rattle.imap_grammar.specs.Sets.{messages_in};
 ghost use Rattle.std.specs.Option.{option_copied};
 ghost use Rattle.std.specs.Vec.{vec_capacity};
 ghost use Rattle.mailbox_holds.specs.Holds.{DoesAlter, DoesExpunge, DoesFeed, DoesLeave, DoesLook, DoesRead, UnderLock};
-ghost use Rattle.session_thread.specs.Locks.{DoesCountAt, DoesEnterAt};
+ghost use Rattle.session_thread.specs.Locks.{DoesCountAt};
+ghost use Rattle.session_thread.specs.inner.Entering.{DoesEnterAt};
 
 use change_ring::{FlagOp, Flags};
 use cursor_set::CursorHandle;
