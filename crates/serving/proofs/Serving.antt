@@ -1,8 +1,6 @@
 -- How a server ends.
-use Rattle.std.proofs.Common.{◌≡◌, ◌∙◌, ◌⊎◌, inl, inr, ℕ, Bool, true, false, List, [], ◌∷◌, length, take, ap, sym, refl, subst, Option, Some, Result, Ok, Err}
-use Rattle.std.specs.Prelude.{IfErr, IsErr, OnOk, is_err}
-use Rattle.std.specs.Io.KnownBytes.{Appends}
-use Rattle.line_io.specs.declared.sink.SendFault.{SendFault}
+use Rattle.std.proofs.Common.{◌≡◌, ◌∙◌, ◌⊎◌, inl, inr, Bool, true, false, ap, sym, refl, subst, Option, Some, Result, Ok, Err}
+use Rattle.std.specs.Prelude.{IfErr, IsErr, OnOk}
 use Rattle.house.specs.declared.config.ConfigFault.{ConfigFault}
 use Rattle.serving.specs.declared.fault.ServeFault.{ServeFault}
 use Rattle.serving.specs.declared.fault.ServeFault.TheVariants as faults

@@ -502,7 +502,8 @@ fn close_or_spend<H: Hall, R: Wait>(
 /// is served before.
 ///
 /// Errors, the first that holds: `NoMemory` where memory is refused before the first thread, and `Spawn` where a thread can't be made: then
-/// nothing was written; `Device` where the lines can't be written: after these three nobody was served. `Torn` where somebody met what he didn't await, or a queue could not be closed. All of the house is spent then too.
+/// nothing was written; `Device` where the lines can't be written: after these three nobody was served. `Torn` where somebody met what he
+/// didn't await, or a queue could not be closed. All of the house is spent then too.
 pub(crate) fn run_house_in<H: Hall + Send, R: Threads + Wait + Sync, I: Read + Drop, W: Sink>(
     rt: &R,
     floor: Floor,

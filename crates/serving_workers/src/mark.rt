@@ -32,8 +32,8 @@ impl Mark {
         self.stop.store(true, Ordering::SeqCst);
     }
 
-    /// Waits until each thread was made and that was told, or the house failed to start: then it stops. Where it stops already nobody is waited for: so whoever
-    /// holds the start may do the work of a thread that it couldn't make.
+    /// Waits until each thread was made and that was told, or the house failed to start: then it stops. Where it stops already nobody is
+    /// waited for: so whoever holds the start may do the work of a thread that it couldn't make.
     pub fn await_start<R: Wait>(&self, rt: &R) {
         if !self.is_set() {
             let _all_stand = self.start.lock(rt);

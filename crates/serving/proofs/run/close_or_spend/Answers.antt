@@ -1,7 +1,6 @@
-use Rattle.std.proofs.Common.{◌≡◌, true, false, Result, Err, arith}
+use Rattle.std.proofs.Common.{◌≡◌, true, false, Err, arith}
 use Rattle.std.specs.Prelude.{OnOk}
 use Rattle.house_threads.proofs.Leaving.{posts_left}
-use Rattle.serving.specs.declared.fault.ServeFault.{ServeFault}
 use Rattle.serving.specs.declared.fault.ServeFault.TheVariants as faults
 use Rattle.serving.specs.inner.Ending.{HasEndedWhole}
 use Rattle.serving.proofs.Serving.{by_end}
