@@ -227,14 +227,11 @@ class RefusingHouse:
                 self.house.kill()
 
     def not_served(self, fault):
-        """It ended before it took any mail, and said why."""
+        """It ended before it said that it listens, and said why."""
         told = (fault.status, fault.faults)
-        refusals = [self.REFUSALS[self.kind]]
-        if fault.said.decode() == fault.announcement:
-            # Where the memory of a thread is refused there is no thread.
-            refusals.append(self.REFUSALS["SPAWN_AT"])
-        if told not in refusals or not fault.announcement.startswith(fault.said.decode()) or not self.was_met():
-            raise Wrong(f"it doesn't serve; its status, and what it says: {told}")
+        # Where the memory of a thread is refused there is no thread.
+        if told not in (self.REFUSALS[self.kind], self.REFUSALS["SPAWN_AT"]) or fault.said or not self.was_met():
+            raise Wrong(f"it doesn't serve; its status, and what it says: {told}, behind {fault.said!r}")
         return f"it doesn't start, and its status is {fault.status}"
 
     def serve(self):
@@ -254,13 +251,7 @@ class RefusingHouse:
         """Such clients come, and lose one thing at most, of all that come, and nothing where the refusal was met before. Gives what is lost."""
         was_met = self.was_met()
         pair = kind(self.house, self.kept)
-        try:
-            pair.run()
-        except Wrong:
-            # One that doesn't start may say so to clients who came early.
-            if self.kept.rows or not self.has_ended(ENDS_WITHIN):
-                raise
-            raise DoesNotServe(self.house) from None
+        pair.run()
         if pair.gone and not self.kept.rows and self.has_ended(ENDS_WITHIN if self.kind == "SPAWN_AT" else LOOKED_AT):
             raise DoesNotServe(self.house)
         self.losses += pair.losses

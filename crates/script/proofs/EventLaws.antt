@@ -1,5 +1,5 @@
 -- What a line of a script comes to that asks for an event of the house, by how the house answered it.
-use Rattle.std.proofs.Common.{◌≡◌, ℕ, ◌≤◌, ◌++◌, List, refl, sym, ap, ◌∙◌, arith}
+use Rattle.std.proofs.Common.{◌≡◌, ℕ, ◌++◌, List, refl, sym, ap, ◌∙◌, arith}
 use Rattle.std.specs.Prelude.{codes, false, true}
 use Rattle.envelope.specs.Directory.{Directory, is_shut}
 use Rattle.house.specs.declared.event.Event.{Event}

@@ -7,14 +7,12 @@ use Rattle.std.specs.Str.Parse.{digits_value}
 use Rattle.std.proofs.lemmas.List.{length-replicate}
 use Rattle.std.proofs.KnownBytes.{Appends-trans, Appends-nil}
 use Rattle.hex.specs.declared.error.FromHexError.{FromHexError}
-use Rattle.std.specs.Borrow.{Bor}
 use Rattle.std.specs.Io.BufRead.{drop_through, take_through}
 use Rattle.std.specs.Io.KnownBytes.{Appends}
 use Rattle.delivery_token.specs.declared.CopyKey.{CopyKey}
 use Rattle.delivery_token.specs.declared.log.Noted.{Noted}
-use Rattle.envelope.specs.Directory.{Directory, is_shut}
+use Rattle.envelope.specs.Directory.{Directory}
 use Rattle.envelope.specs.Names.{number_of}
-use Rattle.house.specs.declared.event.Event.TheVariants as events
 use Rattle.house.specs.declared.event.HouseFault.{HouseFault}
 use Rattle.house.specs.declared.event.HouseFault.TheVariants as faults
 use Rattle.script.specs.declared.run.TurnFault.{TurnFault}
@@ -30,7 +28,7 @@ use Rattle.house.specs.Steps.{FollowsInPart, IsEmptySeat, IsNoSeat, IsSpent, IsU
 use Rattle.house.specs.Settled.{BrokeOffFrom, SettledFrom, is_held}
 use Rattle.house.specs.Settling.{Settles, SettlingBreaksOff}
 use Rattle.house.specs.Window.{PrintsWindow}
-use Rattle.script.specs.Script.{IsAway, IsNoConnection, IsOwing, LinePlays, NobodyThere, Script, ScriptLine, Asks, Enters, Leaves, Sends, Vanishes, Hold, Free, Closes, Tail, Skip, Bad, asked, brought, closes, closes_again, closes_nobody, goes_again, goes_nobody, held_after, held_by, is_bad, line_of, none_held, refusal, script_of, sends, sends_to_nobody, sends_to_owing, skips, stands_nobody, stands_still, tails, tails_nobody, vanishes, vanishes_again, vanishes_away}
+use Rattle.script.specs.Script.{IsAway, IsNoConnection, IsOwing, LinePlays, NobodyThere, Script, ScriptLine, Asks, Enters, Leaves, Sends, Vanishes, Hold, Free, Closes, Tail, Skip, Bad, asked, brought, closes_nobody, goes_again, goes_nobody, held_after, held_by, is_bad, line_of, none_held, refusal, script_of, skips, stands_nobody, stands_still, tails, tails_nobody}
 use Rattle.script.specs.Leaving.{Writes, WritesBeginning, WritesFirst, unwritten, LineBegins, LineWanting, undone, begun, PlayWanting, settling}
 use Rattle.std.specs.Prelude.{Bool, IfNone, IfSome, codes, false, true}
 use Rattle.script.specs.inner.Running.{HasRun, IsClipped, IsOver, IsUnread as IsUnreadTurn, IsUnwritten, LineCut, LineDone, LinePlayed, LineWritten, SetsHeld, TurnTells, sets, sets_nobody}

@@ -1,7 +1,6 @@
 -- From what the house promises of a session's events to what a run promises of the lines of sessions.
-use Rattle.std.proofs.Common.{◌≡◌, ◌∙◌, ℕ, zero, suc, ◌<◌, ◌⊎◌, inl, inr, List, ◌++◌, length, refl, sym, ap, arith, Option, Some, None, false, true}
-use Rattle.std.specs.Prelude.{IsSome, codes}
-use Rattle.std.specs.Borrow.{Bor}
+use Rattle.std.proofs.Common.{◌≡◌, ◌∙◌, ℕ, zero, suc, ◌<◌, ◌⊎◌, inl, inr, List, length, refl, sym, ap, arith, Option, Some, None, false, true}
+use Rattle.std.specs.Prelude.{IsSome}
 use Rattle.envelope.specs.Directory.{Directory}
 use Rattle.house_session.specs.Folders.{has_user}
 use Rattle.house_session.specs.SeatedVisitor.{SeatedVisitor}
@@ -9,13 +8,11 @@ use Rattle.house_session.specs.SeatedSession.{SeatedSession}
 use Rattle.delivery_token.specs.declared.CopyKey.{CopyKey}
 use Rattle.delivery_token.specs.declared.log.Noted.{Noted}
 use Rattle.house.specs.Setup.{Setup}
-use Rattle.house.specs.declared.event.Event.TheVariants as events
 use Rattle.house.specs.House.{House}
 use Rattle.house.specs.Scene.{Scene, place_of}
 use Rattle.house.specs.Stands.{StandsFor, StandsForVisit}
-use Rattle.house.specs.Steps.{IsFreePlace, IsLeft, IsNoPlace, IsSpentPlace, IsTakenPlace, Led, is_left}
-use Rattle.script.specs.Script.{Asks, Enters, IsLingering, IsNoSession, IsSpentSession, IsUnknown, IsUnvisited, IsVisited, Leaves, asks, asks_lingering, asks_nobody, enters, enters_nowhere, enters_taken, leaves, leaves_again, leaves_nobody, refusal}
-use Rattle.script.specs.inner.Running.{LineDone}
+use Rattle.house.specs.Steps.{IsFreePlace, IsLeft, IsNoPlace, IsSpentPlace, IsTakenPlace, is_left}
+use Rattle.script.specs.Script.{IsLingering, IsNoSession, IsSpentSession, IsUnknown, IsUnvisited, IsVisited}
 use Rattle.script.proofs.RunLaws.{below}
 
 -- ---- who visits

@@ -1,12 +1,13 @@
 //! What is said of the listeners, so that whoever started the server knows when to begin. Nothing listens here.
 
-ghost use Rattle.std.specs.Prelude.{◌≡◌, ◌≤◌, ◌<◌, ◌+◌, ◌++◌, ◌∷◌, [], IfOk, IfSome, OnOk, length, slice_get};
+ghost use Rattle.std.specs.Prelude.{ℕ, ◌≡◌, ◌≤◌, ◌<◌, ◌+◌, ◌++◌, ◌∷◌, [], false, true, IfOk, IfSome, OnOk, length, slice_get, take};
+ghost use Rattle.std.specs.Io.KnownBytes.{Appends};
 ghost use Rattle.serving.specs.Announcing.{announcement, imap_line, imap_lines, lmtp_line, users_of};
 
 use crate::server::Uidvalidity;
 use envelope::Directory;
 use itoa::Buffer;
-use line_io::append_parts;
+use line_io::{Sink, append_parts, send};
 use std::alloc::{AllocError, Global};
 
 // The line of the port that mail comes to.
@@ -96,4 +97,26 @@ pub(crate) fn announce(
         Uidvalidity::Default => out.extend_from_slice(WARNING)?,
     }
     Ok(out)
+}
+
+/// Where it is said what listens. It owns nothing: what becomes of a `&mut` beside something that is owned no caller would know.
+#[derive(Drop)]
+pub(crate) struct Announcer<'o, W: Sink> {
+    pub(crate) output: &'o mut W,
+}
+
+impl<'o, W: Sink> Announcer<'o, W> {
+    /// Writes these lines, and answers whether all of them were written.
+    pub(crate) fn tell(self, lines: &[u8]) -> (Announcer<'o, W>, bool)
+        requires live { W.failed self.output.now ≡ false }
+        ensures same { result.0.output.ghost_name ≡ self.entry.output.ghost_name }
+        ensures told { (n : ℕ) × Appends (W.taken self.entry.output.now) (W.taken result.0.output.now) (take n lines.now) }
+        ensures all { result.1 ≡ true → Appends (W.taken self.entry.output.now) (W.taken result.0.output.now) lines.now }
+    {
+        let Announcer { output } = self;
+        if send(output, lines).is_err() {
+            return (Announcer { output }, false);
+        }
+        (Announcer { output }, true)
+    }
 }

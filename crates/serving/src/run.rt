@@ -1,7 +1,8 @@
 //! The threads of a server: workers first, then two for each berth of a session; it is waited for the end, all are stopped and joined, and
 //! the house is closed. What the threads do stands in `serving_workers` and `sessions`.
 
-ghost use Rattle.std.specs.Prelude.{◌≡◌, ◌≢◌, ◌≤◌, ◌<◌, ◌+◌, All, Err, Ok, OnOk, Some, IfOk, [], false, true, length, vec_len, vec_capacity};
+ghost use Rattle.std.specs.Prelude.{ℕ, ◌≡◌, ◌≢◌, ◌≤◌, ◌<◌, ◌+◌, All, Err, Ok, OnOk, Some, IfOk, [], false, true, length, take, vec_len, vec_capacity};
+ghost use Rattle.std.specs.Io.KnownBytes.{Appends};
 ghost use Rattle.std.specs.List.{list_all};
 ghost use Rattle.house.specs.declared.config.ConfigFault.{ConfigFault};
 ghost use Rattle.house_threads.specs.Crew.{IsPostLeft, IsStandLeft};
@@ -14,6 +15,7 @@ ghost use Rattle.serving_workers.specs.Leaving.{IsHired, IsServed, has_thread};
 ghost use Rattle.serving.specs.inner.Dealing.{IsDealt};
 ghost use Rattle.serving.specs.inner.Ending.{HasEndedWhole};
 
+use crate::announcing::Announcer;
 use crate::equipment::{Crowd, Equipment, Grips, crowd_for, equip, grips_of_all};
 use crate::fault::ServeFault;
 use crate::sessions::{Furnishings, start_berths};
@@ -25,6 +27,7 @@ use delivery_token::Noted;
 use house_floor::{Baskets, Crew, Floor, Guest, Post, Stand};
 use house_threads::{Ran, Started};
 use lane_work::{Consumed, Worked};
+use line_io::Sink;
 use reckoning::abandon;
 use serving_workers::{
     Begun, Buffers, Hired, Mark, Served, close_house, join_producers, packed, start_workers,
@@ -46,6 +49,24 @@ struct Over {
     all_started: bool,
     // Whether none was started.
     none_started: bool,
+    // Whether all was said of the listeners.
+    is_told: bool,
+}
+
+// The threads of the producers once all stand, and whoever said so.
+struct Begin<'s, 'o, W: Sink> {
+    hired: Vec<Hired<'s>>,
+    // Whether each thread could be made.
+    all_started: bool,
+    // Whether all was said of the listeners.
+    is_told: bool,
+    announcer: Announcer<'o, W>,
+}
+
+// What the threads of the producers leave, and whoever said that they stood.
+struct Left<'o, W: Sink> {
+    over: Over,
+    announcer: Announcer<'o, W>,
 }
 
 // What is dealt to the threads, and room for what the producers leave.
@@ -57,8 +78,8 @@ struct Dealt {
     served: Vec<Served>,
 }
 
-// Starts all threads, and says whether each could be made. Nobody is accepted before the last one was: they all wait for the start, which is
-// held here. Where one couldn't be made the mark is set by then, so nobody is served.
+// Starts all threads, and says whether each could be made. Nobody is accepted while the start is held, as the caller does. Where one couldn't
+// be made the mark is set, so nobody is served.
 fn start_all<'s, E, H: Hall + Send, R: Threads + Wait + Sync>(
     scope: &thread::Scope<'s, E>,
     rt: &'s R,
@@ -83,7 +104,6 @@ fn start_all<'s, E, H: Hall + Send, R: Threads + Wait + Sync>(
     ensures count { vec_len result.0 ≡ length site.now.floor.depot.channels.items }
     ensures all { result.1 ≡ true → list_all has_thread result.0.items ≡ true }
 {
-    let _not_yet = site.mark.start.lock(rt);
     let Begun { hired, posts } = start_workers::<E, H, R>(
         scope,
         rt,
@@ -100,14 +120,132 @@ fn start_all<'s, E, H: Hall + Send, R: Threads + Wait + Sync>(
     start_berths::<E, H, R>(scope, rt, site, furnishings, posts, hired)
 }
 
-// All that is done in the scope: the threads are started, the end is awaited, all are stopped, and the producers are joined.
-fn in_scope<'s, E, H: Hall + Send, R: Threads + Wait + Sync, I: Read + Drop>(
+// Starts all threads, and writes the lines that tell of the listeners. Nobody is accepted before that: all threads wait for the start,
+// which is held here. Where a thread couldn't be made nothing is written. There, and where the lines couldn't be written, the mark is set by
+// then, so nobody is served.
+fn start_and_tell<'s, 'o, E, H: Hall + Send, R: Threads + Wait + Sync, W: Sink>(
+    scope: &thread::Scope<'s, E>,
+    rt: &'s R,
+    site: &'s Site<H>,
+    posts: Vec<Post>,
+    buffers: Vec<Buffers>,
+    furnishings: Furnishings<'s, R>,
+    hired: Vec<Hired<'s>>,
+    lines: &[u8],
+    announcer: Announcer<'o, W>,
+) -> Begin<'s, 'o, W>
+    requires lanes { H.lanes ≡ Some site.now.floor.office.lanes.items }
+    requires depot { H.depot ≡ Some site.now.floor.depot }
+    requires house { IsHouse site.now.floor (length site.now.floor.depot.channels.items) }
+    requires grips { length site.now.grips.mail.items + length site.now.guests.items ≡ length site.now.floor.depot.channels.items }
+    requires posts { AllAt (IsPost site.now.floor) 0 posts.items × (vec_len posts ≡ length site.now.floor.depot.channels.items) }
+    requires buffers { All (λ b. 0 < length b.input.items) buffers.items × (vec_len buffers ≡ length site.now.grips.mail.items) }
+    requires client_grips { length site.now.grips.clients.items ≡ length site.now.guests.items }
+    requires berths { vec_len furnishings.berths ≡ length site.now.guests.items }
+    requires bells { (vec_len furnishings.bells ≡ length site.now.guests.items) × (vec_len furnishings.buffers ≡ length site.now.guests.items) }
+    requires room { (hired.items ≡ []) × (length site.now.floor.depot.channels.items ≤ vec_capacity hired) }
+    requires imap { All (λ v. v.user < vec_len site.now.sockets.imap) site.now.guests.items }
+    requires live { W.failed announcer.output.now ≡ false }
+    ensures hired { AllAt (IsHired site.now.floor) 0 result.hired.items }
+    ensures count { vec_len result.hired ≡ length site.now.floor.depot.channels.items }
+    ensures there { result.all_started ≡ true → list_all has_thread result.hired.items ≡ true }
+    ensures same { result.announcer.output.ghost_name ≡ announcer.entry.output.ghost_name }
+    ensures unsaid { result.all_started ≡ false → result.announcer.output.now ≡ announcer.entry.output.now }
+    ensures told { (n : ℕ) × Appends (W.taken announcer.entry.output.now) (W.taken result.announcer.output.now) (take n lines.now) }
+    ensures all { result.is_told ≡ true → Appends (W.taken announcer.entry.output.now) (W.taken result.announcer.output.now) lines.now }
+{
+    let _not_yet = site.mark.start.lock(rt);
+    let (hired, all_started) = start_all::<E, H, R>(
+        scope,
+        rt,
+        site,
+        posts,
+        buffers,
+        furnishings,
+        hired,
+    );
+    if !all_started {
+        return Begin {
+            hired,
+            all_started,
+            is_told: false,
+            announcer,
+        };
+    }
+    let (announcer, is_told) = announcer.tell(lines);
+    if !is_told {
+        site.mark.set();
+    }
+    Begin {
+        hired,
+        all_started,
+        is_told,
+        announcer,
+    }
+}
+
+// What is left where no thread was tried.
+fn untried(served: Vec<Served>, posts: Vec<Post>) -> Over
+    ensures left { (result.served ≡ served) × (result.posts ≡ posts) }
+    ensures none { (result.none_started ≡ true) × (result.all_started ≡ true) × (result.is_told ≡ false) }
+{
+    Over {
+        served,
+        posts,
+        all_started: true,
+        none_started: true,
+        is_told: false,
+    }
+}
+
+// The end is awaited, if it was said that the house serves; all threads are stopped, and the producers are joined.
+fn stop_and_join<'s, 'o, H: Hall, R: Threads + Wait, I: Read + Drop, W: Sink>(
+    rt: &R,
+    site: &'s Site<H>,
+    begin: Begin<'s, 'o, W>,
+    served: Vec<Served>,
+    stop: I,
+) -> Left<'o, W>
+    requires hired { AllAt (IsHired site.now.floor) 0 begin.hired.items × (vec_len begin.hired ≡ length site.now.floor.depot.channels.items) }
+    requires room { (served.items ≡ []) × (length site.now.floor.depot.channels.items ≤ vec_capacity served) }
+    ensures served { AllAt (IsServed site.now.floor) 0 result.over.served.items ×
+        (vec_len result.over.served ≡ length site.now.floor.depot.channels.items) × (result.over.posts.items ≡ []) }
+    ensures some { result.over.none_started ≡ false }
+    ensures all { (result.over.all_started ≡ begin.entry.all_started) × (result.over.is_told ≡ begin.entry.is_told) }
+    ensures same { result.announcer.output.ghost_name ≡ begin.entry.announcer.output.ghost_name }
+    ensures written { result.announcer.output.now ≡ begin.entry.announcer.output.now }
+{
+    let Begin {
+        hired,
+        all_started,
+        is_told,
+        announcer,
+    } = begin;
+    if is_told {
+        await_end(rt, stop);
+    }
+    stop_all(rt, site);
+    let over = Over {
+        served: join_producers(rt, &site.floor, hired, served),
+        posts: Vec::new(site.floor.alloc),
+        all_started,
+        none_started: false,
+        is_told,
+    };
+    Left { over, announcer }
+}
+
+// All that is done in the scope: the threads are started and that is said, the end is awaited, all are stopped, and the producers are
+// joined.
+fn in_scope<'s, 'o, E, H: Hall + Send, R: Threads + Wait + Sync, I: Read + Drop, W: Sink>(
     scope: &thread::Scope<'s, E>,
     rt: &'s R,
     site: &'s Site<H>,
     dealt: ManuallyDrop<Dealt>,
     stop: I,
-) -> Over
+    lines: &[u8],
+    announcer: Announcer<'o, W>,
+) -> Left<'o, W>
     requires lanes { H.lanes ≡ Some site.now.floor.office.lanes.items }
     requires depot { H.depot ≡ Some site.now.floor.depot }
     requires house { IsHouse site.now.floor (length site.now.floor.depot.channels.items) }
@@ -115,10 +253,16 @@ fn in_scope<'s, E, H: Hall + Send, R: Threads + Wait + Sync, I: Read + Drop>(
     requires client_grips { length site.now.grips.clients.items ≡ length site.now.guests.items }
     requires imap { All (λ v. v.user < vec_len site.now.sockets.imap) site.now.guests.items }
     requires dealt { IsDealt site.now.floor (length site.now.grips.mail.items) (length site.now.guests.items) (manually_drop_value dealt) }
-    ensures served { result.none_started ≡ false → AllAt (IsServed site.now.floor) 0 result.served.items ×
-        (vec_len result.served ≡ length site.now.floor.depot.channels.items) × (result.posts.items ≡ []) }
-    ensures none_started { result.none_started ≡ true → AllAt (IsPost site.now.floor) 0 result.posts.items ×
-        (vec_len result.posts ≡ length site.now.floor.depot.channels.items) × (result.served.items ≡ []) }
+    requires live { W.failed announcer.output.now ≡ false }
+    ensures served { result.over.none_started ≡ false → AllAt (IsServed site.now.floor) 0 result.over.served.items ×
+        (vec_len result.over.served ≡ length site.now.floor.depot.channels.items) × (result.over.posts.items ≡ []) }
+    ensures none_started { result.over.none_started ≡ true → AllAt (IsPost site.now.floor) 0 result.over.posts.items ×
+        (vec_len result.over.posts ≡ length site.now.floor.depot.channels.items) × (result.over.served.items ≡ []) }
+    ensures same { result.announcer.output.ghost_name ≡ announcer.entry.output.ghost_name }
+    ensures untried { result.over.none_started ≡ true → result.announcer.output.now ≡ announcer.entry.output.now }
+    ensures unsaid { result.over.all_started ≡ false → result.announcer.output.now ≡ announcer.entry.output.now }
+    ensures told { (n : ℕ) × Appends (W.taken announcer.entry.output.now) (W.taken result.announcer.output.now) (take n lines.now) }
+    ensures all { result.over.is_told ≡ true → Appends (W.taken announcer.entry.output.now) (W.taken result.announcer.output.now) lines.now }
 {
     let Dealt {
         posts,
@@ -128,12 +272,8 @@ fn in_scope<'s, E, H: Hall + Send, R: Threads + Wait + Sync, I: Read + Drop>(
     } = ManuallyDrop::into_inner(dealt);
     let (alloc, producers) = (site.floor.alloc, site.floor.depot.channels.len());
     let Ok(Crowd { hired, berths }) = crowd_for(alloc, producers, &bells) else {
-        return Over {
-            served,
-            posts,
-            all_started: true,
-            none_started: true,
-        };
+        let over = untried(served, posts);
+        return Left { over, announcer };
     };
     let Equipment {
         buffers,
@@ -144,25 +284,28 @@ fn in_scope<'s, E, H: Hall + Send, R: Threads + Wait + Sync, I: Read + Drop>(
         bells,
         buffers: client_buffers,
     };
-    let (hired, all) = start_all::<E, H, R>(scope, rt, site, posts, buffers, furnishings, hired);
-    if all {
-        await_end(rt, stop);
-    }
-    stop_all(rt, site);
-    Over {
-        served: join_producers(rt, &site.floor, hired, served),
-        posts: Vec::new(alloc),
-        all_started: all,
-        none_started: false,
-    }
+    let begin = start_and_tell::<E, H, R, W>(
+        scope,
+        rt,
+        site,
+        posts,
+        buffers,
+        furnishings,
+        hired,
+        lines,
+        announcer,
+    );
+    stop_and_join(rt, site, begin, served, stop)
 }
 
-// The scope of all threads.
-fn serve_in_threads<H: Hall + Send, R: Threads + Wait + Sync, I: Read + Drop>(
+// The scope of all threads, in which it is said that they stand.
+fn serve_in_threads<H: Hall + Send, R: Threads + Wait + Sync, I: Read + Drop, W: Sink>(
     rt: &R,
     site: &Site<H>,
     dealt: Dealt,
     stop: I,
+    lines: &[u8],
+    output: &mut W,
 ) -> Over
     requires lanes { H.lanes ≡ Some site.now.floor.office.lanes.items }
     requires depot { H.depot ≡ Some site.now.floor.depot }
@@ -171,28 +314,42 @@ fn serve_in_threads<H: Hall + Send, R: Threads + Wait + Sync, I: Read + Drop>(
     requires client_grips { length site.now.grips.clients.items ≡ length site.now.guests.items }
     requires imap { All (λ v. v.user < vec_len site.now.sockets.imap) site.now.guests.items }
     requires dealt { IsDealt site.now.floor (length site.now.grips.mail.items) (length site.now.guests.items) dealt }
+    requires live { W.failed output.old ≡ false }
     ensures served { result.none_started ≡ false → AllAt (IsServed site.now.floor) 0 result.served.items ×
         (vec_len result.served ≡ length site.now.floor.depot.channels.items) × (result.posts.items ≡ []) }
     ensures none_started { result.none_started ≡ true → AllAt (IsPost site.now.floor) 0 result.posts.items ×
         (vec_len result.posts ≡ length site.now.floor.depot.channels.items) × (result.served.items ≡ []) }
+    ensures untried { result.none_started ≡ true → output.new ≡ output.old }
+    ensures unsaid { result.all_started ≡ false → output.new ≡ output.old }
+    ensures told { (n : ℕ) × Appends (W.taken output.old) (W.taken output.new) (take n lines.now) }
+    ensures all { result.is_told ≡ true → Appends (W.taken output.old) (W.taken output.new) lines.now }
 {
     let dealt = packed(dealt);
-    thread::scope(
+    let announcer = Announcer { output };
+    let Left { over, announcer } = thread::scope(
         thread::scope_env(),
         rt,
-        |scope| -> Over
+        |scope| -> Left<'_, W>
             requires hall { IsSync R.row × (H.lanes ≡ Some site.now.floor.office.lanes.items) × (H.depot ≡ Some site.now.floor.depot) }
             requires house { IsHouse site.now.floor (length site.now.floor.depot.channels.items) }
             requires grips { length site.now.grips.mail.items + length site.now.guests.items ≡ length site.now.floor.depot.channels.items }
             requires client_grips { length site.now.grips.clients.items ≡ length site.now.guests.items }
             requires imap { All (λ v. v.user < vec_len site.now.sockets.imap) site.now.guests.items }
             requires dealt { IsDealt site.now.floor (length site.now.grips.mail.items) (length site.now.guests.items) (manually_drop_value dealt) }
-            ensures served { result.none_started ≡ false → AllAt (IsServed site.entry.now.floor) 0 result.served.items ×
-                (vec_len result.served ≡ length site.entry.now.floor.depot.channels.items) × (result.posts.items ≡ []) }
-            ensures none_started { result.none_started ≡ true → AllAt (IsPost site.entry.now.floor) 0 result.posts.items ×
-                (vec_len result.posts ≡ length site.entry.now.floor.depot.channels.items) × (result.served.items ≡ []) }
-        { in_scope(scope, rt, site, dealt, stop) },
-    )
+            requires live { W.failed announcer.output.now ≡ false }
+            ensures served { result.over.none_started ≡ false → AllAt (IsServed site.entry.now.floor) 0 result.over.served.items ×
+                (vec_len result.over.served ≡ length site.entry.now.floor.depot.channels.items) × (result.over.posts.items ≡ []) }
+            ensures none_started { result.over.none_started ≡ true → AllAt (IsPost site.entry.now.floor) 0 result.over.posts.items ×
+                (vec_len result.over.posts ≡ length site.entry.now.floor.depot.channels.items) × (result.over.served.items ≡ []) }
+            ensures same { result.announcer.output.ghost_name ≡ announcer.entry.output.ghost_name }
+            ensures untried { result.over.none_started ≡ true → result.announcer.output.now ≡ announcer.entry.output.now }
+            ensures unsaid { result.over.all_started ≡ false → result.announcer.output.now ≡ announcer.entry.output.now }
+            ensures told { (n : ℕ) × Appends (W.taken announcer.entry.output.now) (W.taken result.announcer.output.now) (take n lines.entry.now) }
+            ensures all { result.over.is_told ≡ true → Appends (W.taken announcer.entry.output.now) (W.taken result.announcer.output.now) lines.entry.now }
+        { in_scope(scope, rt, site, dealt, stop, lines, announcer) },
+    );
+    let Announcer { output: _told } = announcer;
+    over
 }
 
 // All that is made before the first thread.
@@ -259,13 +416,17 @@ fn give_up(
 }
 
 // What the end of a house comes to.
-fn told(all_started: bool, whole: bool) -> Result<(), ServeFault>
+fn told(all_started: bool, is_told: bool, whole: bool) -> Result<(), ServeFault>
     ensures spawn { all_started ≡ false → result ≡ Err ServeFault.Spawn }
-    ensures torn { all_started ≡ true → whole ≡ false → result ≡ Err ServeFault.Torn }
-    ensures done { all_started ≡ true → whole ≡ true → result ≡ Ok tt }
+    ensures device { all_started ≡ true → is_told ≡ false → result ≡ Err ServeFault.Device }
+    ensures torn { all_started ≡ true → is_told ≡ true → whole ≡ false → result ≡ Err ServeFault.Torn }
+    ensures done { all_started ≡ true → is_told ≡ true → whole ≡ true → result ≡ Ok tt }
 {
     if !all_started {
         return Err(ServeFault::Spawn);
+    }
+    if !is_told {
+        return Err(ServeFault::Device);
     }
     if !whole {
         return Err(ServeFault::Torn);
@@ -300,6 +461,9 @@ fn close_or_spend<H: Hall, R: Wait>(
     requires baskets { AreBaskets (length site.floor.depot.channels.items) (length site.floor.office.lanes.items) baskets }
     ensures setting { (fault : ConfigFault) → result ≢ Err (ServeFault.Config fault) }
     ensures whole { OnOk result (HasEndedWhole site.floor) }
+    ensures told { OnOk result (over.is_told ≡ true) }
+    ensures unsaid { result ≡ Err ServeFault.Spawn → over.all_started ≡ false }
+    ensures untried { result ≡ Err ServeFault.NoMemory → over.none_started ≡ true }
 {
     let Site {
         floor,
@@ -320,6 +484,7 @@ fn close_or_spend<H: Hall, R: Wait>(
         posts,
         all_started,
         none_started,
+        is_told,
     } = over;
     if none_started {
         served.destroy_empty();
@@ -329,15 +494,17 @@ fn close_or_spend<H: Hall, R: Wait>(
     posts.destroy_empty();
     let dismissed = dismiss_all(rt, &gate, &floor, staff, consumed);
     let whole = close_house(rt, floor, served, worked, dismissed, baskets);
-    told(all_started, whole)
+    told(all_started, is_told, whole)
 }
 
 /// Serves the house until `stop` is at its end, and closes it. The first of its producers are so many workers; the others are the berths
-/// of sessions, those of `guests`, each with its own end of its bell.
+/// of sessions, those of `guests`, each with its own end of its bell. Once each thread stands the lines are written to `output`, and nobody
+/// is served before.
 ///
-/// Errors, the first that holds: `NoMemory` where memory is refused before the first thread; `Spawn` where a thread can't be made, and
-/// nobody was served; `Torn` where somebody met what he didn't await, or a queue could not be closed. All of the house is spent then too.
-pub(crate) fn run_house_in<H: Hall + Send, R: Threads + Wait + Sync, I: Read + Drop>(
+/// Errors, the first that holds: `NoMemory` where memory is refused before the first thread, and `Spawn` where a thread can't be made: then
+/// nothing was written; `Device` where the lines can't be written: after these three nobody was served. `Torn` where somebody met what he
+/// didn't await, or a queue could not be closed. All of the house is spent then too.
+pub(crate) fn run_house_in<H: Hall + Send, R: Threads + Wait + Sync, I: Read + Drop, W: Sink>(
     rt: &R,
     floor: Floor,
     workers: usize,
@@ -347,6 +514,8 @@ pub(crate) fn run_house_in<H: Hall + Send, R: Threads + Wait + Sync, I: Read + D
     guests: Vec<Guest>,
     sockets: Sockets,
     stop: I,
+    lines: Vec<u8>,
+    output: &mut W,
 ) -> Result<(), ServeFault>
     requires lanes { H.lanes ≡ Some floor.office.lanes.items }
     requires depot { H.depot ≡ Some floor.depot }
@@ -357,8 +526,13 @@ pub(crate) fn run_house_in<H: Hall + Send, R: Threads + Wait + Sync, I: Read + D
     requires imap { All (λ v. v.user < vec_len sockets.imap) guests.items }
     requires crew { IsCrew floor (length floor.depot.channels.items) crew }
     requires baskets { AreBaskets (length floor.depot.channels.items) (length floor.office.lanes.items) baskets }
+    requires live { W.failed output.old ≡ false }
     ensures setting { (fault : ConfigFault) → result ≢ Err (ServeFault.Config fault) }
     ensures whole { OnOk result (HasEndedWhole floor) }
+    ensures untried { result ≡ Err ServeFault.NoMemory → output.new ≡ output.old }
+    ensures unsaid { result ≡ Err ServeFault.Spawn → output.new ≡ output.old }
+    ensures told { (n : ℕ) × Appends (W.taken output.old) (W.taken output.new) (take n lines.items) }
+    ensures all { OnOk result (Appends (W.taken output.old) (W.taken output.new) lines.items) }
 {
     let Crew {
         stands,
@@ -397,6 +571,6 @@ pub(crate) fn run_house_in<H: Hall + Send, R: Threads + Wait + Sync, I: Read + D
         equipment,
         served,
     };
-    let over = serve_in_threads(rt, &site, dealt, stop);
+    let over = serve_in_threads(rt, &site, dealt, stop, &lines, output);
     close_or_spend(rt, site, rooms, stands, over, worked, consumed, baskets)
 }

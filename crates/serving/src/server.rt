@@ -18,7 +18,7 @@ use crate::sockets::{Sockets, open_sockets};
 use envelope::Directory;
 use house::{Config, ConfigFault, directory_of};
 use house_floor::{Guest, MOST_PRODUCERS, Opened, Sizes, open};
-use line_io::{Sink, send};
+use line_io::Sink;
 use mailbox::{History, Limits};
 use std::alloc::Global;
 use std::io::Read;
@@ -90,23 +90,24 @@ fn lay_out(alloc: Global, config: &Config) -> Result<Layout, ServeFault>
     Ok(Layout { directory, guests })
 }
 
-// Listens on the ports of these settings, and says so on `output`, in a line for each. Errors: `Device` and `NoMemory`.
-fn listen_and_tell<R: Net<Listener = TcpListener, Stream = TcpStream>, W: Sink>(
+// The listeners of a server, and what is to be said of them.
+struct Listeners {
+    sockets: Sockets,
+    lines: Vec<u8>,
+}
+
+// Listens on the ports of these settings. Errors: `Device` and `NoMemory`.
+fn listen<R: Net<Listener = TcpListener, Stream = TcpStream>>(
     rt: &R,
     alloc: Global,
     config: &Config,
     directory: &Directory,
     uidvalidity: Uidvalidity,
-    output: &mut W,
-) -> Result<Sockets, ServeFault>
+) -> Result<Listeners, ServeFault>
     requires range { IsInRange config.now }
-    requires live { W.failed output.old ≡ false }
-    ensures told { (n : ℕ) × Appends (W.taken output.old) (W.taken output.new)
-        (take n (announcement config.now.lmtp_port config.now.imap_port directory.now.homes uidvalidity)) }
-    ensures all { OnOk result (Appends (W.taken output.old) (W.taken output.new)
-        (announcement config.now.lmtp_port config.now.imap_port directory.now.homes uidvalidity)) }
+    ensures lines { IfOk result (λ l. l.lines.items ≡ announcement config.now.lmtp_port config.now.imap_port directory.now.homes uidvalidity) }
     ensures fault { IfErr result IsOfSocket }
-    ensures imap { IfOk result (λ s. vec_len s.imap ≡ length (users_of directory.now.homes)) }
+    ensures imap { IfOk result (λ l. vec_len l.sockets.imap ≡ length (users_of directory.now.homes)) }
 {
     let users = count_users(directory);
     let lines = announce(
@@ -117,15 +118,12 @@ fn listen_and_tell<R: Net<Listener = TcpListener, Stream = TcpStream>, W: Sink>(
         uidvalidity,
     )?;
     let sockets = open_sockets(rt, alloc, config.lmtp_port, config.imap_port, users)?;
-    if send(output, &lines).is_err() {
-        return Err(ServeFault::Device);
-    }
-    Ok(sockets)
+    Ok(Listeners { sockets, lines })
 }
 
 /// Serves a house of these settings on the loopback address until `stop` is at its end: mail on `lmtp_port` to so many connections at a
 /// time as there are `workers`, and each user's sessions on a port of its own, from `imap_port` on, so many at a time as `sessions` says.
-/// Once all listens it says so on `output`, in a line for each.
+/// Once all listens and each thread stands it says so on `output`, in a line for each listener, and from then on whoever comes is served.
 ///
 /// At the end nothing is accepted any more: a mail connection between commands is told `421 4.3.2 Shutting down`, one within a message's
 /// data is closed and no copy of it is made, one that awaits verdicts is told these first; a session is told `* BYE Shutting down`.
@@ -133,9 +131,10 @@ fn listen_and_tell<R: Net<Listener = TcpListener, Stream = TcpStream>, W: Sink>(
 ///
 /// Errors, the first that holds: `Config`, of the first fault of the settings in the order of `House::new`, then `TooMany` where workers
 /// and berths together are more than 255; `Device` where a listener
-/// can't be made or the lines can't be written; `Spawn` where a thread can't be made: then nobody was served; `Torn` where a worker, a berth
+/// can't be made; `Spawn` where a thread can't be made; `Device` where the lines can't be written; `Torn` where a worker, a berth
 /// or a clerk met what it didn't await, or a queue could not be closed. `NoMemory` where memory is refused before the first thread runs: that
-/// comes in place of whatever would have come later, `Config` too.
+/// comes in place of whatever would have come later, `Config` too. But for `Torn` nobody was served, and but for the second `Device` nothing
+/// was written.
 pub fn serve<
     R: Net<Listener = TcpListener, Stream = TcpStream> + Threads + Wait + Sync,
     I: Read,
@@ -161,6 +160,10 @@ pub fn serve<
     ensures refused { (fault : ConfigFault) → server_fault config.now ≡ Some fault →
         ((result ≡ Err (ServeFault.Config fault)) ⊎ (result ≡ Err ServeFault.NoMemory)) × (output.new ≡ output.old) }
 
+    // Where memory or a thread was refused nothing was written.
+    ensures untried { result ≡ Err ServeFault.NoMemory → output.new ≡ output.old }
+    ensures unsaid { result ≡ Err ServeFault.Spawn → output.new ≡ output.old }
+
     // Nothing but a beginning of the lines was written, and all of them where it served.
     ensures told { (n : ℕ) × Appends (W.taken output.old) (W.taken output.new)
         (take n (announcement config.now.lmtp_port config.now.imap_port (setup_of config.now).directory.homes uidvalidity)) }
@@ -168,7 +171,7 @@ pub fn serve<
         (announcement config.now.lmtp_port config.now.imap_port (setup_of config.now).directory.homes uidvalidity)) }
 {
     let Layout { directory, guests } = lay_out(alloc, config)?;
-    let sockets = listen_and_tell(rt, alloc, config, &directory, uidvalidity, output)?;
+    let Listeners { sockets, lines } = listen(rt, alloc, config, &directory, uidvalidity)?;
     let Opened {
         floor,
         crew,
@@ -181,7 +184,7 @@ pub fn serve<
         guests.as_slice(),
     )?;
     let workers = usize::from(config.workers);
-    run_house_in::<Brand, R, &mut I>(
-        rt, floor, workers, crew, baskets, sleepers, guests, sockets, stop,
+    run_house_in::<Brand, R, &mut I, W>(
+        rt, floor, workers, crew, baskets, sleepers, guests, sockets, stop, lines, output,
     )
 }

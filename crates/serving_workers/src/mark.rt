@@ -6,9 +6,10 @@ use std::sync::{Mutex, Wait};
 /// What each thread of a server looks at before it accepts anybody.
 #[derive(Drop)]
 pub struct Mark {
-    /// Set once the house stops: before a listener is shut, and where a thread can't be made before `start` is let go.
+    /// Set once the house stops: before a listener is shut, and where it fails to start before `start` is let go.
     pub stop: AtomicBool,
-    /// Held from before the first thread is made until the last one was: so nobody is served by a house that fails to start.
+    /// Held from before the first thread is made until the last one was and the listeners were told of: so nobody is served by a house that
+    /// fails to start.
     pub start: Mutex<()>,
 }
 
@@ -31,8 +32,8 @@ impl Mark {
         self.stop.store(true, Ordering::SeqCst);
     }
 
-    /// Waits until each thread was made, or one couldn't be: then the house stops. Where it stops already nobody is waited for: so whoever
-    /// holds the start may do the work of a thread that it couldn't make.
+    /// Waits until each thread was made and that was told, or the house failed to start: then it stops. Where it stops already nobody is
+    /// waited for: so whoever holds the start may do the work of a thread that it couldn't make.
     pub fn await_start<R: Wait>(&self, rt: &R) {
         if !self.is_set() {
             let _all_stand = self.start.lock(rt);

@@ -1,10 +1,6 @@
-use Rattle.std.proofs.Common.{◌≡◌, ◌∙◌, ◌++◌, ℕ, List, ap, arith, sym, subst, true}
-use Rattle.std.specs.Prelude.{codes}
+use Rattle.std.proofs.Common.{ℕ, arith, subst}
 use Rattle.std.specs.Str.Parse.{digits_value}
 use Rattle.std.proofs.lemmas.Result.{on_err_weaker, on_ok_weaker}
-use Rattle.envelope.specs.Directory.{is_shut}
-use Rattle.house.specs.House.{House}
-use Rattle.house.specs.Stands.{StandsFor}
 use Rattle.script.specs.Leaving.{LineWanting}
 use Rattle.script.specs.Script.{Closes}
 use Rattle.script.specs.inner.Running.{LineDone}

@@ -1,20 +1,17 @@
 use Rattle.std.proofs.Common.{rules, ℕ, refl, subst, take, vec_len}
+use Rattle.std.specs.Prelude.{OnOk}
 use Rattle.std.specs.Io.KnownBytes.{Appends}
-use Rattle.house.specs.Settings.{setup_of}
 use Rattle.serving.specs.Announcing.{announcement}
-use Rattle.serving.proofs.Serving.{settings_or_memory, where_ok}
+use Rattle.serving.proofs.Serving.{settings_or_memory}
 use Rattle.serving.proofs.Users.{each_there}
 use Rattle.serving.proofs.server.serve.Goals as goal
 
-pub returns-in_err-floor-clause-told : goal.returns-in_err-floor-clause-told
-returns-in_err-floor-clause-told g c =
-    subst (λ d. (n : ℕ) × Appends (g.W.Sink.taken c.args.output.now) (g.W.Sink.taken c.listen_and_tell.new.output)
-    (take n (announcement c.args.config.now.lmtp_port c.args.config.now.imap_port d.homes c.args.uidvalidity))) c.in_ok-directory.ensures.directory c.in_ok-sockets.ensures.told
-
 pub returns-clause-told : goal.returns-clause-told
 returns-clause-told g c =
-    subst (λ d. (n : ℕ) × Appends (g.W.Sink.taken c.args.output.now) (g.W.Sink.taken c.listen_and_tell.new.output)
-    (take n (announcement c.args.config.now.lmtp_port c.args.config.now.imap_port d.homes c.args.uidvalidity))) c.in_ok-directory.ensures.directory c.in_ok-sockets.ensures.told
+    subst (λ d. (n : ℕ) × Appends (g.W.Sink.taken c.args.output.now) (g.W.Sink.taken c.run_house_in.new.output)
+    (take n (announcement c.args.config.now.lmtp_port c.args.config.now.imap_port d.homes c.args.uidvalidity))) c.in_ok-directory.ensures.directory
+    (subst (λ lines. (n : ℕ) × Appends (g.W.Sink.taken c.args.output.now) (g.W.Sink.taken c.run_house_in.new.output) (take n lines)) c.in_ok-sockets.ensures.lines
+    c.run_house_in.ensures.told)
 
 pub returns-clause-wrong : goal.returns-clause-wrong
 returns-clause-wrong g c x e = absurd (c.run_house_in.ensures.setting x e)
@@ -31,11 +28,11 @@ returns-in_err-directory-clause-refused g c fault is = (
 
 pub run_house_in-requires-clause-imap : goal.run_house_in-requires-clause-imap
 run_house_in-requires-clause-imap g c κs lives =
-    each_there c.in_ok-directory.field-0.directory.homes (vec_len c.in_ok-sockets.sockets.imap) c.in_ok-sockets.ensures.imap c.in_ok-directory.field-0.guests.items c.in_ok-directory.ensures.named
+    each_there c.in_ok-directory.field-0.directory.homes (vec_len c.in_ok-sockets.field-0.sockets.imap) c.in_ok-sockets.ensures.imap c.in_ok-directory.field-0.guests.items c.in_ok-directory.ensures.named
 
 pub returns-clause-all : goal.returns-clause-all
 returns-clause-all g c =
-    where_ok c.run_house_in.result (Appends (g.W.Sink.taken c.args.output.now) (g.W.Sink.taken c.listen_and_tell.new.output)
-    (announcement c.args.config.now.lmtp_port c.args.config.now.imap_port (setup_of c.args.config.now).directory.homes c.args.uidvalidity))
-    (subst (λ d. Appends (g.W.Sink.taken c.args.output.now) (g.W.Sink.taken c.listen_and_tell.new.output)
-    (announcement c.args.config.now.lmtp_port c.args.config.now.imap_port d.homes c.args.uidvalidity)) c.in_ok-directory.ensures.directory c.in_ok-sockets.ensures.all)
+    subst (λ d. OnOk c.run_house_in.result (Appends (g.W.Sink.taken c.args.output.now) (g.W.Sink.taken c.run_house_in.new.output)
+    (announcement c.args.config.now.lmtp_port c.args.config.now.imap_port d.homes c.args.uidvalidity))) c.in_ok-directory.ensures.directory
+    (subst (λ lines. OnOk c.run_house_in.result (Appends (g.W.Sink.taken c.args.output.now) (g.W.Sink.taken c.run_house_in.new.output) lines)) c.in_ok-sockets.ensures.lines
+    c.run_house_in.ensures.all)
