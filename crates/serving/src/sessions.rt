@@ -1,7 +1,7 @@
 //! The threads of a berth: one accepts a user's clients, one at a time, and answers them, and what they append goes by way of the lanes;
 //! the other sleeps until a change was logged. What is answered stands in `imap_stream`.
 
-ghost use Rattle.std.specs.Prelude.{◌≡◌, ◌≤◌, ◌<◌, ◌+◌, [], All, Some, length, true, vec_len, vec_capacity};
+ghost use Rattle.std.specs.Prelude.{◌≡◌, ◌≤◌, ◌<◌, ◌+◌, [], All, IfSome, Some, false, length, slice_get, true, vec_len, vec_capacity};
 ghost use Rattle.std.specs.List.{list_all};
 ghost use Rattle.std.specs.Mem.{manually_drop_value};
 ghost use Rattle.house_floor.specs.Crew.{AllAt, IsHouse, IsPost};
@@ -73,7 +73,9 @@ fn gateway_of<H: Hall>(site: &Site<H>, session: u8) -> Gateway<'_>
     requires session { session < length site.now.guests.items }
     requires grips { length site.now.grips.clients.items ≡ length site.now.guests.items }
     requires imap { All (λ v. v.user < vec_len site.now.sockets.imap) site.now.guests.items }
-    ensures { result.user < vec_len result.sockets.now.imap }
+    ensures imap { result.user < vec_len result.sockets.now.imap }
+    ensures floor { result.floor.now ≡ site.now.floor }
+    ensures user { IfSome (slice_get site.now.guests.items session) (λ guest. result.user ≡ guest.user) }
 {
     let berth = usize::from(session);
     Gateway {
@@ -203,6 +205,7 @@ fn leave<R: Wait, S: Summons>(
     requires room { (room.items ≡ []) × (length courier.office.now.lanes.items ≤ vec_capacity room) }
     ensures ended { AreEnded courier.entry.office.now.lanes.items courier.entry.desk.number result.ended.items }
     ensures receiver { result.receiver ≡ courier.entry.desk.receiver }
+    ensures mail { result.mail ≡ false }
 {
     let LaneCourier {
         rt,
@@ -227,6 +230,7 @@ fn leave<R: Wait, S: Summons>(
         receiver,
         ends,
         torn,
+        mail: false,
     }
 }
 
@@ -248,7 +252,8 @@ fn attend_there<'a, H: Hall, R: Wait>(
     requires session { session < length site.now.guests.items }
     requires grips { length site.now.grips.clients.items ≡ length site.now.guests.items }
     requires imap { All (λ v. v.user < vec_len site.now.sockets.imap) site.now.guests.items }
-    ensures { IsServed site.now.floor number (manually_drop_value result) }
+    ensures served { IsServed site.now.floor number (manually_drop_value result) }
+    ensures mail { (manually_drop_value result).mail ≡ false }
 {
     let (floor, gate) = (&site.floor, &site.gate);
     let Post { desk, room } = ManuallyDrop::into_inner(post);
@@ -303,7 +308,12 @@ fn start_answering<'s, E, H: Hall + Send, R: Threads + Wait + Sync>(
 {
     let floor = &site.floor;
     let parcel = packed(post);
-    match scope.spawn_with(Serves { floor, number }, move || {
+    let promise = Serves {
+        floor,
+        number,
+        mail: false,
+    };
+    match scope.spawn_with(promise, move || {
         attend_there::<H, R>(rt, site, berth, session, number, parcel, buffer)
     }) {
         Ok(child) => Hired::There(child),

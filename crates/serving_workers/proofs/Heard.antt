@@ -1,10 +1,16 @@
 -- What the workers leave, said of its parts in lists of their own.
-use Rattle.std.proofs.Common.{◌≡◌, ◌<◌, ◌+◌, ◌++◌, ◌∙◌, ℕ, suc, List, [], ◌∷◌, All, length, map, drop, sym, ap, refl, slice_index_or, subst, Vec, vec_len, arith}
+use Rattle.std.proofs.Common.{◌≡◌, ◌<◌, ◌+◌, ◌++◌, ◌∙◌, ℕ, suc, append-nil, append_assoc, List, [], ◌∷◌, All, length, map, drop, sym, ap, refl, slice_index_or, subst, Vec, vec_len, arith}
 use Rattle.std.specs.Global.{Global}
 use Rattle.std.proofs.lemmas.List.Elements.{All-cons, All-nil}
 use Rattle.shard_queue.specs.declared.queue.Ended.{Ended}
 use Rattle.shard_queue.specs.declared.queue.ShardQueue.{ShardQueue}
 use Rattle.delivery_token.specs.declared.Job.{Job}
+use Rattle.delivery_token.specs.declared.log.Noted.{Noted}
+use Rattle.std.proofs.lemmas.List.{map-append}
+use Rattle.shard_queue.specs.Reply.{received}
+use Rattle.shard_queue.specs.Shared.{IsStartOf}
+use Rattle.shard_queue.specs.declared.lane.Entry.{Entry}
+use Rattle.lane_work.proofs.SlotLaws.{start_on, start_same}
 use Rattle.lane_work.specs.Permits.{AreEnded}
 use Rattle.lane_work.specs.declared.worker.Worked.{Worked}
 use Rattle.lane_permits.specs.rows.Rows.{AreEndedHands}
@@ -13,6 +19,7 @@ use Rattle.house_floor.specs.Crew.{AllAt}
 use Rattle.house_floor.specs.declared.floor.Floor.{Floor}
 use Rattle.reckoning.proofs.Laying.{laid_items}
 use Rattle.reckoning.proofs.Parts.{from_here, past_all, some_at}
+use Rattle.serving_workers.specs.Closing.{GoOn}
 use Rattle.serving_workers.specs.declared.accepting.Served.{Served}
 use Rattle.serving_workers.specs.inner.Leaving.{HasHeard}
 
@@ -32,6 +39,41 @@ pub one_more : (done new : List Worked) (w : Worked) (left rest : List Served) (
 one_more done new w left rest s all before some is less more same =
     laid_items (λ (w : Worked). w.ended.items) (λ (s : Served). s.ended.items) done new all left rest s w before (first_of left rest s some is less) more
     (ap (λ (v : Vec (Ended Job) Global). v.items) same)
+
+-- ---- what was heard
+
+pub go_on_same : (lists : List (List (Entry Noted))) → GoOn lists lists
+go_on_same [] = tt
+go_on_same (list ∷ lists) = (start_same list, go_on_same lists)
+
+-- one list went on
+go_on_at : (all front back : List (List (Entry Noted))) (old new : List (Entry Noted)) → IsStartOf old new → GoOn all (front ++ old ∷ back) → GoOn all (front ++ new ∷ back)
+go_on_at [] [] back old new grew are = absurd are
+go_on_at [] (x ∷ front) back old new grew are = absurd are
+go_on_at (first ∷ all) [] back old new grew are = (start_on first old new are.0 grew, are.1)
+go_on_at (first ∷ all) (x ∷ front) back old new grew are = (are.0, go_on_at all front back old new grew are.1)
+
+abbrev of_worked : Worked → List (Entry Noted)
+of_worked w = received w.receiver
+
+abbrev of_served : Served → List (Entry Noted)
+of_served s = received s.receiver
+
+pub one_heard : (done new : List Worked) (w : Worked) (left rest : List Served) (s : Served) (all : List (List (Entry Noted))) → GoOn all (map of_worked done ++ map of_served left)
+    → 0 < length left → s ≡ slice_index_or left 0 s → rest ≡ drop 1 left → new ≡ done ++ w ∷ [] → IsStartOf (received s.receiver) (received w.receiver)
+    → GoOn all (map of_worked new ++ map of_served rest)
+one_heard done new w left rest s all before some is less more grew =
+    let first : left ≡ s ∷ rest = first_of left rest s some is less in
+    let was : GoOn all (map of_worked done ++ received s.receiver ∷ map of_served rest) = subst (λ (l : List Served). GoOn all (map of_worked done ++ map of_served l)) first before in
+    let now = go_on_at all (map of_worked done) (map of_served rest) (received s.receiver) (received w.receiver) grew was in
+    let e : map of_worked new ++ map of_served rest ≡ map of_worked done ++ received w.receiver ∷ map of_served rest =
+    ap (λ (l : List (List (Entry Noted))). l ++ map of_served rest) (ap (λ (l : List Worked). map of_worked l) more ∙ map-append of_worked done (w ∷ []))
+    ∙ append_assoc (map of_worked done) (received w.receiver ∷ []) (map of_served rest) in
+    subst (GoOn all) (sym e) now
+
+pub all_heard : (all : List (List (Entry Noted))) (done : List Worked) (left : List Served) → length left ≡ 0 → GoOn all (map of_worked done ++ map of_served left) → GoOn all (map of_worked done)
+all_heard all done [] none are = subst (GoOn all) (append-nil (map of_worked done)) are
+all_heard all done (s ∷ left) none are = absurd (omega (arith, none))
 
 module _ (floor : Floor) where
   pub ended_of : (n : ℕ) (ws : List Worked) → AllAt (HasHeard floor) n ws → AreEndedHands floor.office.lanes.items n (map (λ w. w.ended.items) ws)

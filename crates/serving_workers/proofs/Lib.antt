@@ -1,3 +1,4 @@
 pub mod Lives
 mod Heard
 mod Wholes
+mod Mail

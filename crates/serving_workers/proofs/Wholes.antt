@@ -1,30 +1,38 @@
 -- A house that was closed with nothing amiss.
-use Rattle.std.proofs.Common.{◌≡◌, List, true, false, map, subst, Vec}
+use Rattle.std.proofs.Common.{◌≡◌, ◌∙◌, List, [], ◌∷◌, Bool, true, false, Option, None, Some, map, ap, refl, sym, subst, Vec}
 use Rattle.std.specs.Global.{Global}
+use Rattle.std.specs.Option.{is_some}
+use Rattle.std.specs.Prelude.{IfSome}
 use Rattle.std.specs.List.{list_any}
 use Rattle.delivery_token.specs.declared.Job.{Job}
 use Rattle.delivery_token.specs.declared.log.Noted.{Noted}
 use Rattle.shard_queue.specs.declared.ends.ReplyChannel.{ReplyChannel}
-use Rattle.shard_queue.specs.declared.queue.Closed.{Closed}
+use Rattle.shard_queue.specs.Reply.{received}
+use Rattle.shard_queue.specs.declared.lane.Entry.{Entry}
 use Rattle.shard_queue.specs.declared.queue.ShardQueue.{ShardQueue}
-use Rattle.shard_queue.specs.declared.reply.ReplyClosed.{ReplyClosed}
 use Rattle.lane_work.specs.declared.consumer.Consumed.{Consumed}
 use Rattle.lane_work.specs.declared.worker.Worked.{Worked}
 use Rattle.lane_permits.specs.rows.SenderRows.{AreReceivers}
 use Rattle.clerks.specs.declared.staff.Dismissed.{Dismissed}
 use Rattle.house_floor.specs.declared.floor.Floor.{Floor}
+use Rattle.lane_permits.proofs.ChannelCloseLaws.{histories_taken}
 use Rattle.reckoning.specs.Closing.{AreChannelsClosedWith, AreClosedWith}
-use Rattle.serving_workers.specs.Closing.{IsWhole}
+use Rattle.reckoning.specs.declared.balancing.Closes.{Closes}
+use Rattle.serving_workers.specs.Closing.{GoOn, WasClosed}
 use Rattle.serving_workers.specs.declared.accepting.Served.{Served}
 
-pub whole_of : (floor : Floor) (served : List Served) (d : Dismissed) (ws : List Worked) (lanes : Vec (ShardQueue Job) Global) (channels : Vec (ReplyChannel Noted) Global)
-    (lanes_closed : List (Closed Job)) (channels_closed : List (ReplyClosed Noted))
+got_twice : (ws : List Worked) → map received (map (λ (w : Worked). w.receiver) ws) ≡ map (λ (w : Worked). received w.receiver) ws
+got_twice [] = refl
+got_twice (w ∷ ws) = ap (λ (l : List (List (Entry Noted))). received w.receiver ∷ l) (got_twice ws)
+
+pub whole_of : (floor : Floor) (served : List Served) (d : Dismissed) (ws : List Worked) (lanes : Vec (ShardQueue Job) Global) (channels : Vec (ReplyChannel Noted) Global) (closes : Closes)
     → d.in_order ≡ true → list_any (λ s. s.torn) served ≡ false → list_any (λ c. c.torn) d.consumed.items ≡ false
     → lanes ≡ floor.office.lanes → channels ≡ floor.depot.channels → map (λ w. w.ended.items) ws ≡ map (λ s. s.ended.items) served
-    → AreClosedWith lanes.items (map (λ w. w.ended.items) ws) (map (λ c. c.permit) d.consumed.items) lanes_closed
-    → AreChannelsClosedWith channels.items (map (λ c. c.senders.items) d.consumed.items) (map (λ w. w.receiver) ws) channels_closed
-    → AreReceivers floor.depot.channels.items (map (λ w. w.receiver) ws) → IsWhole floor served d
-whole_of floor served d ws lanes channels lanes_closed channels_closed order producers clerks of_lanes of_channels ended closed shut own =
+    → GoOn (map (λ s. received s.receiver) served) (map (λ w. received w.receiver) ws)
+    → AreClosedWith lanes.items (map (λ w. w.ended.items) ws) (map (λ c. c.permit) d.consumed.items) closes.lanes.items
+    → AreChannelsClosedWith channels.items (map (λ c. c.senders.items) d.consumed.items) (map (λ w. w.receiver) ws) closes.channels.items
+    → AreReceivers floor.depot.channels.items (map (λ w. w.receiver) ws) → WasClosed floor served d closes
+whole_of floor served d ws lanes channels closes order producers clerks of_lanes of_channels ended grew closed shut own =
     let permits = map (λ (c : Consumed). c.permit) d.consumed.items in
     let senders = map (λ (c : Consumed). c.senders.items) d.consumed.items in
     let receivers = map (λ (w : Worked). w.receiver) ws in
@@ -32,15 +40,13 @@ whole_of floor served d ws lanes channels lanes_closed channels_closed order pro
       in_order = order;
       producers = producers;
       clerks = clerks;
-      lanes = (
-        lanes_closed,
-        subst (λ hs. AreClosedWith floor.office.lanes.items hs permits lanes_closed) ended
-            (subst (λ (v : Vec (ShardQueue Job) Global). AreClosedWith v.items (map (λ (w : Worked). w.ended.items) ws) permits lanes_closed) of_lanes closed),
-      );
-      channels = (
-        receivers,
-        channels_closed,
-        own,
-        subst (λ (v : Vec (ReplyChannel Noted) Global). AreChannelsClosedWith v.items senders receivers channels_closed) of_channels shut,
-      );
+      lanes = subst (λ hs. AreClosedWith floor.office.lanes.items hs permits closes.lanes.items) ended
+          (subst (λ (v : Vec (ShardQueue Job) Global). AreClosedWith v.items (map (λ (w : Worked). w.ended.items) ws) permits closes.lanes.items) of_lanes closed);
+      channels = (receivers, own, subst (λ (v : Vec (ReplyChannel Noted) Global). AreChannelsClosedWith v.items senders receivers closes.channels.items) of_channels shut);
+      heard = subst (GoOn (map (λ (s : Served). received s.receiver) served)) (sym (histories_taken shut.2 ∙ got_twice ws)) grew;
     }
+
+-- where something was handed out, it is that
+pub whole_if : (o : Option Closes) (P : Closes → Type 0) (b : Bool) → b ≡ is_some o → IfSome o P → b ≡ true → (x : Closes) × P x
+whole_if (Some x) P b e p is = (x, p)
+whole_if None P b e p is = absurd (let f : false ≡ true = sym e ∙ is in cc)

@@ -1,24 +1,62 @@
 -- What the producers of a server leave.
-use Rattle.std.specs.Prelude.{◌≡◌, ℕ, Bool, true, false, Some, slice_get}
+use Rattle.std.specs.Prelude.{◌≡◌, ℕ, ◌+◌, ◌++◌, Bool, true, false, List, [], Some, map, slice_get}
 use Rattle.std.specs.Mem.{manually_drop_value}
+use Rattle.delivery_token.specs.declared.Job.{Job}
 use Rattle.delivery_token.specs.declared.log.Noted.{Noted}
+use Rattle.lmtp_machine.specs.declared.reply.Reply.{Reply}
+use Rattle.lmtp_machine.specs.Conversation.{Conversation}
 use Rattle.shard_queue.specs.declared.ends.ReplyChannel.{ReplyChannel}
-use Rattle.shard_queue.specs.Reply.{IsReceiver}
+use Rattle.shard_queue.specs.declared.lane.Entry.{Entry}
+use Rattle.shard_queue.specs.Permits.{said}
+use Rattle.shard_queue.specs.Reply.{IsReceiver, received}
+use Rattle.lane_work.specs.Account.{AreBooks, HaveEnded, Premises, setting_at}
 use Rattle.lane_work.specs.Permits.{AreEnded}
+use Rattle.lane_work.specs.Speaking.{premises_of}
+use Rattle.lane_work.specs.Talk.{HasTaken, Judged}
 use Rattle.house_floor.specs.declared.floor.Floor.{Floor}
 use Rattle.serving_workers.specs.declared.accepting.Served.{Served}
 use Rattle.serving_workers.specs.declared.threads.Hired.{Hired}
 use Rattle.serving_workers.specs.declared.threads.Hired.TheVariants.{There, Here}
 
--- what producer n leaves: its ended permits on all lanes, and its end of its own channel
+-- ---- mail
+
+-- So many connections of the worker with this seat, one after another, each with the next serial from 0 on: on each nothing was said, or bytes came that lead, in a conversation
+-- with that seat and that serial, to messages that were judged. These are the messages of all, in their order.
+pub data HaveConversed (house : Premises) (seat : ℕ) : (connections : ℕ) → List Judged → Type 0 where
+  none : HaveConversed house seat 0 []
+  passed : {n : ℕ} {judged : List Judged} → HaveConversed house seat n judged → HaveConversed house seat (n + 1) judged
+  next : {n : ℕ} {judged : List Judged} (bytes : List ℕ) (replies : List Reply) (more : List Judged) (at : Conversation)
+      → HaveConversed house seat n judged → HasTaken (setting_at house seat n) house.directory bytes replies more at → HaveConversed house seat (n + 1) (judged ++ more)
+
+-- What was put on each lane is what these connections submitted, and the verdict on each copy that was put was heard.
+abbrev pub AreServed : Premises → (seat connections : ℕ) → (heard : List (Entry Noted)) → (sent : List (List (Entry Job))) → Type 0
+AreServed house seat connections heard sent =
+    (judged : List Judged) × HaveConversed house seat connections judged × AreBooks house.directory house.rooms seat judged (λ told. Unit {0}) heard sent
+
+-- Of a worker that wasn't torn: what it said on each lane is what its connections submitted, and then its end.
+pub record HasServedMail (house : Premises) (seat : ℕ) (heard : List (Entry Noted)) (words : List (List (Entry Job))) : Type 0 where
+  pub connections : ℕ
+  pub sent : List (List (Entry Job))
+  pub served : AreServed house seat connections heard sent
+  pub ended : HaveEnded seat sent words
+
+-- ---- all of them
+
+-- What producer n leaves: its ended permits on all lanes, and its end of its own channel. A worker's words are its connections' own.
 pub record IsServed (floor : Floor) (n : ℕ) (s : Served) : Type 0 where
   pub ended : AreEnded floor.office.lanes.items n s.ended.items
   pub receiver : (channel : ReplyChannel Noted) → slice_get floor.depot.channels.items n ≡ Some channel → IsReceiver channel s.receiver
+  pub mail : s.mail ≡ true → s.torn ≡ false → HasServedMail (premises_of floor.office) n (received s.receiver) (map said s.ended.items)
 
 -- its thread will leave that, or it is there
 abbrev pub IsHired : Floor → ℕ → Hired → Type 0
 IsHired floor n (There h) = (h.promise.floor.now ≡ floor) × (h.promise.number ≡ n)
 IsHired floor n (Here s) = IsServed floor n (manually_drop_value s)
+
+-- it is a worker, or was one
+abbrev pub serves_mail : Hired → Bool
+serves_mail (There h) = h.promise.mail
+serves_mail (Here s) = (manually_drop_value s).mail
 
 abbrev pub has_thread : Hired → Bool
 has_thread (There h) = true

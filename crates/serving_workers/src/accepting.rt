@@ -1,15 +1,18 @@
 //! A worker's life in a server: one connection after another, until the house stops, and then the end of its permit on each lane. What is
 //! said on a connection stands in `lmtp_stream`.
 
-ghost use Rattle.std.specs.Prelude.{◌≡◌, ◌≤◌, ◌<◌, [], length, vec_capacity};
-ghost use Rattle.shard_queue.specs.Reply.{IsReceiver};
-ghost use Rattle.lane_work.specs.Permits.{AreEnded, AreInForce};
+ghost use Rattle.std.specs.Prelude.{◌≡◌, ◌≢◌, Err, ◌≤◌, ◌<◌, ◌+◌, ℕ, [], true, false, All, length, map, vec_capacity};
+ghost use Rattle.shard_queue.specs.Permits.{said};
+ghost use Rattle.shard_queue.specs.Reply.{IsReceiver, received};
+ghost use Rattle.lane_work.specs.Permits.{AreEnded, AreInForce, IsNew, put_by};
+ghost use Rattle.lane_work.specs.Speaking.{premises_of};
+ghost use Rattle.serving_workers.specs.Leaving.{AreServed, HasServedMail};
 
 use crate::door::Door;
 use delivery_token::{Job, Noted};
 use lane_work::{Desk, Office, Summons, Unkept, end_all};
 use line_io::Watched;
-use lmtp_stream::{TalkFault, converse};
+use lmtp_stream::{Ending, TalkFault, converse};
 use loopback::{Grip, Patience, Timely, prepare};
 use pace::{Gate, Pace};
 use shard_queue::{Ended, ReceiverPermit, ReplyChannel};
@@ -27,6 +30,8 @@ pub struct Served {
     pub ends: usize,
     /// Whether it heard a verdict that it didn't await, after which it served nobody.
     pub torn: bool,
+    /// Whether it is a worker, and took mail.
+    pub mail: bool,
 }
 
 /// Room that a worker uses for each connection anew.
@@ -36,6 +41,13 @@ pub struct Buffers {
     pub input: Vec<u8>,
     /// For what is said.
     pub output: Vec<u8>,
+}
+
+// Whether a connection ended with what the worker didn't await.
+fn is_torn(ending: Result<Ending, TalkFault>) -> bool
+    ensures { result ≡ false → ending ≢ Err TalkFault.Torn }
+{
+    matches!(ending, Err(TalkFault::Torn))
 }
 
 // One connection, from its greeting to its end, and whether a verdict came that the worker didn't await.
@@ -61,6 +73,8 @@ fn serve_one<R: Wait, G: Gate, S: Summons>(
     ensures receiver { IsReceiver channel.now desk.new.receiver }
     ensures number { desk.new.number ≡ desk.old.number }
     ensures room { length buffers.new.input.items ≡ length buffers.old.input.items }
+    ensures mail { result ≡ false → AreServed (premises_of office.now) desk.old.number serial (received desk.old.receiver) (map put_by desk.old.permits.items)
+        → AreServed (premises_of office.now) desk.old.number (serial + 1) (received desk.new.receiver) (map put_by desk.new.permits.items) }
 {
     if prepare(stream, Patience::Limited).is_err() {
         return false;
@@ -83,7 +97,7 @@ fn serve_one<R: Wait, G: Gate, S: Summons>(
         buffers.input.as_mut_slice(),
         &mut buffers.output,
     );
-    matches!(ending, Err(TalkFault::Torn))
+    is_torn(ending)
 }
 
 // The connection that was accepted is at hand while it is served. Whoever stops the house sets its mark first and then looks for what is
@@ -111,22 +125,25 @@ fn attend<R: Wait, G: Gate, S: Summons>(
     ensures receiver { IsReceiver channel.now desk.new.receiver }
     ensures number { desk.new.number ≡ desk.old.number }
     ensures room { length buffers.new.input.items ≡ length buffers.old.input.items }
+    ensures mail { result ≡ false → AreServed (premises_of office.now) desk.old.number serial (received desk.old.receiver) (map put_by desk.old.permits.items)
+        → AreServed (premises_of office.now) desk.old.number (serial + 1) (received desk.new.receiver) (map put_by desk.new.permits.items) }
 {
     if !grip.hold(rt, stream) {
         return false;
     }
-    let mut torn = false;
-    if !door.is_shut() {
-        torn = serve_one(
-            rt, alloc, pace, office, summons, channel, desk, serial, door, stream, buffers,
-        );
-        door.part(stream, buffers.input.as_mut_slice());
+    if door.is_shut() {
+        grip.clear(rt);
+        return false;
     }
+    let torn = serve_one(
+        rt, alloc, pace, office, summons, channel, desk, serial, door, stream, buffers,
+    );
+    door.part(stream, buffers.input.as_mut_slice());
     grip.clear(rt);
     torn
 }
 
-// Serves one connection after another until the house stops, the first once all threads stand, and answers whether a verdict came that it
+// Serves one connection after another until the house stops, the first once all threads stand, each with the next serial, and answers whether a verdict came that it
 // didn't await: then it serves nobody any more.
 fn serve_all<R: Wait, G: Gate, S: Summons>(
     rt: &R,
@@ -148,10 +165,12 @@ fn serve_all<R: Wait, G: Gate, S: Summons>(
     ensures permits { AreInForce office.now.directory office.now.lanes.items desk.old.number desk.new.permits.items }
     ensures receiver { IsReceiver channel.now desk.new.receiver }
     ensures number { desk.new.number ≡ desk.old.number }
+    ensures mail { result ≡ false → AreServed (premises_of office.now) desk.old.number 0 (received desk.old.receiver) (map put_by desk.old.permits.items)
+        → (connections : ℕ) × AreServed (premises_of office.now) desk.old.number connections (received desk.new.receiver)
+        (map put_by desk.new.permits.items) }
 {
     door.mark.await_start(rt);
-    let mut serial = 0u64;
-    for _ in rt.forever() {
+    for serial in 0..u64::MAX {
         let Some(stream) = door.next(rt) else {
             return false;
         };
@@ -160,9 +179,8 @@ fn serve_all<R: Wait, G: Gate, S: Summons>(
         ) {
             return true;
         }
-        serial = serial.saturating_add(1);
     }
-    unreachable!()
+    false
 }
 
 /// A worker's whole life in a server: once all threads stand, one connection after another until the house stops, each with the worker's
@@ -191,6 +209,9 @@ pub(crate) fn serve_until_stopped<R: Wait, G: Gate, S: Summons>(
     requires input { 0 < length buffers.input.items }
     ensures ended { AreEnded office.now.lanes.items desk.number result.ended.items }
     ensures receiver { IsReceiver channel.now result.receiver }
+    ensures mail { result.mail ≡ true }
+    ensures served { All IsNew desk.permits.items → result.torn ≡ false → HasServedMail (premises_of office.now) desk.number (received result.receiver)
+        (map said result.ended.items) }
 {
     let torn = serve_all(
         rt,
@@ -216,5 +237,6 @@ pub(crate) fn serve_until_stopped<R: Wait, G: Gate, S: Summons>(
         receiver,
         ends,
         torn,
+        mail: true,
     }
 }

@@ -1,13 +1,15 @@
 //! The house that the producers of a server leave: the shards' ends are heard, and each queue is closed with what all producers and clerks
 //! left. No thread runs any more.
 
-ghost use Rattle.std.specs.Prelude.{◌≡◌, ◌<◌, ◌≤◌, [], All, length, map, true, vec_len, vec_capacity};
+ghost use Rattle.std.specs.Prelude.{◌≡◌, ◌<◌, ◌≤◌, [], All, IfSome, length, map, true, vec_len, vec_capacity};
 ghost use Rattle.std.specs.List.{list_any};
+ghost use Rattle.shard_queue.specs.Reply.{received};
+ghost use Rattle.shard_queue.specs.Shared.{IsStartOf};
 ghost use Rattle.lane_permits.specs.rows.Rows.{AreConsumers};
 ghost use Rattle.lane_permits.specs.rows.SenderRows.{AreSenderEndedHands};
 ghost use Rattle.house_floor.specs.Crew.{AllAt, IsHouse};
 ghost use Rattle.house_floor.specs.Opening.{AreBaskets};
-ghost use Rattle.serving_workers.specs.Closing.{IsWhole};
+ghost use Rattle.serving_workers.specs.Closing.{GoOn, IsWhole, WasClosed};
 ghost use Rattle.serving_workers.specs.Leaving.{IsServed};
 ghost use Rattle.serving_workers.specs.inner.Leaving.{HasHeard};
 
@@ -18,7 +20,7 @@ use house_floor::{Baskets, Floor};
 use house_threads::{Ran, Started};
 use lane_work::{Consumed, Fate, Worked, hear_ends};
 use pace::{Actor, Pace};
-use reckoning::{Closings, Remains, abandon, close_queues, remains_of};
+use reckoning::{Closes, Closings, Remains, abandon, close_queues, remains_of};
 use std::sync::Wait;
 
 // How it went for a producer that heard the shards' ends.
@@ -33,12 +35,14 @@ fn hear_out<R: Wait>(rt: &R, floor: &Floor, number: u8, served: Served) -> Worke
     requires served { IsServed floor.now number served }
     ensures heard { HasHeard floor.now number result }
     ensures ended { result.ended ≡ served.ended }
+    ensures grew { IsStartOf (received served.receiver) (received result.receiver) }
 {
     let Served {
         ended,
         mut receiver,
         ends,
         torn: _,
+        mail: _,
     } = served;
     let gate = Unhindered;
     let mut pace = Pace::new(&gate, Actor::Worker(number));
@@ -67,6 +71,7 @@ fn hear_all_out<R: Wait>(
     ensures worked { AllAt (HasHeard floor.now) 0 result.items }
     ensures count { vec_len result ≡ vec_len served }
     ensures ended { map (λ w. w.ended.items) result.items ≡ map (λ s. s.ended.items) served.items }
+    ensures grew { GoOn (map (λ s. received s.receiver) served.items) (map (λ w. received w.receiver) result.items) }
 {
     let mut left = served;
     for number in 0..left.len() {
@@ -116,10 +121,73 @@ fn spend_house(floor: Floor, worked: Vec<Worked>, consumed: Vec<Consumed>, baske
 }
 
 /// Closes the house that the producers and the clerks have left: each producer hears the end of each shard, and each queue is closed with what
-/// is left of all permits. Answers whether all went well: each clerk stood in its place, nobody met what he didn't await, and each queue
-/// could be closed. Where it didn't, all of the house is spent all the same.
+/// is left of all permits. What was taken of each queue is handed out where all went well: each clerk stood in its place, nobody met what he
+/// didn't await, and each queue could be closed. Where it didn't, all of the house is spent all the same.
 ///
 /// `worked`, which is empty, has room for all producers.
+pub fn close_all<R: Wait>(
+    rt: &R,
+    floor: Floor,
+    served: Vec<Served>,
+    worked: Vec<Worked>,
+    dismissed: Dismissed,
+    baskets: Baskets,
+) -> Option<Closes>
+    requires house { IsHouse floor (vec_len served) }
+    requires some { (0 < vec_len served) × (0 < length floor.office.lanes.items) }
+    requires served { AllAt (IsServed floor) 0 served.items }
+    requires room { (worked.items ≡ []) × (vec_len served ≤ vec_capacity worked) }
+    requires consumed { vec_len dismissed.consumed ≡ length floor.office.lanes.items }
+    requires permits { dismissed.in_order ≡ true → AreConsumers floor.office.lanes.items (map (λ c. c.permit) dismissed.consumed.items) }
+    requires hands { dismissed.in_order ≡ true → AreSenderEndedHands floor.depot.channels.items 0
+        (map (λ c. c.senders.items) dismissed.consumed.items) }
+    requires senders { All (λ c. vec_len c.senders ≡ length floor.depot.channels.items) dismissed.consumed.items }
+    requires baskets { AreBaskets (vec_len served) (length floor.office.lanes.items) baskets }
+    ensures { IfSome result (WasClosed floor served.items dismissed) }
+{
+    let alloc = floor.alloc;
+    let is_producer_torn = is_producer_torn(&served);
+    let worked = hear_all_out(rt, &floor, served, worked);
+    let Dismissed { consumed, in_order } = dismissed;
+    if !in_order {
+        spend_house(floor, worked, consumed, baskets);
+        return None;
+    }
+    let is_clerk_torn = is_clerk_torn(&consumed);
+    let are_quiet = are_quiet(&worked);
+    let Remains {
+        directory: _,
+        lanes,
+        channels,
+        mailboxes: _,
+    } = remains_of(floor);
+    let Closings {
+        lanes,
+        channels,
+        replies: _,
+        logs: _,
+        copies: _,
+        worst: _,
+    } = close_queues(alloc, lanes, channels, worked, consumed, baskets);
+    if is_producer_torn {
+        return None;
+    }
+    if is_clerk_torn {
+        return None;
+    }
+    if !are_quiet {
+        return None;
+    }
+    let Some(lanes) = lanes else {
+        return None;
+    };
+    let Some(channels) = channels else {
+        return None;
+    };
+    Some(Closes { lanes, channels })
+}
+
+/// The same, where nobody asks what was taken: whether all went well.
 pub fn close_house<R: Wait>(
     rt: &R,
     floor: Floor,
@@ -140,41 +208,5 @@ pub fn close_house<R: Wait>(
     requires baskets { AreBaskets (vec_len served) (length floor.office.lanes.items) baskets }
     ensures { result ≡ true → IsWhole floor served.items dismissed }
 {
-    let alloc = floor.alloc;
-    let is_producer_torn = is_producer_torn(&served);
-    let worked = hear_all_out(rt, &floor, served, worked);
-    let Dismissed { consumed, in_order } = dismissed;
-    if !in_order {
-        spend_house(floor, worked, consumed, baskets);
-        return false;
-    }
-    let is_clerk_torn = is_clerk_torn(&consumed);
-    let are_quiet = are_quiet(&worked);
-    let Remains {
-        directory: _,
-        lanes,
-        channels,
-        mailboxes: _,
-    } = remains_of(floor);
-    let Closings {
-        lanes,
-        channels,
-        replies: _,
-        logs: _,
-        copies: _,
-        worst: _,
-    } = close_queues(alloc, lanes, channels, worked, consumed, baskets);
-    if is_producer_torn {
-        return false;
-    }
-    if is_clerk_torn {
-        return false;
-    }
-    let Some(_lanes) = lanes else {
-        return false;
-    };
-    let Some(_channels) = channels else {
-        return false;
-    };
-    are_quiet
+    close_all(rt, floor, served, worked, dismissed, baskets).is_some()
 }

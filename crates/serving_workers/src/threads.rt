@@ -1,11 +1,11 @@
 //! The workers' threads, started in order, and the producers' joined: the workers, and behind them whoever else has a post. What a worker
 //! does stands in `accepting`.
 
-ghost use Rattle.std.specs.Prelude.{ℕ, ◌≡◌, ◌≤◌, ◌<◌, ◌+◌, All, Some, [], length, vec_len, vec_capacity};
+ghost use Rattle.std.specs.Prelude.{ℕ, ◌≡◌, ◌≤◌, ◌<◌, ◌+◌, All, Some, [], length, map, true, vec_len, vec_capacity};
 ghost use Rattle.std.specs.Mem.{manually_drop_value};
 ghost use Rattle.house_floor.specs.Crew.{AllAt, IsHouse, IsPost};
 ghost use Rattle.std.specs.List.{list_all};
-ghost use Rattle.serving_workers.specs.Leaving.{IsHired, IsServed, has_thread};
+ghost use Rattle.serving_workers.specs.Leaving.{IsHired, IsServed, has_thread, serves_mail};
 
 use crate::accepting::{Buffers, Served, serve_until_stopped};
 use crate::door::Door;
@@ -27,13 +27,16 @@ pub struct Serves<'a> {
     pub floor: &'a Floor,
     /// Its number among the producers, from 0: the workers', and behind them the others'.
     pub number: u8,
+    /// Whether it is a worker, and takes mail.
+    pub mail: bool,
 }
 
 impl<'a> Promise<ManuallyDrop<Served>> for Serves<'a> {
+    ghost use Rattle.std.specs.Prelude.{◌≡◌};
     ghost use Rattle.std.specs.Mem.{manually_drop_value};
     ghost use Rattle.serving_workers.specs.Leaving.{IsServed};
 
-    ghost kept_by = { λ p r. IsServed p.floor.now p.number (manually_drop_value r) };
+    ghost kept_by = { λ p r. IsServed p.floor.now p.number (manually_drop_value r) × ((manually_drop_value r).mail ≡ p.mail) };
 }
 
 /// A producer's thread, or what came of it where there is none.
@@ -71,7 +74,8 @@ fn serve_there<H: Hall, R: Wait>(
     requires number { number < length floor.now.depot.channels.items }
     requires post { IsPost floor.now number (manually_drop_value post) }
     requires input { 0 < length buffers.input.items }
-    ensures { IsServed floor.now number (manually_drop_value result) }
+    ensures served { IsServed floor.now number (manually_drop_value result) }
+    ensures mail { (manually_drop_value result).mail ≡ true }
 {
     let Post { desk, room } = ManuallyDrop::into_inner(post);
     let gate = Unhindered;
@@ -118,10 +122,16 @@ fn start_worker<'s, E, H: Hall + Send, R: Threads + Wait + Sync>(
     requires number { number < length floor.now.depot.channels.items }
     requires post { IsPost floor.now number post }
     requires input { 0 < length buffers.input.items }
-    ensures { IsHired floor.now number result }
+    ensures hired { IsHired floor.now number result }
+    ensures mail { serves_mail result ≡ true }
 {
     let parcel = packed(post);
-    match scope.spawn_with(Serves { floor, number }, move || {
+    let promise = Serves {
+        floor,
+        number,
+        mail: true,
+    };
+    match scope.spawn_with(promise, move || {
         serve_there::<H, R>(
             rt, floor, clerks, listening, mark, pause, grip, number, parcel, buffers,
         )
@@ -157,10 +167,12 @@ fn start_next<'s, E, H: Hall + Send, R: Threads + Wait + Sync>(
     requires posts { AllAt (IsPost floor.now) number posts.old.items × (0 < vec_len posts.old) }
     requires buffers { All (λ b. 0 < length b.input.items) buffers.old.items × (0 < vec_len buffers.old) }
     requires hired { AllAt (IsHired floor.now) 0 hired.old.items × (vec_len hired.old ≡ number) }
+    requires mail { All (λ h. serves_mail h ≡ true) hired.old.items }
     requires room { vec_len hired.old < vec_capacity hired.old }
     ensures posts { AllAt (IsPost floor.now) (number + 1) posts.new.items × (vec_len posts.new + 1 ≡ vec_len posts.old) }
     ensures buffers { All (λ b. 0 < length b.input.items) buffers.new.items × (vec_len buffers.new + 1 ≡ vec_len buffers.old) }
     ensures hired { AllAt (IsHired floor.now) 0 hired.new.items × (vec_len hired.new ≡ number + 1) }
+    ensures mail { All (λ h. serves_mail h ≡ true) hired.new.items }
     ensures room { vec_capacity hired.new ≡ vec_capacity hired.old }
 {
     let post = posts.remove(0);
@@ -208,8 +220,10 @@ pub fn start_workers<'s, E, H: Hall + Send, R: Threads + Wait + Sync>(
     requires room { (hired.items ≡ []) × (length floor.now.depot.channels.items ≤ vec_capacity hired) }
 
     // For each worker, by its number: its thread, which will leave what that producer leaves, or what it has left without one.
+    // Each is a worker's, who leaves what its connections submitted, one connection after another with serials from 0 on.
     ensures hired { AllAt (IsHired floor.now) 0 result.hired.items }
     ensures count { vec_len result.hired ≡ length grips.now }
+    ensures mail { All (λ h. serves_mail h ≡ true) result.hired.items }
     ensures room { length floor.now.depot.channels.items ≤ vec_capacity result.hired }
 
     // The posts of the producers behind the workers are given back, in their order, with nothing put or heard yet.
@@ -236,7 +250,8 @@ pub fn start_workers<'s, E, H: Hall + Send, R: Threads + Wait + Sync>(
 }
 
 fn join_producer<R: Threads>(rt: &R, floor: &Floor, hired: Hired<'_>) -> Served
-    ensures { (n : ℕ) → IsHired floor.now n hired.entry → IsServed floor.now n result }
+    ensures served { (n : ℕ) → IsHired floor.now n hired.entry → IsServed floor.now n result }
+    ensures mail { result.mail ≡ serves_mail hired.entry }
 {
     match hired {
         Hired::There(child) => ManuallyDrop::into_inner(child.join(rt)),
@@ -255,8 +270,10 @@ pub fn join_producers<R: Threads>(
     requires hired { AllAt (IsHired floor.now) 0 hired.items }
     requires room { (served.items ≡ []) × (vec_len hired ≤ vec_capacity served) }
 
-    // Each producer left, by its number, its ended permits on all lanes, and its end of its own reply channel.
+    // Each producer left, by its number, its ended permits on all lanes, and its end of its own reply channel; a worker left what it
+    // said on each lane.
     ensures served { AllAt (IsServed floor.now) 0 result.items }
+    ensures mail { map (λ s. s.mail) result.items ≡ map serves_mail hired.entry.items }
     ensures count { vec_len result ≡ vec_len hired.entry }
 {
     for one in hired {

@@ -1,4 +1,4 @@
-use Rattle.std.proofs.Common.{rules, ◌≡◌, ◌≤◌, ◌∙◌, ℕ, length, sym, subst, vec_capacity}
+use Rattle.std.proofs.Common.{rules, ◌≡◌, ◌≤◌, ◌∙◌, ℕ, true, false, length, sym, subst, vec_capacity}
 use Rattle.delivery_token.specs.declared.log.Noted.{Noted}
 use Rattle.shard_queue.specs.declared.ends.ReplyChannel.{ReplyChannel}
 use Rattle.shard_queue.specs.declared.reply.ReceiverPermit.{ReceiverPermit}
@@ -23,7 +23,7 @@ answer_clients-requires g c =
         c.requires.house.shards,
         new_live post.desk.permits.items is.fresh,
       );
-      imap = c.gateway_of-gateway.ensures;
+      imap = c.gateway_of-gateway.ensures.imap;
     }
 
 pub leave-requires-clause-room : goal.leave-requires-clause-room
@@ -33,8 +33,8 @@ leave-requires-clause-room g c =
     let is : IsPost floor c.args.number post = subst (IsPost floor c.args.number) (sym c.into_inner-desk.ensures) c.requires.post in
     (is.empty, subst (λ (o : Office). length o.lanes.items ≤ vec_capacity post.room) (sym c.answer_clients.ensures.same.0) is.room)
 
-pub returns : goal.returns
-returns g c =
+pub returns-clause-served : goal.returns-clause-served
+returns-clause-served g c =
     let floor = c.args.site.now.floor in
     let post = c.into_inner-desk.result in
     let is : IsPost floor c.args.number post = subst (IsPost floor c.args.number) (sym c.into_inner-desk.ensures) c.requires.post in
@@ -47,3 +47,4 @@ returns g c =
     (subst (λ (o : Office). AreEnded o.lanes.items now.desk.number left.ended.items) life.same.0 c.leave.ensures.ended)
     (subst (λ (x : ReplyChannel Noted). IsReceiver x left.receiver) (life.same.1 ∙ c.index.ensures)
     (subst (λ (r : ReceiverPermit Noted). IsReceiver now.channel.now r) (sym c.leave.ensures.receiver) life.ready.1))
+    (λ mail whole. absurd (let e : true ≡ false = sym mail ∙ c.leave.ensures.mail in cc))

@@ -1,10 +1,12 @@
-use Rattle.std.proofs.Common.{rules, ◌≡◌, ◌<◌, ◌+◌, ◌∙◌, length, map, arith}
+use Rattle.std.proofs.Common.{rules, ◌≡◌, ◌<◌, ◌+◌, ◌++◌, ◌∙◌, List, length, map, subst, sym, arith}
 use Rattle.lane_work.specs.declared.worker.Worked.{Worked}
 use Rattle.house_floor.proofs.Positions.{first_at, more_at}
 use Rattle.reckoning.proofs.Laying.{all_laid}
+use Rattle.serving_workers.specs.Closing.{GoOn}
 use Rattle.serving_workers.specs.Leaving.{IsServed}
 use Rattle.serving_workers.specs.declared.accepting.Served.{Served}
-use Rattle.serving_workers.proofs.Heard.{one_more}
+use Rattle.shard_queue.specs.Reply.{received}
+use Rattle.serving_workers.proofs.Heard.{all_heard, go_on_same, one_heard, one_more}
 use Rattle.serving_workers.specs.inner.Leaving.{HasHeard}
 use Rattle.serving_workers.proofs.closing.hear_all_out.Goals as goal
 
@@ -22,6 +24,8 @@ loop-number-preserved g c =
       search rules,
       one_more c.loop-number.worked.items c.push_reserved.new.self.items c.hear_out.result c.loop-number.left.items c.remove-one.new.self.items c.remove-one.result _
           v.5 some c.remove-one.ensures.value c.remove-one.ensures.items c.push_reserved.ensures.items c.hear_out.ensures.ended,
+      one_heard c.loop-number.worked.items c.push_reserved.new.self.items c.hear_out.result c.loop-number.left.items c.remove-one.new.self.items c.remove-one.result _
+          v.6 some c.remove-one.ensures.value c.remove-one.ensures.items c.push_reserved.ensures.items c.hear_out.ensures.grew,
     )
 
 pub returns-clause-ended : goal.returns-clause-ended
@@ -29,3 +33,21 @@ returns-clause-ended g c =
     let v = c.loop-number.invariant in
     let none : length c.loop-number.left.items ≡ 0 = omega (arith, v.1, c.loop-number-test.false, c.loop-number.auto.number-end, c.loop-number.left.ok.0) in
     all_laid (λ (s : Served). s.ended.items) (map (λ (w : Worked). w.ended.items) c.loop-number.worked.items) _ c.loop-number.left.items none v.5
+
+pub returns-clause-grew : goal.returns-clause-grew
+returns-clause-grew g c =
+    let v = c.loop-number.invariant in
+    let none : length c.loop-number.left.items ≡ 0 = omega (arith, v.1, c.loop-number-test.false, c.loop-number.auto.number-end, c.loop-number.left.ok.0) in
+    all_heard (map (λ (s : Served). received s.receiver) c.args.served.items) c.loop-number.worked.items c.loop-number.left.items none v.6
+
+pub loop-number-init : goal.loop-number-init
+loop-number-init g c =
+    let all = map (λ (s : Served). received s.receiver) c.args.served.items in (
+      search rules,
+      search rules,
+      search rules,
+      search rules,
+      search rules,
+      search rules,
+      subst (λ (ws : List Worked). GoOn all (map (λ (w : Worked). received w.receiver) ws ++ all)) (sym c.requires.room.0) (go_on_same all),
+    )

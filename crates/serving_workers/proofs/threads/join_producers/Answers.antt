@@ -2,7 +2,9 @@ use Rattle.std.proofs.Common.{rules, ◌≡◌, ◌∷◌, sym, subst, vec_len, 
 use Rattle.std.specs.Vec.Iter.{into_iter_items}
 use Rattle.house_floor.specs.Crew.{AllAt}
 use Rattle.house_floor.proofs.Positions.{head_at, more_at}
-use Rattle.serving_workers.specs.Leaving.{IsHired, IsServed}
+use Rattle.reckoning.proofs.Laying.{laid_items}
+use Rattle.serving_workers.specs.Leaving.{IsHired, IsServed, serves_mail}
+use Rattle.serving_workers.specs.declared.accepting.Served.{Served}
 use Rattle.serving_workers.proofs.threads.join_producers.Goals as goal
 
 pub loop-one-preserved : goal.loop-one-preserved
@@ -14,5 +16,7 @@ loop-one-preserved g c =
       subst (λ n. AllAt (IsHired floor) n (into_iter_items c.next.new.self)) (sym c.push_reserved.ensures.len) f.1,
       search rules,
       search rules,
-      more_at (IsServed floor) 0 c.loop-one.served.items c.push_reserved.new.self.items c.join_producer.result (vec_len c.loop-one.served) c.push_reserved.ensures.items v.3 (omega (arith, c.loop-one.served.ok.0)) (c.join_producer.ensures (vec_len c.loop-one.served) f.0),
+      more_at (IsServed floor) 0 c.loop-one.served.items c.push_reserved.new.self.items c.join_producer.result (vec_len c.loop-one.served) c.push_reserved.ensures.items v.3 (omega (arith, c.loop-one.served.ok.0)) (c.join_producer.ensures.served (vec_len c.loop-one.served) f.0),
+      laid_items (λ (s : Served). s.mail) serves_mail c.loop-one.served.items c.push_reserved.new.self.items _ (into_iter_items c.loop-one.one-iterator) (into_iter_items c.next.new.self) c.in-Some.one c.join_producer.result
+          v.4 first c.push_reserved.ensures.items c.join_producer.ensures.mail,
     )

@@ -24,10 +24,11 @@ serve_until_stopped-requires-clause-receiver g c =
     subst (λ (x : ReplyChannel Noted). IsReceiver x c.into_inner-desk.result.desk.receiver) (sym c.index.ensures)
     (is.receiver _ (here_at floor.depot.channels.items c.from.result c.args.number c.index.result.now same c.requires.number))
 
-pub returns : goal.returns
-returns g c =
+pub returns-clause-served : goal.returns-clause-served
+returns-clause-served g c =
     let floor = c.args.floor.now in
     let is : IsPost floor c.args.number c.into_inner-desk.result = subst (IsPost floor c.args.number) (sym c.into_inner-desk.ensures) c.requires.post in
     let same : c.from.result ≡ c.args.number = search rules in
     served_by floor c.from.result c.args.number c.into_inner-desk.result.desk.number c.index.result.now c.serve_until_stopped.result _ same is.number c.packed.ensures
     c.serve_until_stopped.ensures.ended (subst (λ (x : ReplyChannel Noted). IsReceiver x c.serve_until_stopped.result.receiver) c.index.ensures c.serve_until_stopped.ensures.receiver)
+    (λ mail whole. c.serve_until_stopped.ensures.served is.fresh whole)

@@ -1,6 +1,6 @@
-use Rattle.std.proofs.Common.{◌≡◌, ◌≤◌, ◌<◌, ◌+◌, All, length, vec_len, vec_capacity}
+use Rattle.std.proofs.Common.{◌≡◌, ◌≤◌, ◌<◌, ◌+◌, true, All, length, vec_len, vec_capacity}
 use Rattle.house_floor.specs.Crew.{AllAt, IsPost}
-use Rattle.serving_workers.specs.Leaving.{IsHired}
+use Rattle.serving_workers.specs.Leaving.{IsHired, serves_mail}
 use Rattle.serving_workers.proofs.threads.start_workers.Given as goal
 
 abbrev pub invariant-loop-position : goal.invariant-loop-position
@@ -8,3 +8,4 @@ invariant-loop-position g l =
     AllAt (IsPost l.floor) l.position l.posts.items × (vec_len l.posts + l.position ≡ length l.floor.depot.channels.items)
     × All (λ b. 0 < length b.input.items) l.buffers.items × (vec_len l.buffers + l.position ≡ length l.grips)
     × AllAt (IsHired l.floor) 0 l.hired.items × (vec_len l.hired ≡ l.position) × (length l.floor.depot.channels.items ≤ vec_capacity l.hired)
+    × All (λ h. serves_mail h ≡ true) l.hired.items

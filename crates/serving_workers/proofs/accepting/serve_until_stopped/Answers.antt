@@ -1,0 +1,15 @@
+use Rattle.std.proofs.Common.{subst, map}
+use Rattle.shard_queue.specs.Reply.{received}
+use Rattle.shard_queue.specs.Permits.{said}
+use Rattle.lane_work.specs.Permits.{put_by}
+use Rattle.lane_work.specs.Speaking.{premises_of}
+use Rattle.serving_workers.proofs.Mail.{mail_begins, mail_ends}
+use Rattle.serving_workers.proofs.accepting.serve_until_stopped.Goals as goal
+
+pub returns-clause-served : goal.returns-clause-served
+returns-clause-served g c fresh is =
+    let office = c.args.office.now in
+    let number = c.args.desk.number in
+    let now = c.serve_all-torn.new.desk in
+    let served = c.serve_all-torn.ensures.mail is (mail_begins office number c.args.desk.receiver c.args.desk.permits.items fresh) in
+    mail_ends (premises_of office) number now.number served.0 (received now.receiver) (map put_by now.permits.items) (map said c.end_all-ended.result.items) c.serve_all-torn.ensures.number served.1 c.end_all-ended.ensures.said
