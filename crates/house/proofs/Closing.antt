@@ -103,7 +103,7 @@ ends_wants seats seat shard h o h1 o1 h2 o2 a l e c d =
     let make : ℕ → List Event = λ n. End n shard ∷ [] in
     wants_of_all (IsFor seats shard) (λ k. shard < k.config.shards) (λ k. ends seat shard ++ (End (seat + 1) shard ∷ []) ∷ []) (λ k. ends k.config.seats shard) h o h2 o2 (λ k s q st. (sym (e ∙ st.seats), q))
     (λ k q. let f = q.0 in let r = first_made make 1 (seat + 1) k.config.seats (omega (arith, l, f)) in
-        (r.0, r.1 ∙ ap (λ (xs : List (List Event)). xs ++ r.0) (map-range_with_len_more make 1 seat (seat + 1) (omega arith))))
+    (r.0, r.1 ∙ ap (λ (xs : List (List Event)). xs ++ r.0) (map-range_with_len_more make 1 seat (seat + 1) (omega arith))))
     (stints_wants (IsFor seats shard) (λ k. ends seat shard) (λ k. (End (seat + 1) shard ∷ []) ∷ []) h o h1 o1 h2 o2 a c
     (one_wants (IsFor seats shard) (End (seat + 1) shard ∷ []) h1 o1 h2 o2 (λ k q. end_among k seats seat shard l q) d))
 
@@ -147,9 +147,11 @@ closes_step shut shards shard is h o h1 o1 h2 o2 a b l e c d =
 -- the stints of ends on the first shards, and on the others
 first_closed : (seats : ℕ) (shut : ℕ → Bool) (some all : ℕ) → some ≤ all → (others : List (List Event)) × (closes seats shut all ≡ closes seats shut some ++ others)
 first_closed seats shut some all l =
-    let r = first_numbers 0 some all l in
-    (ends_on seats (filter shut r.0), ap (λ (xs : List ℕ). ends_on seats (filter shut xs)) r.1 ∙ ap (λ (xs : List ℕ). ends_on seats xs) (filter-append shut (range_with_len 0 some) r.0)
-        ∙ flat_map-append (λ shard. ends seats shard) (filter shut (range_with_len 0 some)) (filter shut r.0))
+    let r = first_numbers 0 some all l in (
+      ends_on seats (filter shut r.0),
+      ap (λ (xs : List ℕ). ends_on seats (filter shut xs)) r.1 ∙ ap (λ (xs : List ℕ). ends_on seats xs) (filter-append shut (range_with_len 0 some) r.0)
+          ∙ flat_map-append (λ shard. ends seats shard) (filter shut (range_with_len 0 some)) (filter shut r.0),
+    )
 
 pub closes_wants : (shut : ℕ → Bool) (shard : ℕ) (is : Bool) (h : House) (o : List ℕ) (h1 : House) (o1 : List ℕ) (h2 : House) (o2 : List ℕ) (a : Bool) → shard < h.directory.shards → is ≡ shut shard
     → DidStints (λ k. k.config.shards ≡ h.directory.shards) (λ k. closes k.config.seats shut shard) h o h1 o1 a → WantsStints (λ k. shard < k.config.shards) (λ k. ends_where k.config.seats shard is) h1 o1 h2 o2
@@ -158,7 +160,7 @@ closes_wants shut shard is h o h1 o1 h2 o2 a l e c d =
     wants_of_all (λ k. k.config.shards ≡ h.directory.shards) (λ k. Unit {0}) (λ k. closes k.config.seats shut shard ++ ends_where k.config.seats shard is) (λ k. closes k.config.seats shut k.config.shards) h o h2 o2
     (λ k s q st. shards_of k s h st)
     (λ k q. let r = first_closed k.config.seats shut (shard + 1) k.config.shards (omega (arith, l, q)) in
-        (r.0, r.1 ∙ ap (λ (xs : List (List Event)). xs ++ r.0) (sym (ap (λ (x : Bool). closes k.config.seats shut shard ++ ends_where k.config.seats shard x) e ∙ closed_more k.config.seats shut shard))))
+    (r.0, r.1 ∙ ap (λ (xs : List (List Event)). xs ++ r.0) (sym (ap (λ (x : Bool). closes k.config.seats shut shard ++ ends_where k.config.seats shard x) e ∙ closed_more k.config.seats shut shard))))
     (stints_wants (λ k. k.config.shards ≡ h.directory.shards) (λ k. closes k.config.seats shut shard) (λ k. ends_where k.config.seats shard is) h o h1 o1 h2 o2 a c
     (wants_as (λ k. shard < k.config.shards) (λ k. k.config.shards ≡ h.directory.shards) (λ k s t printed. StintsBreakOff k (ends_where k.config.seats shard is) s t printed)
     (λ k s t printed. StintsBreakOff k (ends_where k.config.seats shard is) s t printed) h1 o1 h2 o2 (λ k s q st. omega (arith, l, q)) (λ k s q st t printed x. x) d))

@@ -523,7 +523,7 @@ pub seats_wants : (make : ℕ → List Event) (seats seat : ℕ) (h : House) (o 
 seats_wants make seats seat h o h1 o1 h2 o2 a f e l c d =
     wants_of_all (λ k. k.config.seats ≡ seats) (λ k. Unit {0}) (λ k. map make (range_with_len 1 seat) ++ make (seat + 1) ∷ []) (λ k. map make (range_with_len 1 k.config.seats)) h o h2 o2 (λ k s q st. sym (e ∙ st.seats))
     (λ k q. let r = first_made make 1 (seat + 1) k.config.seats (omega (arith, l, q)) in
-        (r.0, r.1 ∙ ap (λ (xs : List (List Event)). xs ++ r.0) (map-range_with_len_more make 1 seat (seat + 1) (omega arith))))
+    (r.0, r.1 ∙ ap (λ (xs : List (List Event)). xs ++ r.0) (map-range_with_len_more make 1 seat (seat + 1) (omega arith))))
     (stints_wants (λ k. k.config.seats ≡ seats) (λ k. map make (range_with_len 1 seat)) (λ k. make (seat + 1) ∷ []) h o h1 o1 h2 o2 a c
     (one_wants (λ k. k.config.seats ≡ seats) (make (seat + 1)) h1 o1 h2 o2 (λ k q. f k q) d))
 
@@ -701,9 +701,11 @@ first_served : (held : ℕ → Bool) (some all : ℕ) → some ≤ all → (othe
 first_served held some all l =
     let r = first_numbers 0 some all l in
     let make : ℕ → List Event = λ s. Take s ∷ Deliver s ∷ Answer s ∷ [] in
-    let free : ℕ → Bool = λ s. not (held s) in
-    (map make (filter free r.0), ap (λ (xs : List ℕ). map make (filter free xs)) r.1 ∙ ap (λ (xs : List ℕ). map make xs) (filter-append free (range_with_len 0 some) r.0)
-        ∙ map-append make (filter free (range_with_len 0 some)) (filter free r.0))
+    let free : ℕ → Bool = λ s. not (held s) in (
+      map make (filter free r.0),
+      ap (λ (xs : List ℕ). map make (filter free xs)) r.1 ∙ ap (λ (xs : List ℕ). map make xs) (filter-append free (range_with_len 0 some) r.0)
+          ∙ map-append make (filter free (range_with_len 0 some)) (filter free r.0),
+    )
 
 pub shards_wants : (held : ℕ → Bool) (shard : ℕ) (is : Bool) (h : House) (o : List ℕ) (h1 : House) (o1 : List ℕ) (h2 : House) (o2 : List ℕ) (a : Bool) → shard < h.directory.shards → is ≡ held shard
     → DidStints (λ k. k.config.shards ≡ h.directory.shards) (λ k. serves held shard) h o h1 o1 a → WantsStints (λ k. shard < k.config.shards) (λ k. serve shard is) h1 o1 h2 o2
@@ -711,7 +713,7 @@ pub shards_wants : (held : ℕ → Bool) (shard : ℕ) (is : Bool) (h : House) (
 shards_wants held shard is h o h1 o1 h2 o2 a l e c d =
     wants_of_all (λ k. k.config.shards ≡ h.directory.shards) (λ k. Unit {0}) (λ k. serves held shard ++ serve shard is) (λ k. serves held k.config.shards) h o h2 o2 (λ k s q st. shards_of k s h st)
     (λ k q. let r = first_served held (shard + 1) k.config.shards (omega (arith, l, q)) in
-        (r.0, r.1 ∙ ap (λ (xs : List (List Event)). xs ++ r.0) (sym (ap (λ (x : Bool). serves held shard ++ serve shard x) e ∙ served held shard))))
+    (r.0, r.1 ∙ ap (λ (xs : List (List Event)). xs ++ r.0) (sym (ap (λ (x : Bool). serves held shard ++ serve shard x) e ∙ served held shard))))
     (stints_wants (λ k. k.config.shards ≡ h.directory.shards) (λ k. serves held shard) (λ k. serve shard is) h o h1 o1 h2 o2 a c
     (wants_as (λ k. shard < k.config.shards) (λ k. k.config.shards ≡ h.directory.shards) (λ k s t printed. StintsBreakOff k (serve shard is) s t printed) (λ k s t printed. StintsBreakOff k (serve shard is) s t printed) h1 o1 h2 o2
     (λ k s q st. omega (arith, l, q)) (λ k s q st t printed x. x) d))

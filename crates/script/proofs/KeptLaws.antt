@@ -60,11 +60,11 @@ part_without_end (x ∷ xs) ys n within before end true is = absurd (omega (arit
 pub reads_on : (xs ys : List ℕ) (front part : List ℕ) (ended : Bool) (left : Option (List ℕ)) → xs ≡ part ++ ys → left ≡ Some ys → IsPart part ys ended
     → HasRead xs front left (front ++ part) ended
 reads_on xs ys front part ended left split remaining is = record {
-    rest = ys;
-    remaining = remaining;
-    line = append_assoc front part (still_to_come ended ys) ∙ ap (λ l. front ++ l) (sym (ap (take_through 10) split ∙ is.line));
-    behind = sym (ap (drop_through 10) split ∙ is.behind);
-  }
+  rest = ys;
+  remaining = remaining;
+  line = append_assoc front part (still_to_come ended ys) ∙ ap (λ l. front ++ l) (sym (ap (take_through 10) split ∙ is.line));
+  behind = sym (ap (drop_through 10) split ∙ is.behind);
+}
 
 -- what was read before, and a further part
 pub read_before : (xs : List ℕ) (middle new : Option (List ℕ)) (front line : List ℕ) (ended : Bool) → HasRead xs [] middle front false

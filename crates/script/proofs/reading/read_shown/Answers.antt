@@ -12,4 +12,4 @@ returns-clause-read g c xs is =
     let part = c.part_of_line-used in
     let moved = Consumes_shown _ _ _ _ c.in-Ok.shown.now part.result.0 part.ensures.within c.in-Ok.ensures.front c.in-Ok.ensures.end filled.0 filled.1 c.consume.ensures.bytes in
     subst (λ l. HasRead xs c.args.line.now.items (g.R.Read.remaining c.consume.new.self) l part.result.1) (sym (search rules))
-        (reads_shown _ _ xs c.in-Ok.shown.now c.args.line.now.items part.result.0 part.result.1 is moved.0 c.in-Ok.ensures.end part.ensures.part)
+    (reads_shown _ _ xs c.in-Ok.shown.now c.args.line.now.items part.result.0 part.result.1 is moved.0 c.in-Ok.ensures.end part.ensures.part)
