@@ -84,6 +84,13 @@ impl WorkerLog {
         });
     }
 
+    /// The verdicts that were noted, in the order in which they were.
+    pub fn notes(&self) -> &[Noted]
+        ensures { result.now ≡ self.now.notes }
+    {
+        self.notes.as_slice()
+    }
+
     /// Key and UID of the copies stored in a mailbox, in the order in which they were noted, or an
     /// error where memory is refused.
     pub fn stored_in(&self, alloc: Global, mailbox: u8) -> Result<Vec<(CopyKey, u32)>, AllocError>
