@@ -1,5 +1,6 @@
 -- What a clerk keeps from turn to turn.
 use Rattle.std.proofs.Common.{◌≡◌, ◌<◌, ◌∙◌, ◌++◌, ◌∷◌, ℕ, suc, zero, Bool, not, ◌||◌, List, [], All, Option, None, Some, length, map, slice_get, slice_index_or, refl, sym, ap, subst}
+use Rattle.std.specs.List.{list_any}
 use Rattle.std.proofs.lemmas.List.Elements.{All-head, All-tail}
 use Rattle.std.proofs.lemmas.Option.{slice_get-get_or}
 use Rattle.delivery_token.specs.declared.Job.{Job}
@@ -10,14 +11,14 @@ use Rattle.shard_queue.specs.declared.queue.ShardQueue.{ShardQueue}
 use Rattle.shard_queue.specs.declared.reply.SenderPermit.{SenderPermit}
 use Rattle.shard_queue.specs.Reply.{said_on, sent_on}
 use Rattle.shard_queue.specs.Permits.{IsConsumer, got}
-use Rattle.lane_work.specs.Answering.{HaveClosed, WereAnswered, WereKnown, none}
+use Rattle.lane_work.specs.Answering.{HaveClosed, WereAnswered, is_nobodys, is_ours, none}
 use Rattle.lane_work.specs.inner.Answering.{HaveAnswered}
 use Rattle.lane_work.specs.Permits.{AreSenders, AreSendersEnded}
 use Rattle.lane_work.specs.Consuming.{IsConsumed}
 use Rattle.lane_work.specs.declared.consumer.Consumed.{Consumed}
 use Rattle.lane_work.specs.declared.consumer.Depot.{Depot}
 use Rattle.lane_work.specs.declared.consumer.Stall.{Stall}
-use Rattle.lane_work.proofs.AnswerLaws.{answers_close, known_none}
+use Rattle.lane_work.proofs.AnswerLaws.{answers_close, torn_next}
 use Rattle.clerks.specs.Keeping.{IsOnLane}
 use Rattle.clerks.specs.inner.Keeping.{IsAnswering, Keeps}
 
@@ -43,7 +44,7 @@ keeps_new lanes depot stall on senders fresh unsent =
       answering = λ d is. record {
         senders = senders d is;
         answered = λ p under. ([], subst (λ (l : List (Entry Job)). WereAnswered (length d.mailboxes.items) stall.shard p l []) (sym fresh) none, unsent_at stall.senders.items unsent p);
-        torn = known_none (length d.mailboxes.items) (length d.channels.items) (got stall.permit) fresh;
+        torn = ap (list_any (is_nobodys (length d.mailboxes.items) (length d.channels.items))) (sym fresh);
       };
     }
 
@@ -52,7 +53,7 @@ pub keeps_next : (lanes : Option (List (ShardQueue Job))) (depot : Option Depot)
     → lanes ≡ Some ls → depot ≡ Some d → slice_get ls old.shard ≡ Some lane → Keeps lanes depot old torn
     → new.shard ≡ old.shard → IsConsumer lane new.permit → AreSenders d.channels.items old.shard new.senders.items
     → HaveAnswered (length d.mailboxes.items) (length d.channels.items) old.shard (got new.permit) [] (map sent_on new.senders.items)
-    → WereKnown (length d.mailboxes.items) (length d.channels.items) (got new.permit) (not more)
+    → more ≡ list_any (is_nobodys (length d.mailboxes.items) (length d.channels.items)) (got new.permit)
     → Keeps lanes depot new more
 keeps_next lanes depot ls d old new lane torn more ls_is d_is here so shard permit senders answered torn_is =
     record {
@@ -72,6 +73,11 @@ keeps_next lanes depot ls d old new lane torn more ls_is d_is here so shard perm
         torn = torn_is;
       }
 
+-- whether one was nobody's, after a copy
+pub torn_copy : (m n p : ℕ) (job : Job) (took more : List (Entry Job)) (torn ours : Bool) → more ≡ took ++ Item p job ∷ [] → ours ≡ is_ours m n p job
+    → torn ≡ list_any (is_nobodys m n) took → (torn || not ours) ≡ list_any (is_nobodys m n) more
+torn_copy m n p job took more torn ours grew is so = torn_next m n took more (Item p job) torn (not ours) grew (ap not is) so
+
 -- the lane that the code reads at its shard
 pub lane_at : (ls : List (ShardQueue Job)) (i n : ℕ) (lane : ShardQueue Job) → i ≡ n → n < length ls → lane ≡ slice_index_or ls i lane → slice_get ls n ≡ Some lane
 lane_at ls i n lane same under is = slice_get-get_or ls n lane under ∙ ap (λ k. Some (slice_index_or ls k lane)) (sym same) ∙ ap Some (sym is)
@@ -85,8 +91,7 @@ leaves lane ls d stall torn c on so here permit kept is_torn ended closed =
       permit = subst (λ s. IsConsumer lane s) (sym permit) (on.permit lane here);
       senders = ended;
       kept = λ keeps. no_kept c.kept kept keeps;
-      torn = subst (λ s. WereKnown (length d.mailboxes.items) (length d.channels.items) (got s) (not c.torn)) (sym permit)
-          (subst (λ b. WereKnown (length d.mailboxes.items) (length d.channels.items) (got stall.permit) (not b)) (sym is_torn) so.torn);
+      torn = is_torn ∙ so.torn ∙ ap (λ s. list_any (is_nobodys (length d.mailboxes.items) (length d.channels.items)) (got s)) (sym permit);
       said = subst (λ s. Said (got s)) (sym permit)
           (answers_close (length d.mailboxes.items) stall.shard (got stall.permit) d.channels.items stall.senders.items [] (map said_on c.senders.items) so.senders closed so.answered);
     } where

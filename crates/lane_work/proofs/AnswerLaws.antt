@@ -1,22 +1,30 @@
 -- What a consumer says on its channels.
-use Rattle.std.proofs.Common.{◌≡◌, ◌≢◌, ◌⊎◌, inl, inr, ℕ, zero, suc, ◌<◌, ◌≤◌, ◌++◌, ◌∙◌, ap, refl, sym, subst, List, [], ◌∷◌, length, map, slice_index_or, slice_set, append_assoc, append-nil, true, false, Bool, not, ◌&&◌, ◌||◌, eqb, arith, is_some, nat_lt, Option, Some, None, Result}
-use Rattle.std.proofs.lemmas.Bool.{le-ltb, lt-ltb}
+use Rattle.std.proofs.Common.{◌≡◌, ◌≢◌, ◌⊎◌, inl, inr, ℕ, zero, suc, ◌<◌, ◌++◌, ◌∙◌, ap, refl, sym, subst, List, [], ◌∷◌, length, map, slice_index_or, slice_set, append_assoc, append-nil, true, false, Bool, ◌||◌, eqb, arith}
+use Rattle.std.specs.List.{list_any}
 use Rattle.std.proofs.lemmas.Bool.Decides.{eqb_tells}
 use Rattle.std.proofs.lemmas.List.{get_or-set_same, get_or-set_other, length-map, map-set}
 use Rattle.delivery_token.specs.declared.Job.{Job}
-use Rattle.delivery_token.specs.declared.Refusal.{Refusal}
 use Rattle.delivery_token.specs.declared.Verdict.{Verdict}
 use Rattle.delivery_token.specs.declared.log.Noted.{Noted}
-use Rattle.mailbox.specs.declared.mailbox.Receipt.{Receipt}
 use Rattle.shard_queue.specs.declared.lane.Entry.{Entry}
 use Rattle.shard_queue.specs.declared.lane.Entry.TheVariants.{Item, End}
 use Rattle.shard_queue.specs.declared.ends.ReplyChannel.{ReplyChannel}
 use Rattle.shard_queue.specs.declared.reply.SenderPermit.{SenderPermit}
 use Rattle.shard_queue.specs.Reply.{sender_number, sent_on}
-use Rattle.lane_work.specs.Answering.{HaveClosed, IsJudged, IsKnown, IsVerdict, Serves, WereAnswered, WereKnown, answered, copy, end, none, passed, telling}
+use Rattle.lane_work.specs.Answering.{HaveClosed, IsVerdict, Serves, WereAnswered, answered, is_nobodys, none, passed, telling}
 use Rattle.lane_work.specs.inner.Answering.{HaveAnswered}
 use Rattle.lane_work.specs.Permits.{AreSenders}
 use Rattle.lane_work.proofs.PermitLaws.{senders_length}
+
+any_next : {A : Type 0} (f : A → Bool) (xs : List A) (x : A) → list_any f (xs ++ x ∷ []) ≡ (list_any f xs || f x)
+any_next f [] x = one (f x) where
+  one : (b : Bool) → (b || false) ≡ b
+  one true = refl
+  one false = refl
+any_next f (y ∷ ys) x = ap (λ b. f y || b) (any_next f ys x) ∙ sym (assoc (f y) (list_any f ys) (f x)) where
+  assoc : (a b c : Bool) → ((a || b) || c) ≡ (a || (b || c))
+  assoc true b c = refl
+  assoc false b c = refl
 
 sent_on_at : (ss : List (SenderPermit Noted)) (i : ℕ) (d : SenderPermit Noted) → i < length ss → slice_index_or (map sent_on ss) i [] ≡ sent_on (slice_index_or ss i d)
 sent_on_at [] i d under = absurd (omega arith)
@@ -97,49 +105,16 @@ answers_close mailboxes shard got qs ss before after permits closed so p under =
       at_end (x ∷ xs) zero h = refl
       at_end (x ∷ xs) (suc i) h = at_end xs i (omega arith)
 
--- ---- whether all were copies of this house
+-- whether one was nobody's, after one more entry
+pub torn_next : (mailboxes channels : ℕ) (got more : List (Entry Job)) (entry : Entry Job) (torn one : Bool) → more ≡ got ++ entry ∷ [] → one ≡ is_nobodys mailboxes channels entry
+    → torn ≡ list_any (is_nobodys mailboxes channels) got → (torn || one) ≡ list_any (is_nobodys mailboxes channels) more
+torn_next mailboxes channels got more entry torn one is known so =
+    ap (λ b. b || one) so ∙ ap (λ b. list_any (is_nobodys mailboxes channels) got || b) known ∙ sym (ap (list_any (is_nobodys mailboxes channels)) is ∙ any_next (is_nobodys mailboxes channels) got entry)
 
-not_both : (torn ours : Bool) → (not torn && ours) ≡ not (torn || not ours)
-not_both true ours = refl
-not_both false true = refl
-not_both false false = refl
-
--- before the first
-pub known_none : (mailboxes channels : ℕ) (got : List (Entry Job)) → got ≡ [] → WereKnown mailboxes channels got true
-known_none mailboxes channels got is = subst (λ (l : List (Entry Job)). WereKnown mailboxes channels l true) (sym is) WereKnown.none
-
--- after one more copy
-pub known_copy : (mailboxes channels p : ℕ) (job : Job) (got more : List (Entry Job)) (torn ours : Bool) → more ≡ got ++ Item p job ∷ [] → IsKnown mailboxes channels p job ours
-    → WereKnown mailboxes channels got (not torn) → WereKnown mailboxes channels more (not (torn || not ours))
-known_copy mailboxes channels p job got more torn ours is known so =
-    subst (λ (l : List (Entry Job)). WereKnown mailboxes channels l (not (torn || not ours))) (sym is)
-    (subst (WereKnown mailboxes channels (got ++ Item p job ∷ [])) (not_both torn ours) (copy p job ours so known))
-
--- after an end
-pub known_end : (mailboxes channels q : ℕ) (got more : List (Entry Job)) (all : Bool) → more ≡ got ++ End q ∷ [] → WereKnown mailboxes channels got all → WereKnown mailboxes channels more all
-known_end mailboxes channels q got more all is so = subst (λ (l : List (Entry Job)). WereKnown mailboxes channels l all) (sym is) (end q so)
-
--- ---- one copy
-
-no_channel : (a b : Bool) → a ≡ false → (a && b) ≡ false
-no_channel true b e = cc
-no_channel false b e = refl
-
-no_mailbox : (a b : Bool) → b ≡ false → (a && b) ≡ false
-no_mailbox true b e = e
-no_mailbox false b e = refl
-
-both_are : (a b : Bool) → a ≡ true → b ≡ true → (a && b) ≡ true
-both_are true b e f = f
-both_are false b e f = cc
-
--- one whose producer has no channel
-pub known_nobodys : (mailboxes channels p : ℕ) (job : Job) → channels ≤ p → IsKnown mailboxes channels p job false
-known_nobodys mailboxes channels p job beyond = inl (no_channel (nat_lt p channels) (nat_lt job.mailbox mailboxes) (le-ltb p channels beyond))
-
--- one that was judged
-pub known_judged : (mailboxes channels p : ℕ) (job : Job) (came : Option (Result Receipt Refusal)) → p < channels → IsJudged mailboxes job came → IsKnown mailboxes channels p job (is_some came)
-known_judged mailboxes channels p job (Some delivered) under judged =
-    both_are (nat_lt p channels) (nat_lt job.mailbox mailboxes) (lt-ltb p channels under) (lt-ltb job.mailbox mailboxes judged.0)
-known_judged mailboxes channels p job None under (inl beyond) = inl (no_mailbox (nat_lt p channels) (nat_lt job.mailbox mailboxes) (le-ltb job.mailbox mailboxes beyond))
-known_judged mailboxes channels p job None under (inr strange) = inr strange
+-- an end is nobody's copy
+pub torn_end : (mailboxes channels : ℕ) (got more : List (Entry Job)) (q : ℕ) → more ≡ got ++ End q ∷ [] → list_any (is_nobodys mailboxes channels) got ≡ list_any (is_nobodys mailboxes channels) more
+torn_end mailboxes channels got more q is =
+    no_more (list_any (is_nobodys mailboxes channels) got) ∙ sym (ap (list_any (is_nobodys mailboxes channels)) is ∙ any_next (is_nobodys mailboxes channels) got (End q)) where
+      no_more : (b : Bool) → b ≡ (b || false)
+      no_more true = refl
+      no_more false = refl

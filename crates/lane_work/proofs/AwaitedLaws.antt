@@ -1,5 +1,5 @@
 -- How many verdicts were heard, and how many copies were put.
-use Rattle.std.proofs.Common.{◌≡◌, ℕ, zero, suc, ◌+◌, ◌<◌, ◌++◌, ◌∙◌, ap, sym, List, [], ◌∷◌, length, length-append, map, slice_index_or, slice_set, arith, Option, Some, None, MatchOption, Bool, true, false, refl, All}
+use Rattle.std.proofs.Common.{◌≡◌, ℕ, ◌+◌, ◌<◌, ◌++◌, ◌∙◌, ap, List, [], ◌∷◌, length, length-append, map, slice_index_or, slice_set, arith, Option, Some, None, MatchOption, Bool, true, false, refl, All}
 use Rattle.std.proofs.lemmas.List.Elements.{All-head, All-tail, filter_map-append}
 use Rattle.std.proofs.lemmas.List.Sums.{sum_by-cons, sum_by-set}
 use Rattle.delivery_token.specs.declared.Job.{Job}

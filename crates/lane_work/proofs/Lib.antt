@@ -9,3 +9,4 @@ pub mod ClosedLaws
 pub mod ClosingLaws
 pub mod RoundLaws
 pub mod AwaitedLaws
+pub mod FullLaws

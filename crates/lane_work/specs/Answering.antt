@@ -1,5 +1,5 @@
 -- What a consumer does with the copies that it takes: each is delivered under a lock, and its producer is told.
-use Rattle.std.specs.Prelude.{◌≡◌, ◌≢◌, ◌⊎◌, ℕ, ◌<◌, ◌≤◌, List, [], ◌∷◌, ◌++◌, map, slice_index_or, slice_set, Option, Some, None, Result, Bool, true, false, nat_lt, ◌&&◌}
+use Rattle.std.specs.Prelude.{◌≡◌, ◌≢◌, ◌⊎◌, ℕ, ◌<◌, ◌≤◌, List, [], ◌∷◌, ◌++◌, map, slice_index_or, slice_set, Option, Some, None, Result, Bool, false, not, nat_lt, ◌&&◌}
 use Rattle.delivery_token.specs.declared.Job.{Job}
 use Rattle.delivery_token.specs.declared.Refusal.{Refusal}
 use Rattle.delivery_token.specs.declared.Refusal.TheVariants.{NoMemory}
@@ -40,18 +40,10 @@ pub record IsVerdict (mailboxes : ℕ) (job : Job) (verdict : Verdict) : Type 0 
 abbrev pub is_ours : (mailboxes channels producer : ℕ) → Job → Bool
 is_ours mailboxes channels producer job = nat_lt producer channels && nat_lt job.mailbox mailboxes
 
--- The copy is said to be a copy of this house, which it is; or not to be: its producer has no channel, its mailbox isn't there, or another one was found
--- under its mailbox's lock.
-abbrev pub IsKnown : (mailboxes channels producer : ℕ) → Job → Bool → Type 0
-IsKnown mailboxes channels producer job true = is_ours mailboxes channels producer job ≡ true
-IsKnown mailboxes channels producer job false = (is_ours mailboxes channels producer job ≡ false) ⊎ UnderLock (IsDelivered job None)
-
--- Of these entries, all copies were of this house, or not all were.
-pub data WereKnown (mailboxes channels : ℕ) : List (Entry Job) → Bool → Type 0 where
-  none : WereKnown mailboxes channels [] true
-  copy : {got : List (Entry Job)} {all : Bool} (producer : ℕ) (job : Job) (ours : Bool) → WereKnown mailboxes channels got all
-      → IsKnown mailboxes channels producer job ours → WereKnown mailboxes channels (got ++ Item producer job ∷ []) (all && ours)
-  end : {got : List (Entry Job)} {all : Bool} (producer : ℕ) → WereKnown mailboxes channels got all → WereKnown mailboxes channels (got ++ End producer ∷ []) all
+-- whether the entry is a copy of none
+abbrev pub is_nobodys : (mailboxes channels : ℕ) → Entry Job → Bool
+is_nobodys mailboxes channels (Item producer job) = not (is_ours mailboxes channels producer job)
+is_nobodys mailboxes channels (End producer) = false
 
 -- what the producer of a copy is told, by the sender of this number
 abbrev pub telling : ℕ → Job → Verdict → Entry Noted

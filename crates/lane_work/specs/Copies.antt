@@ -1,5 +1,5 @@
 -- The copies of messages that were judged: what is noted of them, and which of them were put on a lane.
-use Rattle.std.specs.Prelude.{◌≡◌, ◌⊎◌, ℕ, slice_index_or, List, [], ◌∷◌, ◌++◌, map, zip, flat_map}
+use Rattle.std.specs.Prelude.{◌≡◌, ◌≤◌, ◌⊎◌, ℕ, length, slice_index_or, List, [], ◌∷◌, ◌++◌, map, zip, flat_map}
 use Rattle.change_ring.specs.Log.{no_flags}
 use Rattle.delivery_token.specs.declared.CopyKey.{CopyKey}
 use Rattle.delivery_token.specs.declared.Job.{Job}
@@ -12,7 +12,7 @@ use Rattle.lmtp_machine.specs.Dialogue.{Submission}
 use Rattle.shard_queue.specs.declared.lane.Entry.{Entry}
 use Rattle.shard_queue.specs.declared.lane.Entry.TheVariants.{Item}
 use Rattle.shard_queue.specs.declared.queue.ShardQueue.{ShardQueue}
-use Rattle.shard_queue.specs.Permits.{WasFull, capacity_of, producers_of}
+use Rattle.shard_queue.specs.Permits.{capacity_of, producers_of}
 use Rattle.lane_work.specs.Talk.{Judged}
 
 -- how many producers a lane has, and how many entries have room there
@@ -30,9 +30,10 @@ rooms_of lanes = map room_of lanes
 abbrev pub room_at : List Room → ℕ → Room
 room_at rooms lane = slice_index_or rooms lane (record { producers = 0; capacity = 0 })
 
--- This producer, which had put just these entries on the lane, tried one more, and at one moment of the try as many waited as there is room for.
+-- This producer, which had put just these entries on the lane, found no room for one more. Where it is the lane's only one it had put at least as many as there is room for. Where there are
+-- others it depends on what these had put, of which no producer knows: that can be said where all of them are known.
 abbrev pub FoundFull : Room → ℕ → List (Entry Job) → Type 0
-FoundFull room seat sent = (seen : List (Entry Job)) × WasFull room.producers room.capacity seat sent seen
+FoundFull room seat sent = room.producers ≡ 1 → seat ≡ 0 → room.capacity ≤ length sent
 
 -- the copies of a message, in the order of its recipients
 abbrev pub copies : List CopyKey → List ℕ → List ℕ → List Job

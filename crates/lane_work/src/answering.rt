@@ -1,11 +1,11 @@
 //! What becomes of one copy that a consumer took: it is delivered under its mailbox's lock, which is
 //! held for that alone, and its producer is told. Which copy is taken next does not belong here.
 
-ghost use Rattle.std.specs.Prelude.{◌≡◌, ◌++◌, ◌∷◌, [], is_some, length, map};
+ghost use Rattle.std.specs.Prelude.{◌≡◌, ◌++◌, ◌∷◌, [], length, map};
 ghost use Rattle.mailbox.specs.Answers.{verdict_of};
 ghost use Rattle.shard_queue.specs.Reply.{IsSender, sender_number, sent_on};
 ghost use Rattle.lane_work.specs.Permits.{AreSenders};
-ghost use Rattle.lane_work.specs.Answering.{IsDelivered, IsJudged, IsKnown, Serves, telling, verdict_on};
+ghost use Rattle.lane_work.specs.Answering.{IsDelivered, IsJudged, Serves, is_ours, telling, verdict_on};
 ghost use Rattle.mailbox_holds.specs.Holds.{UnderLock};
 
 use crate::bells::ring_sessions;
@@ -57,14 +57,13 @@ fn judge<R: Wait>(
     deliver_under(rt, lock, job)
 }
 
-// Whether its mailbox was found, and what its producer is answered: where it wasn't, the copy is refused.
-fn answer_of(judged: Option<Result<Receipt, Refusal>>) -> (bool, Result<Receipt, Refusal>)
-    ensures found { result.0 ≡ is_some judged }
-    ensures verdict { verdict_of result.1 ≡ verdict_on judged }
+// What its producer is answered: where its mailbox wasn't found, the copy is refused.
+fn answer_of(judged: Option<Result<Receipt, Refusal>>) -> Result<Receipt, Refusal>
+    ensures { verdict_of result ≡ verdict_on judged }
 {
     match judged {
-        Some(delivered) => (true, delivered),
-        None => (false, Err(Refusal::NoMemory)),
+        Some(delivered) => delivered,
+        None => Err(Refusal::NoMemory),
     }
 }
 
@@ -105,9 +104,9 @@ fn answer<R: Wait, G: Gate>(
 }
 
 /// What becomes of one copy: it is delivered, and its producer is told. Whether it was a copy of this
-/// house: of a producer that has a channel, and for a mailbox that is there, and was found under its lock.
-/// One of a producer without a channel isn't delivered, and one whose mailbox wasn't found is refused as
-/// NoMemory.
+/// house: of a producer that has a channel, and for a mailbox that is there. One of a producer without a
+/// channel isn't delivered. One whose mailbox isn't there, or isn't the one that is found under its lock,
+/// is refused as NoMemory.
 pub fn serve_copy<R: Wait, G: Gate>(
     rt: &R,
     pace: &mut Pace<'_, G>,
@@ -121,8 +120,8 @@ pub fn serve_copy<R: Wait, G: Gate>(
     requires senders { AreSenders depot.now.channels.items shard senders.old.items }
     ensures senders { AreSenders depot.now.channels.items shard senders.new.items }
 
-    // `true` is said of just the copies whose producer has a channel, and whose mailbox was found.
-    ensures known { IsKnown (length depot.now.mailboxes.items) (length depot.now.channels.items) producer job.now result }
+    // `true` is said of just the copies whose producer has a channel and whose mailbox is there.
+    ensures known { result ≡ is_ours (length depot.now.mailboxes.items) (length depot.now.channels.items) producer job.now }
 
     // Its producer was told one verdict on it (a refusal, where its mailbox wasn't found), and nobody else anything; without a channel nobody was.
     ensures served { Serves (length depot.now.mailboxes.items) (length depot.now.channels.items) shard producer job.now
@@ -134,7 +133,7 @@ pub fn serve_copy<R: Wait, G: Gate>(
     }
     pace.pass();
     let judged = judge(rt, &depot.mailboxes, job);
-    let (is_known, delivered) = answer_of(judged);
+    let delivered = answer_of(judged);
     tell_sessions(depot, job.mailbox, &delivered);
     answer(
         rt,
@@ -144,5 +143,5 @@ pub fn serve_copy<R: Wait, G: Gate>(
         job,
         delivered,
     );
-    is_known
+    usize::from(job.mailbox) < depot.mailboxes.len()
 }

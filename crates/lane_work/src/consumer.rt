@@ -1,11 +1,12 @@
 //! A consumer's life: each copy of its lane is taken, delivered and answered, until the end of every
 //! producer came; then its own permits are ended. What becomes of one copy stands in `answering`.
 
-ghost use Rattle.std.specs.Prelude.{◌≡◌, ◌≤◌, ◌++◌, ◌∷◌, [], true, not, length, map, vec_capacity};
+ghost use Rattle.std.specs.Prelude.{◌≡◌, ◌≤◌, ◌++◌, ◌∷◌, [], true, length, map, vec_capacity};
+ghost use Rattle.std.specs.List.{list_any};
 ghost use Rattle.shard_queue.specs.Permits.{IsConsumer, got};
 ghost use Rattle.shard_queue.specs.Reply.{sent_on};
 ghost use Rattle.lane_work.specs.Permits.{AreSenders};
-ghost use Rattle.lane_work.specs.Answering.{WereKnown};
+ghost use Rattle.lane_work.specs.Answering.{is_nobodys};
 ghost use Rattle.lane_work.specs.inner.Answering.{HaveAnswered};
 ghost use Rattle.lane_work.specs.Consuming.{IsConsumed, items_of};
 ghost use Rattle.lane_work.specs.Ends.{ends_in};
@@ -54,12 +55,12 @@ pub struct Consumed {
     pub copies: Vec<Job>,
     /// Whether these are all that it took.
     pub kept: bool,
-    /// Whether it took one that was none of this house: of a producer without a channel, for a mailbox
-    /// that isn't there, or for one under whose lock another was found.
+    /// Whether it took one that was nobody's: of a producer without a channel, or for a mailbox that
+    /// isn't there.
     pub torn: bool,
 }
 
-// Whether all copies were kept, and whether one was none of this house.
+// Whether all copies were kept, and whether one was nobody's.
 #[derive(Clone, Copy)]
 struct Tally {
     kept: bool,
@@ -99,7 +100,7 @@ fn serve_all<R: Wait, G: Gate>(
     ensures answered { HaveAnswered (length depot.now.mailboxes.items) (length depot.now.channels.items) stall.old.shard
         (got stall.new.permit) (map sent_on stall.old.senders.items) (map sent_on stall.new.senders.items) }
     ensures ends { producers ≤ ends_in (got stall.new.permit) }
-    ensures torn { WereKnown (length depot.now.mailboxes.items) (length depot.now.channels.items) (got stall.new.permit) (not result.torn) }
+    ensures torn { result.torn ≡ list_any (is_nobodys (length depot.now.mailboxes.items) (length depot.now.channels.items)) (got stall.new.permit) }
     ensures kept { result.kept ≡ true → copies.new.items ≡ items_of (got stall.new.permit) }
 {
     let mut tally = Tally {

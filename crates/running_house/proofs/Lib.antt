@@ -3,3 +3,4 @@ pub mod Reports
 pub mod Floors
 pub mod TellLaws
 pub mod Ordered
+pub mod Refuted

@@ -1,5 +1,5 @@
 -- A report of what the threads left, when all queues were closed and the lists agree.
-use Rattle.std.proofs.Common.{◌≡◌, ◌<◌, ◌+◌, ◌==◌, ◌∙◌, ℕ, Bool, List, [], ◌∷◌, All, Some, Vec, take, drop, length, map, slice_get, slice_index_or, sym, ap, subst, arith}
+use Rattle.std.proofs.Common.{◌≡◌, ◌<◌, ◌+◌, ◌==◌, ◌∙◌, ℕ, zero, suc, Bool, List, [], ◌∷◌, All, Some, Vec, take, drop, length, map, slice_get, slice_index_or, sym, ap, subst, arith}
 use Rattle.std.specs.Global.{Global}
 use Rattle.std.proofs.lemmas.List.{length-map, length-take-le}
 use Rattle.agreement.specs.Lists.{ListsAgree}
@@ -38,6 +38,7 @@ use Rattle.std.proofs.lemmas.List.Elements.{All-cons, All-head, All-nil, All-tai
 use Rattle.running_house.specs.Order.{AreInLaneOrder}
 use Rattle.running_house.specs.inner.Agree.{AreTexts, IsFloorFor, IsNumbered}
 use Rattle.running_house.specs.Plan.{connections_of, premises_for, producers_in}
+use Rattle.running_house.specs.Refusals.{MayCome}
 use Rattle.running_house.specs.declared.plan.Plan.{Plan}
 use Rattle.running_house.specs.declared.plan.Report.{Report}
 use Rattle.running_house.proofs.Ordered.{in_lane_order, numbered_from, told_once}
@@ -51,6 +52,12 @@ all_emptied {A} f producers room (c ∷ cs) all =
     All-cons (λ (d : A). IsEmptied producers (f d)) c cs
     (record { merge = record { each = one.merge.each; known = one.merge.known; within = omega arith; legal = one.merge.legal }; closed = one.closed })
     (all_emptied f producers room cs (All-tail (λ (d : A). IsWhole producers room (f d)) c cs all))
+
+-- what holds of each list of notes holds of the one at a position, and of none behind the last
+pub all_noted : {A : Type 0} (notes : A → List Noted) (P : Noted → Type 0) (logs : List A) (p : ℕ) → All (λ log. All P (notes log)) logs → All P (slice_index_or (map notes logs) p [])
+all_noted {A} notes P [] p all = All-nil P
+all_noted {A} notes P (log ∷ logs) zero all = All-head (λ (l : A). All P (notes l)) log logs all
+all_noted {A} notes P (log ∷ logs) (suc p) all = all_noted notes P logs p (All-tail (λ (l : A). All P (notes l)) log logs all)
 
 module _ (plan : Plan) (floor : Floor) (is : IsFloorFor plan floor) (ws : List Worked) (cs : List Consumed)
     (worked : AllAt (IsProduceOf floor plan.workers.items plan.sessions.items) 0 ws) (services : AllAt (IsServiceOf floor) 0 cs)
@@ -158,11 +165,25 @@ module _ (plan : Plan) (floor : Floor) (is : IsFloorFor plan floor) (ws : List W
       subst (λ (copies : List (List Job)). AreInLaneOrder m (slice_index_or (report.texts_of r) m []) (slice_index_or (report.accepted_of r) m []) (slice_index_or copies (shard_of (premises_for plan).directory m) [])) copies_same
       (in_lane_order m (slice_index_or (report.texts_of r) m []) (slice_index_or (report.accepted_of r) m []) (slice_index_or (map (λ c. c.items) books.copies.items) (shard_of (premises_for plan).directory m) []) here.met)
 
+  logs_count : length r.logs.items ≡ producers_in plan
+  logs_count = ap (λ v. length v.items) logs_are ∙ ap length balanced.logs ∙ length-map ws (λ (w : Worked). w.log) ∙ producers
+
+  pub refusals : All (λ log. All (MayCome plan.config (length r.logs.items) floor.office.directory (report.accepted_of r) (map (λ c. c.items) books.copies.items)) log.notes) r.logs.items
+      → (p : ℕ) → p < producers_in plan
+      → All (MayCome plan.config (producers_in plan) (premises_for plan).directory (report.accepted_of r) (report.copies_taken r)) (slice_index_or (report.notes_of r) p [])
+  refusals all p under =
+      let same : floor.office.directory ≡ (premises_for plan).directory = ap (λ h. h.directory) is.premises in
+      let here = all_noted (λ l. l.notes) (MayCome plan.config (length r.logs.items) floor.office.directory (report.accepted_of r) (map (λ c. c.items) books.copies.items)) r.logs.items p all in
+      subst (λ (n : ℕ). All (MayCome plan.config n (premises_for plan).directory (report.accepted_of r) (report.copies_taken r)) (slice_index_or (report.notes_of r) p [])) logs_count
+      (subst (λ (d : Directory). All (MayCome plan.config (length r.logs.items) d (report.accepted_of r) (report.copies_taken r)) (slice_index_or (report.notes_of r) p [])) same
+      (subst (λ (copies : List (List Job)). All (MayCome plan.config (length r.logs.items) floor.office.directory (report.accepted_of r) copies) (slice_index_or (report.notes_of r) p [])) copies_same here))
+
   pub agrees : (whole : Bool) → whole ≡ (length plan.sessions.items == 0)
       → ListsAgree floor.office.directory whole (report.notes_of r) (map (λ c. c.items) books.copies.items) (report.accepted_of r) (report.texts_of r)
       → ListsMet floor.office.directory whole (report.notes_of r) (map (λ c. c.items) books.copies.items) (report.accepted_of r) (report.texts_of r)
-      → IsNumbered plan.config.first_uid r → Agrees plan r
-  agrees whole all lists met numbered = record {
+      → IsNumbered plan.config.first_uid r
+      → All (λ log. All (MayCome plan.config (length r.logs.items) floor.office.directory (report.accepted_of r) (map (λ c. c.items) books.copies.items)) log.notes) r.logs.items → Agrees plan r
+  agrees whole all lists met numbered founded = record {
     accounts = accounts;
     sessions = sessions;
     lists = subst (λ x. ListsAgree x.directory (length plan.sessions.items == 0) (report.notes_of r) (report.copies_taken r) (report.accepted_of r) (report.texts_of r)) is.premises
@@ -173,6 +194,7 @@ module _ (plan : Plan) (floor : Floor) (is : IsFloorFor plan floor) (ws : List W
     uids = λ m under. numbered_from plan.config.first_uid r.accepted.items numbered.accepted numbered.begins m;
     once = λ m under. told_once r.texts.items numbered.once m;
     in_order = in_order whole met;
+    refusals = refusals founded;
     seats = seats_are;
     replies = replies_count;
     said = count;

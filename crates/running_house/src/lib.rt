@@ -6,6 +6,7 @@
 mod begun;
 mod laws;
 mod plan;
+mod refusals;
 mod report;
 mod run;
 

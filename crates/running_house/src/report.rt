@@ -11,11 +11,14 @@ ghost use Rattle.running_house.specs.Agree.{Agrees, accepted_of, notes_of, texts
 ghost use Rattle.reckoning.specs.Shelves.{AreNumbered, AreToldOnce};
 ghost use Rattle.running_house.specs.inner.Agree.{AreTexts, IsFloorFor, IsNumbered};
 ghost use Rattle.running_house.specs.Plan.{of_reckoning, producers_in};
+ghost use Rattle.running_house.specs.Refusals.{MayCome};
 
 use crate::begun::begin_at;
 use crate::plan::{Plan, Report, WorkFault};
+use crate::refusals::{Evidence, all_may_come};
 use agreement::lists_agree;
 use envelope::Directory;
+use house::Config;
 use house_floor::{Baskets, Floor};
 use house_threads::Ran;
 use mailbox::Mailbox;
@@ -58,7 +61,7 @@ fn compare(
     alloc: Global,
     directory: &Directory,
     whole: bool,
-    first_uid: u32,
+    config: &Config,
     books: Books,
     shelves: Shelves,
     sessions: Vec<Vec<u8>>,
@@ -70,7 +73,9 @@ fn compare(
         (texts_of r)) }
     ensures met { IfOk result (λ r. ListsMet directory.now whole (notes_of r) (map (λ c. c.items) books.copies.items) (accepted_of r)
         (texts_of r)) }
-    ensures numbered { IfOk result (IsNumbered first_uid) }
+    ensures numbered { IfOk result (IsNumbered config.now.first_uid) }
+    ensures refusals { IfOk result (λ r. All (λ log. All (MayCome config.now (length r.logs.items) directory.now (accepted_of r)
+        (map (λ c. c.items) books.copies.items)) log.notes) r.logs.items) }
     ensures same { IfOk result (λ r. (r.replies ≡ books.replies) × (r.logs ≡ books.logs) × (r.sessions ≡ sessions) × (r.closed ≡ books.closed)) }
     ensures fault { IfErr result (λ fault. (fault ≡ WorkFault.NoMemory) ⊎ (fault ≡ WorkFault.Torn)) }
 {
@@ -93,7 +98,16 @@ fn compare(
     if !agree {
         return Err(WorkFault::Torn);
     }
-    if !begin_at(accepted.as_slice(), first_uid) {
+    if !begin_at(accepted.as_slice(), config.first_uid) {
+        return Err(WorkFault::Torn);
+    }
+    let evidence = Evidence {
+        config,
+        directory,
+        accepted: accepted.as_slice(),
+        copies: copies.as_slice(),
+    };
+    if !all_may_come(&evidence, logs.as_slice()) {
         return Err(WorkFault::Torn);
     }
     Ok(Report {
@@ -121,6 +135,8 @@ fn report_on(
     ensures met { IfOk result (λ r. ListsMet directory.now (length plan.now.sessions.items == 0) (notes_of r)
         (map (λ c. c.items) books.copies.items) (accepted_of r) (texts_of r)) }
     ensures numbered { IfOk result (IsNumbered plan.now.config.first_uid) }
+    ensures refusals { IfOk result (λ r. All (λ log. All (MayCome plan.now.config (length r.logs.items) directory.now (accepted_of r)
+        (map (λ c. c.items) books.copies.items)) log.notes) r.logs.items) }
     ensures parts { IfOk result (λ r. (r.replies.items ≡ take (length plan.now.workers.items) books.replies.items) × (r.logs ≡ books.logs) ×
         (r.closed ≡ books.closed) × AreTexts (drop (length plan.now.workers.items) books.replies.items) r.sessions.items ×
         (length plan.now.workers.items + vec_len r.sessions ≡ vec_len books.replies)) }
@@ -132,7 +148,7 @@ fn report_on(
         alloc,
         directory,
         plan.sessions.is_empty(),
-        plan.config.first_uid,
+        &plan.config,
         books,
         shelves,
         sessions,

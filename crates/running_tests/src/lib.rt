@@ -18,6 +18,8 @@ mod notebooks;
 #[cfg(test)]
 mod plans;
 #[cfg(test)]
+mod refusals;
+#[cfg(test)]
 mod reports;
 #[cfg(test)]
 mod rows;

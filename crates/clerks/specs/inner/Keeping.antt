@@ -1,21 +1,22 @@
 -- What bodies and proofs say besides: what a clerk keeps, whoever had its lock.
-use Rattle.std.specs.Prelude.{◌≡◌, Bool, not, List, [], length, map, Option, Some}
+use Rattle.std.specs.Prelude.{◌≡◌, Bool, List, [], length, map, Option, Some}
+use Rattle.std.specs.List.{list_any}
 use Rattle.delivery_token.specs.declared.Job.{Job}
 use Rattle.shard_queue.specs.declared.queue.ShardQueue.{ShardQueue}
 use Rattle.shard_queue.specs.Reply.{sent_on}
 use Rattle.shard_queue.specs.Permits.{got}
-use Rattle.lane_work.specs.Answering.{WereKnown}
+use Rattle.lane_work.specs.Answering.{is_nobodys}
 use Rattle.lane_work.specs.inner.Answering.{HaveAnswered}
 use Rattle.lane_work.specs.Permits.{AreSenders}
 use Rattle.lane_work.specs.declared.consumer.Depot.{Depot}
 use Rattle.lane_work.specs.declared.consumer.Stall.{Stall}
 use Rattle.clerks.specs.Keeping.{IsOnLane}
 
--- Of a hall with this depot: its senders are of all channels, and what was said on each is the answers to the copies that were taken, and nothing else. It is torn where one of these was none of this house.
+-- Of a hall with this depot: its senders are of all channels, and what was said on each is the answers to the copies that were taken, and nothing else. It is torn where one of these was nobody's.
 pub record IsAnswering (depot : Depot) (stall : Stall) (is_torn : Bool) : Type 0 where
   pub senders : AreSenders depot.channels.items stall.shard stall.senders.items
   pub answered : HaveAnswered (length depot.mailboxes.items) (length depot.channels.items) stall.shard (got stall.permit) [] (map sent_on stall.senders.items)
-  pub torn : WereKnown (length depot.mailboxes.items) (length depot.channels.items) (got stall.permit) (not is_torn)
+  pub torn : is_torn ≡ list_any (is_nobodys (length depot.mailboxes.items) (length depot.channels.items)) (got stall.permit)
 
 -- all that, of the hall that the clerk's type names
 pub record Keeps (lanes : Option (List (ShardQueue Job))) (depot : Option Depot) (stall : Stall) (torn : Bool) : Type 0 where

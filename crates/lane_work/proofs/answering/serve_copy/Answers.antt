@@ -1,7 +1,7 @@
 use Rattle.std.proofs.Common.{rules, ◌<◌, ◌∙◌, sym, subst, inr, refl, length, arith}
 use Rattle.shard_queue.specs.Reply.{IsSender}
-use Rattle.lane_work.specs.Answering.{IsJudged, IsKnown}
-use Rattle.lane_work.proofs.AnswerLaws.{known_judged, serves_at}
+use Rattle.lane_work.specs.Answering.{IsJudged}
+use Rattle.lane_work.proofs.AnswerLaws.{serves_at}
 use Rattle.lane_work.proofs.PermitLaws.{sender_here, senders_length, senders_set}
 use Rattle.lane_work.proofs.answering.serve_copy.Goals as goal
 
@@ -24,13 +24,6 @@ returns-clause-senders g c =
     senders_set c.args.depot.now.channels.items c.args.shard c.args.senders.now.items c.requires.senders c.from-position.result c.index.result.now c.answer.new.permit
     (subst (λ q. IsSender q c.answer.new.permit) c.index.ensures c.answer.ensures.permit.0) (c.answer.ensures.permit.1 ∙ was.1)
 
-pub returns-clause-known : goal.returns-clause-known
-returns-clause-known g c =
-    let m = length c.args.depot.now.mailboxes.items in
-    let n = length c.args.depot.now.channels.items in
-    let judged = subst (λ l. IsJudged (length l) c.args.job.now c.judge-judged.result) c.deref.ensures.value c.judge-judged.ensures in
-    subst (IsKnown m n c.args.producer c.args.job.now) (sym c.answer_of-is_known.ensures.found) (known_judged m n c.args.producer c.args.job.now c.judge-judged.result (search rules) judged)
-
 pub returns-clause-served : goal.returns-clause-served
 returns-clause-served g c =
     let channels = c.args.depot.now.channels.items in
@@ -40,5 +33,5 @@ returns-clause-served g c =
     let at : c.from-position.result < length senders = omega (arith, n, c.if-position-len.false, c.len.ensures) in
     let judged = subst (λ l. IsJudged (length l) c.args.job.now c.judge-judged.result) c.deref.ensures.value c.judge-judged.ensures in
     let done = serves_at (length c.args.depot.now.mailboxes.items) (length channels) c.args.shard c.from-position.result senders c.index_mut.result.now c.answer.new.permit c.args.job.now _
-    (search rules) at c.index_mut.ensures.value was.1 c.answer.ensures.sent (record { came = c.judge-judged.result; judged = judged; tells = c.answer_of-is_known.ensures.verdict }) in
+    (search rules) at c.index_mut.ensures.value was.1 c.answer.ensures.sent (record { came = c.judge-judged.result; judged = judged; tells = c.answer_of-delivered.ensures }) in
     search rules

@@ -1,4 +1,4 @@
-use Rattle.std.proofs.Common.{◌≡◌, ◌∙◌, ap, sym, subst, map, ◌∷◌, [], Vec, IfOk, OnOk, arith, ℕ, List, slice_index_or, false}
+use Rattle.std.proofs.Common.{ap, sym, subst, map, ◌∷◌, [], Vec, IfOk, arith, slice_index_or, false}
 use Rattle.std.specs.Global.{Global}
 use Rattle.std.proofs.lemmas.List.{length-map}
 use Rattle.std.proofs.lemmas.Result.{on_ok_weaker}
@@ -9,7 +9,7 @@ use Rattle.lane_work.specs.Copies.{rooms_of}
 use Rattle.lane_work.specs.inner.Copies.{WasJudged}
 use Rattle.delivery_token.specs.declared.log.Noted.{Noted}
 use Rattle.shard_queue.specs.declared.reply.ReceiverPermit.{ReceiverPermit}
-use Rattle.lane_work.specs.Awaiting.{HearsItsOwn, copies_in, verdicts_in}
+use Rattle.lane_work.specs.Awaiting.{copies_in, verdicts_in}
 use Rattle.lane_work.specs.Permits.{overs}
 use Rattle.submission.specs.Verdicts.{unknown}
 use Rattle.lane_work.proofs.AwaitedLaws.{tried_counts}

@@ -1,13 +1,14 @@
 use Rattle.std.proofs.Common.{rules, ◌≡◌, ◌++◌, ◌∷◌, [], ◌∙◌, arith, sym, refl, subst, length, map, ap, not}
+use Rattle.std.specs.List.{list_any}
 use Rattle.std.proofs.lemmas.List.{length-map}
 use Rattle.shard_queue.specs.declared.lane.Entry.TheVariants.{Item, End}
 use Rattle.shard_queue.specs.Reply.{sent_on}
 use Rattle.shard_queue.specs.Permits.{got}
-use Rattle.lane_work.specs.Answering.{WereKnown}
+use Rattle.lane_work.specs.Answering.{is_nobodys}
 use Rattle.lane_work.specs.inner.Answering.{HaveAnswered}
 use Rattle.lane_work.specs.Consuming.{items_of}
 use Rattle.lane_work.specs.Ends.{ends_in}
-use Rattle.lane_work.proofs.AnswerLaws.{answers_begin, answers_end, answers_item, known_copy, known_end, known_none}
+use Rattle.lane_work.proofs.AnswerLaws.{answers_begin, answers_end, answers_item, torn_end, torn_next}
 use Rattle.lane_work.proofs.PermitLaws.{ends_next, kept_end, kept_item, senders_length}
 use Rattle.lane_work.proofs.consumer.serve_all.Goals as goal
 
@@ -22,7 +23,7 @@ loop-preserved-in-Item g c =
       answers_item m n c.args.stall.now.shard c.in-Item.p c.in-Item.job (got c.loop.stall.permit) (got c.take_as.new.permit) (map sent_on c.args.stall.now.senders.items) (map sent_on c.loop.stall.senders.items)
           (map sent_on c.serve_copy-known.new.senders.items) (search rules) (length-map c.loop.stall.senders.items sent_on ∙ senders_length c.args.depot.now.channels.items c.args.stall.now.shard c.loop.stall.senders.items v.2)
           c.serve_copy-known.ensures.served v.3,
-      known_copy m n c.in-Item.p c.in-Item.job (got c.loop.stall.permit) (got c.take_as.new.permit) c.loop.tally.torn c.serve_copy-known.result (search rules) c.serve_copy-known.ensures.known v.4,
+      torn_next m n (got c.loop.stall.permit) (got c.take_as.new.permit) (Item c.in-Item.p c.in-Item.job) c.loop.tally.torn (not c.serve_copy-known.result) (search rules) (ap not c.serve_copy-known.ensures.known) v.4,
       kept_item (got c.loop.stall.permit) (got c.take_as.new.permit) c.loop.copies.items c.keep.new.copies.items c.in-Item.p c.in-Item.job c.loop.tally.kept c.keep.result (search rules) v.5 c.keep.ensures,
       (let grew : got c.take_as.new.permit ≡ got c.loop.stall.permit ++ Item c.in-Item.p c.in-Item.job ∷ [] = search rules in
           let e = ap ends_in grew ∙ ends_next (got c.loop.stall.permit) (Item c.in-Item.p c.in-Item.job) in omega (arith, e, v.6)),
@@ -37,7 +38,7 @@ loop-init g c =
       c.requires.permit.0,
       c.requires.senders,
       answers_begin m n c.args.stall.now.shard (got c.args.stall.now.permit) (map sent_on c.args.stall.now.senders.items) none,
-      known_none m n (got c.args.stall.now.permit) none,
+      ap (list_any (is_nobodys m n)) (sym none),
       (λ kept. c.requires.none ∙ ap items_of (sym none)),
       omega arith,
     )
@@ -53,7 +54,7 @@ loop-preserved-in-End g c =
       c.take_as.ensures.permit,
       v.2,
       answers_end m n c.args.stall.now.shard c.in-End.field-0 old new (map sent_on c.args.stall.now.senders.items) (map sent_on c.loop.stall.senders.items) (search rules) v.3,
-      known_end m n c.in-End.field-0 old new (not c.loop.tally.torn) (search rules) v.4,
+      v.4 ∙ torn_end m n old new c.in-End.field-0 (search rules),
       (λ kept. kept_end old new c.loop.copies.items c.in-End.field-0 (search rules) (v.5 kept)),
       (let grew : new ≡ old ++ End c.in-End.field-0 ∷ [] = search rules in
           let e = ap ends_in grew ∙ ends_next old (End c.in-End.field-0) in search rules),
@@ -71,7 +72,7 @@ loop-preserved g c =
       c.take_as.ensures.permit,
       v.2,
       subst (λ l. HaveAnswered m n c.args.stall.now.shard l (map sent_on c.args.stall.now.senders.items) (map sent_on c.loop.stall.senders.items)) same v.3,
-      subst (λ l. WereKnown m n l (not c.loop.tally.torn)) same v.4,
+      v.4 ∙ ap (list_any (is_nobodys m n)) same,
       (λ kept. v.5 kept ∙ ap items_of same),
       (let e = ap ends_in same in omega (arith, e, v.6)),
     )

@@ -1,4 +1,4 @@
-use Rattle.std.proofs.Common.{◌==◌, ◌∙◌, map, length, refl, sym, ap, subst, arith}
+use Rattle.std.proofs.Common.{◌==◌, ◌∙◌, All, map, length, refl, sym, ap, subst, arith}
 use Rattle.std.proofs.lemmas.List.{length-map}
 use Rattle.lane_work.specs.declared.consumer.Consumed.{Consumed}
 use Rattle.lane_work.specs.declared.worker.Worked.{Worked}
@@ -9,6 +9,7 @@ use Rattle.agreement.specs.Lists.{ListsAgree}
 use Rattle.agreement.specs.Walk.{ListsMet}
 use Rattle.reckoning.specs.Balancing.{IsBalanced}
 use Rattle.running_house.specs.Agree.{accepted_of, notes_of, texts_of}
+use Rattle.running_house.specs.Refusals.{MayCome}
 use Rattle.running_house.proofs.Moves.{both, if_ok}
 use Rattle.running_house.proofs.Reports.{agrees}
 use Rattle.running_house.proofs.report.report_of.Goals as goal
@@ -56,7 +57,7 @@ returns-clause-agrees c =
     (subst (λ v. IsBalanced c.remains_of-directory.result.lanes.items v.items ws.items cs.items books) c.remains_of-directory.ensures.channels c.in_ok-books.ensures.balanced) in
     let producers = sym ws.ok.0 ∙ c.requires.all.worked in
     let laid = ap length balanced.replies ∙ length-map ws.items (λ (w : Worked). w.replies) in
-    if_ok c.report_on.result (both _ _ c.report_on.result c.report_on.ensures.lists (both _ _ c.report_on.result c.report_on.ensures.met c.report_on.ensures.numbered)) c.report_on.ensures.parts
+    if_ok c.report_on.result (both _ _ c.report_on.result c.report_on.ensures.lists (both _ _ c.report_on.result c.report_on.ensures.met (both _ _ c.report_on.result c.report_on.ensures.numbered c.report_on.ensures.refusals))) c.report_on.ensures.parts
     (λ r lists parts. agrees c.args.plan.now c.args.floor c.requires.floor ws.items cs.items c.requires.worked c.requires.consumed
     producers (sym cs.ok.0 ∙ c.requires.all.consumed) books balanced
     r parts.0 parts.1 parts.2 parts.3
@@ -64,4 +65,5 @@ returns-clause-agrees c =
     whole refl
     (subst (λ d. ListsAgree d whole (notes_of r) (map (λ v. v.items) books.copies.items) (accepted_of r) (texts_of r)) c.remains_of-directory.ensures.directory lists.0)
     (subst (λ d. ListsMet d whole (notes_of r) (map (λ v. v.items) books.copies.items) (accepted_of r) (texts_of r)) c.remains_of-directory.ensures.directory lists.1.0)
-    lists.1.1)
+    lists.1.1.0
+    (subst (λ d. All (λ log. All (MayCome c.args.plan.now.config (length r.logs.items) d (accepted_of r) (map (λ v. v.items) books.copies.items)) log.notes) r.logs.items) c.remains_of-directory.ensures.directory lists.1.1.1))

@@ -1,10 +1,11 @@
-use Rattle.std.proofs.Common.{◌≡◌, ◌++◌, ◌∷◌, [], ◌∙◌, ap, not, sym, subst, length, slice_get, Some}
+use Rattle.std.proofs.Common.{◌≡◌, ◌++◌, ◌∷◌, [], ◌∙◌, ap, sym, subst, length, slice_get, Some}
+use Rattle.std.specs.List.{list_any}
 use Rattle.shard_queue.specs.declared.lane.Entry.TheVariants.{Item, End}
 use Rattle.shard_queue.specs.Permits.{WasEmpty, capacity_of, got, producers_of, take_seen}
-use Rattle.lane_work.specs.Answering.{WereKnown}
-use Rattle.lane_work.proofs.AnswerLaws.{known_copy, known_end}
+use Rattle.lane_work.specs.Answering.{is_nobodys}
+use Rattle.lane_work.proofs.AnswerLaws.{torn_end}
 use Rattle.clerks.specs.Clerk.{Clerk}
-use Rattle.clerks.proofs.KeepLaws.{keeps_next, lane_at, one_inside}
+use Rattle.clerks.proofs.KeepLaws.{keeps_next, lane_at, one_inside, torn_copy}
 use Rattle.clerks.proofs.clerk.Clerk.step.Goals as goal
 
 pub take_turn-requires-clause-answered : goal.take_turn-requires-clause-answered
@@ -22,7 +23,7 @@ invariant_of-self g c =
     let here = lane_at c.args.lanes.now c.from.result old.shard c.index-lanes-from.result c.from.ensures (c.self.invariant.on_lane c.args.lanes.now c.requires.lanes).there c.index-lanes-from.is in
     keeps_next g.H.Hall.lanes g.H.Hall.depot c.args.lanes.now d old new c.index-lanes-from.result c.self.inside.torn _ c.requires.lanes c.requires.depot here c.self.invariant
     took.shard took.permit took.senders took.answered
-    (known_copy m n turned.0 turned.1 (got old.permit) (got new.permit) c.self.inside.torn c.in-Copy.ours turned.2 turned.3 (c.self.invariant.answering d c.requires.depot).torn)
+    (torn_copy m n turned.0 turned.1 (got old.permit) (got new.permit) c.self.inside.torn c.in-Copy.ours turned.2 turned.3 (c.self.invariant.answering d c.requires.depot).torn)
 
 pub invariant_of-self-in-End : goal.invariant_of-self-in-End
 invariant_of-self-in-End g c =
@@ -36,7 +37,7 @@ invariant_of-self-in-End g c =
     let here = lane_at c.args.lanes.now c.from.result old.shard c.index-lanes-from.result c.from.ensures (c.self.invariant.on_lane c.args.lanes.now c.requires.lanes).there c.index-lanes-from.is in
     keeps_next g.H.Hall.lanes g.H.Hall.depot c.args.lanes.now d old new c.index-lanes-from.result c.self.inside.torn _ c.requires.lanes c.requires.depot here c.self.invariant
     took.shard took.permit took.senders took.answered
-    (known_end m n turned.0 (got old.permit) (got new.permit) (not c.self.inside.torn) turned.1 (c.self.invariant.answering d c.requires.depot).torn)
+    ((c.self.invariant.answering d c.requires.depot).torn ∙ torn_end m n (got old.permit) (got new.permit) turned.0 turned.1)
 
 pub invariant_of-self-in-Empty : goal.invariant_of-self-in-Empty
 invariant_of-self-in-Empty g c =
@@ -50,7 +51,7 @@ invariant_of-self-in-Empty g c =
     let here = lane_at c.args.lanes.now c.from.result old.shard c.index-lanes-from.result c.from.ensures (c.self.invariant.on_lane c.args.lanes.now c.requires.lanes).there c.index-lanes-from.is in
     keeps_next g.H.Hall.lanes g.H.Hall.depot c.args.lanes.now d old new c.index-lanes-from.result c.self.inside.torn _ c.requires.lanes c.requires.depot here c.self.invariant
     took.shard took.permit took.senders took.answered
-    (subst (λ l. WereKnown m n l (not c.self.inside.torn)) (sym same) (c.self.invariant.answering d c.requires.depot).torn)
+    ((c.self.invariant.answering d c.requires.depot).torn ∙ ap (list_any (is_nobodys m n)) (sym same))
 
 pub returns-in-Copy-clause-took : goal.returns-in-Copy-clause-took
 returns-in-Copy-clause-took g c =

@@ -1,0 +1,36 @@
+-- Which refusals of a copy can have come, by what a report lists of its mailbox and of its shard's lane.
+use Rattle.std.specs.Prelude.{◌≡◌, ◌<◌, ◌≤◌, ◌+◌, ◌++◌, ℕ, List, [], All, length, slice_index_or}
+use Rattle.delivery_token.specs.Keys.{Precedes}
+use Rattle.delivery_token.specs.declared.CopyKey.{CopyKey}
+use Rattle.delivery_token.specs.declared.Job.{Job}
+use Rattle.delivery_token.specs.declared.Refusal.TheVariants as why
+use Rattle.delivery_token.specs.declared.Verdict.{Verdict}
+use Rattle.delivery_token.specs.declared.Verdict.TheVariants.{Stored, Refused}
+use Rattle.delivery_token.specs.declared.log.Noted.{Noted}
+use Rattle.envelope.specs.Directory.{Directory, shard_of}
+use Rattle.house.specs.declared.config.Config.{Config}
+
+-- Of the copies that were taken from a lane, in their order, some first ones, of which this key's own producer put none later than the copy with this key, are so many that a
+-- lane of this depth had no room for one more, if an end of each other producer stood among them.
+pub record HadNoRoom (depth producers : ℕ) (key : CopyKey) (copies : List Job) : Type 0 where
+  pub first : List Job
+  pub later : List Job
+  pub split : copies ≡ first ++ later
+  pub own : All (λ job. job.key.seat ≡ key.seat → Precedes job.key key) first
+  pub many : depth < length first + producers
+
+-- `accepted`: what each mailbox accepted; `copies`: what was taken from each shard's lane
+module _ (config : Config) (producers : ℕ) (directory : Directory) (accepted : List (List (CopyKey × ℕ))) (copies : List (List Job)) where
+  -- What has to be so where this was the verdict on the copy with this key for this mailbox. Nothing has to, where it was stored, which the lists say; nor where its producer
+  -- had closed the shard, which its account says; nor where memory was refused, which may be at any time.
+  abbrev pub Allows : CopyKey → (mailbox : ℕ) → Verdict → Type 0
+  Allows key mailbox (Stored uid) = Unit {0}
+  Allows key mailbox (Refused why.Full) = HadNoRoom config.depth producers key (slice_index_or copies (shard_of directory mailbox) [])
+  Allows key mailbox (Refused why.MailboxFull) = config.messages ≤ length (slice_index_or accepted mailbox [])
+  Allows key mailbox (Refused why.NoMemory) = Unit {0}
+  Allows key mailbox (Refused why.UidSpent) = 4294967295 ≤ config.first_uid + length (slice_index_or accepted mailbox [])
+  Allows key mailbox (Refused why.Shut) = Unit {0}
+
+  -- the verdict that was noted can have come
+  abbrev pub MayCome : Noted → Type 0
+  MayCome noted = Allows noted.key noted.mailbox noted.verdict
