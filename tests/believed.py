@@ -5,7 +5,8 @@
     tests/believed.py --page docs/PROMISE.md    the same check that the gate makes: the page lists these files, each with its lines, and no other of specs/
     tests/believed.py CRATE::FUNCTION ..    those of other functions
     tests/believed.py --apart               whether what public clauses say stands apart, as the gate checks too: each definition of specs/ is cited by a
-                                            clause that another crate can see, those of specs/inner/ by none, and specs/rows/ has tables of worked examples
+                                            clause that another crate can see, those of specs/inner/ by none, and specs/rows/ has tables of worked examples,
+                                            which no clause cites
 
 It goes by names: a definition counts where its name stands in the text of one that counts (or in a clause), and is its file's own or is
 imported there. A constructor or a field counts with its type. Types of the code are counted, and not opened; what the kit's libraries define is
@@ -214,10 +215,12 @@ def apart():
                     continue
             sides[side] += len(source.text)
             for name in source.text:
-                if side == "rows" or name in NOTATION or (path, name) in WITH_ITS_FILE:
+                if name in NOTATION or (path, name) in WITH_ITS_FILE:
                     continue
-                if (name in closure.reached.get(path, ())) != (side == "specs"):
-                    wrong.append(f"{path}: {name} is cited by {'no' if side == 'specs' else 'a'} public clause")
+                is_cited = name in closure.reached.get(path, ())
+                # A worked example need not be cited, and what is cited is none.
+                if is_cited != (side == "specs") and (is_cited or side != "rows"):
+                    wrong.append(f"{path}: {name} is cited by {'a' if is_cited else 'no'} public clause")
     return wrong, sides
 
 

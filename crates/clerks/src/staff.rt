@@ -4,8 +4,8 @@
 ghost use Rattle.std.specs.Prelude.{◌≡◌, ◌≤◌, ◌<◌, [], All, IfOk, Some, true, false, length, map, vec_len, vec_capacity};
 ghost use Rattle.lane_work.specs.declared.consumer.Depot.{Depot};
 ghost use Rattle.lane_permits.specs.Rooms.{AreRooms};
-ghost use Rattle.lane_permits.specs.rows.Rows.{AreConsumers};
-ghost use Rattle.lane_permits.specs.rows.SenderRows.{AreSenderEndedHands};
+ghost use Rattle.lane_permits.specs.LanePermits.{AreConsumers};
+ghost use Rattle.lane_permits.specs.ChannelPermits.{AreSenderEndedHands};
 ghost use Rattle.house_floor.specs.Crew.{AllAt, IsStand};
 ghost use Rattle.clerks.specs.Staff.{IsService};
 

@@ -7,7 +7,7 @@ use Rattle.shard_queue.specs.declared.queue.Ended.{Ended}
 use Rattle.shard_queue.specs.declared.queue.ShardQueue.{ShardQueue}
 use Rattle.shard_queue.specs.declared.queue.ConsumerPermit.{ConsumerPermit}
 use Rattle.lane_permits.specs.Rooms.{AreRooms}
-use Rattle.lane_permits.specs.rows.Rows.{EndedRows}
+use Rattle.lane_permits.specs.LanePermits.{EndedRows}
 use Rattle.lane_permits.proofs.RowLaws.{none_ended}
 use Rattle.lane_work.specs.declared.consumer.Consumed.{Consumed}
 use Rattle.house_floor.specs.Crew.{AllAt, IsPost}

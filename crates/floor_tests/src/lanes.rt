@@ -5,7 +5,7 @@ ghost use Rattle.std.specs.Prelude.{◌≡◌, ◌≤◌, [], length, map, All, 
 ghost use Rattle.shard_queue.specs.Permits.{IsConsumer, IsEnded, IsProducer, ended_number, number_of};
 ghost use Rattle.lane_work.specs.Permits.{AreEnded, ArePermits, IsPermit, permit_number};
 ghost use Rattle.lane_permits.specs.Rooms.{AreHandRooms};
-ghost use Rattle.lane_permits.specs.rows.Rows.{AreConsumers, AreEndedHands, AreHands};
+ghost use Rattle.lane_permits.specs.LanePermits.{AreConsumers, AreEndedHands, AreHands};
 
 use delivery_token::Job;
 use lane_permits::{

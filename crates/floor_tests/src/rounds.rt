@@ -8,7 +8,7 @@ ghost use Rattle.shard_queue.specs.Reply.{IsReceiver};
 ghost use Rattle.shard_queue.specs.Permits.{IsProducer, number_of};
 ghost use Rattle.lane_work.specs.Permits.{ArePermits, IsPermit, permit_number};
 ghost use Rattle.lane_permits.specs.Rooms.{AreRooms};
-ghost use Rattle.lane_permits.specs.rows.Rows.{AreConsumers, EndedRows};
+ghost use Rattle.lane_permits.specs.LanePermits.{AreConsumers, EndedRows};
 ghost use Rattle.house_floor.specs.Crew.{AllAt, IsCrew, IsPost, IsStand};
 ghost use Rattle.house_floor.specs.Opening.{AreBaskets};
 ghost use Rattle.floor_tests.specs.inner.Rounds.{AreSomeones, IsOwnPost};

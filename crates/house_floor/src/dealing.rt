@@ -5,8 +5,8 @@ ghost use Rattle.std.specs.Prelude.{◌≡◌, ◌≤◌, [], All, length, map, 
 ghost use Rattle.house_floor.specs.Crew.{AllAt, IsPost, IsStand};
 ghost use Rattle.house_floor.specs.inner.Making.{AreUndealt};
 ghost use Rattle.lane_permits.specs.Rooms.{AreRooms};
-ghost use Rattle.lane_permits.specs.rows.Rows.{AreConsumers, AreHands};
-ghost use Rattle.lane_permits.specs.rows.SenderRows.{AreReceivers, AreSenderHands};
+ghost use Rattle.lane_permits.specs.LanePermits.{AreConsumers, AreHands};
+ghost use Rattle.lane_permits.specs.ChannelPermits.{AreReceivers, AreSenderHands};
 ghost use Rattle.shard_queue.specs.Reply.{received, senders_of};
 ghost use Rattle.shard_queue.specs.Permits.{got, producers_of};
 

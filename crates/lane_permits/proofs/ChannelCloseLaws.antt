@@ -10,7 +10,7 @@ use Rattle.shard_queue.specs.Closing.{IsNotAll, IsWhole}
 use Rattle.shard_queue.specs.Lane.{of}
 use Rattle.shard_queue.specs.Reply.{received, reply_history, said_on, sender_ended_number, senders_of, room_of}
 use Rattle.lane_work.specs.Permits.{AreSendersEnded}
-use Rattle.lane_permits.specs.rows.SenderRows.{AreReceivers, AreSendersIn, SenderEndedRows}
+use Rattle.lane_permits.specs.ChannelPermits.{AreReceivers, AreSendersIn, SenderEndedRows}
 use Rattle.lane_permits.specs.ChannelClosings.{AreChannelsClosed, none, next, IsClosedChannel, AreChannelsTorn, here, later}
 
 pub ended_rest : (qs less : List (ReplyChannel Noted)) (q : ReplyChannel Noted) (rs fewer : List (List (SenderEnded Noted))) (r : List (SenderEnded Noted)) → qs ≡ q ∷ less → rs ≡ r ∷ fewer → SenderEndedRows qs rs → SenderEndedRows less fewer

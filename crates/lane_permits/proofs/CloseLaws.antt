@@ -10,7 +10,7 @@ use Rattle.shard_queue.specs.Closing.{IsNotAll, IsWhole}
 use Rattle.shard_queue.specs.Lane.{of}
 use Rattle.shard_queue.specs.Permits.{got, said, history, ended_number, producers_of, capacity_of}
 use Rattle.lane_work.specs.Histories.{AreHeard}
-use Rattle.lane_permits.specs.rows.Rows.{AreConsumers, AreIn, EndedRows}
+use Rattle.lane_permits.specs.LanePermits.{AreConsumers, AreIn, EndedRows}
 use Rattle.lane_permits.specs.Closings.{AreClosed, none, next, IsClosedLane, IsTorn, here, later}
 
 pub ended_rest : (qs less : List (ShardQueue Job)) (q : ShardQueue Job) (rs fewer : List (List (Ended Job))) (r : List (Ended Job)) → qs ≡ q ∷ less → rs ≡ r ∷ fewer → EndedRows qs rs → EndedRows less fewer

@@ -10,7 +10,7 @@ use Rattle.shard_queue.specs.Permits.{IsProducer, IsEnded, IsConsumer, number_of
 use Rattle.lane_work.specs.declared.desk.LanePermit.{LanePermit}
 use Rattle.lane_work.specs.declared.desk.LanePermit.TheVariants.{Live}
 use Rattle.lane_work.specs.Permits.{ArePermits, AreEnded, IsNew, IsPermit, permit_number}
-use Rattle.lane_permits.specs.rows.Rows.{AreLeft, AreHands, Rows, AreConsumers, EndedRows, AreIn, AllIn, AreEndedHands, Keep}
+use Rattle.lane_permits.specs.LanePermits.{AreLeft, AreHands, Rows, AreConsumers, EndedRows, AreIn, AllIn, AreEndedHands, Keep}
 use Rattle.lane_permits.proofs.StepLaws.{StepTo, ahead, front, one_step}
 
 -- ---- lanes that are made

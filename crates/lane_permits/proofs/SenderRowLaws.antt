@@ -9,7 +9,7 @@ use Rattle.shard_queue.specs.declared.reply.ReceiverPermit.{ReceiverPermit}
 use Rattle.shard_queue.specs.Reply.{IsSender, IsSenderEnded, IsReceiver, sender_number, sent_on, senders_of}
 use Rattle.shard_queue.specs.Permits.{numbers}
 use Rattle.lane_work.specs.Permits.{AreSenders, AreSendersEnded}
-use Rattle.lane_permits.specs.rows.SenderRows.{AreSendersLeft, AreSenderHands, SenderRows, AreReceivers, SenderEndedRows, AreSendersIn, AllSendersIn, AreSenderEndedHands, KeepSenders}
+use Rattle.lane_permits.specs.ChannelPermits.{AreSendersLeft, AreSenderHands, SenderRows, AreReceivers, SenderEndedRows, AreSendersIn, AllSendersIn, AreSenderEndedHands, KeepSenders}
 use Rattle.lane_permits.proofs.StepLaws.{StepTo, ahead}
 use Rattle.lane_permits.proofs.RowLaws.{still_contains}
 

@@ -2,4 +2,5 @@ pub mod Rooms
 pub mod Closings
 pub mod Telling
 pub mod ChannelClosings
-pub mod rows
+pub mod LanePermits
+pub mod ChannelPermits

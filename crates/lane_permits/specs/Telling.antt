@@ -17,8 +17,8 @@ use Rattle.shard_queue.specs.Lane.{of}
 use Rattle.shard_queue.specs.Permits.{said, got, history, producers_of, capacity_of}
 use Rattle.lane_work.specs.Account.{Account, Premises}
 use Rattle.lane_work.specs.Permits.{AreEnded, AreSendersEnded}
-use Rattle.lane_permits.specs.rows.Rows.{AreIn}
-use Rattle.lane_permits.specs.rows.SenderRows.{AreSendersIn}
+use Rattle.lane_permits.specs.LanePermits.{AreIn}
+use Rattle.lane_permits.specs.ChannelPermits.{AreSendersIn}
 use Rattle.lane_permits.specs.ChannelClosings.{AreChannelsClosed}
 use Rattle.lane_permits.specs.Closings.{AreClosed}
 

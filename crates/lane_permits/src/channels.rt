@@ -4,8 +4,8 @@
 ghost use Rattle.std.specs.Prelude.{◌≡◌, ◌<◌, ◌≤◌, ◌+◌, ℕ, suc, [], length, map, All, IfOk, MatchOption, vec_len, vec_capacity};
 ghost use Rattle.shard_queue.specs.Reply.{sent_on, received, room_of, senders_of};
 ghost use Rattle.lane_work.specs.Permits.{AreSenders};
-ghost use Rattle.lane_permits.specs.rows.SenderRows.{SenderRows, AreSenderHands, AreReceivers, SenderEndedRows, AreSendersIn, KeepSenders};
-ghost use Rattle.lane_permits.specs.rows.SenderRows.{AllSendersIn, AllStaySendersEnded, StaySendersEnded};
+ghost use Rattle.lane_permits.specs.ChannelPermits.{SenderRows, AreSenderHands, AreReceivers, SenderEndedRows, AreSendersIn, KeepSenders};
+ghost use Rattle.lane_permits.specs.ChannelPermits.{AllSendersIn, AllStaySendersEnded, StaySendersEnded};
 ghost use Rattle.lane_permits.specs.ChannelClosings.{AreChannelsClosed, AreChannelsTorn};
 ghost use Rattle.lane_permits.specs.Rooms.{AreRooms};
 

@@ -4,7 +4,7 @@
 ghost use Rattle.std.specs.Prelude.{◌≡◌, ◌<◌, ◌≤◌, ◌+◌, ℕ, suc, [], length, map, All, IfOk, MatchOption, vec_len, vec_capacity};
 ghost use Rattle.shard_queue.specs.Permits.{got, capacity_of, producers_of};
 ghost use Rattle.lane_work.specs.Permits.{ArePermits, IsNew};
-ghost use Rattle.lane_permits.specs.rows.Rows.{Rows, AreHands, AreConsumers, EndedRows, AreIn, Keep, AllIn, AllStayEnded, StayEnded};
+ghost use Rattle.lane_permits.specs.LanePermits.{Rows, AreHands, AreConsumers, EndedRows, AreIn, Keep, AllIn, AllStayEnded, StayEnded};
 ghost use Rattle.lane_permits.specs.Closings.{AreClosed, IsTorn};
 ghost use Rattle.lane_permits.specs.Rooms.{AreRooms};
 

@@ -9,8 +9,8 @@ use Rattle.shard_queue.specs.declared.queue.Ended.{Ended}
 use Rattle.shard_queue.specs.declared.queue.ShardQueue.{ShardQueue}
 use Rattle.shard_queue.specs.declared.reply.SenderEnded.{SenderEnded}
 use Rattle.lane_permits.specs.Rooms.{AreRooms}
-use Rattle.lane_permits.specs.rows.Rows.{AreEndedHands}
-use Rattle.lane_permits.specs.rows.SenderRows.{AreSenderEndedHands}
+use Rattle.lane_permits.specs.LanePermits.{AreEndedHands}
+use Rattle.lane_permits.specs.ChannelPermits.{AreSenderEndedHands}
 use Rattle.lane_permits.proofs.RowLaws as lanes
 use Rattle.lane_permits.proofs.SenderRowLaws as channels
 

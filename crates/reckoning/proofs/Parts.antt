@@ -6,9 +6,9 @@ use Rattle.shard_queue.specs.Permits.{got}
 use Rattle.lane_work.specs.Consuming.{items_of}
 use Rattle.lane_work.specs.declared.consumer.Consumed.{Consumed}
 use Rattle.lane_work.specs.declared.worker.Worked.{Worked}
-use Rattle.lane_permits.specs.rows.Rows.{AreEndedHands}
-use Rattle.lane_permits.specs.rows.Rows as rows
-use Rattle.lane_permits.specs.rows.SenderRows.{AreReceivers, AreSenderEndedHands}
+use Rattle.lane_permits.specs.LanePermits.{AreEndedHands}
+use Rattle.lane_permits.specs.LanePermits as rows
+use Rattle.lane_permits.specs.ChannelPermits.{AreReceivers, AreSenderEndedHands}
 use Rattle.house_floor.specs.Crew.{AllAt}
 use Rattle.house_floor.specs.declared.floor.Floor.{Floor}
 use Rattle.house_floor.specs.declared.floor.Guest.{Guest}

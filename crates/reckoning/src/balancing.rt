@@ -3,8 +3,8 @@
 
 ghost use Rattle.std.specs.Prelude.{◌≡◌, IfErr, IfOk, map, vec_len};
 ghost use Rattle.house_floor.specs.Opening.{AreBaskets};
-ghost use Rattle.lane_permits.specs.rows.Rows.{AreConsumers, AreEndedHands};
-ghost use Rattle.lane_permits.specs.rows.SenderRows.{AreReceivers, AreSenderEndedHands};
+ghost use Rattle.lane_permits.specs.LanePermits.{AreConsumers, AreEndedHands};
+ghost use Rattle.lane_permits.specs.ChannelPermits.{AreReceivers, AreSenderEndedHands};
 ghost use Rattle.reckoning.specs.Balancing.{IsClosing, IsGathered, IsBalanced, IsWhyNot};
 
 use crate::close::{close_all_channels, close_all_lanes};

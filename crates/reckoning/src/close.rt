@@ -3,8 +3,8 @@
 
 ghost use Rattle.std.specs.Prelude.{◌≡◌, ◌≤◌, [], MatchOption, map, vec_len, vec_capacity};
 ghost use Rattle.lane_permits.specs.Rooms.{AreRooms};
-ghost use Rattle.lane_permits.specs.rows.Rows.{AreConsumers, AreEndedHands};
-ghost use Rattle.lane_permits.specs.rows.SenderRows.{AreReceivers, AreSenderEndedHands};
+ghost use Rattle.lane_permits.specs.LanePermits.{AreConsumers, AreEndedHands};
+ghost use Rattle.lane_permits.specs.ChannelPermits.{AreReceivers, AreSenderEndedHands};
 ghost use Rattle.reckoning.specs.Closing.{AreChannelsClosedWith, AreChannelsTornWith, AreClosedWith, AreTornWith};
 
 use delivery_token::{Job, Noted};

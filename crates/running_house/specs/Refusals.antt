@@ -19,18 +19,17 @@ pub record HadNoRoom (depth producers : ℕ) (key : CopyKey) (copies : List Job)
   pub own : All (λ job. job.key.seat ≡ key.seat → Precedes job.key key) first
   pub many : depth < length first + producers
 
--- `accepted`: what each mailbox accepted; `copies`: what was taken from each shard's lane
-module _ (config : Config) (producers : ℕ) (directory : Directory) (accepted : List (List (CopyKey × ℕ))) (copies : List (List Job)) where
-  -- What has to be so where this was the verdict on the copy with this key for this mailbox. Nothing has to, where it was stored, which the lists say; nor where its producer
-  -- had closed the shard, which its account says; nor where memory was refused, which may be at any time.
-  abbrev pub Allows : CopyKey → (mailbox : ℕ) → Verdict → Type 0
-  Allows key mailbox (Stored uid) = Unit {0}
-  Allows key mailbox (Refused why.Full) = HadNoRoom config.depth producers key (slice_index_or copies (shard_of directory mailbox) [])
-  Allows key mailbox (Refused why.MailboxFull) = config.messages ≤ length (slice_index_or accepted mailbox [])
-  Allows key mailbox (Refused why.NoMemory) = Unit {0}
-  Allows key mailbox (Refused why.UidSpent) = 4294967295 ≤ config.first_uid + length (slice_index_or accepted mailbox [])
-  Allows key mailbox (Refused why.Shut) = Unit {0}
+-- What has to be so where this was the verdict on the copy with this key for this mailbox. Nothing has to, where it was stored, which the lists say; nor where its producer
+-- had closed the shard, which its account says; nor where memory was refused, which may be at any time. `accepted`: what each mailbox accepted; `copies`: what was taken from
+-- each shard's lane
+abbrev pub Allows : Config → (producers : ℕ) → Directory → (accepted : List (List (CopyKey × ℕ))) → (copies : List (List Job)) → CopyKey → (mailbox : ℕ) → Verdict → Type 0
+Allows config producers directory accepted copies key mailbox (Stored uid) = Unit {0}
+Allows config producers directory accepted copies key mailbox (Refused why.Full) = HadNoRoom config.depth producers key (slice_index_or copies (shard_of directory mailbox) [])
+Allows config producers directory accepted copies key mailbox (Refused why.MailboxFull) = config.messages ≤ length (slice_index_or accepted mailbox [])
+Allows config producers directory accepted copies key mailbox (Refused why.NoMemory) = Unit {0}
+Allows config producers directory accepted copies key mailbox (Refused why.UidSpent) = 4294967295 ≤ config.first_uid + length (slice_index_or accepted mailbox [])
+Allows config producers directory accepted copies key mailbox (Refused why.Shut) = Unit {0}
 
-  -- the verdict that was noted can have come
-  abbrev pub MayCome : Noted → Type 0
-  MayCome noted = Allows noted.key noted.mailbox noted.verdict
+-- the verdict that was noted can have come
+abbrev pub MayCome : Config → (producers : ℕ) → Directory → (accepted : List (List (CopyKey × ℕ))) → (copies : List (List Job)) → Noted → Type 0
+MayCome config producers directory accepted copies noted = Allows config producers directory accepted copies noted.key noted.mailbox noted.verdict

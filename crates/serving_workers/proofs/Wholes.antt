@@ -12,7 +12,7 @@ use Rattle.shard_queue.specs.declared.lane.Entry.{Entry}
 use Rattle.shard_queue.specs.declared.queue.ShardQueue.{ShardQueue}
 use Rattle.lane_work.specs.declared.consumer.Consumed.{Consumed}
 use Rattle.lane_work.specs.declared.worker.Worked.{Worked}
-use Rattle.lane_permits.specs.rows.SenderRows.{AreReceivers}
+use Rattle.lane_permits.specs.ChannelPermits.{AreReceivers}
 use Rattle.clerks.specs.declared.staff.Dismissed.{Dismissed}
 use Rattle.house_floor.specs.declared.floor.Floor.{Floor}
 use Rattle.lane_permits.proofs.ChannelCloseLaws.{histories_taken}

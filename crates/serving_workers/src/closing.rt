@@ -5,8 +5,8 @@ ghost use Rattle.std.specs.Prelude.{◌≡◌, ◌<◌, ◌≤◌, [], All, IfSo
 ghost use Rattle.std.specs.List.{list_any};
 ghost use Rattle.shard_queue.specs.Reply.{received};
 ghost use Rattle.shard_queue.specs.Shared.{IsStartOf};
-ghost use Rattle.lane_permits.specs.rows.Rows.{AreConsumers};
-ghost use Rattle.lane_permits.specs.rows.SenderRows.{AreSenderEndedHands};
+ghost use Rattle.lane_permits.specs.LanePermits.{AreConsumers};
+ghost use Rattle.lane_permits.specs.ChannelPermits.{AreSenderEndedHands};
 ghost use Rattle.house_floor.specs.Crew.{AllAt, IsHouse};
 ghost use Rattle.house_floor.specs.Opening.{AreBaskets};
 ghost use Rattle.serving_workers.specs.Closing.{GoOn, IsWhole, WasClosed};

@@ -4,8 +4,8 @@ use Rattle.delivery_token.specs.declared.Job.{Job}
 use Rattle.delivery_token.specs.declared.log.Noted.{Noted}
 use Rattle.envelope.specs.Directory.{Directory}
 use Rattle.lane_permits.specs.Rooms.{AreHandRooms, ArePermitRooms, AreRooms}
-use Rattle.lane_permits.specs.rows.Rows.{AreConsumers, Rows}
-use Rattle.lane_permits.specs.rows.SenderRows.{AreReceivers, SenderRows}
+use Rattle.lane_permits.specs.LanePermits.{AreConsumers, Rows}
+use Rattle.lane_permits.specs.ChannelPermits.{AreReceivers, SenderRows}
 use Rattle.shard_queue.specs.declared.queue.ShardQueue.{ShardQueue}
 use Rattle.shard_queue.specs.declared.ends.ReplyChannel.{ReplyChannel}
 use Rattle.shard_queue.specs.Reply.{received, room_of, senders_of}

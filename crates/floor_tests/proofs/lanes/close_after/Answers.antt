@@ -4,7 +4,7 @@ use Rattle.std.proofs.lemmas.List.Elements.{All-map, All-weaker}
 use Rattle.delivery_token.specs.declared.Job.{Job}
 use Rattle.shard_queue.specs.declared.queue.Ended.{Ended}
 use Rattle.lane_permits.specs.Rooms.{AreRooms}
-use Rattle.lane_permits.specs.rows.Rows.{AreEndedHands}
+use Rattle.lane_permits.specs.LanePermits.{AreEndedHands}
 use Rattle.lane_permits.proofs.StepLaws.{list}
 use Rattle.lane_permits.proofs.RowLaws.{none_ended}
 use Rattle.floor_tests.proofs.lanes.close_after.Goals as goal

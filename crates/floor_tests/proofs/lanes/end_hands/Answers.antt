@@ -3,7 +3,7 @@ use Rattle.std.proofs.lemmas.List.{length-map, map-append}
 use Rattle.std.proofs.lemmas.List.Elements.{All-drop, All-push}
 use Rattle.delivery_token.specs.declared.Job.{Job}
 use Rattle.shard_queue.specs.declared.queue.Ended.{Ended}
-use Rattle.lane_permits.specs.rows.Rows.{AreEndedHands, AreHands}
+use Rattle.lane_permits.specs.LanePermits.{AreEndedHands, AreHands}
 use Rattle.lane_permits.proofs.StepLaws.{list, removed}
 use Rattle.lane_permits.proofs.RowLaws.{ended_hands_next, first_hand}
 use Rattle.floor_tests.proofs.lanes.end_hands.Goals as goal

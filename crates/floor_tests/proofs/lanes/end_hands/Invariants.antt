@@ -1,5 +1,5 @@
 use Rattle.std.proofs.Common.{◌≡◌, ◌≤◌, ◌+◌, [], All, length, map, vec_len, vec_capacity}
-use Rattle.lane_permits.specs.rows.Rows.{AreEndedHands, AreHands}
+use Rattle.lane_permits.specs.LanePermits.{AreEndedHands, AreHands}
 use Rattle.lane_permits.proofs.StepLaws.{list}
 use Rattle.floor_tests.proofs.lanes.end_hands.Given as goal
 

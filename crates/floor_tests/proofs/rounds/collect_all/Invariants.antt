@@ -1,6 +1,6 @@
 use Rattle.std.proofs.Common.{◌≡◌, ◌≤◌, ◌+◌, All, map, vec_len, vec_capacity}
 use Rattle.std.specs.Mem.{manually_drop_value}
-use Rattle.lane_permits.specs.rows.Rows.{EndedRows}
+use Rattle.lane_permits.specs.LanePermits.{EndedRows}
 use Rattle.floor_tests.specs.inner.Rounds.{AreSomeones}
 use Rattle.floor_tests.specs.declared.rounds.Left.{Left}
 use Rattle.floor_tests.proofs.rounds.collect_all.Given as goal

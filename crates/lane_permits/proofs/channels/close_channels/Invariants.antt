@@ -1,7 +1,7 @@
 use Rattle.std.proofs.Common.{◌≡◌, ◌≤◌, ◌+◌, ◌++◌, List, map, true, false, vec_len, vec_capacity}
 use Rattle.delivery_token.specs.declared.log.Noted.{Noted}
 use Rattle.shard_queue.specs.declared.reply.ReplyClosed.{ReplyClosed}
-use Rattle.lane_permits.specs.rows.SenderRows.{AreReceivers, SenderEndedRows}
+use Rattle.lane_permits.specs.ChannelPermits.{AreReceivers, SenderEndedRows}
 use Rattle.lane_permits.specs.ChannelClosings.{AreChannelsClosed, AreChannelsTorn}
 use Rattle.lane_permits.proofs.channels.close_channels.Given as goal
 

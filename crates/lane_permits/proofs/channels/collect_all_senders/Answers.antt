@@ -3,7 +3,7 @@ use Rattle.std.proofs.lemmas.List.{length-map}
 use Rattle.std.proofs.lemmas.List.Elements.{All-head, All-tail, All-weaker}
 use Rattle.delivery_token.specs.declared.log.Noted.{Noted}
 use Rattle.shard_queue.specs.declared.reply.SenderEnded.{SenderEnded}
-use Rattle.lane_permits.specs.rows.SenderRows.{AllSendersIn}
+use Rattle.lane_permits.specs.ChannelPermits.{AllSendersIn}
 use Rattle.lane_permits.proofs.StepLaws.{list, no_items, removed}
 use Rattle.lane_permits.proofs.SenderRowLaws.{in_length, in_next, stay_next}
 use Rattle.lane_permits.proofs.channels.collect_all_senders.Goals as goal

@@ -2,7 +2,7 @@ use Rattle.std.proofs.Common.{◌≡◌, ◌≤◌, ◌+◌, ℕ, List, All, map
 use Rattle.delivery_token.specs.declared.log.Noted.{Noted}
 use Rattle.shard_queue.specs.declared.ends.ReplyChannel.{ReplyChannel}
 use Rattle.shard_queue.specs.declared.reply.SenderEnded.{SenderEnded}
-use Rattle.lane_permits.specs.rows.SenderRows.{AllSendersIn, AreSenderEndedHands, SenderEndedRows, KeepSenders}
+use Rattle.lane_permits.specs.ChannelPermits.{AllSendersIn, AreSenderEndedHands, SenderEndedRows, KeepSenders}
 use Rattle.lane_permits.proofs.StepLaws.{list}
 use Rattle.lane_permits.proofs.channels.collect_all_senders.Given as goal
 

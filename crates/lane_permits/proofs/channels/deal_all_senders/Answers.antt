@@ -3,7 +3,7 @@ use Rattle.std.proofs.lemmas.List.{length-map, map-append}
 use Rattle.std.proofs.lemmas.List.Elements.{All-drop}
 use Rattle.delivery_token.specs.declared.log.Noted.{Noted}
 use Rattle.shard_queue.specs.declared.reply.SenderPermit.{SenderPermit}
-use Rattle.lane_permits.specs.rows.SenderRows.{AreSenderHands, SenderRows}
+use Rattle.lane_permits.specs.ChannelPermits.{AreSenderHands, SenderRows}
 use Rattle.lane_permits.proofs.StepLaws.{list}
 use Rattle.lane_permits.proofs.SenderRowLaws.{hands_next, none_left}
 use Rattle.lane_permits.proofs.channels.deal_all_senders.Goals as goal

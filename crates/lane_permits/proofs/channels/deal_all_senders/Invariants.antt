@@ -1,5 +1,5 @@
 use Rattle.std.proofs.Common.{◌≡◌, ◌≤◌, ◌+◌, [], All, length, map, vec_len, vec_capacity}
-use Rattle.lane_permits.specs.rows.SenderRows.{AreSenderHands, SenderRows}
+use Rattle.lane_permits.specs.ChannelPermits.{AreSenderHands, SenderRows}
 use Rattle.lane_permits.proofs.StepLaws.{list}
 use Rattle.lane_permits.proofs.channels.deal_all_senders.Given as goal
 

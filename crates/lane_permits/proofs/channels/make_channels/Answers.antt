@@ -5,7 +5,7 @@ use Rattle.delivery_token.specs.declared.log.Noted.{Noted}
 use Rattle.shard_queue.specs.declared.ends.ReplyChannel.{ReplyChannel}
 use Rattle.shard_queue.specs.declared.reply.ReceiverPermit.{ReceiverPermit}
 use Rattle.shard_queue.specs.Reply.{received, room_of, senders_of}
-use Rattle.lane_permits.specs.rows.SenderRows.{SenderRows, AreReceivers}
+use Rattle.lane_permits.specs.ChannelPermits.{SenderRows, AreReceivers}
 use Rattle.lane_permits.proofs.StepLaws.{list}
 use Rattle.lane_permits.proofs.SenderRowLaws.{all_left, receivers_next, rows_next}
 use Rattle.lane_permits.proofs.channels.make_channels.Goals as goal

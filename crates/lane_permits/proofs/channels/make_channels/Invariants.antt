@@ -1,6 +1,6 @@
 use Rattle.std.proofs.Common.{◌≡◌, ◌≤◌, [], All, map, vec_len, vec_capacity}
 use Rattle.shard_queue.specs.Reply.{received, room_of, senders_of}
-use Rattle.lane_permits.specs.rows.SenderRows.{SenderRows, AreReceivers}
+use Rattle.lane_permits.specs.ChannelPermits.{SenderRows, AreReceivers}
 use Rattle.lane_permits.proofs.channels.make_channels.Given as goal
 
 abbrev pub invariant-loop : goal.invariant-loop

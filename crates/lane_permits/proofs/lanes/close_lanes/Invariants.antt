@@ -1,7 +1,7 @@
 use Rattle.std.proofs.Common.{◌≡◌, ◌≤◌, ◌+◌, ◌++◌, List, map, true, false, vec_len, vec_capacity}
 use Rattle.delivery_token.specs.declared.Job.{Job}
 use Rattle.shard_queue.specs.declared.queue.Closed.{Closed}
-use Rattle.lane_permits.specs.rows.Rows.{AreConsumers, EndedRows}
+use Rattle.lane_permits.specs.LanePermits.{AreConsumers, EndedRows}
 use Rattle.lane_permits.specs.Closings.{AreClosed, IsTorn}
 use Rattle.lane_permits.proofs.lanes.close_lanes.Given as goal
 

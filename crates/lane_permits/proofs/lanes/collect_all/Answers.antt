@@ -3,7 +3,7 @@ use Rattle.std.proofs.lemmas.List.{length-map}
 use Rattle.std.proofs.lemmas.List.Elements.{All-head, All-tail, All-weaker}
 use Rattle.delivery_token.specs.declared.Job.{Job}
 use Rattle.shard_queue.specs.declared.queue.Ended.{Ended}
-use Rattle.lane_permits.specs.rows.Rows.{AllIn}
+use Rattle.lane_permits.specs.LanePermits.{AllIn}
 use Rattle.lane_permits.proofs.StepLaws.{list, no_items, removed}
 use Rattle.lane_permits.proofs.RowLaws.{in_length, in_next, stay_next}
 use Rattle.lane_permits.proofs.lanes.collect_all.Goals as goal

@@ -2,7 +2,7 @@ use Rattle.std.proofs.Common.{◌≡◌, ◌≤◌, ◌+◌, ℕ, List, All, map
 use Rattle.delivery_token.specs.declared.Job.{Job}
 use Rattle.shard_queue.specs.declared.queue.ShardQueue.{ShardQueue}
 use Rattle.shard_queue.specs.declared.queue.Ended.{Ended}
-use Rattle.lane_permits.specs.rows.Rows.{AllIn, AreEndedHands, EndedRows, Keep}
+use Rattle.lane_permits.specs.LanePermits.{AllIn, AreEndedHands, EndedRows, Keep}
 use Rattle.lane_permits.proofs.StepLaws.{list}
 use Rattle.lane_permits.proofs.lanes.collect_all.Given as goal
 

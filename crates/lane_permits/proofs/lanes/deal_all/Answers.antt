@@ -2,7 +2,7 @@ use Rattle.std.proofs.Common.{rules, ◌≡◌, ◌≤◌, ◌+◌, ◌∷◌, [
 use Rattle.std.proofs.lemmas.List.{length-map, map-append}
 use Rattle.std.proofs.lemmas.List.Elements.{All-drop}
 use Rattle.lane_work.specs.declared.desk.LanePermit.{LanePermit}
-use Rattle.lane_permits.specs.rows.Rows.{AreHands, Rows}
+use Rattle.lane_permits.specs.LanePermits.{AreHands, Rows}
 use Rattle.lane_permits.proofs.StepLaws.{list}
 use Rattle.lane_permits.proofs.RowLaws.{hands_next, none_left}
 use Rattle.lane_permits.proofs.lanes.deal_all.Goals as goal

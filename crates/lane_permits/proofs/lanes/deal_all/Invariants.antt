@@ -1,5 +1,5 @@
 use Rattle.std.proofs.Common.{◌≡◌, ◌≤◌, ◌+◌, [], All, length, map, vec_len, vec_capacity}
-use Rattle.lane_permits.specs.rows.Rows.{AreHands, Rows}
+use Rattle.lane_permits.specs.LanePermits.{AreHands, Rows}
 use Rattle.lane_permits.proofs.StepLaws.{list}
 use Rattle.lane_permits.proofs.lanes.deal_all.Given as goal
 

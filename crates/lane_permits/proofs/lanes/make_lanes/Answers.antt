@@ -5,7 +5,7 @@ use Rattle.delivery_token.specs.declared.Job.{Job}
 use Rattle.shard_queue.specs.declared.queue.ShardQueue.{ShardQueue}
 use Rattle.shard_queue.specs.declared.queue.ConsumerPermit.{ConsumerPermit}
 use Rattle.shard_queue.specs.Permits.{got, capacity_of, producers_of}
-use Rattle.lane_permits.specs.rows.Rows.{Rows, AreConsumers}
+use Rattle.lane_permits.specs.LanePermits.{Rows, AreConsumers}
 use Rattle.lane_permits.proofs.StepLaws.{list}
 use Rattle.lane_permits.proofs.RowLaws.{all_left, consumers_next, rows_next}
 use Rattle.lane_permits.proofs.lanes.make_lanes.Goals as goal

@@ -1,6 +1,6 @@
 use Rattle.std.proofs.Common.{◌≡◌, ◌≤◌, [], All, map, vec_len, vec_capacity}
 use Rattle.shard_queue.specs.Permits.{got, capacity_of, producers_of}
-use Rattle.lane_permits.specs.rows.Rows.{Rows, AreConsumers}
+use Rattle.lane_permits.specs.LanePermits.{Rows, AreConsumers}
 use Rattle.lane_permits.proofs.lanes.make_lanes.Given as goal
 
 abbrev pub invariant-loop : goal.invariant-loop

@@ -2,8 +2,8 @@ use Rattle.std.proofs.Common.{◌==◌, ◌∙◌, All, map, length, refl, sym, 
 use Rattle.std.proofs.lemmas.List.{length-map}
 use Rattle.lane_work.specs.declared.consumer.Consumed.{Consumed}
 use Rattle.lane_work.specs.declared.worker.Worked.{Worked}
-use Rattle.lane_permits.specs.rows.Rows as rows
-use Rattle.lane_permits.specs.rows.SenderRows.{AreReceivers, AreSenderEndedHands}
+use Rattle.lane_permits.specs.LanePermits as rows
+use Rattle.lane_permits.specs.ChannelPermits.{AreReceivers, AreSenderEndedHands}
 use Rattle.reckoning.proofs.Parts.{consumers_of, ended_of, receivers_of, sender_hands_of}
 use Rattle.agreement.specs.Lists.{ListsAgree}
 use Rattle.agreement.specs.Walk.{ListsMet}
