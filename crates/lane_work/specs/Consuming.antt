@@ -23,7 +23,7 @@ module _ {A : Type 0} where
   items_of entries = filter_map item_of entries
 
 -- Its permits are of its lane and of each channel. Where it kept every copy, they are those that it took, in order; it is torn where one of them was nobody's. On each channel it said, behind what it had
--- sent before, one verdict on each copy that it took of that producer, in order, each by a delivery of that copy under a lock; and then its end.
+-- sent before, one verdict on each copy that it took of that producer, in order, each by a delivery of that copy under a lock, or refused where no mailbox of its number was found; and then its end.
 pub record IsConsumed (lane : ShardQueue Job) (depot : Depot) (shard : ℕ) (before : List (List (Entry Noted))) (c : Consumed) : Type 0 where
   pub permit : IsConsumer lane c.permit
   pub senders : AreSendersEnded depot.channels.items shard c.senders.items

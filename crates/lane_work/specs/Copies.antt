@@ -30,8 +30,8 @@ rooms_of lanes = map room_of lanes
 abbrev pub room_at : List Room → ℕ → Room
 room_at rooms lane = slice_index_or rooms lane (record { producers = 0; capacity = 0 })
 
--- This producer, which had put just these entries on the lane, found no room for one more. Where it is the lane's only one it had put at least as many as there is room for. Where there are
--- others it depends on what these had put, of which no producer knows: that can be said where all of them are known.
+-- This producer, which had put just these entries on the lane, was told that there is no room for one more. Where it is the lane's only one it had put at least as many as there is room for.
+-- Where there are others it depends on what these had put, of which no producer knows: nothing is said of the lane then.
 abbrev pub FoundFull : Room → ℕ → List (Entry Job) → Type 0
 FoundFull room seat sent = room.producers ≡ 1 → seat ≡ 0 → room.capacity ≤ length sent
 
@@ -61,7 +61,7 @@ abbrev pub IsHeard : List (Entry Noted) → Noted → Type 0
 IsHeard heard noted = (shard : ℕ) × (before : List (Entry Noted)) × (after : List (Entry Noted)) × (heard ≡ before ++ Item shard noted ∷ after)
 
 -- Of these copies, in their order, these were put on this lane, behind those that had been put before: all that are for its mailboxes, but for some that were
--- refused at once. Where it was for want of room, the lane was full when just those before it had been put. The verdict on
+-- refused at once. Where it was for want of room, this producer had put just those before it (what that says of the lane: `FoundFull`). The verdict on
 -- each that was put was heard.
 pub data WerePut (directory : Directory) (room : Room) (seat lane : ℕ) (heard : List (Entry Noted)) : (before : List Job) → List (Job × Verdict) → List Job → Type 0 where
   none : {before : List Job} → WerePut directory room seat lane heard before [] []

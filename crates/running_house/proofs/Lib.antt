@@ -4,3 +4,4 @@ pub mod Floors
 pub mod TellLaws
 pub mod Ordered
 pub mod Refuted
+pub mod RefusalLaws

@@ -1,5 +1,5 @@
 -- Refusals that no report can have: what the definitions refuse.
-use Rattle.std.proofs.Common.{◌≡◌, ◌≤◌, ◌<◌, ◌+◌, ℕ, List, [], length, ap, ◌∙◌, arith}
+use Rattle.std.proofs.Common.{◌≡◌, ◌==◌, ◌≤◌, ◌<◌, ◌+◌, ◌++◌, ◌∷◌, ℕ, suc, List, [], filter, length, ap, ◌∙◌, arith}
 use Rattle.std.proofs.lemmas.List.{length-append}
 use Rattle.delivery_token.specs.declared.CopyKey.{CopyKey}
 use Rattle.delivery_token.specs.declared.Job.{Job}
@@ -7,7 +7,7 @@ use Rattle.delivery_token.specs.declared.Refusal.TheVariants as why
 use Rattle.delivery_token.specs.declared.Verdict.TheVariants.{Refused}
 use Rattle.envelope.specs.Directory.{Directory}
 use Rattle.house.specs.declared.config.Config.{Config}
-use Rattle.running_house.specs.Refusals.{Allows, HadNoRoom}
+use Rattle.running_house.specs.Refusals.{Allows, CameBehind, HadNoRoom}
 
 -- a lane from which fewer copies were taken than have room there, beside an end of each other producer, was never full
 pub never_full : (depth producers : ℕ) (key : CopyKey) (copies : List Job) → length copies + producers ≤ depth → HadNoRoom depth producers key copies → ⊥
@@ -19,9 +19,16 @@ never_full depth producers key copies few had =
 -- a mailbox that accepted no copy was never full
 pub never_full_mailbox : (config : Config) (producers : ℕ) (directory : Directory) (copies : List (List Job)) (key : CopyKey) (mailbox : ℕ) → 0 < config.messages
     → Allows config producers directory [] copies key mailbox (Refused why.MailboxFull) → ⊥
-never_full_mailbox config producers directory copies key mailbox some allows = absurd (omega (arith, some, allows))
+never_full_mailbox config producers directory copies key mailbox some allows = let had = allows.0 in absurd (omega (arith, some, had))
 
 -- and its UIDs, which began at 1, weren't spent
 pub never_spent : (config : Config) (producers : ℕ) (directory : Directory) (copies : List (List Job)) (key : CopyKey) (mailbox : ℕ) → config.first_uid ≡ 1
     → Allows config producers directory [] copies key mailbox (Refused why.UidSpent) → ⊥
-never_spent config producers directory copies key mailbox first allows = absurd (omega (arith, first, allows))
+never_spent config producers directory copies key mailbox first allows = let had = allows.0 in absurd (omega (arith, first, had))
+
+-- the first copy that was taken from a lane stands behind none, so it found no mailbox full
+pub first_has_room : (count mailbox : ℕ) (copy : Job) → 0 < count → CameBehind count mailbox copy.key (copy ∷ []) → ⊥
+first_has_room count mailbox copy some came = go came.before came.split came.many where
+  go : (before : List Job) → copy ∷ [] ≡ before ++ came.copy ∷ came.after → count ≤ length (filter (λ job. job.mailbox == mailbox) before) → ⊥
+  go [] split many = absurd (omega (arith, some, many))
+  go (x ∷ before) split many = let long = ap length split ∙ ap suc (length-append before (came.copy ∷ came.after)) in absurd (omega (arith, long))
