@@ -10,6 +10,11 @@ pub mod Entering
 pub mod Known
 pub mod Living
 pub mod Current
+mod LastLines
+mod LastRests
+mod LastWords
+mod LastTurns
+mod Answered
 mod Talked
 pub mod Folded
 mod Recording
@@ -18,7 +23,13 @@ pub mod Keeping
 mod Refuted
 mod Onward
 mod Since
+mod Appended
+mod WordsCurrent
 mod AtEntries
+mod CutBytes
+mod CutTexts
+mod CutTurns
+mod Cutting
 pub mod OneLife
 mod Dialogues
 mod Texts

@@ -1,0 +1,264 @@
+-- Turn by turn: to which verdicts the answers of a session were said, and that those are on its messages one after the other.
+use Rattle.std.proofs.Common.{◌≡◌, ◌⊎◌, inl, inr, ℕ, ◌+◌, ◌<◌, ◌≤◌, Bool, true, false, List, [], ◌∷◌, ◌++◌, Contains, length, refl, sym, ap, ◌∙◌, subst, arith, append-nil, Option, Some, None}
+use Rattle.std.specs.Prelude.{codes, filter_map, IfSome, Result, Ok, Err, ◌==◌, if◌then◌else◌}
+use Rattle.std.proofs.lemmas.List.Elements.{filter_map-append}
+use Rattle.std.proofs.lemmas.Option.{none-some}
+use Rattle.delivery_token.specs.Keys.{Below}
+use Rattle.delivery_token.specs.declared.CopyKey.{CopyKey}
+use Rattle.delivery_token.specs.declared.Verdict.{Verdict}
+use Rattle.delivery_token.specs.declared.log.Noted.{Noted}
+use Rattle.world.specs.World.{Config, World}
+use Rattle.world.proofs.Base.{Every, Rising, every_append, every_weaker, rising_push}
+use Rattle.imap_grammar.specs.Reading.{read}
+use Rattle.imap_grammar.specs.declared.command.Command.{Command}
+use Rattle.imap_grammar.specs.declared.command.ImapFault.{ImapFault}
+use Rattle.imap_session.specs.declared.standing.After.{After}
+use Rattle.imap_session.specs.Exchange.{Answer, Appending, ForDone, ForLiteral, ForNothing, ForVerdict, Mailing, Sent, Standing, Turn, Waiting, kept_tag, played, waiting}
+use Rattle.imap_session.specs.Commands.{fault_text, on_command, on_idle_line, on_read, on_rest, on_verdict, only_says, turn_behind, turn_of, turn_of_long_line, turn_of_verdict, turn_while, turn_with, with_bytes, without_begun, without_sent}
+use Rattle.imap_session.specs.Store.{IdleTurns, Met}
+use Rattle.house_session.proofs.Rising.{NumbersRise, idles_keep, then_rises}
+use Rattle.client_list.specs.Commands.{IsPrinted}
+use Rattle.client_list.specs.Talks.{Happening, Line, LongLine, Turned, Literal, Heard, leads_to}
+use Rattle.client_list.proofs.IdleTags.{AreTagsOf, Keeps, Kept, played_keeps}
+use Rattle.client_list.proofs.Talking.{happening_keeps_so}
+use Rattle.client_list.proofs.Turns.{the_turn}
+use Rattle.client_records.specs.Appends.{SaysVerdict, TellsOfNone, as_it_is}
+use Rattle.client_records.specs.Clients.{Told, bytes_in}
+use Rattle.client_records.specs.Turns.{VerdictsArePrinted, told_line, told_of}
+use Rattle.client_records.proofs.LastLines.{IsWord}
+use Rattle.client_records.proofs.LastTurns.{SaysSent, TurnTells, turn_tells}
+use Rattle.client_records.proofs.Moved.{Calls}
+
+-- ---- numbers of messages
+
+numbers_wait : (base : Mailing) (tag : List ℕ) (now : Standing) (w : Waiting) → NumbersRise base now.mailing → NumbersRise base (waiting tag w now).mailing
+numbers_wait base tag now ForDone k = k
+numbers_wait base tag now (ForLiteral coming mailbox flags size) k = k
+numbers_wait base tag now (ForVerdict mailbox flags text) k = then_rises base now.mailing (waiting tag (ForVerdict mailbox flags text) now).mailing k (
+  omega arith,
+  λ s is. let e : record { tag = tag; append = record { message = now.mailing.number; mailbox = mailbox; text = text; flags = flags } } ≡ s = cc in let m : now.mailing.number ≡ s.append.message = ap (λ (x : Sent). x.append.message) e in
+      inr (omega (arith, m), omega (arith, m)),
+)
+numbers_wait base tag now ForNothing k = k
+
+numbers_keep : (base : Mailing) (tag : List ℕ) → Keeps (λ (s : Standing). NumbersRise base s.mailing) tag
+numbers_keep base tag = record { ends = λ now k. k; enters = λ now selected k. k; waits = numbers_wait base tag }
+
+same_numbers : (now : Mailing) → NumbersRise now now
+same_numbers now = (omega arith, λ s is. inl is)
+
+-- where it stands then, behind one that has the same number and the same message
+rises_by : (base now : Standing) (turn : Turn) → NumbersRise base.mailing now.mailing → now ≡ turn.standing → NumbersRise base.mailing turn.standing.mailing
+rises_by base now turn k e = subst (λ (s : Standing). NumbersRise base.mailing s.mailing) e k
+
+line_rises : (now : Standing) (line : List ℕ) (answers : List Answer) (turn : Turn) → turn_of now line answers ≡ Some turn → NumbersRise now.mailing turn.standing.mailing
+line_rises now line answers turn e = behind now.mailing.begun e
+  where
+    said : (text : List ℕ) (answers : List Answer) → only_says text now answers ≡ Some turn → NumbersRise now.mailing turn.standing.mailing
+    said text [] e = subst (λ (s : Turn). NumbersRise now.mailing s.standing.mailing) (ap (the_turn turn) e) (same_numbers now.mailing)
+    said text (a ∷ more) e = absurd (none-some turn e)
+
+    reads : (r : Result (List ℕ × Command) ImapFault) → on_read now r answers ≡ Some turn → NumbersRise now.mailing turn.standing.mailing
+    reads (Ok l) e = played_keeps (λ (s : Standing). NumbersRise now.mailing s.mailing) l.0 (numbers_keep now.mailing l.0) now (on_command now l.1) answers turn (same_numbers now.mailing) e
+    reads (Err fault) e = said (fault_text fault) answers e
+
+    while : (idling : Option (List ℕ)) → turn_while idling now line answers ≡ Some turn → NumbersRise now.mailing turn.standing.mailing
+    while None e = reads (read line) e
+    while (Some tag) e = played_keeps (λ (s : Standing). NumbersRise now.mailing s.mailing) tag (numbers_keep now.mailing tag) (record now { idling = None }) (on_idle_line now.selected line) answers turn (same_numbers now.mailing) e
+
+    behind : (begun : Option Appending) → turn_behind begun now line answers ≡ Some turn → NumbersRise now.mailing turn.standing.mailing
+    behind None e = while now.idling e
+    behind (Some a) e = played_keeps (λ (s : Standing). NumbersRise now.mailing s.mailing) a.tag (numbers_keep now.mailing a.tag) (without_begun now) (on_rest now.mailing a (length line == 0)) answers turn (same_numbers now.mailing) e
+
+turned_rises : (k : Config) (n : ℕ) (now : Standing) (answers : List Answer) (w : World) (turn : Turn) (v : World) → leads_to now (Turned answers) ≡ Some turn → Met (Calls k n) w turn.events v → NumbersRise now.mailing turn.standing.mailing
+turned_rises k n now answers w turn v e met =
+    let i : IdleTurns (Calls k n) now w v [] turn.bytes _ turn.standing = record { answers = answers; events = turn.events; bytes = turn.bytes; how = turn.after; played = e; met = met; wrote = refl; shown = refl } in
+    subst (λ (m : Mailing). NumbersRise now.mailing m) (sym (idles_keep (Calls k n) now w v [] turn.bytes _ turn.standing i)) (same_numbers now.mailing)
+
+heard_rises : (now : Standing) (verdict : Verdict) (sent : Sent) (answers : List Answer) (turn : Turn) → turn_with (Some sent) now verdict answers ≡ Some turn → NumbersRise (without_sent now).mailing turn.standing.mailing
+heard_rises now verdict sent answers turn e =
+    played_keeps (λ (s : Standing). NumbersRise (without_sent now).mailing s.mailing) sent.tag (numbers_keep (without_sent now).mailing sent.tag) (without_sent now) (on_verdict now.selected sent.append.mailbox verdict) answers turn
+    (same_numbers (without_sent now).mailing) e
+
+-- ---- what is known of a session's answers
+
+-- how a session came: how it stood, at which seat, under which serial
+pub record Came : Type 0 where
+  pub standing : Standing
+  pub seat : ℕ
+  pub serial : ℕ
+
+abbrev key_of : Came → Sent → CopyKey
+key_of first sent = record { seat = first.seat; serial = first.serial; message = sent.append.message; recipient = 0 }
+
+-- its seat has heard this verdict on a message of it
+abbrev pub HasHeard : Came → List Noted → Verdict → Sent → Type 0
+HasHeard first notes verdict sent = (mailbox : ℕ) × Contains notes (record { key = record { seat = first.seat; serial = first.serial; message = sent.append.message; recipient = 0 }; mailbox = mailbox; verdict = verdict })
+
+-- a verdict that it answers can be printed, and its seat has heard that
+abbrev pub HappensSo : Came → World → Standing → Happening → Type 0
+HappensSo first w now (Heard verdict answers) = IsPrinted verdict × IfSome now.mailing.sent (HasHeard first (w.heard first.seat) verdict)
+HappensSo first w now happening = Unit {0}
+
+pub so_printed : (first : Came) (w : World) (now : Standing) (happening : Happening) → HappensSo first w now happening → VerdictsArePrinted happening
+so_printed first w now (Heard verdict answers) h = h.0
+so_printed first w now (Line line answers) h = tt
+so_printed first w now LongLine h = tt
+so_printed first w now (Turned answers) h = tt
+so_printed first w now (Literal kept bytes) h = tt
+
+-- these bytes were said to the verdict on a copy of it
+pub record Noting (uidvalidity : ℕ) (first : Came) (notes : List Noted) (bytes : List ℕ) (noted : Noted) : Type 0 where
+  pub seat : noted.key.seat ≡ first.seat
+  pub own : noted.key.serial ≡ first.serial
+  pub heard : Contains notes noted
+  pub tag : List ℕ
+  pub chosen : IsWord tag
+  pub says : SaysVerdict uidvalidity tag noted.verdict bytes
+
+abbrev pub IsNoted : (uidvalidity : ℕ) → Came → List Noted → List ℕ → Option Noted → Type 0
+IsNoted uidvalidity first notes bytes None = TellsOfNone bytes
+IsNoted uidvalidity first notes bytes (Some noted) = Noting uidvalidity first notes bytes noted
+
+abbrev pub AreNoted : (uidvalidity : ℕ) → Came → List Noted → List Told → List (Option Noted) → Type 0
+AreNoted uidvalidity first notes [] [] = Unit {0}
+AreNoted uidvalidity first notes [] (verdict ∷ verdicts) = ⊥
+AreNoted uidvalidity first notes (one ∷ told) [] = ⊥
+AreNoted uidvalidity first notes (one ∷ told) (verdict ∷ verdicts) = IsNoted uidvalidity first notes (bytes_in one) verdict × AreNoted uidvalidity first notes told verdicts
+
+noted_append : (u : ℕ) (first : Came) (notes : List Noted) (told more : List Told) (verdicts others : List (Option Noted)) → AreNoted u first notes told verdicts → AreNoted u first notes more others
+    → AreNoted u first notes (told ++ more) (verdicts ++ others)
+noted_append u first notes [] more [] others h k = k
+noted_append u first notes [] more (v ∷ vs) others h k = absurd h
+noted_append u first notes (t ∷ ts) more [] others h k = absurd h
+noted_append u first notes (t ∷ ts) more (v ∷ vs) others h k = (h.0, noted_append u first notes ts more vs others h.1 k)
+
+one_more : (u : ℕ) (first : Came) (notes more : List Noted) → ((n : Noted) → Contains notes n → Contains more n) → (bytes : List ℕ) (verdict : Option Noted) → IsNoted u first notes bytes verdict → IsNoted u first more bytes verdict
+one_more u first notes more grows bytes None h = h
+one_more u first notes more grows bytes (Some n) h = record { seat = h.seat; own = h.own; heard = grows n h.heard; tag = h.tag; chosen = h.chosen; says = h.says }
+
+-- what its seat has heard stays heard
+pub still_noted : (u : ℕ) (first : Came) (notes more : List Noted) → ((n : Noted) → Contains notes n → Contains more n) → (told : List Told) (verdicts : List (Option Noted)) → AreNoted u first notes told verdicts → AreNoted u first more told verdicts
+still_noted u first notes more grows [] [] h = h
+still_noted u first notes more grows [] (v ∷ vs) h = absurd h
+still_noted u first notes more grows (t ∷ ts) [] h = absurd h
+still_noted u first notes more grows (t ∷ ts) (v ∷ vs) h = (one_more u first notes more grows (bytes_in t) v h.0, still_noted u first notes more grows ts vs h.1)
+
+-- in the order of their keys
+abbrev pub InTurn : Noted → Noted → Type 0
+InTurn a b = Below a.key b.key
+
+-- of this session, and below the number of its next message
+abbrev IsBefore : Came → ℕ → Noted → Type 0
+IsBefore first number n = (n.key.serial ≡ first.serial) × (n.key.message < number)
+
+-- each message that was answered is before the one that waits for its verdict, which is before the next
+abbrev IsNext : Came → Mailing → List Noted → Type 0
+IsNext first mailing answered = (s : Sent) → mailing.sent ≡ Some s → Every (IsBefore first s.append.message) answered × (s.append.message < mailing.number)
+
+-- What is known of all that a session was told so far.
+pub record Notes (u : ℕ) (first : Came) (told : List Told) (now : Standing) (notes : List Noted) : Type 0 where
+  pub verdicts : List (Option Noted)
+  pub each : AreNoted u first notes told verdicts
+  pub tags : AreTagsOf IsWord now
+  pub order : Rising InTurn (filter_map as_it_is verdicts)
+  pub before : Every (IsBefore first now.mailing.number) (filter_map as_it_is verdicts)
+  pub next : IsNext first now.mailing (filter_map as_it_is verdicts)
+
+pub no_notes : (u : ℕ) (first : Came) (notes : List Noted) → AreTagsOf IsWord first.standing → first.standing.mailing.sent ≡ None → Notes u first [] first.standing notes
+no_notes u first notes tags none =
+    record { verdicts = []; each = tt; tags = tags; order = tt; before = tt; next = λ s is. absurd (none-some s (sym none ∙ is)) }
+
+pub notes_later : (u : ℕ) (first : Came) (told : List Told) (now : Standing) (notes more : List Noted) → ((n : Noted) → Contains notes n → Contains more n) → Notes u first told now notes → Notes u first told now more
+notes_later u first told now notes more grows t =
+    record { verdicts = t.verdicts; each = still_noted u first notes more grows told t.verdicts t.each; tags = t.tags; order = t.order; before = t.before; next = t.next }
+
+-- ---- one more
+
+lower : (first : Came) (a b : ℕ) → a ≤ b → (n : Noted) → IsBefore first a n → IsBefore first b n
+lower first a b l n h = let m = h.1 in (h.0, omega (arith, l, m))
+
+-- an answer that was said to no verdict
+silent_turn : (u : ℕ) (first : Came) (told : List Told) (one : Told) (now next : Standing) (notes : List Noted) → Notes u first told now notes → TellsOfNone (bytes_in one) → AreTagsOf IsWord next → NumbersRise now.mailing next.mailing
+    → Notes u first (told ++ one ∷ []) next notes
+silent_turn u first told one now next notes t none tags rises =
+    let same : filter_map as_it_is (t.verdicts ++ None ∷ []) ≡ filter_map as_it_is t.verdicts = filter_map-append as_it_is t.verdicts (None ∷ []) ∙ append-nil (filter_map as_it_is t.verdicts) in
+    let later : Every (IsBefore first next.mailing.number) (filter_map as_it_is t.verdicts) =
+    every_weaker (IsBefore first now.mailing.number) (IsBefore first next.mailing.number) (lower first now.mailing.number next.mailing.number rises.0) (filter_map as_it_is t.verdicts) t.before in record {
+      verdicts = t.verdicts ++ None ∷ [];
+      each = noted_append u first notes told (one ∷ []) t.verdicts (None ∷ []) t.each (none, tt);
+      tags = tags;
+      order = subst (Rising InTurn) (sym same) t.order;
+      before = subst (Every (IsBefore first next.mailing.number)) (sym same) later;
+      next = λ s is. subst (λ (answered : List Noted). Every (IsBefore first s.append.message) answered × (s.append.message < next.mailing.number)) (sym same) (by s (rises.1 s is));
+    }
+  where
+    by : (s : Sent) → (now.mailing.sent ≡ Some s) ⊎ ((now.mailing.number ≤ s.append.message) × (s.append.message < next.mailing.number))
+        → Every (IsBefore first s.append.message) (filter_map as_it_is t.verdicts) × (s.append.message < next.mailing.number)
+    by s (inl e) = let x = t.next s e in let a = x.1 in let b = rises.0 in (x.0, omega (arith, a, b))
+    by s (inr r) = (every_weaker (IsBefore first now.mailing.number) (IsBefore first s.append.message) (lower first now.mailing.number s.append.message r.0) (filter_map as_it_is t.verdicts) t.before, r.1)
+
+-- one that was said to a verdict
+verdict_turn : (u : ℕ) (first : Came) (told : List Told) (one : Told) (sent : Sent) (verdict : Verdict) (now next : Standing) (notes : List Noted) → Notes u first told now notes → now.mailing.sent ≡ Some sent
+    → IsWord sent.tag → HasHeard first notes verdict sent → SaysSent u verdict (bytes_in one) sent → AreTagsOf IsWord next → NumbersRise (without_sent now).mailing next.mailing → Notes u first (told ++ one ∷ []) next notes
+verdict_turn u first told one sent verdict now next notes t there word heard says tags rises =
+    let noted : Noted = record { key = record { seat = first.seat; serial = first.serial; message = sent.append.message; recipient = 0 }; mailbox = heard.0; verdict = verdict } in
+    let answered : List Noted = filter_map as_it_is t.verdicts in
+    let more : filter_map as_it_is (t.verdicts ++ Some noted ∷ []) ≡ answered ++ noted ∷ [] = filter_map-append as_it_is t.verdicts (Some noted ∷ []) in
+    let here = t.next sent there in
+    let below : Every (λ n. InTurn n noted) answered = every_weaker (IsBefore first sent.append.message) (λ n. InTurn n noted) (λ n h. inr (h.0, inl h.1)) answered here.0 in
+    let old : Every (IsBefore first now.mailing.number) (answered ++ noted ∷ []) = every_append (IsBefore first now.mailing.number) answered (noted ∷ []) t.before ((refl, here.1), tt) in
+    record {
+      verdicts = t.verdicts ++ Some noted ∷ [];
+      each = noted_append u first notes told (one ∷ []) t.verdicts (Some noted ∷ []) t.each (record { seat = refl; own = refl; heard = heard.1; tag = sent.tag; chosen = word; says = says }, tt);
+      tags = tags;
+      order = subst (Rising InTurn) (sym more) (rising_push InTurn answered noted t.order below);
+      before = subst (Every (IsBefore first next.mailing.number)) (sym more)
+          (every_weaker (IsBefore first now.mailing.number) (IsBefore first next.mailing.number) (lower first now.mailing.number next.mailing.number rises.0) (answered ++ noted ∷ []) old);
+      next = λ s is. subst (λ (x : List Noted). Every (IsBefore first s.append.message) x × (s.append.message < next.mailing.number)) (sym more) (by s (answered ++ noted ∷ []) old (rises.1 s is));
+    }
+  where
+    by : (s : Sent) (answered : List Noted) → Every (IsBefore first now.mailing.number) answered → (None ≡ Some s) ⊎ ((now.mailing.number ≤ s.append.message) × (s.append.message < next.mailing.number))
+        → Every (IsBefore first s.append.message) answered × (s.append.message < next.mailing.number)
+    by s answered old (inl e) = absurd (none-some s e)
+    by s answered old (inr r) = (every_weaker (IsBefore first now.mailing.number) (IsBefore first s.append.message) (lower first now.mailing.number s.append.message r.0) answered old, r.1)
+
+line_bytes : (tag : Option (List ℕ)) (line bytes : List ℕ) → bytes_in (told_line tag line bytes) ≡ bytes
+line_bytes None line bytes = refl
+line_bytes (Some tag) line bytes = refl
+
+pub told_bytes : (now : Standing) (happening : Happening) (bytes : List ℕ) → bytes_in (told_of now happening bytes) ≡ bytes
+told_bytes now (Line line answers) bytes = line_bytes (kept_tag now) line bytes
+told_bytes now LongLine bytes = refl
+told_bytes now (Turned answers) bytes = refl
+told_bytes now (Literal kept bytes) b = refl
+told_bytes now (Heard verdict answers) bytes = refl
+
+-- a turn, whatever happens
+pub notes_turn : (k : Config) (n : ℕ) (first : Came) (told : List Told) (now : Standing) (w : World) (happening : Happening) (turn : Turn) (v : World) → Notes k.uidvalidity first told now (w.heard first.seat) → HappensSo first w now happening
+    → leads_to now happening ≡ Some turn → Met (Calls k n) w turn.events v → Notes k.uidvalidity first (told ++ told_of now happening turn.bytes ∷ []) turn.standing (w.heard first.seat)
+notes_turn k n first told now w (Line line answers) turn v t so e met =
+    silent_turn k.uidvalidity first told (told_of now (Line line answers) turn.bytes) now turn.standing (w.heard first.seat) t
+    (subst TellsOfNone (sym (told_bytes now (Line line answers) turn.bytes)) (turn_tells k n now (Line line answers) w turn v t.tags e met))
+    (happening_keeps_so IsWord (λ tag word. word) now (Line line answers) turn t.tags e) (line_rises now line answers turn e)
+notes_turn k n first told now w LongLine turn v t so e met =
+    silent_turn k.uidvalidity first told (told_of now LongLine turn.bytes) now turn.standing (w.heard first.seat) t (turn_tells k n now LongLine w turn v t.tags e met)
+    (happening_keeps_so IsWord (λ tag word. word) now LongLine turn t.tags e) (subst (λ (s : Turn). NumbersRise now.mailing s.standing.mailing) (ap (the_turn turn) e) (same_numbers now.mailing))
+notes_turn k n first told now w (Turned answers) turn v t so e met =
+    silent_turn k.uidvalidity first told (told_of now (Turned answers) turn.bytes) now turn.standing (w.heard first.seat) t (turn_tells k n now (Turned answers) w turn v t.tags e met)
+    (happening_keeps_so IsWord (λ tag word. word) now (Turned answers) turn t.tags e) (turned_rises k n now answers w turn v e met)
+notes_turn k n first told now w (Literal kept bytes) turn v t so e met =
+    silent_turn k.uidvalidity first told (told_of now (Literal kept bytes) turn.bytes) now turn.standing (w.heard first.seat) t (turn_tells k n now (Literal kept bytes) w turn v t.tags e met)
+    (happening_keeps_so IsWord (λ tag word. word) now (Literal kept bytes) turn t.tags e) (subst (λ (s : Turn). NumbersRise now.mailing s.standing.mailing) (ap (the_turn turn) e) (same_numbers now.mailing))
+notes_turn k n first told now w (Heard verdict answers) turn v t so e met = by now.mailing.sent refl
+  where
+    says : IfSome now.mailing.sent (SaysSent k.uidvalidity verdict turn.bytes)
+    says = turn_tells k n now (Heard verdict answers) w turn v t.tags e met
+
+    by : (o : Option Sent) → now.mailing.sent ≡ o → Notes k.uidvalidity first (told ++ told_of now (Heard verdict answers) turn.bytes ∷ []) turn.standing (w.heard first.seat)
+    by None is = absurd (none-some turn (subst (λ (o : Option Sent). turn_with o now verdict answers ≡ Some turn) is e))
+    by (Some sent) is =
+        verdict_turn k.uidvalidity first told (told_of now (Heard verdict answers) turn.bytes) sent verdict now turn.standing (w.heard first.seat) t is
+        (subst (λ (o : Option Sent). IfSome o (λ (s : Sent). IsWord s.tag)) is t.tags.2)
+        (subst (λ (o : Option Sent). IfSome o (HasHeard first (w.heard first.seat) verdict)) is so.1) (subst (λ (o : Option Sent). IfSome o (SaysSent k.uidvalidity verdict turn.bytes)) is says)
+        (happening_keeps_so IsWord (λ tag word. word) now (Heard verdict answers) turn t.tags e) (heard_rises now verdict sent answers turn (subst (λ (o : Option Sent). turn_with o now verdict answers ≡ Some turn) is e))

@@ -1,0 +1,103 @@
+-- What the answers to a client tell of the messages that it appended (RFC 9051, 6.3.12; RFC 4315, 3).
+use Rattle.std.specs.Prelude.{◌≡◌, ◌⊎◌, ◌==◌, ℕ, false, true, codes, drop, reverse, List, [], ◌∷◌, ◌++◌, All, AllPairs, Contains, filter_map, Option, Some, None, if◌then◌else◌}
+use Rattle.delivery_token.specs.Keys.{Below}
+use Rattle.delivery_token.specs.declared.Verdict.{Verdict}
+use Rattle.delivery_token.specs.declared.Verdict.TheVariants.{Stored, Refused}
+use Rattle.delivery_token.specs.declared.log.Noted.{Noted}
+use Rattle.mailbox.specs.declared.clients.MailFault.{MailFault}
+use Rattle.imap_grammar.specs.Bytes.{is_tag}
+use Rattle.imap_grammar.specs.Items.{is_word_of}
+use Rattle.imap_session.specs.Commands.{appended_words, refused_words}
+use Rattle.imap_session.specs.Exchange.{refusal_text, tagged}
+use Rattle.imap_session.specs.Telling.{tells_uid}
+use Rattle.world.specs.Law.{StandsOnce, pairs}
+use Rattle.world.specs.World.{World}
+use Rattle.house_session.specs.SeatedVisitor.{SeatedVisitor}
+use Rattle.house.specs.Scene.{Scene, empty_scene}
+use Rattle.house.specs.Setup.{Setup, session_seat}
+use Rattle.exactly_once.specs.Promise.{Entry, IsRecord}
+use Rattle.client_records.specs.Clients.{Told, bytes_in}
+use Rattle.client_records.specs.Records.{IsPrintable, KeepsUp}
+
+-- ---- how an answer ends
+
+-- up to the first LF, without that
+abbrev pub before_lf : List ℕ → List ℕ
+before_lf [] = []
+before_lf (b ∷ bytes) = if b == 10 then [] else b ∷ before_lf bytes
+
+-- the last line, without the CRLF that ends it: what stands behind the LF before
+abbrev pub last_line : List ℕ → List ℕ
+last_line bytes = reverse (before_lf (drop 2 (reverse bytes)))
+
+-- The last line has these words behind this tag, which is one as a client may choose it (RFC 9051, 9). It is the last line alone: a text that a FETCH tells may have any line.
+pub record EndsWith (tag words bytes : List ℕ) : Type 0 where
+  pub chosen : is_word_of is_tag tag ≡ true
+  pub last : last_line bytes ≡ tag ++ codes " " ++ words
+
+-- it doesn't end in a line that tells a UID, whatever the tag
+abbrev pub TellsOfNone : List ℕ → Type 0
+TellsOfNone bytes = (tag words : List ℕ) → EndsWith tag words bytes → tells_uid words ≡ false
+
+-- ---- what is said to a verdict
+
+-- Where the message was stored: the OK that tells its UID, behind this UIDVALIDITY, or one line, where the store refuses to count its mailbox or to show what is pending.
+-- Where it was refused: a NO.
+abbrev pub SaysVerdict : (uidvalidity : ℕ) (tag : List ℕ) → Verdict → List ℕ → Type 0
+SaysVerdict uidvalidity tag (Stored uid) bytes = EndsWith tag (appended_words uidvalidity uid) bytes ⊎ ((fault : MailFault) × (bytes ≡ refusal_text tag fault))
+SaysVerdict uidvalidity tag (Refused why) bytes = bytes ≡ tagged tag (refused_words why)
+
+-- These bytes were said to the verdict on a copy of the session with this serial at a place.
+pub record AnswersNoted (k : Setup) (w : World) (place serial : ℕ) (bytes : List ℕ) (noted : Noted) : Type 0 where
+  -- it is a copy of that very session, and its seat has heard the verdict
+  pub seat : noted.key.seat ≡ session_seat k place
+  pub own : noted.key.serial ≡ serial
+  pub heard : Contains (w.heard noted.key.seat) noted
+  pub tag : List ℕ
+  pub chosen : is_word_of is_tag tag ≡ true
+  pub says : SaysVerdict k.config.uidvalidity tag noted.verdict bytes
+  -- a copy that was stored under a UID stands exactly once in its mailbox's history, under that UID
+  pub stands : (uid : ℕ) → noted.verdict ≡ Stored uid → StandsOnce (pairs (w.box noted.mailbox).accepted) noted.key uid
+
+-- ---- all that a client was told
+
+-- an answer that was said to no verdict tells no UID
+abbrev pub IsAnswered : Setup → World → (place serial : ℕ) → List ℕ → Option Noted → Type 0
+IsAnswered k w place serial bytes None = TellsOfNone bytes
+IsAnswered k w place serial bytes (Some noted) = AnswersNoted k w place serial bytes noted
+
+-- beside each answer stands the verdict that it was said to, or none
+abbrev pub AreAnswered : Setup → World → (place serial : ℕ) → List Told → List (Option Noted) → Type 0
+AreAnswered k w place serial [] [] = Unit {0}
+AreAnswered k w place serial [] (verdict ∷ verdicts) = ⊥
+AreAnswered k w place serial (one ∷ told) [] = ⊥
+AreAnswered k w place serial (one ∷ told) (verdict ∷ verdicts) = IsAnswered k w place serial (bytes_in one) verdict × AreAnswered k w place serial told verdicts
+
+-- the same verdict, or none
+abbrev pub as_it_is : Option Noted → Option Noted
+as_it_is verdict = verdict
+
+-- One copy of a session stands in a mailbox under this UID: its seat has heard that it is stored.
+pub record IsKept (k : Setup) (w : World) (place serial uid : ℕ) (noted : Noted) : Type 0 where
+  pub seat : noted.key.seat ≡ session_seat k place
+  pub own : noted.key.serial ≡ serial
+  pub heard : Contains (w.heard noted.key.seat) noted
+  pub stored : noted.verdict ≡ Stored uid
+  pub once : StandsOnce (pairs (w.box noted.mailbox).accepted) noted.key uid
+
+-- What a session told its client of the messages that it appended: it keeps up, and this is known of its answers.
+pub record TellsOfAppends (k : Setup) (entries : List Entry) (place : ℕ) (v : SeatedVisitor) (t : Scene) : Type 0 where
+  pub keeps : KeepsUp k entries place v t
+  -- the verdicts that they were said to, answer by answer
+  pub verdicts : List (Option Noted)
+  pub each : AreAnswered k t.world place v.serial keeps.told verdicts
+  -- on messages in the order in which they were appended, so none is told twice
+  pub in_order : AllPairs (λ a b. Below a.key b.key) (filter_map as_it_is verdicts)
+  -- So where an answer ends with `OK [APPENDUID ` behind any tag, it tells the house's UIDVALIDITY and the UID of one copy of this session, which stands so, once.
+  pub kept : (before after : List Told) (one : Told) (tag words : List ℕ) → keeps.told ≡ before ++ one ∷ after → EndsWith tag words (bytes_in one) → tells_uid words ≡ true
+      → (uid : ℕ) × (noted : Noted) × IsKept k t.world place v.serial uid noted × (words ≡ appended_words k.config.uidvalidity uid)
+
+-- Over whatever record of a house that was new, of whoever is there
+abbrev pub AppendsAreTold : Type 0
+AppendsAreTold = (k : Setup) (entries : List Entry) (t : Scene) (place : ℕ) (v : SeatedVisitor) → IsPrintable k → IsRecord k entries (empty_scene k) t
+    → t.visitor place ≡ Some v → v.gone ≡ false → TellsOfAppends k entries place v t
