@@ -8,13 +8,13 @@ use Rattle.delivery_token.specs.declared.log.Noted.{Noted}
 use Rattle.world.specs.World.{Event, IsWorld, World}
 use Rattle.world.specs.Law.{StandsOnce, pairs}
 use Rattle.world.proofs.Always.{always}
-use Rattle.world.proofs.Base.{rising_pair}
+use Rattle.world.proofs.Base.{Every, Rising, rising_pair}
 use Rattle.imap_session.specs.Commands.{appended_words}
 use Rattle.imap_session.specs.Telling.{tells_uid}
 use Rattle.house_session.specs.SeatedVisitor.{SeatedVisitor}
 use Rattle.house.specs.Scene.{empty_scene}
 use Rattle.house.specs.Setup.{Setup, session_seat}
-use Rattle.client_records.specs.Appends.{AnswersNoted, AppendsAreTold, AreAnswered, EndsWith, IsAnswered, IsKept, SaysVerdict, TellsOfNone, as_it_is}
+use Rattle.client_records.specs.Appends.{AnswersNoted, AppendsAreTold, AreAnswered, EndsWith, IsAnswered, SaysVerdict, TellsKept, TellsOfNone, as_it_is}
 use Rattle.client_records.specs.Clients.{Told, bytes_in}
 use Rattle.client_records.proofs.Answered.{AreNoted, InTurn, IsNoted, Noting}
 use Rattle.client_records.proofs.Entries.{the_client, the_serial}
@@ -51,28 +51,82 @@ all_answered k events w place serial a (t ∷ ts) (v ∷ vs) came own h = (one_a
 
 -- ---- one that tells a UID
 
-answer_at : (k : Setup) (w : World) (place serial : ℕ) (before after : List Told) (one : Told) (verdicts : List (Option Noted)) → AreAnswered k w place serial (before ++ one ∷ after) verdicts
-    → (verdict : Option Noted) × IsAnswered k w place serial (bytes_in one) verdict
-answer_at k w place serial [] after one [] h = absurd h
-answer_at k w place serial [] after one (v ∷ vs) h = (v, h.0)
-answer_at k w place serial (t ∷ ts) after one [] h = absurd h
-answer_at k w place serial (t ∷ ts) after one (v ∷ vs) h = answer_at k w place serial ts after one vs h.1
-
 untold : (bytes tag words : List ℕ) → TellsOfNone bytes → EndsWith tag words bytes → tells_uid words ≡ true → ⊥
 untold bytes tag words none ends tells = false≢true (sym (none tag words ends) ∙ tells)
 
 -- what was said to a verdict tells a UID where that is stored
-said_kept : (k : Setup) (w : World) (place serial : ℕ) (bytes tag words : List ℕ) (noted : Noted) → AnswersNoted k w place serial bytes noted → EndsWith tag words bytes → tells_uid words ≡ true
-    → (uid : ℕ) × (noted : Noted) × IsKept k w place serial uid noted × (words ≡ appended_words k.config.uidvalidity uid)
+said_kept : (k : Setup) (w : World) (place serial : ℕ) (bytes tag words : List ℕ) (noted : Noted) → AnswersNoted k w place serial bytes noted → EndsWith tag words bytes → tells_uid words ≡ true → TellsKept k w place serial words noted
 said_kept k w place serial bytes tag words noted h ends tells = by noted.verdict refl h.says
   where
-    by : (verdict : Verdict) → noted.verdict ≡ verdict → SaysVerdict k.config.uidvalidity h.tag verdict bytes → (uid : ℕ) × (noted : Noted) × IsKept k w place serial uid noted × (words ≡ appended_words k.config.uidvalidity uid)
+    by : (verdict : Verdict) → noted.verdict ≡ verdict → SaysVerdict k.config.uidvalidity h.tag verdict bytes → TellsKept k w place serial words noted
     by (verdicts.Refused why) e s =
         absurd (untold bytes tag words (subst TellsOfNone (sym s) (apart_tells_none tells_uid _ (no_apart tells_uid uid_spares h.tag h.chosen why))) ends tells)
-    by (verdicts.Stored uid) e (inl s) =
-        (uid, noted, record { seat = h.seat; own = h.own; heard = h.heard; stored = e; once = h.stands uid e }, words_of_tags tag h.tag words (appended_words k.config.uidvalidity uid) ends.chosen h.chosen (sym ends.last ∙ s.last))
+    by (verdicts.Stored uid) e (inl s) = record {
+      uid = uid;
+      words = words_of_tags tag h.tag words (appended_words k.config.uidvalidity uid) ends.chosen h.chosen (sym ends.last ∙ s.last);
+      seat = h.seat;
+      own = h.own;
+      heard = h.heard;
+      stored = e;
+      once = h.stands uid e;
+    }
     by (verdicts.Stored uid) e (inr (fault, s)) =
         absurd (untold bytes tag words (subst TellsOfNone (sym s) (apart_tells_none tells_uid _ (refusal_apart tells_uid uid_spares h.tag h.chosen fault))) ends tells)
+
+-- an answer that tells a UID was said to a verdict
+record SaidTo (k : Setup) (w : World) (place serial : ℕ) (words : List ℕ) (Q : Noted → Type 0) : Type 0 where
+  pub noted : Noted
+  pub kept : TellsKept k w place serial words noted
+  pub so : Q noted
+
+said_to : (k : Setup) (w : World) (place serial : ℕ) (bytes tag words : List ℕ) (verdict : Option Noted) (others : List (Option Noted)) (Q : Noted → Type 0) → IsAnswered k w place serial bytes verdict
+    → EndsWith tag words bytes → tells_uid words ≡ true → Every Q (filter_map as_it_is (verdict ∷ others)) → SaidTo k w place serial words Q
+said_to k w place serial bytes tag words None others Q h ends tells all = absurd (untold bytes tag words h ends tells)
+said_to k w place serial bytes tag words (Some noted) others Q h ends tells all = record { noted = noted; kept = said_kept k w place serial bytes tag words noted h ends tells; so = all.0 }
+
+others_every : (verdict : Option Noted) (others : List (Option Noted)) (Q : Noted → Type 0) → Every Q (filter_map as_it_is (verdict ∷ others)) → Every Q (filter_map as_it_is others)
+others_every None others Q all = all
+others_every (Some noted) others Q all = all.1
+
+said_at : (k : Setup) (w : World) (place serial : ℕ) (before after : List Told) (one : Told) (tag words : List ℕ) (verdicts : List (Option Noted)) (Q : Noted → Type 0) → AreAnswered k w place serial (before ++ one ∷ after) verdicts
+    → EndsWith tag words (bytes_in one) → tells_uid words ≡ true → Every Q (filter_map as_it_is verdicts) → SaidTo k w place serial words Q
+said_at k w place serial [] after one tag words [] Q h ends tells all = absurd h
+said_at k w place serial [] after one tag words (v ∷ vs) Q h ends tells all = said_to k w place serial (bytes_in one) tag words v vs Q h.0 ends tells all
+said_at k w place serial (t ∷ ts) after one tag words [] Q h ends tells all = absurd h
+said_at k w place serial (t ∷ ts) after one tag words (v ∷ vs) Q h ends tells all = said_at k w place serial ts after one tag words vs Q h.1 ends tells (others_every v vs Q all)
+
+-- two of them, one behind the other
+record BothSaid (k : Setup) (w : World) (place serial : ℕ) (words other_words : List ℕ) : Type 0 where
+  pub first : Noted
+  pub second : Noted
+  pub one : TellsKept k w place serial words first
+  pub two : TellsKept k w place serial other_words second
+  pub order : InTurn first second
+
+first_of_both : (k : Setup) (w : World) (place serial : ℕ) (mid after : List Told) (two : Told) (bytes tag words other_tag other_words : List ℕ) (verdict : Option Noted) (others : List (Option Noted)) → IsAnswered k w place serial bytes verdict
+    → AreAnswered k w place serial (mid ++ two ∷ after) others → EndsWith tag words bytes → tells_uid words ≡ true → EndsWith other_tag other_words (bytes_in two) → tells_uid other_words ≡ true
+    → Rising InTurn (filter_map as_it_is (verdict ∷ others)) → BothSaid k w place serial words other_words
+first_of_both k w place serial mid after two bytes tag words other_tag other_words None others h more ends tells other_ends other_tells rising = absurd (untold bytes tag words h ends tells)
+first_of_both k w place serial mid after two bytes tag words other_tag other_words (Some noted) others h more ends tells other_ends other_tells rising =
+    let s = said_at k w place serial mid after two other_tag other_words others (InTurn noted) more other_ends other_tells rising.0 in
+    record { first = noted; second = s.noted; one = said_kept k w place serial bytes tag words noted h ends tells; two = s.kept; order = s.so }
+
+others_rise : (verdict : Option Noted) (others : List (Option Noted)) → Rising InTurn (filter_map as_it_is (verdict ∷ others)) → Rising InTurn (filter_map as_it_is others)
+others_rise None others rising = rising
+others_rise (Some noted) others rising = rising.1
+
+both_said : (k : Setup) (w : World) (place serial : ℕ) (before mid after : List Told) (one two : Told) (tag words other_tag other_words : List ℕ) (verdicts : List (Option Noted)) → AreAnswered k w place serial (before ++ one ∷ (mid ++ two ∷ after)) verdicts
+    → EndsWith tag words (bytes_in one) → tells_uid words ≡ true → EndsWith other_tag other_words (bytes_in two) → tells_uid other_words ≡ true → Rising InTurn (filter_map as_it_is verdicts) → BothSaid k w place serial words other_words
+both_said k w place serial [] mid after one two tag words other_tag other_words [] h ends tells other_ends other_tells rising = absurd h
+both_said k w place serial [] mid after one two tag words other_tag other_words (v ∷ vs) h ends tells other_ends other_tells rising =
+    first_of_both k w place serial mid after two (bytes_in one) tag words other_tag other_words v vs h.0 h.1 ends tells other_ends other_tells rising
+both_said k w place serial (t ∷ ts) mid after one two tag words other_tag other_words [] h ends tells other_ends other_tells rising = absurd h
+both_said k w place serial (t ∷ ts) mid after one two tag words other_tag other_words (v ∷ vs) h ends tells other_ends other_tells rising =
+    both_said k w place serial ts mid after one two tag words other_tag other_words vs h.1 ends tells other_ends other_tells (others_rise v vs rising)
+
+every_noted : (xs : List Noted) → Every (λ (n : Noted). Unit {0}) xs
+every_noted [] = tt
+every_noted (x ∷ xs) = (tt, every_noted xs)
 
 -- ---- over a record
 
@@ -91,11 +145,10 @@ appends_are_told k entries t place v printable is there read =
       each = each;
       in_order = rising_pair InTurn (filter_map as_it_is notes.verdicts) notes.order;
       kept = λ before after one tag words e ends tells.
-          let at = answer_at k t.world place v.serial before after one notes.verdicts (subst (λ (told : List Told). AreAnswered k t.world place v.serial told notes.verdicts) e each) in
-          by at.0 (bytes_in one) tag words at.1 ends tells;
+          let s = said_at k t.world place v.serial before after one tag words notes.verdicts (λ n. Unit {0}) (subst (λ (told : List Told). AreAnswered k t.world place v.serial told notes.verdicts) e each) ends tells
+          (every_noted (filter_map as_it_is notes.verdicts)) in
+          (s.noted, s.kept);
+      apart = λ before mid after one two tag words other_tag other_words e ends tells other_ends other_tells.
+          let b = both_said k t.world place v.serial before mid after one two tag words other_tag other_words notes.verdicts (subst (λ (told : List Told). AreAnswered k t.world place v.serial told notes.verdicts) e each) ends tells other_ends other_tells notes.order in
+          (b.first, b.second, b.one, b.two, b.order);
     }
-  where
-    by : (verdict : Option Noted) (bytes tag words : List ℕ) → IsAnswered k t.world place v.serial bytes verdict → EndsWith tag words bytes → tells_uid words ≡ true
-        → (uid : ℕ) × (noted : Noted) × IsKept k t.world place v.serial uid noted × (words ≡ appended_words k.config.uidvalidity uid)
-    by None bytes tag words h ends tells = absurd (untold bytes tag words h ends tells)
-    by (Some noted) bytes tag words h ends tells = said_kept k t.world place v.serial bytes tag words noted h ends tells

@@ -77,8 +77,10 @@ AreAnswered k w place serial (one ∷ told) (verdict ∷ verdicts) = IsAnswered 
 abbrev pub as_it_is : Option Noted → Option Noted
 as_it_is verdict = verdict
 
--- One copy of a session stands in a mailbox under this UID: its seat has heard that it is stored.
-pub record IsKept (k : Setup) (w : World) (place serial uid : ℕ) (noted : Noted) : Type 0 where
+-- These words are the OK for one copy of a session: they tell the house's UIDVALIDITY and the UID under which it stands, once, as its seat has heard.
+pub record TellsKept (k : Setup) (w : World) (place serial : ℕ) (said : List ℕ) (noted : Noted) : Type 0 where
+  pub uid : ℕ
+  pub words : said ≡ appended_words k.config.uidvalidity uid
   pub seat : noted.key.seat ≡ session_seat k place
   pub own : noted.key.serial ≡ serial
   pub heard : Contains (w.heard noted.key.seat) noted
@@ -93,9 +95,13 @@ pub record TellsOfAppends (k : Setup) (entries : List Entry) (place : ℕ) (v : 
   pub each : AreAnswered k t.world place v.serial keeps.told verdicts
   -- on messages in the order in which they were appended, so none is told twice
   pub in_order : AllPairs (λ a b. Below a.key b.key) (filter_map as_it_is verdicts)
-  -- So where an answer ends with `OK [APPENDUID ` behind any tag, it tells the house's UIDVALIDITY and the UID of one copy of this session, which stands so, once.
+  -- So where an answer ends with `OK [APPENDUID ` behind any tag, that is for one copy of this session, which stands so;
   pub kept : (before after : List Told) (one : Told) (tag words : List ℕ) → keeps.told ≡ before ++ one ∷ after → EndsWith tag words (bytes_in one) → tells_uid words ≡ true
-      → (uid : ℕ) × (noted : Noted) × IsKept k t.world place v.serial uid noted × (words ≡ appended_words k.config.uidvalidity uid)
+      → (noted : Noted) × TellsKept k t.world place v.serial words noted
+  -- and two such answers are for two copies, of which the first was appended first.
+  pub apart : (before mid after : List Told) (one two : Told) (tag words other_tag other_words : List ℕ) → keeps.told ≡ before ++ one ∷ (mid ++ two ∷ after) → EndsWith tag words (bytes_in one) → tells_uid words ≡ true
+      → EndsWith other_tag other_words (bytes_in two) → tells_uid other_words ≡ true
+      → (a : Noted) × (b : Noted) × TellsKept k t.world place v.serial words a × TellsKept k t.world place v.serial other_words b × Below a.key b.key
 
 -- Over whatever record of a house that was new, of whoever is there
 abbrev pub AppendsAreTold : Type 0
