@@ -1,10 +1,10 @@
 -- The answers into which a record cuts what was printed are those that the bytes allow.
-use Rattle.std.proofs.Common.{◌≡◌, ℕ, ◌^◌, ◌<◌, Bool, true, false, List, [], ◌∷◌, ◌++◌, length, refl, sym, ap, ◌∙◌, subst, arith, Option, Some, None}
-use Rattle.std.specs.Prelude.{codes, flat_map, if◌then◌else◌}
+use Rattle.std.proofs.Common.{◌≡◌, ◌⊎◌, inl, inr, ℕ, ◌^◌, ◌<◌, Bool, true, false, List, [], ◌∷◌, ◌++◌, length, refl, sym, ap, ◌∙◌, subst, arith, Option, Some, None}
+use Rattle.std.specs.Prelude.{Ok, codes, flat_map, if◌then◌else◌}
 use Rattle.mailbox.specs.declared.clients.Row.{Row}
 use Rattle.world.specs.World.{Config, World}
 use Rattle.imap_session.specs.Commands.{greeting}
-use Rattle.imap_session.specs.Exchange.{Alter, Call, Count, Enter, Event as Happened, Expunge, Feed, Found, Leave, Look, Read, Answer, Entered, Looked, Counted, Altered, Expunged, Fed, Left, Refused, Starved, Standing}
+use Rattle.imap_session.specs.Exchange.{Alter, Call, Count, Enter, Event as Happened, Expunge, Feed, Found, Leave, Look, Read, Answer as StoreAnswer, Entered, Looked, Counted, Altered, Expunged, Fed, Left, Refused, Starved, Standing, Turn, kept_tag}
 use Rattle.imap_session.specs.Store.{Met}
 use Rattle.session_store.specs.Meets.{Meets}
 use Rattle.house_session.specs.SeatedVisitor.{SeatedVisitor}
@@ -13,18 +13,22 @@ use Rattle.house.specs.Setup.{Setup}
 use Rattle.client_list.specs.Turns.{IsRead, IsRowOf, Sees, SeesAll}
 use Rattle.client_list.proofs.IdleTags.{AreTagsOf}
 use Rattle.client_list.proofs.Talking.{happening_keeps_so}
-use Rattle.client_records.specs.Clients.{Told, bytes_in}
-use Rattle.client_records.specs.Cuts.{AnswersAreCut, Cutter, EachIsOne, IsOneAnswer, between, cut_between, cuts, ends, has_any, is_ended, opens}
+use Rattle.client_records.specs.Clients.{Answer, Told, Words, bytes_in}
+use Rattle.client_records.specs.Cuts.{AnswersAreCut, Cutter, EachIsOne, IsAnswered, IsOneAnswer, between, cut_between, cuts, ends, has_any, is_ended, leaves_open, opens}
 use Rattle.client_records.specs.Lives.{Lives, comes, others, turns}
 use Rattle.client_records.specs.Records.{first_standing, shown_by_then}
 use Rattle.client_records.specs.Sizes.{HasShortTexts, HasSmallNumbers}
-use Rattle.client_records.specs.Turns.{Stands, told_of}
+use Rattle.client_records.specs.Turns.{Stands, told_line, told_of}
+use Rattle.client_list.specs.Commands.{AreNames}
+use Rattle.client_list.specs.Talks.{Happening, Heard, Line, Literal, LongLine, Turned, leads_to}
+use Rattle.imap_grammar.specs.Reading.{read}
+use Rattle.imap_grammar.specs.declared.command.Command.{Command}
 use Rattle.client_records.specs.Views.{view_of}
 use Rattle.client_records.proofs.Answered.{told_bytes}
 use Rattle.client_records.proofs.Boxes.{box_goes}
 use Rattle.client_records.proofs.CutBytes.{cuts-append}
 use Rattle.client_records.proofs.CutTexts.{star_passes}
-use Rattle.client_records.proofs.CutTurns.{AreShort, IsShort, IsShortAnswer, turn_cut}
+use Rattle.client_records.proofs.CutTurns.{AreShort, IsShort, IsShortAnswer, OneOf, command_one, ended, kept_open, turn_cut}
 use Rattle.client_records.proofs.Keeping.{clients_keep_up, first_stands, texts_stay_short}
 use Rattle.client_records.proofs.LastLines.{IsWord}
 use Rattle.client_records.proofs.Living.{lives_known}
@@ -49,7 +53,7 @@ found_short k n w (Expunge uids) row v m h = absurd m
 found_short k n w (Feed limit) row v m h = absurd m
 found_short k n w (Leave remove) row v m h = absurd m
 
-answer_short : (k : Config) (n : ℕ) (w : World) (call : Call) (answer : Answer) (v : World) (view new : List ℕ) → Meets k n w call answer v → Sees view (record { call = call; answer = answer }) new → IsShortAnswer answer
+answer_short : (k : Config) (n : ℕ) (w : World) (call : Call) (answer : StoreAnswer) (v : World) (view new : List ℕ) → Meets k n w call answer v → Sees view (record { call = call; answer = answer }) new → IsShortAnswer answer
 answer_short k n w call (Found row) v view new m s = found_short k n w call row v m s.fits
 answer_short k n w call (Entered a) v view new m s = tt
 answer_short k n w call (Looked a) v view new m s = tt
@@ -83,6 +87,54 @@ lives_cut k n first began h S stands words (turns {told = told} {now = now} {w =
 lives_cut k n first began h S stands words (others {told = told} {now = now} {w = w} lives event v o step) short =
     lives_cut k n first began h S stands words lives (short_before w v (λ m. goes_extends k (w.box m) (v.box m) (box_goes k w event v m step)) short)
 
+-- ---- whose answers they are
+
+-- one that was said to a command
+abbrev IsOwn : Told → Type 0
+IsOwn (Answer line bytes) = (tag : List ℕ) (command : Command) → read line ≡ Ok (tag, command) → IsAnswered tag command bytes
+IsOwn (Words bytes) = Unit {0}
+
+abbrev AreOwn : List Told → Type 0
+AreOwn [] = Unit {0}
+AreOwn (one ∷ told) = IsOwn one × AreOwn told
+
+one_own : (told : List Told) (one : Told) → AreOwn told → IsOwn one → AreOwn (told ++ one ∷ [])
+one_own [] one h k = (k, tt)
+one_own (t ∷ ts) one h k = (h.0, one_own ts one h.1 k)
+
+answered_so : (tag : List ℕ) (command : Command) (bytes : List ℕ) → OneOf tag (leaves_open command) bytes → IsAnswered tag command bytes
+answered_so tag command bytes (kept_open p why) = inr (ap (λ (c : Cutter). has_any c.answers) (p [] []), why)
+answered_so tag command bytes (ended p own) = inl (ap (λ (c : Cutter). has_any c.answers) (p [] []), own)
+
+turn_own : (now : Standing) (happening : Happening) (turn : Turn) → AreNames now.folders → leads_to now happening ≡ Some turn → AreShort turn.events → IsOwn (told_of now happening turn.bytes)
+turn_own now (Line line answers) turn names e short = by (kept_tag now) refl
+  where
+    by : (o : Option (List ℕ)) → kept_tag now ≡ o → IsOwn (told_line o line turn.bytes)
+    by None kept = λ tag command reads. answered_so tag command turn.bytes (command_one now line tag command answers turn names kept reads e short)
+    by (Some tag) kept = tt
+turn_own now LongLine turn names e short = tt
+turn_own now (Turned answers) turn names e short = tt
+turn_own now (Literal kept bytes) turn names e short = tt
+turn_own now (Heard verdict answers) turn names e short = tt
+
+lives_own : (k : Config) (n : ℕ) (first : Standing) (began : World) {sent : List ℕ} {told : List Told} {now : Standing} {w : World} → HasSmallNumbers k → Sound k began → Stands first
+    → Lives k n first began sent told now w → HasShortTexts w → AreOwn told
+lives_own k n first began h S stands comes short = tt
+lives_own k n first began h S stands (turns {told = told} {now = now} {w = w} lives happening bytes turn v sent printed e met) short =
+    let short_w = short_met k n w turn.events v met short in
+    let K = lives_known k n first began h S stands lives short_w in
+    let sees = sees_all k n w turn.events v h K.sound short met in
+    one_own told (told_of now happening turn.bytes) (lives_own k n first began h S stands lives short_w)
+    (turn_own now happening turn K.stands.names e (all_short k n w turn.events v (view_of w n) (view_of v n) met sees))
+lives_own k n first began h S stands (others {told = told} {now = now} {w = w} lives event v o step) short =
+    lives_own k n first began h S stands lives (short_before w v (λ m. goes_extends k (w.box m) (v.box m) (box_goes k w event v m step)) short)
+
+own_at : (before after : List Told) (one : Told) → AreOwn (before ++ one ∷ after) → IsOwn one
+own_at [] after one h = h.0
+own_at (t ∷ ts) after one h = own_at ts after one h.1
+
+-- ---- the cut
+
 -- a client that cuts the bytes cuts between the answers
 cut_so : (begun : List ℕ) (answers : List (List ℕ)) (told : List Told) → EachIsOne told → cuts (between begun answers) (flat_map bytes_in told) ≡ cut_between begun answers told
 cut_so begun answers [] h = refl
@@ -108,6 +160,8 @@ answers_are_cut k entries t place v printable is there read =
     (texts_stay_short k entries t printable.texts is) in record {
       keeps = keeps;
       each = each;
+      own = λ before after line tag bytes command e reads. own_at before after (Answer line bytes) (subst AreOwn e (lives_own k.config place (first_standing k _) keeps.began printable.numbers (sound_always k.config keeps.events keeps.began printable.numbers keeps.came)
+          (first_stands k _ printable) keeps.lives (texts_stay_short k entries t printable.texts is))) tag command reads;
       cut = ap (cuts (between [] [])) (sym keeps.printed) ∙ cuts-append (between [] []) greeting (flat_map bytes_in keeps.told)
           ∙ ap (λ (c : Cutter). cuts c (flat_map bytes_in keeps.told)) (star_passes (codes "PREAUTH IMAP4rev2 server ") (codes "ready") refl refl refl [] []) ∙ cut_so greeting [] keeps.told each;
     }

@@ -1,12 +1,16 @@
 -- How a client cuts what it reads into answers: behind each tagged line. What stands in literals is passed over (RFC 9051, 2.2.2, 4.3 and 7).
-use Rattle.std.specs.Prelude.{◌≡◌, ◌==◌, ◌&&◌, ◌||◌, ℕ, zero, suc, Bool, false, true, codes, not, reverse, flat_map, List, [], ◌∷◌, ◌++◌, Option, Some, None, if◌then◌else◌}
+use Rattle.std.specs.Prelude.{◌≡◌, ◌⊎◌, ◌==◌, ◌&&◌, ◌||◌, ℕ, zero, suc, Bool, false, true, codes, not, reverse, flat_map, List, [], ◌∷◌, ◌++◌, Ok, Option, Some, None, if◌then◌else◌}
+use Rattle.imap_grammar.specs.Reading.{read}
+use Rattle.imap_grammar.specs.declared.command.Command.{Command}
+use Rattle.imap_grammar.specs.declared.command.Command.TheVariants as commands
+use Rattle.imap_session.specs.Exchange.{bye, tagged}
 use Rattle.imap_session.specs.Commands.{greeting}
 use Rattle.house_session.specs.SeatedVisitor.{SeatedVisitor}
 use Rattle.house.specs.Scene.{Scene, empty_scene}
 use Rattle.house.specs.Setup.{Setup}
 use Rattle.exactly_once.specs.Promise.{Entry, IsRecord}
 use Rattle.client_list.specs.Client.{literal_of}
-use Rattle.client_records.specs.Clients.{Told, begins, bytes_in}
+use Rattle.client_records.specs.Clients.{Answer, Told, begins, bytes_in}
 use Rattle.client_records.specs.Records.{IsPrintable, KeepsUp, shown_by_then}
 
 -- ---- a client that cuts
@@ -76,6 +80,28 @@ cut_between begun answers [] = between begun answers
 cut_between begun answers (one ∷ told) =
     if is_ended (bytes_in one) then cut_between [] (answers ++ (begun ++ bytes_in one) ∷ []) told else cut_between (begun ++ bytes_in one) answers told
 
+-- ---- whose answers they are
+
+-- the last line has this tag
+abbrev pub EndsItself : (tag : List ℕ) → List ℕ → Type 0
+EndsItself tag bytes = (front : List ℕ) × (words : List ℕ) × (bytes ≡ front ++ tagged tag words)
+
+-- the last line is a BYE, with which a session ends
+abbrev pub SaysBye : List ℕ → Type 0
+SaysBye bytes = (front : List ℕ) × (words : List ℕ) × (bytes ≡ front ++ bye words)
+
+-- behind these commands the client goes on before the tagged line comes: with DONE, or with its literal
+abbrev pub leaves_open : Command → Bool
+leaves_open commands.Idle = true
+leaves_open (commands.Append append) = true
+leaves_open command = false
+
+-- The answer to a command ends with the tagged line of the command's own tag. Where it has no tagged line the session has said BYE, or it is IDLE or APPEND.
+abbrev pub IsAnswered : (tag : List ℕ) → Command → List ℕ → Type 0
+IsAnswered tag command bytes = ((is_ended bytes ≡ true) × EndsItself tag bytes) ⊎ ((is_ended bytes ≡ false) × ((leaves_open command ≡ true) ⊎ SaysBye bytes))
+
+-- ---- all that was told
+
 abbrev pub EachIsOne : List Told → Type 0
 EachIsOne [] = Unit {0}
 EachIsOne (one ∷ told) = IsOneAnswer (bytes_in one) × EachIsOne told
@@ -85,6 +111,8 @@ pub record CutsSo (k : Setup) (entries : List Entry) (place : ℕ) (v : SeatedVi
   pub keeps : KeepsUp k entries place v t
   -- each answer has one tagged line at most, and it is its last
   pub each : EachIsOne keeps.told
+  -- that of the command which it answers
+  pub own : (before after : List Told) (line tag bytes : List ℕ) (command : Command) → keeps.told ≡ before ++ Answer line bytes ∷ after → read line ≡ Ok (tag, command) → IsAnswered tag command bytes
   -- so a client that cuts behind each tagged line, in all that is printed to it and is still to be printed, cuts between these answers, and nowhere else
   pub cut : cuts (between [] []) (shown_by_then place [] entries ++ v.session.unsaid) ≡ cut_between greeting [] keeps.told
 
