@@ -14,6 +14,8 @@ mod LastLines
 mod LastRests
 mod LastWords
 mod LastTurns
+mod Waiting
+mod Submitted
 mod Answered
 mod Talked
 pub mod Folded

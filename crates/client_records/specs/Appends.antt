@@ -1,5 +1,5 @@
 -- What the answers to a client tell of the messages that it appended (RFC 9051, 6.3.12; RFC 4315, 3).
-use Rattle.std.specs.Prelude.{◌≡◌, ◌⊎◌, ◌==◌, ℕ, false, true, codes, drop, reverse, List, [], ◌∷◌, ◌++◌, All, AllPairs, Contains, filter_map, Option, Some, None, if◌then◌else◌}
+use Rattle.std.specs.Prelude.{◌≡◌, ◌⊎◌, ◌==◌, ℕ, false, true, codes, drop, length, reverse, List, [], ◌∷◌, ◌++◌, All, AllPairs, Contains, filter_map, Ok, Option, Some, None, if◌then◌else◌}
 use Rattle.delivery_token.specs.Keys.{Below}
 use Rattle.delivery_token.specs.declared.Verdict.{Verdict}
 use Rattle.delivery_token.specs.declared.Verdict.TheVariants.{Stored, Refused}
@@ -7,8 +7,12 @@ use Rattle.delivery_token.specs.declared.log.Noted.{Noted}
 use Rattle.mailbox.specs.declared.clients.MailFault.{MailFault}
 use Rattle.imap_grammar.specs.Bytes.{is_tag}
 use Rattle.imap_grammar.specs.Items.{is_word_of}
-use Rattle.imap_session.specs.Commands.{appended_words, refused_words}
-use Rattle.imap_session.specs.Exchange.{refusal_text, tagged}
+use Rattle.line_io.specs.Wire.{crlf}
+use Rattle.imap_grammar.specs.Reading.{read}
+use Rattle.imap_grammar.specs.declared.command.Append.{Append}
+use Rattle.imap_grammar.specs.declared.command.Command.TheVariants as commands
+use Rattle.imap_session.specs.Commands.{appended_words, number_named, refused_words}
+use Rattle.imap_session.specs.Exchange.{Folder, Sent, refusal_text, tagged}
 use Rattle.imap_session.specs.Telling.{tells_uid}
 use Rattle.world.specs.Law.{StandsOnce, pairs}
 use Rattle.world.specs.World.{World}
@@ -38,6 +42,21 @@ pub record EndsWith (tag words bytes : List ℕ) : Type 0 where
 -- it doesn't end in a line that tells a UID, whatever the tag
 abbrev pub TellsOfNone : List ℕ → Type 0
 TellsOfNone bytes = (tag words : List ℕ) → EndsWith tag words bytes → tells_uid words ≡ false
+
+-- ---- which message it was
+
+-- A client sent this message so, to a session with these mailboxes (RFC 9051, 6.3.12): an APPEND under its tag, which names its mailbox, with its flags; its text, as the literal that was
+-- announced; and the CRLF behind that.
+pub record IsSentAs (folders : List Folder) (sent : List ℕ) (message : Sent) : Type 0 where
+  pub front : List ℕ
+  pub line : List ℕ
+  pub behind : List ℕ
+  pub append : Append
+  pub reads : read line ≡ Ok (message.tag, commands.Append append)
+  pub named : number_named append.name folders ≡ Some message.append.mailbox
+  pub flags : message.append.flags ≡ append.flags
+  pub size : length message.append.text ≡ append.literal.size
+  pub whole : sent ≡ front ++ (line ++ crlf) ++ message.append.text ++ crlf ++ behind
 
 -- ---- what is said to a verdict
 
