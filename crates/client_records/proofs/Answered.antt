@@ -22,7 +22,9 @@ use Rattle.client_list.specs.Talks.{Happening, Line, LongLine, Turned, Literal, 
 use Rattle.client_list.proofs.IdleTags.{AreTagsOf, Keeps, Kept, played_keeps}
 use Rattle.client_list.proofs.Talking.{happening_keeps_so}
 use Rattle.client_list.proofs.Turns.{the_turn}
-use Rattle.client_records.specs.Appends.{SaysVerdict, TellsOfNone, as_it_is}
+use Rattle.client_records.specs.Appends.{IsSentAs, SaysVerdict, TellsOfNone, as_it_is}
+use Rattle.client_records.specs.Lives.{IsSentFor}
+use Rattle.client_records.proofs.Submitted.{ComesInTurn, IsBegunAs, Mailed, line_stays, mail_turn, sent_more}
 use Rattle.client_records.specs.Clients.{Told, bytes_in}
 use Rattle.client_records.specs.Turns.{VerdictsArePrinted, told_line, told_of}
 use Rattle.client_records.proofs.LastLines.{IsWord}
@@ -47,28 +49,9 @@ numbers_keep base tag = record { ends = λ now k. k; enters = λ now selected k.
 same_numbers : (now : Mailing) → NumbersRise now now
 same_numbers now = (omega arith, λ s is. inl is)
 
--- where it stands then, behind one that has the same number and the same message
-rises_by : (base now : Standing) (turn : Turn) → NumbersRise base.mailing now.mailing → now ≡ turn.standing → NumbersRise base.mailing turn.standing.mailing
-rises_by base now turn k e = subst (λ (s : Standing). NumbersRise base.mailing s.mailing) e k
-
 line_rises : (now : Standing) (line : List ℕ) (answers : List Answer) (turn : Turn) → turn_of now line answers ≡ Some turn → NumbersRise now.mailing turn.standing.mailing
-line_rises now line answers turn e = behind now.mailing.begun e
-  where
-    said : (text : List ℕ) (answers : List Answer) → only_says text now answers ≡ Some turn → NumbersRise now.mailing turn.standing.mailing
-    said text [] e = subst (λ (s : Turn). NumbersRise now.mailing s.standing.mailing) (ap (the_turn turn) e) (same_numbers now.mailing)
-    said text (a ∷ more) e = absurd (none-some turn e)
-
-    reads : (r : Result (List ℕ × Command) ImapFault) → on_read now r answers ≡ Some turn → NumbersRise now.mailing turn.standing.mailing
-    reads (Ok l) e = played_keeps (λ (s : Standing). NumbersRise now.mailing s.mailing) l.0 (numbers_keep now.mailing l.0) now (on_command now l.1) answers turn (same_numbers now.mailing) e
-    reads (Err fault) e = said (fault_text fault) answers e
-
-    while : (idling : Option (List ℕ)) → turn_while idling now line answers ≡ Some turn → NumbersRise now.mailing turn.standing.mailing
-    while None e = reads (read line) e
-    while (Some tag) e = played_keeps (λ (s : Standing). NumbersRise now.mailing s.mailing) tag (numbers_keep now.mailing tag) (record now { idling = None }) (on_idle_line now.selected line) answers turn (same_numbers now.mailing) e
-
-    behind : (begun : Option Appending) → turn_behind begun now line answers ≡ Some turn → NumbersRise now.mailing turn.standing.mailing
-    behind None e = while now.idling e
-    behind (Some a) e = played_keeps (λ (s : Standing). NumbersRise now.mailing s.mailing) a.tag (numbers_keep now.mailing a.tag) (without_begun now) (on_rest now.mailing a (length line == 0)) answers turn (same_numbers now.mailing) e
+line_rises now line answers turn e =
+    line_stays (λ (s : Standing). NumbersRise now.mailing s.mailing) (numbers_keep now.mailing) now line answers turn (same_numbers now.mailing) (same_numbers now.mailing) (same_numbers now.mailing) e
 
 turned_rises : (k : Config) (n : ℕ) (now : Standing) (answers : List Answer) (w : World) (turn : Turn) (v : World) → leads_to now (Turned answers) ≡ Some turn → Met (Calls k n) w turn.events v → NumbersRise now.mailing turn.standing.mailing
 turned_rises k n now answers w turn v e met =
@@ -96,53 +79,73 @@ abbrev pub HasHeard : Came → List Noted → Verdict → Sent → Type 0
 HasHeard first notes verdict sent = (mailbox : ℕ) × Contains notes (record { key = record { seat = first.seat; serial = first.serial; message = sent.append.message; recipient = 0 }; mailbox = mailbox; verdict = verdict })
 
 -- a verdict that it answers can be printed, and its seat has heard that
+abbrev pub VerdictSo : Came → World → Standing → Happening → Type 0
+VerdictSo first w now (Heard verdict answers) = IsPrinted verdict × IfSome now.mailing.sent (HasHeard first (w.heard first.seat) verdict)
+VerdictSo first w now happening = Unit {0}
+
+-- and what comes comes in its turn
 abbrev pub HappensSo : Came → World → Standing → Happening → Type 0
-HappensSo first w now (Heard verdict answers) = IsPrinted verdict × IfSome now.mailing.sent (HasHeard first (w.heard first.seat) verdict)
-HappensSo first w now happening = Unit {0}
+HappensSo first w now happening = ComesInTurn now happening × VerdictSo first w now happening
+
+verdict_printed : (first : Came) (w : World) (now : Standing) (happening : Happening) → VerdictSo first w now happening → VerdictsArePrinted happening
+verdict_printed first w now (Heard verdict answers) h = h.0
+verdict_printed first w now (Line line answers) h = tt
+verdict_printed first w now LongLine h = tt
+verdict_printed first w now (Turned answers) h = tt
+verdict_printed first w now (Literal kept bytes) h = tt
 
 pub so_printed : (first : Came) (w : World) (now : Standing) (happening : Happening) → HappensSo first w now happening → VerdictsArePrinted happening
-so_printed first w now (Heard verdict answers) h = h.0
-so_printed first w now (Line line answers) h = tt
-so_printed first w now LongLine h = tt
-so_printed first w now (Turned answers) h = tt
-so_printed first w now (Literal kept bytes) h = tt
+so_printed first w now happening h = verdict_printed first w now happening h.1
 
--- these bytes were said to the verdict on a copy of it
-pub record Noting (uidvalidity : ℕ) (first : Came) (notes : List Noted) (bytes : List ℕ) (noted : Noted) : Type 0 where
+-- these bytes were said to the verdict on a copy of it, of a message that its client sent
+pub record Noting (uidvalidity : ℕ) (first : Came) (sent : List ℕ) (notes : List Noted) (bytes : List ℕ) (noted : Noted) : Type 0 where
   pub seat : noted.key.seat ≡ first.seat
   pub own : noted.key.serial ≡ first.serial
   pub heard : Contains notes noted
-  pub tag : List ℕ
-  pub chosen : IsWord tag
-  pub says : SaysVerdict uidvalidity tag noted.verdict bytes
+  pub message : Sent
+  pub number : noted.key.message ≡ message.append.message
+  pub came : IsSentAs first.standing.folders sent message
+  pub chosen : IsWord message.tag
+  pub says : SaysVerdict uidvalidity message.tag noted.verdict bytes
 
-abbrev pub IsNoted : (uidvalidity : ℕ) → Came → List Noted → List ℕ → Option Noted → Type 0
-IsNoted uidvalidity first notes bytes None = TellsOfNone bytes
-IsNoted uidvalidity first notes bytes (Some noted) = Noting uidvalidity first notes bytes noted
+abbrev pub IsNoted : (uidvalidity : ℕ) → Came → (sent : List ℕ) → List Noted → List ℕ → Option Noted → Type 0
+IsNoted uidvalidity first sent notes bytes None = TellsOfNone bytes
+IsNoted uidvalidity first sent notes bytes (Some noted) = Noting uidvalidity first sent notes bytes noted
 
-abbrev pub AreNoted : (uidvalidity : ℕ) → Came → List Noted → List Told → List (Option Noted) → Type 0
-AreNoted uidvalidity first notes [] [] = Unit {0}
-AreNoted uidvalidity first notes [] (verdict ∷ verdicts) = ⊥
-AreNoted uidvalidity first notes (one ∷ told) [] = ⊥
-AreNoted uidvalidity first notes (one ∷ told) (verdict ∷ verdicts) = IsNoted uidvalidity first notes (bytes_in one) verdict × AreNoted uidvalidity first notes told verdicts
+abbrev pub AreNoted : (uidvalidity : ℕ) → Came → (sent : List ℕ) → List Noted → List Told → List (Option Noted) → Type 0
+AreNoted uidvalidity first sent notes [] [] = Unit {0}
+AreNoted uidvalidity first sent notes [] (verdict ∷ verdicts) = ⊥
+AreNoted uidvalidity first sent notes (one ∷ told) [] = ⊥
+AreNoted uidvalidity first sent notes (one ∷ told) (verdict ∷ verdicts) = IsNoted uidvalidity first sent notes (bytes_in one) verdict × AreNoted uidvalidity first sent notes told verdicts
 
-noted_append : (u : ℕ) (first : Came) (notes : List Noted) (told more : List Told) (verdicts others : List (Option Noted)) → AreNoted u first notes told verdicts → AreNoted u first notes more others
-    → AreNoted u first notes (told ++ more) (verdicts ++ others)
-noted_append u first notes [] more [] others h k = k
-noted_append u first notes [] more (v ∷ vs) others h k = absurd h
-noted_append u first notes (t ∷ ts) more [] others h k = absurd h
-noted_append u first notes (t ∷ ts) more (v ∷ vs) others h k = (h.0, noted_append u first notes ts more vs others h.1 k)
+noted_append : (u : ℕ) (first : Came) (sent : List ℕ) (notes : List Noted) (told more : List Told) (verdicts others : List (Option Noted)) → AreNoted u first sent notes told verdicts → AreNoted u first sent notes more others
+    → AreNoted u first sent notes (told ++ more) (verdicts ++ others)
+noted_append u first sent notes [] more [] others h k = k
+noted_append u first sent notes [] more (v ∷ vs) others h k = absurd h
+noted_append u first sent notes (t ∷ ts) more [] others h k = absurd h
+noted_append u first sent notes (t ∷ ts) more (v ∷ vs) others h k = (h.0, noted_append u first sent notes ts more vs others h.1 k)
 
-one_more : (u : ℕ) (first : Came) (notes more : List Noted) → ((n : Noted) → Contains notes n → Contains more n) → (bytes : List ℕ) (verdict : Option Noted) → IsNoted u first notes bytes verdict → IsNoted u first more bytes verdict
-one_more u first notes more grows bytes None h = h
-one_more u first notes more grows bytes (Some n) h = record { seat = h.seat; own = h.own; heard = grows n h.heard; tag = h.tag; chosen = h.chosen; says = h.says }
+one_more : (u : ℕ) (first : Came) (sent bytes : List ℕ) (notes more : List Noted) → ((n : Noted) → Contains notes n → Contains more n) → (said : List ℕ) (verdict : Option Noted) → IsNoted u first sent notes said verdict
+    → IsNoted u first (sent ++ bytes) more said verdict
+one_more u first sent bytes notes more grows said None h = h
+one_more u first sent bytes notes more grows said (Some n) h = record {
+  seat = h.seat;
+  own = h.own;
+  heard = grows n h.heard;
+  message = h.message;
+  number = h.number;
+  came = sent_more first.standing.folders sent bytes h.message h.came;
+  chosen = h.chosen;
+  says = h.says;
+}
 
--- what its seat has heard stays heard
-pub still_noted : (u : ℕ) (first : Came) (notes more : List Noted) → ((n : Noted) → Contains notes n → Contains more n) → (told : List Told) (verdicts : List (Option Noted)) → AreNoted u first notes told verdicts → AreNoted u first more told verdicts
-still_noted u first notes more grows [] [] h = h
-still_noted u first notes more grows [] (v ∷ vs) h = absurd h
-still_noted u first notes more grows (t ∷ ts) [] h = absurd h
-still_noted u first notes more grows (t ∷ ts) (v ∷ vs) h = (one_more u first notes more grows (bytes_in t) v h.0, still_noted u first notes more grows ts vs h.1)
+-- what its seat has heard stays heard, and what its client has sent stays sent
+pub still_noted : (u : ℕ) (first : Came) (sent bytes : List ℕ) (notes more : List Noted) → ((n : Noted) → Contains notes n → Contains more n) → (told : List Told) (verdicts : List (Option Noted)) → AreNoted u first sent notes told verdicts
+    → AreNoted u first (sent ++ bytes) more told verdicts
+still_noted u first sent bytes notes more grows [] [] h = h
+still_noted u first sent bytes notes more grows [] (v ∷ vs) h = absurd h
+still_noted u first sent bytes notes more grows (t ∷ ts) [] h = absurd h
+still_noted u first sent bytes notes more grows (t ∷ ts) (v ∷ vs) h = (one_more u first sent bytes notes more grows (bytes_in t) v h.0, still_noted u first sent bytes notes more grows ts vs h.1)
 
 -- in the order of their keys
 abbrev pub InTurn : Noted → Noted → Type 0
@@ -157,21 +160,40 @@ abbrev IsNext : Came → Mailing → List Noted → Type 0
 IsNext first mailing answered = (s : Sent) → mailing.sent ≡ Some s → Every (IsBefore first s.append.message) answered × (s.append.message < mailing.number)
 
 -- What is known of all that a session was told so far.
-pub record Notes (u : ℕ) (first : Came) (told : List Told) (now : Standing) (notes : List Noted) : Type 0 where
+pub record Notes (u : ℕ) (first : Came) (sent : List ℕ) (told : List Told) (now : Standing) (notes : List Noted) : Type 0 where
   pub verdicts : List (Option Noted)
-  pub each : AreNoted u first notes told verdicts
+  pub each : AreNoted u first sent notes told verdicts
   pub tags : AreTagsOf IsWord now
+  pub mail : Mailed first.standing.folders sent now
   pub order : Rising InTurn (filter_map as_it_is verdicts)
   pub before : Every (IsBefore first now.mailing.number) (filter_map as_it_is verdicts)
   pub next : IsNext first now.mailing (filter_map as_it_is verdicts)
 
-pub no_notes : (u : ℕ) (first : Came) (notes : List Noted) → AreTagsOf IsWord first.standing → first.standing.mailing.sent ≡ None → Notes u first [] first.standing notes
-no_notes u first notes tags none =
-    record { verdicts = []; each = tt; tags = tags; order = tt; before = tt; next = λ s is. absurd (none-some s (sym none ∙ is)) }
+pub no_notes : (u : ℕ) (first : Came) (notes : List Noted) → AreTagsOf IsWord first.standing → first.standing.mailing.begun ≡ None → first.standing.mailing.sent ≡ None → Notes u first [] [] first.standing notes
+no_notes u first notes tags unbegun none = record {
+  verdicts = [];
+  each = tt;
+  tags = tags;
+  mail = record {
+    same = refl;
+    begun = subst (λ (o : Option Appending). IfSome o (IsBegunAs first.standing.folders [])) (sym unbegun) tt;
+    waits = subst (λ (o : Option Sent). IfSome o (IsSentAs first.standing.folders [])) (sym none) tt;
+  };
+  order = tt;
+  before = tt;
+  next = λ s is. absurd (none-some s (sym none ∙ is));
+}
 
-pub notes_later : (u : ℕ) (first : Came) (told : List Told) (now : Standing) (notes more : List Noted) → ((n : Noted) → Contains notes n → Contains more n) → Notes u first told now notes → Notes u first told now more
-notes_later u first told now notes more grows t =
-    record { verdicts = t.verdicts; each = still_noted u first notes more grows told t.verdicts t.each; tags = t.tags; order = t.order; before = t.before; next = t.next }
+pub notes_later : (u : ℕ) (first : Came) (sent : List ℕ) (told : List Told) (now : Standing) (notes more : List Noted) → ((n : Noted) → Contains notes n → Contains more n) → Notes u first sent told now notes → Notes u first sent told now more
+notes_later u first sent told now notes more grows t = record {
+  verdicts = t.verdicts;
+  each = subst (λ (x : List ℕ). AreNoted u first x more told t.verdicts) (append-nil sent) (still_noted u first sent [] notes more grows told t.verdicts t.each);
+  tags = t.tags;
+  mail = t.mail;
+  order = t.order;
+  before = t.before;
+  next = t.next;
+}
 
 -- ---- one more
 
@@ -179,15 +201,17 @@ lower : (first : Came) (a b : ℕ) → a ≤ b → (n : Noted) → IsBefore firs
 lower first a b l n h = let m = h.1 in (h.0, omega (arith, l, m))
 
 -- an answer that was said to no verdict
-silent_turn : (u : ℕ) (first : Came) (told : List Told) (one : Told) (now next : Standing) (notes : List Noted) → Notes u first told now notes → TellsOfNone (bytes_in one) → AreTagsOf IsWord next → NumbersRise now.mailing next.mailing
-    → Notes u first (told ++ one ∷ []) next notes
-silent_turn u first told one now next notes t none tags rises =
+silent_turn : (u : ℕ) (first : Came) (sent bytes : List ℕ) (told : List Told) (one : Told) (now next : Standing) (notes : List Noted) → Notes u first sent told now notes → TellsOfNone (bytes_in one) → AreTagsOf IsWord next
+    → Mailed first.standing.folders (sent ++ bytes) next → NumbersRise now.mailing next.mailing
+    → Notes u first (sent ++ bytes) (told ++ one ∷ []) next notes
+silent_turn u first sent bytes told one now next notes t none tags mail rises =
     let same : filter_map as_it_is (t.verdicts ++ None ∷ []) ≡ filter_map as_it_is t.verdicts = filter_map-append as_it_is t.verdicts (None ∷ []) ∙ append-nil (filter_map as_it_is t.verdicts) in
     let later : Every (IsBefore first next.mailing.number) (filter_map as_it_is t.verdicts) =
     every_weaker (IsBefore first now.mailing.number) (IsBefore first next.mailing.number) (lower first now.mailing.number next.mailing.number rises.0) (filter_map as_it_is t.verdicts) t.before in record {
       verdicts = t.verdicts ++ None ∷ [];
-      each = noted_append u first notes told (one ∷ []) t.verdicts (None ∷ []) t.each (none, tt);
+      each = noted_append u first (sent ++ bytes) notes told (one ∷ []) t.verdicts (None ∷ []) (still_noted u first sent bytes notes notes (λ n c. c) told t.verdicts t.each) (none, tt);
       tags = tags;
+      mail = mail;
       order = subst (Rising InTurn) (sym same) t.order;
       before = subst (Every (IsBefore first next.mailing.number)) (sym same) later;
       next = λ s is. subst (λ (answered : List Noted). Every (IsBefore first s.append.message) answered × (s.append.message < next.mailing.number)) (sym same) (by s (rises.1 s is));
@@ -199,19 +223,23 @@ silent_turn u first told one now next notes t none tags rises =
     by s (inr r) = (every_weaker (IsBefore first now.mailing.number) (IsBefore first s.append.message) (lower first now.mailing.number s.append.message r.0) (filter_map as_it_is t.verdicts) t.before, r.1)
 
 -- one that was said to a verdict
-verdict_turn : (u : ℕ) (first : Came) (told : List Told) (one : Told) (sent : Sent) (verdict : Verdict) (now next : Standing) (notes : List Noted) → Notes u first told now notes → now.mailing.sent ≡ Some sent
-    → IsWord sent.tag → HasHeard first notes verdict sent → SaysSent u verdict (bytes_in one) sent → AreTagsOf IsWord next → NumbersRise (without_sent now).mailing next.mailing → Notes u first (told ++ one ∷ []) next notes
-verdict_turn u first told one sent verdict now next notes t there word heard says tags rises =
-    let noted : Noted = record { key = record { seat = first.seat; serial = first.serial; message = sent.append.message; recipient = 0 }; mailbox = heard.0; verdict = verdict } in
+verdict_turn : (u : ℕ) (first : Came) (sent bytes : List ℕ) (told : List Told) (one : Told) (message : Sent) (verdict : Verdict) (now next : Standing) (notes : List Noted) → Notes u first sent told now notes → now.mailing.sent ≡ Some message
+    → IsWord message.tag → HasHeard first notes verdict message → SaysSent u verdict (bytes_in one) message → AreTagsOf IsWord next → Mailed first.standing.folders (sent ++ bytes) next → NumbersRise (without_sent now).mailing next.mailing
+    → Notes u first (sent ++ bytes) (told ++ one ∷ []) next notes
+verdict_turn u first sent bytes told one message verdict now next notes t there word heard says tags mail rises =
+    let own : IsSentAs first.standing.folders sent message = subst (λ (o : Option Sent). IfSome o (IsSentAs first.standing.folders sent)) there t.mail.waits in
+    let noted : Noted = record { key = record { seat = first.seat; serial = first.serial; message = message.append.message; recipient = 0 }; mailbox = heard.0; verdict = verdict } in
     let answered : List Noted = filter_map as_it_is t.verdicts in
     let more : filter_map as_it_is (t.verdicts ++ Some noted ∷ []) ≡ answered ++ noted ∷ [] = filter_map-append as_it_is t.verdicts (Some noted ∷ []) in
-    let here = t.next sent there in
-    let below : Every (λ n. InTurn n noted) answered = every_weaker (IsBefore first sent.append.message) (λ n. InTurn n noted) (λ n h. inr (h.0, inl h.1)) answered here.0 in
+    let here = t.next message there in
+    let below : Every (λ n. InTurn n noted) answered = every_weaker (IsBefore first message.append.message) (λ n. InTurn n noted) (λ n h. inr (h.0, inl h.1)) answered here.0 in
     let old : Every (IsBefore first now.mailing.number) (answered ++ noted ∷ []) = every_append (IsBefore first now.mailing.number) answered (noted ∷ []) t.before ((refl, here.1), tt) in
     record {
       verdicts = t.verdicts ++ Some noted ∷ [];
-      each = noted_append u first notes told (one ∷ []) t.verdicts (Some noted ∷ []) t.each (record { seat = refl; own = refl; heard = heard.1; tag = sent.tag; chosen = word; says = says }, tt);
+      each = noted_append u first (sent ++ bytes) notes told (one ∷ []) t.verdicts (Some noted ∷ []) (still_noted u first sent bytes notes notes (λ n c. c) told t.verdicts t.each)
+          (record { seat = refl; own = refl; heard = heard.1; message = message; number = refl; came = sent_more first.standing.folders sent bytes message own; chosen = word; says = says }, tt);
       tags = tags;
+      mail = mail;
       order = subst (Rising InTurn) (sym more) (rising_push InTurn answered noted t.order below);
       before = subst (Every (IsBefore first next.mailing.number)) (sym more)
           (every_weaker (IsBefore first now.mailing.number) (IsBefore first next.mailing.number) (lower first now.mailing.number next.mailing.number rises.0) (answered ++ noted ∷ []) old);
@@ -235,30 +263,30 @@ told_bytes now (Literal kept bytes) b = refl
 told_bytes now (Heard verdict answers) bytes = refl
 
 -- a turn, whatever happens
-pub notes_turn : (k : Config) (n : ℕ) (first : Came) (told : List Told) (now : Standing) (w : World) (happening : Happening) (turn : Turn) (v : World) → Notes k.uidvalidity first told now (w.heard first.seat) → HappensSo first w now happening
-    → leads_to now happening ≡ Some turn → Met (Calls k n) w turn.events v → Notes k.uidvalidity first (told ++ told_of now happening turn.bytes ∷ []) turn.standing (w.heard first.seat)
-notes_turn k n first told now w (Line line answers) turn v t so e met =
-    silent_turn k.uidvalidity first told (told_of now (Line line answers) turn.bytes) now turn.standing (w.heard first.seat) t
+pub notes_turn : (k : Config) (n : ℕ) (first : Came) (sent bytes : List ℕ) (told : List Told) (now : Standing) (w : World) (happening : Happening) (turn : Turn) (v : World) → Notes k.uidvalidity first sent told now (w.heard first.seat) → HappensSo first w now happening
+    → IsSentFor happening bytes → leads_to now happening ≡ Some turn → Met (Calls k n) w turn.events v → Notes k.uidvalidity first (sent ++ bytes) (told ++ told_of now happening turn.bytes ∷ []) turn.standing (w.heard first.seat)
+notes_turn k n first sent bytes told now w (Line line answers) turn v t so for e met =
+    silent_turn k.uidvalidity first sent bytes told (told_of now (Line line answers) turn.bytes) now turn.standing (w.heard first.seat) t
     (subst TellsOfNone (sym (told_bytes now (Line line answers) turn.bytes)) (turn_tells k n now (Line line answers) w turn v t.tags e met))
-    (happening_keeps_so IsWord (λ tag word. word) now (Line line answers) turn t.tags e) (line_rises now line answers turn e)
-notes_turn k n first told now w LongLine turn v t so e met =
-    silent_turn k.uidvalidity first told (told_of now LongLine turn.bytes) now turn.standing (w.heard first.seat) t (turn_tells k n now LongLine w turn v t.tags e met)
-    (happening_keeps_so IsWord (λ tag word. word) now LongLine turn t.tags e) (subst (λ (s : Turn). NumbersRise now.mailing s.standing.mailing) (ap (the_turn turn) e) (same_numbers now.mailing))
-notes_turn k n first told now w (Turned answers) turn v t so e met =
-    silent_turn k.uidvalidity first told (told_of now (Turned answers) turn.bytes) now turn.standing (w.heard first.seat) t (turn_tells k n now (Turned answers) w turn v t.tags e met)
-    (happening_keeps_so IsWord (λ tag word. word) now (Turned answers) turn t.tags e) (turned_rises k n now answers w turn v e met)
-notes_turn k n first told now w (Literal kept bytes) turn v t so e met =
-    silent_turn k.uidvalidity first told (told_of now (Literal kept bytes) turn.bytes) now turn.standing (w.heard first.seat) t (turn_tells k n now (Literal kept bytes) w turn v t.tags e met)
-    (happening_keeps_so IsWord (λ tag word. word) now (Literal kept bytes) turn t.tags e) (subst (λ (s : Turn). NumbersRise now.mailing s.standing.mailing) (ap (the_turn turn) e) (same_numbers now.mailing))
-notes_turn k n first told now w (Heard verdict answers) turn v t so e met = by now.mailing.sent refl
+    (happening_keeps_so IsWord (λ tag word. word) now (Line line answers) turn t.tags e) (mail_turn k n first.standing.folders sent bytes now w (Line line answers) turn v t.mail so.0 for e met) (line_rises now line answers turn e)
+notes_turn k n first sent bytes told now w LongLine turn v t so for e met =
+    silent_turn k.uidvalidity first sent bytes told (told_of now LongLine turn.bytes) now turn.standing (w.heard first.seat) t (turn_tells k n now LongLine w turn v t.tags e met)
+    (happening_keeps_so IsWord (λ tag word. word) now LongLine turn t.tags e) (mail_turn k n first.standing.folders sent bytes now w LongLine turn v t.mail so.0 for e met) (subst (λ (s : Turn). NumbersRise now.mailing s.standing.mailing) (ap (the_turn turn) e) (same_numbers now.mailing))
+notes_turn k n first sent bytes told now w (Turned answers) turn v t so for e met =
+    silent_turn k.uidvalidity first sent bytes told (told_of now (Turned answers) turn.bytes) now turn.standing (w.heard first.seat) t (turn_tells k n now (Turned answers) w turn v t.tags e met)
+    (happening_keeps_so IsWord (λ tag word. word) now (Turned answers) turn t.tags e) (mail_turn k n first.standing.folders sent bytes now w (Turned answers) turn v t.mail so.0 for e met) (turned_rises k n now answers w turn v e met)
+notes_turn k n first sent bytes told now w (Literal kept literal) turn v t so for e met =
+    silent_turn k.uidvalidity first sent bytes told (told_of now (Literal kept literal) turn.bytes) now turn.standing (w.heard first.seat) t (turn_tells k n now (Literal kept literal) w turn v t.tags e met)
+    (happening_keeps_so IsWord (λ tag word. word) now (Literal kept literal) turn t.tags e) (mail_turn k n first.standing.folders sent bytes now w (Literal kept literal) turn v t.mail so.0 for e met) (subst (λ (s : Turn). NumbersRise now.mailing s.standing.mailing) (ap (the_turn turn) e) (same_numbers now.mailing))
+notes_turn k n first sent bytes told now w (Heard verdict answers) turn v t so for e met = by now.mailing.sent refl
   where
     says : IfSome now.mailing.sent (SaysSent k.uidvalidity verdict turn.bytes)
     says = turn_tells k n now (Heard verdict answers) w turn v t.tags e met
 
-    by : (o : Option Sent) → now.mailing.sent ≡ o → Notes k.uidvalidity first (told ++ told_of now (Heard verdict answers) turn.bytes ∷ []) turn.standing (w.heard first.seat)
+    by : (o : Option Sent) → now.mailing.sent ≡ o → Notes k.uidvalidity first (sent ++ bytes) (told ++ told_of now (Heard verdict answers) turn.bytes ∷ []) turn.standing (w.heard first.seat)
     by None is = absurd (none-some turn (subst (λ (o : Option Sent). turn_with o now verdict answers ≡ Some turn) is e))
-    by (Some sent) is =
-        verdict_turn k.uidvalidity first told (told_of now (Heard verdict answers) turn.bytes) sent verdict now turn.standing (w.heard first.seat) t is
+    by (Some message) is =
+        verdict_turn k.uidvalidity first sent bytes told (told_of now (Heard verdict answers) turn.bytes) message verdict now turn.standing (w.heard first.seat) t is
         (subst (λ (o : Option Sent). IfSome o (λ (s : Sent). IsWord s.tag)) is t.tags.2)
-        (subst (λ (o : Option Sent). IfSome o (HasHeard first (w.heard first.seat) verdict)) is so.1) (subst (λ (o : Option Sent). IfSome o (SaysSent k.uidvalidity verdict turn.bytes)) is says)
-        (happening_keeps_so IsWord (λ tag word. word) now (Heard verdict answers) turn t.tags e) (heard_rises now verdict sent answers turn (subst (λ (o : Option Sent). turn_with o now verdict answers ≡ Some turn) is e))
+        (subst (λ (o : Option Sent). IfSome o (HasHeard first (w.heard first.seat) verdict)) is so.1.1) (subst (λ (o : Option Sent). IfSome o (SaysSent k.uidvalidity verdict turn.bytes)) is says)
+        (happening_keeps_so IsWord (λ tag word. word) now (Heard verdict answers) turn t.tags e) (mail_turn k n first.standing.folders sent bytes now w (Heard verdict answers) turn v t.mail so.0 for e met) (heard_rises now verdict message answers turn (subst (λ (o : Option Sent). turn_with o now verdict answers ≡ Some turn) is e))

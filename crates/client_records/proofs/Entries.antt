@@ -162,7 +162,7 @@ let_known k users sent shown s session user t printed new piece h K p at fits =
       events = K.events;
       came = K.came;
       said = [];
-      reached = record { sent = []; talked = talked_none k.config q (came_as k q a) s.world (tt, tt, tt) refl; waits = refl };
+      reached = record { sent = []; talked = talked_none k.config q (came_as k q a) s.world (tt, tt, tt) refl refl; waits = refl };
       printed = append-nil greeting;
       whole = greeting_whole;
     } in

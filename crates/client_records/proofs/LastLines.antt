@@ -145,6 +145,19 @@ same_words (b ∷ bs) (c ∷ cs) first second h k e = same_words bs cs first sec
 pub words_of_tags : (one two first second : List ℕ) → IsWord one → IsWord two → one ++ codes " " ++ first ≡ two ++ codes " " ++ second → first ≡ second
 words_of_tags one two first second h k e = same_words one two first second (word_all one h) (word_all two k) e
 
+same_tags : (one two first second : List ℕ) → list_all is_tag one ≡ true → list_all is_tag two ≡ true → one ++ codes " " ++ first ≡ two ++ codes " " ++ second → one ≡ two
+unfolding first_byte rest_bytes
+same_tags [] [] first second h k e = refl
+same_tags [] (c ∷ cs) first second h k e = absurd (false≢true (subst (λ (x : ℕ). is_tag x ≡ true) (sym (ap first_byte e)) (first_of is_tag c cs k)))
+same_tags (b ∷ bs) [] first second h k e = absurd (false≢true (subst (λ (x : ℕ). is_tag x ≡ true) (ap first_byte e) (first_of is_tag b bs h)))
+same_tags (b ∷ bs) (c ∷ cs) first second h k e =
+    let head : b ≡ c = ap first_byte e in
+    let tail = same_tags bs cs first second (rest_of is_tag b bs h) (rest_of is_tag c cs k) (ap rest_bytes e) in
+    ap (λ (x : ℕ). x ∷ bs) head ∙ ap (λ (x : List ℕ). c ∷ x) tail
+
+pub tags_of_words : (one two first second : List ℕ) → IsWord one → IsWord two → one ++ codes " " ++ first ≡ two ++ codes " " ++ second → one ≡ two
+tags_of_words one two first second h k e = same_tags one two first second (word_all one h) (word_all two k) e
+
 pub word_inner : (tag : List ℕ) → IsWord tag → list_all is_inner tag ≡ true
 word_inner tag h = inner_all tag (word_all tag h)
 

@@ -1,5 +1,5 @@
 -- What the definitions refuse: a list that is too short, a UID that is another's, events of the session's own, bytes that weren't answered so, a record that leaves out the greeting, two copies of one UID; an OK with another copy's UID, an OK without a verdict, two for one copy; a cut in the middle of an answer.
-use Rattle.std.proofs.Common.{◌≡◌, ◌≢◌, ℕ, ◌^◌, ◌<◌, inl, inr, List, [], ◌∷◌, length, AllPairs, Contains, ap, ◌∙◌, sym, subst, refl, arith, length-append}
+use Rattle.std.proofs.Common.{◌≡◌, ◌≢◌, ℕ, ◌^◌, ◌<◌, inl, inr, List, [], ◌∷◌, ◌++◌, length, AllPairs, Contains, ap, ◌∙◌, sym, subst, refl, arith, length-append}
 use Rattle.std.proofs.lemmas.Bool.{false≢true}
 use Rattle.std.specs.Prelude.{Some, None, codes, filter_map, flat_map}
 use Rattle.delivery_token.specs.declared.Job.{Job}
@@ -19,7 +19,7 @@ use Rattle.house_session.specs.SeatedVisitor.{SeatedVisitor}
 use Rattle.client_list.specs.Beliefs.{IsRight}
 use Rattle.client_list.specs.Client.{Client, Known, Messages, fresh}
 use Rattle.client_list.specs.Talks.{LongLine, Turned}
-use Rattle.client_records.specs.Appends.{EndsWith, IsAnswered, SaysVerdict, TellsKept, TellsOfAppends, as_it_is}
+use Rattle.client_records.specs.Appends.{Author, EndsWith, IsAnswered, SaysVerdict, TellsKept, TellsOfAppends, as_it_is}
 use Rattle.client_records.specs.Clients.{IsRightAbout, bytes_in}
 use Rattle.client_records.specs.Cuts.{Cutter, IsOneAnswer, ends, opens}
 use Rattle.client_records.proofs.LastLines.{Apart, IsWord, apart_tells_none, refusal_apart, words_of_tags}
@@ -80,16 +80,26 @@ another_copys v uid other tag bytes h k l differ word (inr (fault, s)) said =
     false≢true (sym (apart_tells_none tells_uid bytes (subst (Apart tells_uid) (sym s) (refusal_apart tells_uid uid_spares tag word fault)) tag (appended_words v other) said))
 
 -- it was said to no verdict
-no_verdict : (k : Setup) (w : World) (place serial v uid : ℕ) (tag bytes : List ℕ) → IsAnswered k w place serial bytes None → EndsWith tag (appended_words v uid) bytes → ⊥
-no_verdict k w place serial v uid tag bytes none said = false≢true (sym (none tag (appended_words v uid) said))
+no_verdict : (k : Setup) (w : World) (author : Author) (v uid : ℕ) (tag bytes : List ℕ) → IsAnswered k w author bytes None → EndsWith tag (appended_words v uid) bytes → ⊥
+no_verdict k w author v uid tag bytes none said = false≢true (sym (none tag (appended_words v uid) said))
 
 -- or to one that the message was refused
 refused_message : (v uid : ℕ) (tag bytes : List ℕ) (why : Refusal) → IsWord tag → SaysVerdict v tag (Refused why) bytes → EndsWith tag (appended_words v uid) bytes → ⊥
 refused_message v uid tag bytes why word s said = false≢true (sym (apart_tells_none tells_uid bytes (subst (Apart tells_uid) (sym s) (no_apart tells_uid uid_spares tag word why)) tag (appended_words v uid) said))
 
 -- of a copy of another session
-another_sessions : (k : Setup) (w : World) (place serial : ℕ) (said : List ℕ) (noted : Noted) → noted.key.serial ≢ serial → TellsKept k w place serial said noted → ⊥
-another_sessions k w place serial said noted other kept = other kept.own
+another_sessions : (k : Setup) (w : World) (author : Author) (tag said : List ℕ) (noted : Noted) → noted.key.serial ≢ author.serial → TellsKept k w author tag said noted → ⊥
+another_sessions k w author tag said noted other kept = other kept.own
+
+-- under another tag than that of the APPEND which sent it
+another_tag : (k : Setup) (w : World) (author : Author) (tag said : List ℕ) (noted : Noted) → (kept : TellsKept k w author tag said noted) → tag ≢ kept.message.tag → ⊥
+another_tag k w author tag said noted kept other = other kept.under
+
+-- of a message that its client never sent
+never_sent : (k : Setup) (w : World) (author : Author) (tag said : List ℕ) (noted : Noted) → author.sent ≡ [] → TellsKept k w author tag said noted → ⊥
+never_sent k w author tag said noted none kept =
+    let c = kept.came in
+    absurd (omega (arith, ap length (sym c.whole ∙ none), length-append (c.front ++ (c.line ++ crlf) ++ kept.message.append.text ++ crlf) c.behind, length-append (c.front ++ (c.line ++ crlf) ++ kept.message.append.text) crlf))
 
 -- and two such answers about one copy
 one_copy_twice : (k : Setup) (entries : List Entry) (place : ℕ) (v : SeatedVisitor) (t : Scene) (a b : Noted) → a.key ≡ b.key → (tells : TellsOfAppends k entries place v t) → filter_map as_it_is tells.verdicts ≡ a ∷ b ∷ [] → ⊥

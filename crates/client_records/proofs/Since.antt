@@ -8,7 +8,7 @@ use Rattle.delivery_token.specs.declared.log.Noted.{Noted}
 use Rattle.world.specs.World.{Config, World}
 use Rattle.imap_session.specs.declared.standing.After.{After}
 use Rattle.imap_session.specs.Exchange.{Answer, Standing, Turn, may_send, nothing_more}
-use Rattle.imap_session.specs.Commands.{turn_of_long_line, with_bytes}
+use Rattle.imap_session.specs.Commands.{due_of, turn_of_long_line, with_bytes}
 use Rattle.imap_session.specs.Store.{AnswersVerdict, Met}
 use Rattle.imap_connection.specs.Dialogue as dialogue
 use Rattle.imap_connection.specs.Dialogue.{AnswersLine, AnswersOne, Converses, Sends, goes_on, parts, reads, silent, spelled, too_long}
@@ -48,7 +48,7 @@ since_turn k n first began base sent said now w happening bytes turn v t is so e
         told = t.talked.told ++ one ∷ [];
         lives = turns t.talked.lives happening bytes turn v is (so_printed first w now happening so) e met;
         bytes = flat_map-append bytes_in t.talked.told (one ∷ []) ∙ ap₂ (λ (a b : List ℕ). a ++ b) t.talked.bytes (append-nil (bytes_in one) ∙ told_bytes now happening turn.bytes);
-        notes = turn_notes k n first t.talked.told now w happening turn v t.talked.notes so e met;
+        notes = turn_notes k n first sent bytes t.talked.told now w happening turn v t.talked.notes so is e met;
       };
       fresh = turned grown.0 sent now w (subst (λ (told : List Told). Lives k n first.standing began sent told now w) grown.1 t.talked.lives) happening bytes turn is (so_printed first w now happening so) (ap (λ (told : List Told). told ++ one ∷ []) grown.1) e met;
     }
@@ -56,25 +56,25 @@ since_turn k n first began base sent said now w happening bytes turn v t is so e
 -- ---- what its client sends
 
 line_since : (k : Config) (n : ℕ) (first : Came) (began : World) (base : List Told) (sent heard : List ℕ) (now : Standing) (line : List ℕ) (old new : World) (said : List ℕ) (how : After) (next : Standing)
-    → AnswersLine (Calls k n) now line old new [] said how next → Since k n first began base sent heard now old → Since k n first began base (sent ++ (line ++ crlf)) (heard ++ said) next new
-line_since k n first began base sent heard now line old new said how next (reads few a) t =
+    → AnswersLine (Calls k n) now line old new [] said how next → due_of now.mailing.begun ≡ 0 → Since k n first began base sent heard now old → Since k n first began base (sent ++ (line ++ crlf)) (heard ++ said) next new
+line_since k n first began base sent heard now line old new said how next (reads few a) due t =
     let turn : Turn = record { events = a.events; bytes = a.bytes; after = how; standing = next } in
     subst (λ (b : List ℕ). Since k n first began base (sent ++ (line ++ crlf)) (heard ++ b) next new) (sym a.wrote)
-    (since_turn k n first began base sent heard now old (Line line a.answers) (line ++ crlf) turn new t refl tt a.played a.met)
-line_since k n first began base sent heard now line old new said how next (too_long many same w h e) t =
+    (since_turn k n first began base sent heard now old (Line line a.answers) (line ++ crlf) turn new t refl (due, tt) a.played a.met)
+line_since k n first began base sent heard now line old new said how next (too_long many same w h e) due t =
     subst (λ (s : Standing). Since k n first began base (sent ++ (line ++ crlf)) (heard ++ said) s new) (sym e)
     (subst (λ (b : List ℕ). Since k n first began base (sent ++ (line ++ crlf)) (heard ++ b) (turn_of_long_line now).standing new) (sym w)
-    (since_turn k n first began base sent heard now old LongLine (line ++ crlf) (turn_of_long_line now) new t (line, many, refl) tt refl same))
+    (since_turn k n first began base sent heard now old LongLine (line ++ crlf) (turn_of_long_line now) new t (line, many, refl) (tt, tt) refl same))
 
 one_since : (k : Config) (n : ℕ) (first : Came) (began : World) (base : List Told) (sent heard : List ℕ) (now : Standing) (one : Sends) (old new : World) (said : List ℕ) (how : After) (next : Standing)
     → AnswersOne (Calls k n) now one old new [] said how next → Since k n first began base sent heard now old → Since k n first began base (sent ++ spelled one) (heard ++ said) next new
-one_since k n first began base sent heard now (dialogue.Line line) old new said how next a t = line_since k n first began base sent heard now line old new said how next a.2 t
+one_since k n first began base sent heard now (dialogue.Line line) old new said how next a t = line_since k n first began base sent heard now line old new said how next a.2 a.1 t
 one_since k n first began base sent heard now (dialogue.Bytes bytes) old new said how next a t =
     let kept : Bool = a.takes.0 in
     let turn : Turn = nothing_more (may_send (with_bytes kept bytes now)) (with_bytes kept bytes now) in
     subst (λ (s : Standing). Since k n first began base (sent ++ bytes) (heard ++ said) s new) (sym a.takes.1)
     (subst (λ (b : List ℕ). Since k n first began base (sent ++ bytes) (heard ++ b) (with_bytes kept bytes now) new) (sym a.silent)
-    (since_turn k n first began base sent heard now old (Literal kept bytes) bytes turn new t refl tt refl a.unasked))
+    (since_turn k n first began base sent heard now old (Literal kept bytes) bytes turn new t refl (a.due, tt) refl a.unasked))
 
 pub converses_since : (k : Config) (n : ℕ) (first : Came) (began : World) (base : List Told) (sent heard : List ℕ) {now next : Standing} {sends : List Sends} {old new : World} {said : List ℕ} {how : After}
     → Converses (Calls k n) now sends old new said how next → Since k n first began base sent heard now old → Since k n first began base (sent ++ flat_map spelled sends) (heard ++ said) next new

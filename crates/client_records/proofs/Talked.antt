@@ -9,7 +9,7 @@ use Rattle.delivery_token.specs.declared.log.Noted.{Noted}
 use Rattle.world.specs.World.{Config, Event, Step, World}
 use Rattle.imap_session.specs.declared.standing.After.{After}
 use Rattle.imap_session.specs.Exchange.{Answer, Event as Happened, Sent, Standing, Turn, may_send, nothing_more}
-use Rattle.imap_session.specs.Commands.{turn_of_long_line, with_bytes}
+use Rattle.imap_session.specs.Commands.{due_of, turn_of_long_line, with_bytes}
 use Rattle.imap_session.specs.Store.{AnswersVerdict, IdleTurns, Met}
 use Rattle.imap_connection.specs.Dialogue as dialogue
 use Rattle.imap_connection.specs.Dialogue.{AnswersLine, AnswersOne, Converses, Sends, goes_on, parts, reads, silent, spelled, too_long}
@@ -33,10 +33,10 @@ pub record Talked (k : Config) (n : ℕ) (first : Came) (began : World) (sent sa
   pub told : List Told
   pub lives : Lives k n first.standing began sent told now w
   pub bytes : flat_map bytes_in told ≡ said
-  pub notes : Notes k.uidvalidity first told now (w.heard first.seat)
+  pub notes : Notes k.uidvalidity first sent told now (w.heard first.seat)
 
-pub talked_none : (k : Config) (n : ℕ) (first : Came) (began : World) → AreTagsOf IsWord first.standing → first.standing.mailing.sent ≡ None → Talked k n first began [] [] first.standing began
-talked_none k n first began tags none = record { told = []; lives = comes; bytes = refl; notes = no_notes k.uidvalidity first (began.heard first.seat) tags none }
+pub talked_none : (k : Config) (n : ℕ) (first : Came) (began : World) → AreTagsOf IsWord first.standing → first.standing.mailing.begun ≡ None → first.standing.mailing.sent ≡ None → Talked k n first began [] [] first.standing began
+talked_none k n first began tags unbegun none = record { told = []; lives = comes; bytes = refl; notes = no_notes k.uidvalidity first (began.heard first.seat) tags unbegun none }
 
 -- what a seat has heard stays heard by what a session asks
 call_hears : (k : Config) (n : ℕ) (w v : World) (p : ℕ) (note : Noted) → Moved k n w v → Contains (w.heard p) note → Contains (v.heard p) note
@@ -48,11 +48,11 @@ met_hears k n w [] v p note met c = rw met c
 met_hears k n w (e ∷ events) v p note (mid, one, more) c = met_hears k n mid events v p note more (call_hears k n w mid p note (moved k n w e.call e.answer mid one) c)
 
 -- what is known of its answers behind a turn
-pub turn_notes : (k : Config) (n : ℕ) (first : Came) (told : List Told) (now : Standing) (w : World) (happening : Happening) (turn : Turn) (v : World) → Notes k.uidvalidity first told now (w.heard first.seat) → HappensSo first w now happening
-    → leads_to now happening ≡ Some turn → Met (Calls k n) w turn.events v → Notes k.uidvalidity first (told ++ told_of now happening turn.bytes ∷ []) turn.standing (v.heard first.seat)
-turn_notes k n first told now w happening turn v t so e met =
-    notes_later k.uidvalidity first (told ++ told_of now happening turn.bytes ∷ []) turn.standing (w.heard first.seat) (v.heard first.seat) (λ note c. met_hears k n w turn.events v first.seat note met c)
-    (notes_turn k n first told now w happening turn v t so e met)
+pub turn_notes : (k : Config) (n : ℕ) (first : Came) (sent bytes : List ℕ) (told : List Told) (now : Standing) (w : World) (happening : Happening) (turn : Turn) (v : World) → Notes k.uidvalidity first sent told now (w.heard first.seat)
+    → HappensSo first w now happening → IsSentFor happening bytes → leads_to now happening ≡ Some turn → Met (Calls k n) w turn.events v → Notes k.uidvalidity first (sent ++ bytes) (told ++ told_of now happening turn.bytes ∷ []) turn.standing (v.heard first.seat)
+turn_notes k n first sent bytes told now w happening turn v t so for e met =
+    notes_later k.uidvalidity first (sent ++ bytes) (told ++ told_of now happening turn.bytes ∷ []) turn.standing (w.heard first.seat) (v.heard first.seat) (λ note c. met_hears k n w turn.events v first.seat note met c)
+    (notes_turn k n first sent bytes told now w happening turn v t so for e met)
 
 -- a turn
 pub talked_turn : (k : Config) (n : ℕ) (first : Came) (began : World) (sent said : List ℕ) (now : Standing) (w : World) (happening : Happening) (bytes : List ℕ) (turn : Turn) (v : World)
@@ -63,7 +63,7 @@ talked_turn k n first began sent said now w happening bytes turn v t is so e met
   lives = turns t.lives happening bytes turn v is (so_printed first w now happening so) e met;
   bytes = flat_map-append bytes_in t.told (told_of now happening turn.bytes ∷ [])
       ∙ ap₂ (λ (a b : List ℕ). a ++ b) t.bytes (append-nil (bytes_in (told_of now happening turn.bytes)) ∙ told_bytes now happening turn.bytes);
-  notes = turn_notes k n first t.told now w happening turn v t.notes so e met;
+  notes = turn_notes k n first sent bytes t.told now w happening turn v t.notes so is e met;
 }
 
 -- what others do
@@ -73,31 +73,31 @@ talked_others k n first began sent said now w event v t o step = record {
   told = t.told;
   lives = others t.lives event v o step;
   bytes = t.bytes;
-  notes = notes_later k.uidvalidity first t.told now (w.heard first.seat) (v.heard first.seat) (λ note c. heard_stays_heard k w (event ∷ []) v first.seat note (v, step, refl) c) t.notes;
+  notes = notes_later k.uidvalidity first sent t.told now (w.heard first.seat) (v.heard first.seat) (λ note c. heard_stays_heard k w (event ∷ []) v first.seat note (v, step, refl) c) t.notes;
 }
 
 -- ---- what its client sends
 
 line_talked : (k : Config) (n : ℕ) (first : Came) (began : World) (sent heard : List ℕ) (now : Standing) (line : List ℕ) (old new : World) (said : List ℕ) (how : After) (next : Standing)
-    → AnswersLine (Calls k n) now line old new [] said how next → Talked k n first began sent heard now old → Talked k n first began (sent ++ (line ++ crlf)) (heard ++ said) next new
-line_talked k n first began sent heard now line old new said how next (reads few a) t =
+    → AnswersLine (Calls k n) now line old new [] said how next → due_of now.mailing.begun ≡ 0 → Talked k n first began sent heard now old → Talked k n first began (sent ++ (line ++ crlf)) (heard ++ said) next new
+line_talked k n first began sent heard now line old new said how next (reads few a) due t =
     let turn : Turn = record { events = a.events; bytes = a.bytes; after = how; standing = next } in
     subst (λ (b : List ℕ). Talked k n first began (sent ++ (line ++ crlf)) (heard ++ b) next new) (sym a.wrote)
-    (talked_turn k n first began sent heard now old (Line line a.answers) (line ++ crlf) turn new t refl tt a.played a.met)
-line_talked k n first began sent heard now line old new said how next (too_long many same w h e) t =
+    (talked_turn k n first began sent heard now old (Line line a.answers) (line ++ crlf) turn new t refl (due, tt) a.played a.met)
+line_talked k n first began sent heard now line old new said how next (too_long many same w h e) due t =
     subst (λ (s : Standing). Talked k n first began (sent ++ (line ++ crlf)) (heard ++ said) s new) (sym e)
     (subst (λ (b : List ℕ). Talked k n first began (sent ++ (line ++ crlf)) (heard ++ b) (turn_of_long_line now).standing new) (sym w)
-    (talked_turn k n first began sent heard now old LongLine (line ++ crlf) (turn_of_long_line now) new t (line, many, refl) tt refl same))
+    (talked_turn k n first began sent heard now old LongLine (line ++ crlf) (turn_of_long_line now) new t (line, many, refl) (tt, tt) refl same))
 
 one_talked : (k : Config) (n : ℕ) (first : Came) (began : World) (sent heard : List ℕ) (now : Standing) (one : Sends) (old new : World) (said : List ℕ) (how : After) (next : Standing)
     → AnswersOne (Calls k n) now one old new [] said how next → Talked k n first began sent heard now old → Talked k n first began (sent ++ spelled one) (heard ++ said) next new
-one_talked k n first began sent heard now (dialogue.Line line) old new said how next a t = line_talked k n first began sent heard now line old new said how next a.2 t
+one_talked k n first began sent heard now (dialogue.Line line) old new said how next a t = line_talked k n first began sent heard now line old new said how next a.2 a.1 t
 one_talked k n first began sent heard now (dialogue.Bytes bytes) old new said how next a t =
     let kept : Bool = a.takes.0 in
     let turn : Turn = nothing_more (may_send (with_bytes kept bytes now)) (with_bytes kept bytes now) in
     subst (λ (s : Standing). Talked k n first began (sent ++ bytes) (heard ++ said) s new) (sym a.takes.1)
     (subst (λ (b : List ℕ). Talked k n first began (sent ++ bytes) (heard ++ b) (with_bytes kept bytes now) new) (sym a.silent)
-    (talked_turn k n first began sent heard now old (Literal kept bytes) bytes turn new t refl tt refl a.unasked))
+    (talked_turn k n first began sent heard now old (Literal kept bytes) bytes turn new t refl (a.due, tt) refl a.unasked))
 
 pub converses_talked : (k : Config) (n : ℕ) (first : Came) (began : World) (sent heard : List ℕ) {now next : Standing} {sends : List Sends} {old new : World} {said : List ℕ} {how : After}
     → Converses (Calls k n) now sends old new said how next → Talked k n first began sent heard now old → Talked k n first began (sent ++ flat_map spelled sends) (heard ++ said) next new
@@ -140,7 +140,7 @@ pub record Heeds (first : Came) (seat serial : ℕ) (notes : List Noted) (w : Wo
 -- so a verdict that it answers can be printed, and was heard
 pub verdict_so : (first : Came) (seat : ℕ) (notes : List Noted) (w : World) (v : SeatedVisitor) (verdict : Verdict) (answers : List Answer) → Heeds first seat v.serial notes w → IsAnswered seat notes v verdict
     → HappensSo first w v.session.standing (Heard verdict answers)
-verdict_so first seat notes w v verdict answers heeds known = by (sent_by v) known.each
+verdict_so first seat notes w v verdict answers heeds known = (tt, by (sent_by v) known.each)
   where
     by : (o : Option Sent) → HeardFor notes (keys_of seat v.serial o) (verdict ∷ []) → IsPrinted verdict × IfSome o (HasHeard first (w.heard first.seat) verdict)
     by None h = absurd h
@@ -185,6 +185,6 @@ idles_reached k n first began came heard v after old new said count a waits r =
     record {
       sent = r.sent ++ [];
       talked = subst (λ (b : List ℕ). Talked k n first began (r.sent ++ []) (heard ++ b) after.standing new) (sym a.wrote)
-          (talked_turn k n first began r.sent heard v.standing old (Turned a.answers) [] turn new r.talked refl tt a.played a.met);
+          (talked_turn k n first began r.sent heard v.standing old (Turned a.answers) [] turn new r.talked refl (tt, tt) a.played a.met);
       waits = r.waits ∙ ap₂ (λ (s w : List ℕ). s ++ w) (sym (append-nil r.sent)) (sym waits);
     }

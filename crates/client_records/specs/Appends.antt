@@ -16,12 +16,13 @@ use Rattle.imap_session.specs.Exchange.{Folder, Sent, refusal_text, tagged}
 use Rattle.imap_session.specs.Telling.{tells_uid}
 use Rattle.world.specs.Law.{StandsOnce, pairs}
 use Rattle.world.specs.World.{World}
+use Rattle.house_session.specs.Folders.{folders_of}
 use Rattle.house_session.specs.SeatedVisitor.{SeatedVisitor}
 use Rattle.house.specs.Scene.{Scene, empty_scene}
 use Rattle.house.specs.Setup.{Setup, session_seat}
 use Rattle.exactly_once.specs.Promise.{Entry, IsRecord}
 use Rattle.client_records.specs.Clients.{Told, bytes_in}
-use Rattle.client_records.specs.Records.{IsPrintable, KeepsUp}
+use Rattle.client_records.specs.Records.{IsPrintable, KeepsUp, sent_by_then, user_by_then}
 
 -- ---- how an answer ends
 
@@ -66,61 +67,80 @@ abbrev pub SaysVerdict : (uidvalidity : ℕ) (tag : List ℕ) → Verdict → Li
 SaysVerdict uidvalidity tag (Stored uid) bytes = EndsWith tag (appended_words uidvalidity uid) bytes ⊎ ((fault : MailFault) × (bytes ≡ refusal_text tag fault))
 SaysVerdict uidvalidity tag (Refused why) bytes = bytes ≡ tagged tag (refused_words why)
 
--- These bytes were said to the verdict on a copy of the session with this serial at a place.
-pub record AnswersNoted (k : Setup) (w : World) (place serial : ℕ) (bytes : List ℕ) (noted : Noted) : Type 0 where
+-- Who appended: the session with this serial at a place, with these mailboxes, to which its client sent all this.
+pub record Author : Type 0 where
+  pub place : ℕ
+  pub serial : ℕ
+  pub folders : List Folder
+  pub sent : List ℕ
+
+-- These bytes were said to the verdict on a copy of this session.
+pub record AnswersNoted (k : Setup) (w : World) (author : Author) (bytes : List ℕ) (noted : Noted) : Type 0 where
   -- it is a copy of that very session, and its seat has heard the verdict
-  pub seat : noted.key.seat ≡ session_seat k place
-  pub own : noted.key.serial ≡ serial
+  pub seat : noted.key.seat ≡ session_seat k author.place
+  pub own : noted.key.serial ≡ author.serial
   pub heard : Contains (w.heard noted.key.seat) noted
-  pub tag : List ℕ
-  pub chosen : is_word_of is_tag tag ≡ true
-  pub says : SaysVerdict k.config.uidvalidity tag noted.verdict bytes
+  -- of a message that its client sent so, and they have the tag of that APPEND
+  pub message : Sent
+  pub number : noted.key.message ≡ message.append.message
+  pub came : IsSentAs author.folders author.sent message
+  pub chosen : is_word_of is_tag message.tag ≡ true
+  pub says : SaysVerdict k.config.uidvalidity message.tag noted.verdict bytes
   -- a copy that was stored under a UID stands exactly once in its mailbox's history, under that UID
   pub stands : (uid : ℕ) → noted.verdict ≡ Stored uid → StandsOnce (pairs (w.box noted.mailbox).accepted) noted.key uid
 
 -- ---- all that a client was told
 
 -- an answer that was said to no verdict tells no UID
-abbrev pub IsAnswered : Setup → World → (place serial : ℕ) → List ℕ → Option Noted → Type 0
-IsAnswered k w place serial bytes None = TellsOfNone bytes
-IsAnswered k w place serial bytes (Some noted) = AnswersNoted k w place serial bytes noted
+abbrev pub IsAnswered : Setup → World → Author → List ℕ → Option Noted → Type 0
+IsAnswered k w author bytes None = TellsOfNone bytes
+IsAnswered k w author bytes (Some noted) = AnswersNoted k w author bytes noted
 
 -- beside each answer stands the verdict that it was said to, or none
-abbrev pub AreAnswered : Setup → World → (place serial : ℕ) → List Told → List (Option Noted) → Type 0
-AreAnswered k w place serial [] [] = Unit {0}
-AreAnswered k w place serial [] (verdict ∷ verdicts) = ⊥
-AreAnswered k w place serial (one ∷ told) [] = ⊥
-AreAnswered k w place serial (one ∷ told) (verdict ∷ verdicts) = IsAnswered k w place serial (bytes_in one) verdict × AreAnswered k w place serial told verdicts
+abbrev pub AreAnswered : Setup → World → Author → List Told → List (Option Noted) → Type 0
+AreAnswered k w author [] [] = Unit {0}
+AreAnswered k w author [] (verdict ∷ verdicts) = ⊥
+AreAnswered k w author (one ∷ told) [] = ⊥
+AreAnswered k w author (one ∷ told) (verdict ∷ verdicts) = IsAnswered k w author (bytes_in one) verdict × AreAnswered k w author told verdicts
 
 -- the same verdict, or none
 abbrev pub as_it_is : Option Noted → Option Noted
 as_it_is verdict = verdict
 
--- These words are the OK for one copy of a session: they tell the house's UIDVALIDITY and the UID under which it stands, once, as its seat has heard.
-pub record TellsKept (k : Setup) (w : World) (place serial : ℕ) (said : List ℕ) (noted : Noted) : Type 0 where
+-- These words, under this tag, are the OK for one copy of this session: of a message that its client sent under that tag. They tell the house's UIDVALIDITY and the UID under which it
+-- stands, once, as its seat has heard.
+pub record TellsKept (k : Setup) (w : World) (author : Author) (tag said : List ℕ) (noted : Noted) : Type 0 where
+  pub message : Sent
+  pub number : noted.key.message ≡ message.append.message
+  pub came : IsSentAs author.folders author.sent message
+  pub under : tag ≡ message.tag
   pub uid : ℕ
   pub words : said ≡ appended_words k.config.uidvalidity uid
-  pub seat : noted.key.seat ≡ session_seat k place
-  pub own : noted.key.serial ≡ serial
+  pub seat : noted.key.seat ≡ session_seat k author.place
+  pub own : noted.key.serial ≡ author.serial
   pub heard : Contains (w.heard noted.key.seat) noted
   pub stored : noted.verdict ≡ Stored uid
   pub once : StandsOnce (pairs (w.box noted.mailbox).accepted) noted.key uid
+
+-- a session that is there, behind a record
+abbrev pub author_at : Setup → List Entry → (place : ℕ) → SeatedVisitor → Author
+author_at k entries place v = record { place = place; serial = v.serial; folders = folders_of k.directory (user_by_then place [] entries); sent = sent_by_then place [] entries }
 
 -- What a session told its client of the messages that it appended: it keeps up, and this is known of its answers.
 pub record TellsOfAppends (k : Setup) (entries : List Entry) (place : ℕ) (v : SeatedVisitor) (t : Scene) : Type 0 where
   pub keeps : KeepsUp k entries place v t
   -- the verdicts that they were said to, answer by answer
   pub verdicts : List (Option Noted)
-  pub each : AreAnswered k t.world place v.serial keeps.told verdicts
+  pub each : AreAnswered k t.world (author_at k entries place v) keeps.told verdicts
   -- on messages in the order in which they were appended, so none is told twice
   pub in_order : AllPairs (λ a b. Below a.key b.key) (filter_map as_it_is verdicts)
   -- So where an answer ends with `OK [APPENDUID ` behind any tag, that is for one copy of this session, which stands so;
   pub kept : (before after : List Told) (one : Told) (tag words : List ℕ) → keeps.told ≡ before ++ one ∷ after → EndsWith tag words (bytes_in one) → tells_uid words ≡ true
-      → (noted : Noted) × TellsKept k t.world place v.serial words noted
+      → (noted : Noted) × TellsKept k t.world (author_at k entries place v) tag words noted
   -- and two such answers are for two copies, of which the first was appended first.
   pub apart : (before mid after : List Told) (one two : Told) (tag words other_tag other_words : List ℕ) → keeps.told ≡ before ++ one ∷ (mid ++ two ∷ after) → EndsWith tag words (bytes_in one) → tells_uid words ≡ true
       → EndsWith other_tag other_words (bytes_in two) → tells_uid other_words ≡ true
-      → (a : Noted) × (b : Noted) × TellsKept k t.world place v.serial words a × TellsKept k t.world place v.serial other_words b × Below a.key b.key
+      → (a : Noted) × (b : Noted) × TellsKept k t.world (author_at k entries place v) tag words a × TellsKept k t.world (author_at k entries place v) other_tag other_words b × Below a.key b.key
 
 -- Over whatever record of a house that was new, of whoever is there
 abbrev pub AppendsAreTold : Type 0
