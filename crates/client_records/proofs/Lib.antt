@@ -16,6 +16,9 @@ mod LastWords
 mod LastTurns
 mod Waiting
 mod Submitted
+mod Lanes
+mod Histories
+mod Out
 mod Answered
 mod Talked
 pub mod Folded
