@@ -24,6 +24,7 @@ use Rattle.client_list.proofs.Talking.{happening_keeps_so}
 use Rattle.client_list.proofs.Turns.{the_turn}
 use Rattle.client_records.specs.Appends.{IsSentAs, SaysVerdict, TellsOfNone, as_it_is}
 use Rattle.client_records.specs.Lives.{IsSentFor}
+use Rattle.client_records.proofs.Out.{Fate, copy_of}
 use Rattle.client_records.proofs.Submitted.{ComesInTurn, IsBegunAs, Mailed, line_stays, mail_turn, sent_more}
 use Rattle.client_records.specs.Clients.{Told, bytes_in}
 use Rattle.client_records.specs.Turns.{VerdictsArePrinted, told_line, told_of}
@@ -74,64 +75,68 @@ pub record Came : Type 0 where
 abbrev key_of : Came → Sent → CopyKey
 key_of first sent = record { seat = first.seat; serial = first.serial; message = sent.append.message; recipient = 0 }
 
--- its seat has heard this verdict on a message of it
-abbrev pub HasHeard : Came → List Noted → Verdict → Sent → Type 0
-HasHeard first notes verdict sent = (mailbox : ℕ) × Contains notes (record { key = record { seat = first.seat; serial = first.serial; message = sent.append.message; recipient = 0 }; mailbox = mailbox; verdict = verdict })
+-- this verdict on a message of it is known so
+abbrev pub HasHeard : Came → (Noted → Sent → Type 0) → Verdict → Sent → Type 0
+HasHeard first notes verdict sent = (mailbox : ℕ) × notes (record { key = record { seat = first.seat; serial = first.serial; message = sent.append.message; recipient = 0 }; mailbox = mailbox; verdict = verdict }) sent
+
+-- in this world its seat has heard so, and the copy of the message is out, or was refused
+abbrev pub KnownAt : Config → Came → World → Noted → Sent → Type 0
+KnownAt k first w noted message = Contains (w.heard first.seat) noted × Fate k w first.seat (copy_of first.seat first.serial message)
 
 -- a verdict that it answers can be printed, and its seat has heard that
-abbrev pub VerdictSo : Came → World → Standing → Happening → Type 0
-VerdictSo first w now (Heard verdict answers) = IsPrinted verdict × IfSome now.mailing.sent (HasHeard first (w.heard first.seat) verdict)
-VerdictSo first w now happening = Unit {0}
+abbrev pub VerdictSo : Config → Came → World → Standing → Happening → Type 0
+VerdictSo k first w now (Heard verdict answers) = IsPrinted verdict × IfSome now.mailing.sent (HasHeard first (KnownAt k first w) verdict)
+VerdictSo k first w now happening = Unit {0}
 
 -- and what comes comes in its turn
-abbrev pub HappensSo : Came → World → Standing → Happening → Type 0
-HappensSo first w now happening = ComesInTurn now happening × VerdictSo first w now happening
+abbrev pub HappensSo : Config → Came → World → Standing → Happening → Type 0
+HappensSo k first w now happening = ComesInTurn now happening × VerdictSo k first w now happening
 
-verdict_printed : (first : Came) (w : World) (now : Standing) (happening : Happening) → VerdictSo first w now happening → VerdictsArePrinted happening
-verdict_printed first w now (Heard verdict answers) h = h.0
-verdict_printed first w now (Line line answers) h = tt
-verdict_printed first w now LongLine h = tt
-verdict_printed first w now (Turned answers) h = tt
-verdict_printed first w now (Literal kept bytes) h = tt
+verdict_printed : (k : Config) (first : Came) (w : World) (now : Standing) (happening : Happening) → VerdictSo k first w now happening → VerdictsArePrinted happening
+verdict_printed k first w now (Heard verdict answers) h = h.0
+verdict_printed k first w now (Line line answers) h = tt
+verdict_printed k first w now LongLine h = tt
+verdict_printed k first w now (Turned answers) h = tt
+verdict_printed k first w now (Literal kept bytes) h = tt
 
-pub so_printed : (first : Came) (w : World) (now : Standing) (happening : Happening) → HappensSo first w now happening → VerdictsArePrinted happening
-so_printed first w now happening h = verdict_printed first w now happening h.1
+pub so_printed : (k : Config) (first : Came) (w : World) (now : Standing) (happening : Happening) → HappensSo k first w now happening → VerdictsArePrinted happening
+so_printed k first w now happening h = verdict_printed k first w now happening h.1
 
 -- these bytes were said to the verdict on a copy of it, of a message that its client sent
-pub record Noting (uidvalidity : ℕ) (first : Came) (sent : List ℕ) (notes : List Noted) (bytes : List ℕ) (noted : Noted) : Type 0 where
+pub record Noting (uidvalidity : ℕ) (first : Came) (sent : List ℕ) (notes : Noted → Sent → Type 0) (bytes : List ℕ) (noted : Noted) : Type 0 where
   pub seat : noted.key.seat ≡ first.seat
   pub own : noted.key.serial ≡ first.serial
-  pub heard : Contains notes noted
   pub message : Sent
+  pub heard : notes noted message
   pub number : noted.key.message ≡ message.append.message
   pub came : IsSentAs first.standing.folders sent message
   pub chosen : IsWord message.tag
   pub says : SaysVerdict uidvalidity message.tag noted.verdict bytes
 
-abbrev pub IsNoted : (uidvalidity : ℕ) → Came → (sent : List ℕ) → List Noted → List ℕ → Option Noted → Type 0
+abbrev pub IsNoted : (uidvalidity : ℕ) → Came → (sent : List ℕ) → (Noted → Sent → Type 0) → List ℕ → Option Noted → Type 0
 IsNoted uidvalidity first sent notes bytes None = TellsOfNone bytes
 IsNoted uidvalidity first sent notes bytes (Some noted) = Noting uidvalidity first sent notes bytes noted
 
-abbrev pub AreNoted : (uidvalidity : ℕ) → Came → (sent : List ℕ) → List Noted → List Told → List (Option Noted) → Type 0
+abbrev pub AreNoted : (uidvalidity : ℕ) → Came → (sent : List ℕ) → (Noted → Sent → Type 0) → List Told → List (Option Noted) → Type 0
 AreNoted uidvalidity first sent notes [] [] = Unit {0}
 AreNoted uidvalidity first sent notes [] (verdict ∷ verdicts) = ⊥
 AreNoted uidvalidity first sent notes (one ∷ told) [] = ⊥
 AreNoted uidvalidity first sent notes (one ∷ told) (verdict ∷ verdicts) = IsNoted uidvalidity first sent notes (bytes_in one) verdict × AreNoted uidvalidity first sent notes told verdicts
 
-noted_append : (u : ℕ) (first : Came) (sent : List ℕ) (notes : List Noted) (told more : List Told) (verdicts others : List (Option Noted)) → AreNoted u first sent notes told verdicts → AreNoted u first sent notes more others
+noted_append : (u : ℕ) (first : Came) (sent : List ℕ) (notes : Noted → Sent → Type 0) (told more : List Told) (verdicts others : List (Option Noted)) → AreNoted u first sent notes told verdicts → AreNoted u first sent notes more others
     → AreNoted u first sent notes (told ++ more) (verdicts ++ others)
 noted_append u first sent notes [] more [] others h k = k
 noted_append u first sent notes [] more (v ∷ vs) others h k = absurd h
 noted_append u first sent notes (t ∷ ts) more [] others h k = absurd h
 noted_append u first sent notes (t ∷ ts) more (v ∷ vs) others h k = (h.0, noted_append u first sent notes ts more vs others h.1 k)
 
-one_more : (u : ℕ) (first : Came) (sent bytes : List ℕ) (notes more : List Noted) → ((n : Noted) → Contains notes n → Contains more n) → (said : List ℕ) (verdict : Option Noted) → IsNoted u first sent notes said verdict
+one_more : (u : ℕ) (first : Came) (sent bytes : List ℕ) (notes more : Noted → Sent → Type 0) → ((n : Noted) (m : Sent) → notes n m → more n m) → (said : List ℕ) (verdict : Option Noted) → IsNoted u first sent notes said verdict
     → IsNoted u first (sent ++ bytes) more said verdict
 one_more u first sent bytes notes more grows said None h = h
 one_more u first sent bytes notes more grows said (Some n) h = record {
   seat = h.seat;
   own = h.own;
-  heard = grows n h.heard;
+  heard = grows n h.message h.heard;
   message = h.message;
   number = h.number;
   came = sent_more first.standing.folders sent bytes h.message h.came;
@@ -140,7 +145,7 @@ one_more u first sent bytes notes more grows said (Some n) h = record {
 }
 
 -- what its seat has heard stays heard, and what its client has sent stays sent
-pub still_noted : (u : ℕ) (first : Came) (sent bytes : List ℕ) (notes more : List Noted) → ((n : Noted) → Contains notes n → Contains more n) → (told : List Told) (verdicts : List (Option Noted)) → AreNoted u first sent notes told verdicts
+pub still_noted : (u : ℕ) (first : Came) (sent bytes : List ℕ) (notes more : Noted → Sent → Type 0) → ((n : Noted) (m : Sent) → notes n m → more n m) → (told : List Told) (verdicts : List (Option Noted)) → AreNoted u first sent notes told verdicts
     → AreNoted u first (sent ++ bytes) more told verdicts
 still_noted u first sent bytes notes more grows [] [] h = h
 still_noted u first sent bytes notes more grows [] (v ∷ vs) h = absurd h
@@ -160,7 +165,7 @@ abbrev IsNext : Came → Mailing → List Noted → Type 0
 IsNext first mailing answered = (s : Sent) → mailing.sent ≡ Some s → Every (IsBefore first s.append.message) answered × (s.append.message < mailing.number)
 
 -- What is known of all that a session was told so far.
-pub record Notes (u : ℕ) (first : Came) (sent : List ℕ) (told : List Told) (now : Standing) (notes : List Noted) : Type 0 where
+pub record Notes (u : ℕ) (first : Came) (sent : List ℕ) (told : List Told) (now : Standing) (notes : Noted → Sent → Type 0) : Type 0 where
   pub verdicts : List (Option Noted)
   pub each : AreNoted u first sent notes told verdicts
   pub tags : AreTagsOf IsWord now
@@ -169,7 +174,7 @@ pub record Notes (u : ℕ) (first : Came) (sent : List ℕ) (told : List Told) (
   pub before : Every (IsBefore first now.mailing.number) (filter_map as_it_is verdicts)
   pub next : IsNext first now.mailing (filter_map as_it_is verdicts)
 
-pub no_notes : (u : ℕ) (first : Came) (notes : List Noted) → AreTagsOf IsWord first.standing → first.standing.mailing.begun ≡ None → first.standing.mailing.sent ≡ None → Notes u first [] [] first.standing notes
+pub no_notes : (u : ℕ) (first : Came) (notes : Noted → Sent → Type 0) → AreTagsOf IsWord first.standing → first.standing.mailing.begun ≡ None → first.standing.mailing.sent ≡ None → Notes u first [] [] first.standing notes
 no_notes u first notes tags unbegun none = record {
   verdicts = [];
   each = tt;
@@ -184,7 +189,7 @@ no_notes u first notes tags unbegun none = record {
   next = λ s is. absurd (none-some s (sym none ∙ is));
 }
 
-pub notes_later : (u : ℕ) (first : Came) (sent : List ℕ) (told : List Told) (now : Standing) (notes more : List Noted) → ((n : Noted) → Contains notes n → Contains more n) → Notes u first sent told now notes → Notes u first sent told now more
+pub notes_later : (u : ℕ) (first : Came) (sent : List ℕ) (told : List Told) (now : Standing) (notes more : Noted → Sent → Type 0) → ((n : Noted) (m : Sent) → notes n m → more n m) → Notes u first sent told now notes → Notes u first sent told now more
 notes_later u first sent told now notes more grows t = record {
   verdicts = t.verdicts;
   each = subst (λ (x : List ℕ). AreNoted u first x more told t.verdicts) (append-nil sent) (still_noted u first sent [] notes more grows told t.verdicts t.each);
@@ -201,7 +206,7 @@ lower : (first : Came) (a b : ℕ) → a ≤ b → (n : Noted) → IsBefore firs
 lower first a b l n h = let m = h.1 in (h.0, omega (arith, l, m))
 
 -- an answer that was said to no verdict
-silent_turn : (u : ℕ) (first : Came) (sent bytes : List ℕ) (told : List Told) (one : Told) (now next : Standing) (notes : List Noted) → Notes u first sent told now notes → TellsOfNone (bytes_in one) → AreTagsOf IsWord next
+silent_turn : (u : ℕ) (first : Came) (sent bytes : List ℕ) (told : List Told) (one : Told) (now next : Standing) (notes : Noted → Sent → Type 0) → Notes u first sent told now notes → TellsOfNone (bytes_in one) → AreTagsOf IsWord next
     → Mailed first.standing.folders (sent ++ bytes) next → NumbersRise now.mailing next.mailing
     → Notes u first (sent ++ bytes) (told ++ one ∷ []) next notes
 silent_turn u first sent bytes told one now next notes t none tags mail rises =
@@ -209,7 +214,7 @@ silent_turn u first sent bytes told one now next notes t none tags mail rises =
     let later : Every (IsBefore first next.mailing.number) (filter_map as_it_is t.verdicts) =
     every_weaker (IsBefore first now.mailing.number) (IsBefore first next.mailing.number) (lower first now.mailing.number next.mailing.number rises.0) (filter_map as_it_is t.verdicts) t.before in record {
       verdicts = t.verdicts ++ None ∷ [];
-      each = noted_append u first (sent ++ bytes) notes told (one ∷ []) t.verdicts (None ∷ []) (still_noted u first sent bytes notes notes (λ n c. c) told t.verdicts t.each) (none, tt);
+      each = noted_append u first (sent ++ bytes) notes told (one ∷ []) t.verdicts (None ∷ []) (still_noted u first sent bytes notes notes (λ n m c. c) told t.verdicts t.each) (none, tt);
       tags = tags;
       mail = mail;
       order = subst (Rising InTurn) (sym same) t.order;
@@ -223,7 +228,7 @@ silent_turn u first sent bytes told one now next notes t none tags mail rises =
     by s (inr r) = (every_weaker (IsBefore first now.mailing.number) (IsBefore first s.append.message) (lower first now.mailing.number s.append.message r.0) (filter_map as_it_is t.verdicts) t.before, r.1)
 
 -- one that was said to a verdict
-verdict_turn : (u : ℕ) (first : Came) (sent bytes : List ℕ) (told : List Told) (one : Told) (message : Sent) (verdict : Verdict) (now next : Standing) (notes : List Noted) → Notes u first sent told now notes → now.mailing.sent ≡ Some message
+verdict_turn : (u : ℕ) (first : Came) (sent bytes : List ℕ) (told : List Told) (one : Told) (message : Sent) (verdict : Verdict) (now next : Standing) (notes : Noted → Sent → Type 0) → Notes u first sent told now notes → now.mailing.sent ≡ Some message
     → IsWord message.tag → HasHeard first notes verdict message → SaysSent u verdict (bytes_in one) message → AreTagsOf IsWord next → Mailed first.standing.folders (sent ++ bytes) next → NumbersRise (without_sent now).mailing next.mailing
     → Notes u first (sent ++ bytes) (told ++ one ∷ []) next notes
 verdict_turn u first sent bytes told one message verdict now next notes t there word heard says tags mail rises =
@@ -236,7 +241,7 @@ verdict_turn u first sent bytes told one message verdict now next notes t there 
     let old : Every (IsBefore first now.mailing.number) (answered ++ noted ∷ []) = every_append (IsBefore first now.mailing.number) answered (noted ∷ []) t.before ((refl, here.1), tt) in
     record {
       verdicts = t.verdicts ++ Some noted ∷ [];
-      each = noted_append u first (sent ++ bytes) notes told (one ∷ []) t.verdicts (Some noted ∷ []) (still_noted u first sent bytes notes notes (λ n c. c) told t.verdicts t.each)
+      each = noted_append u first (sent ++ bytes) notes told (one ∷ []) t.verdicts (Some noted ∷ []) (still_noted u first sent bytes notes notes (λ n m c. c) told t.verdicts t.each)
           (record { seat = refl; own = refl; heard = heard.1; message = message; number = refl; came = sent_more first.standing.folders sent bytes message own; chosen = word; says = says }, tt);
       tags = tags;
       mail = mail;
@@ -263,30 +268,30 @@ told_bytes now (Literal kept bytes) b = refl
 told_bytes now (Heard verdict answers) bytes = refl
 
 -- a turn, whatever happens
-pub notes_turn : (k : Config) (n : ℕ) (first : Came) (sent bytes : List ℕ) (told : List Told) (now : Standing) (w : World) (happening : Happening) (turn : Turn) (v : World) → Notes k.uidvalidity first sent told now (w.heard first.seat) → HappensSo first w now happening
-    → IsSentFor happening bytes → leads_to now happening ≡ Some turn → Met (Calls k n) w turn.events v → Notes k.uidvalidity first (sent ++ bytes) (told ++ told_of now happening turn.bytes ∷ []) turn.standing (w.heard first.seat)
+pub notes_turn : (k : Config) (n : ℕ) (first : Came) (sent bytes : List ℕ) (told : List Told) (now : Standing) (w : World) (happening : Happening) (turn : Turn) (v : World) → Notes k.uidvalidity first sent told now (KnownAt k first w) → HappensSo k first w now happening
+    → IsSentFor happening bytes → leads_to now happening ≡ Some turn → Met (Calls k n) w turn.events v → Notes k.uidvalidity first (sent ++ bytes) (told ++ told_of now happening turn.bytes ∷ []) turn.standing (KnownAt k first w)
 notes_turn k n first sent bytes told now w (Line line answers) turn v t so for e met =
-    silent_turn k.uidvalidity first sent bytes told (told_of now (Line line answers) turn.bytes) now turn.standing (w.heard first.seat) t
+    silent_turn k.uidvalidity first sent bytes told (told_of now (Line line answers) turn.bytes) now turn.standing (KnownAt k first w) t
     (subst TellsOfNone (sym (told_bytes now (Line line answers) turn.bytes)) (turn_tells k n now (Line line answers) w turn v t.tags e met))
     (happening_keeps_so IsWord (λ tag word. word) now (Line line answers) turn t.tags e) (mail_turn k n first.standing.folders sent bytes now w (Line line answers) turn v t.mail so.0 for e met) (line_rises now line answers turn e)
 notes_turn k n first sent bytes told now w LongLine turn v t so for e met =
-    silent_turn k.uidvalidity first sent bytes told (told_of now LongLine turn.bytes) now turn.standing (w.heard first.seat) t (turn_tells k n now LongLine w turn v t.tags e met)
+    silent_turn k.uidvalidity first sent bytes told (told_of now LongLine turn.bytes) now turn.standing (KnownAt k first w) t (turn_tells k n now LongLine w turn v t.tags e met)
     (happening_keeps_so IsWord (λ tag word. word) now LongLine turn t.tags e) (mail_turn k n first.standing.folders sent bytes now w LongLine turn v t.mail so.0 for e met) (subst (λ (s : Turn). NumbersRise now.mailing s.standing.mailing) (ap (the_turn turn) e) (same_numbers now.mailing))
 notes_turn k n first sent bytes told now w (Turned answers) turn v t so for e met =
-    silent_turn k.uidvalidity first sent bytes told (told_of now (Turned answers) turn.bytes) now turn.standing (w.heard first.seat) t (turn_tells k n now (Turned answers) w turn v t.tags e met)
+    silent_turn k.uidvalidity first sent bytes told (told_of now (Turned answers) turn.bytes) now turn.standing (KnownAt k first w) t (turn_tells k n now (Turned answers) w turn v t.tags e met)
     (happening_keeps_so IsWord (λ tag word. word) now (Turned answers) turn t.tags e) (mail_turn k n first.standing.folders sent bytes now w (Turned answers) turn v t.mail so.0 for e met) (turned_rises k n now answers w turn v e met)
 notes_turn k n first sent bytes told now w (Literal kept literal) turn v t so for e met =
-    silent_turn k.uidvalidity first sent bytes told (told_of now (Literal kept literal) turn.bytes) now turn.standing (w.heard first.seat) t (turn_tells k n now (Literal kept literal) w turn v t.tags e met)
+    silent_turn k.uidvalidity first sent bytes told (told_of now (Literal kept literal) turn.bytes) now turn.standing (KnownAt k first w) t (turn_tells k n now (Literal kept literal) w turn v t.tags e met)
     (happening_keeps_so IsWord (λ tag word. word) now (Literal kept literal) turn t.tags e) (mail_turn k n first.standing.folders sent bytes now w (Literal kept literal) turn v t.mail so.0 for e met) (subst (λ (s : Turn). NumbersRise now.mailing s.standing.mailing) (ap (the_turn turn) e) (same_numbers now.mailing))
 notes_turn k n first sent bytes told now w (Heard verdict answers) turn v t so for e met = by now.mailing.sent refl
   where
     says : IfSome now.mailing.sent (SaysSent k.uidvalidity verdict turn.bytes)
     says = turn_tells k n now (Heard verdict answers) w turn v t.tags e met
 
-    by : (o : Option Sent) → now.mailing.sent ≡ o → Notes k.uidvalidity first (sent ++ bytes) (told ++ told_of now (Heard verdict answers) turn.bytes ∷ []) turn.standing (w.heard first.seat)
+    by : (o : Option Sent) → now.mailing.sent ≡ o → Notes k.uidvalidity first (sent ++ bytes) (told ++ told_of now (Heard verdict answers) turn.bytes ∷ []) turn.standing (KnownAt k first w)
     by None is = absurd (none-some turn (subst (λ (o : Option Sent). turn_with o now verdict answers ≡ Some turn) is e))
     by (Some message) is =
-        verdict_turn k.uidvalidity first sent bytes told (told_of now (Heard verdict answers) turn.bytes) message verdict now turn.standing (w.heard first.seat) t is
+        verdict_turn k.uidvalidity first sent bytes told (told_of now (Heard verdict answers) turn.bytes) message verdict now turn.standing (KnownAt k first w) t is
         (subst (λ (o : Option Sent). IfSome o (λ (s : Sent). IsWord s.tag)) is t.tags.2)
-        (subst (λ (o : Option Sent). IfSome o (HasHeard first (w.heard first.seat) verdict)) is so.1.1) (subst (λ (o : Option Sent). IfSome o (SaysSent k.uidvalidity verdict turn.bytes)) is says)
+        (subst (λ (o : Option Sent). IfSome o (HasHeard first (KnownAt k first w) verdict)) is so.1.1) (subst (λ (o : Option Sent). IfSome o (SaysSent k.uidvalidity verdict turn.bytes)) is says)
         (happening_keeps_so IsWord (λ tag word. word) now (Heard verdict answers) turn t.tags e) (mail_turn k n first.standing.folders sent bytes now w (Heard verdict answers) turn v t.mail so.0 for e met) (heard_rises now verdict message answers turn (subst (λ (o : Option Sent). turn_with o now verdict answers ≡ Some turn) is e))

@@ -18,7 +18,7 @@ use Rattle.house.specs.Setup.{Setup, session_seat}
 use Rattle.client_records.specs.Appends.{AnswersNoted, AppendsAreTold, AreAnswered, Author, EndsWith, IsAnswered, SaysVerdict, TellsKept, TellsOfNone, as_it_is, author_at}
 use Rattle.client_records.specs.Clients.{Told, bytes_in}
 use Rattle.client_records.specs.Records.{sent_by_then}
-use Rattle.client_records.proofs.Answered.{AreNoted, InTurn, IsNoted, Noting, still_noted}
+use Rattle.client_records.proofs.Answered.{AreNoted, InTurn, IsNoted, KnownAt, Noting, still_noted}
 use Rattle.client_records.proofs.Entries.{the_client, the_serial}
 use Rattle.client_records.proofs.Keeping.{KeepsBy, all_known, arrival_by_then, keeps_by, nobody}
 use Rattle.client_records.proofs.LastLines.{Apart, apart_tells_none, refusal_apart, tags_of_words, words_of_tags}
@@ -33,7 +33,7 @@ author_is : (k : Setup) (place serial : ℕ) (a : Arrival) (sent : List ℕ) →
 author_is k place serial a sent = record { place = place; serial = serial; folders = folders_of k.directory a.user; sent = sent }
 
 one_answered : (k : Setup) (events : List Event) (w : World) (place serial : ℕ) (a : Arrival) (sent bytes : List ℕ) (verdict : Option Noted) → IsWorld k.config events w → serial ≡ a.serial
-    → IsNoted k.config.uidvalidity (came_as k place a) sent (w.heard (session_seat k place)) bytes verdict → IsAnswered k w (author_is k place serial a sent) bytes verdict
+    → IsNoted k.config.uidvalidity (came_as k place a) sent (KnownAt k.config (came_as k place a) w) bytes verdict → IsAnswered k w (author_is k place serial a sent) bytes verdict
 unfolding author_is
 one_answered k events w place serial a sent bytes None came own h = h
 one_answered k events w place serial a sent bytes (Some noted) came own h = record {
@@ -49,10 +49,10 @@ one_answered k events w place serial a sent bytes (Some noted) came own h = reco
 }
   where
     there : Contains (w.heard noted.key.seat) noted
-    there = subst (λ (p : ℕ). Contains (w.heard p) noted) (sym h.seat) h.heard
+    there = subst (λ (p : ℕ). Contains (w.heard p) noted) (sym h.seat) h.heard.0
 
 all_answered : (k : Setup) (events : List Event) (w : World) (place serial : ℕ) (a : Arrival) (sent : List ℕ) (told : List Told) (verdicts : List (Option Noted)) → IsWorld k.config events w → serial ≡ a.serial
-    → AreNoted k.config.uidvalidity (came_as k place a) sent (w.heard (session_seat k place)) told verdicts → AreAnswered k w (author_is k place serial a sent) told verdicts
+    → AreNoted k.config.uidvalidity (came_as k place a) sent (KnownAt k.config (came_as k place a) w) told verdicts → AreAnswered k w (author_is k place serial a sent) told verdicts
 all_answered k events w place serial a sent [] [] came own h = tt
 all_answered k events w place serial a sent [] (v ∷ vs) came own h = absurd h
 all_answered k events w place serial a sent (t ∷ ts) [] came own h = absurd h
@@ -151,12 +151,12 @@ appends_are_told k entries t place v printable is there read =
     let c = the_client k (λ n. arrival_by_then n nobody (empty_scene k) entries) _ _ t place v K there read in
     let kb : KeepsBy k entries place v t c.reached.talked.told = keeps_by k entries t place v printable is c in
     let notes = c.reached.talked.notes in
-    let own : v.serial ≡ a.serial = the_serial k (λ n. arrival_by_then n nobody (empty_scene k) entries) _ _ t place v K there in
+    let own : v.serial ≡ a.serial = (the_serial k (λ n. arrival_by_then n nobody (empty_scene k) entries) _ _ t place v K there).own in
     let sent : List ℕ = sent_by_then place [] entries in
     let author : Author = author_at k entries place v in
-    let noted : AreNoted k.config.uidvalidity (came_as k place a) sent (t.world.heard (session_seat k place)) c.reached.talked.told notes.verdicts =
-    subst (λ (x : List ℕ). AreNoted k.config.uidvalidity (came_as k place a) x (t.world.heard (session_seat k place)) c.reached.talked.told notes.verdicts) (sym c.reached.waits)
-    (still_noted k.config.uidvalidity (came_as k place a) c.reached.sent v.session.waits (t.world.heard (session_seat k place)) (t.world.heard (session_seat k place)) (λ n h. h) c.reached.talked.told notes.verdicts notes.each) in
+    let noted : AreNoted k.config.uidvalidity (came_as k place a) sent (KnownAt k.config (came_as k place a) t.world) c.reached.talked.told notes.verdicts =
+    subst (λ (x : List ℕ). AreNoted k.config.uidvalidity (came_as k place a) x (KnownAt k.config (came_as k place a) t.world) c.reached.talked.told notes.verdicts) (sym c.reached.waits)
+    (still_noted k.config.uidvalidity (came_as k place a) c.reached.sent v.session.waits (KnownAt k.config (came_as k place a) t.world) (KnownAt k.config (came_as k place a) t.world) (λ n m h. h) c.reached.talked.told notes.verdicts notes.each) in
     let each : AreAnswered k t.world author kb.keeps.told notes.verdicts =
     subst (λ (told : List Told). AreAnswered k t.world author told notes.verdicts) (sym kb.is) (all_answered k K.events t.world place v.serial a sent c.reached.talked.told notes.verdicts K.came own noted) in record {
       keeps = kb.keeps;

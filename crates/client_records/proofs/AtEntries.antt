@@ -43,6 +43,7 @@ use Rattle.client_list.proofs.IdleTags.{AreTagsOf}
 use Rattle.client_records.proofs.Answered.{Came, told_bytes}
 use Rattle.client_records.proofs.LastLines.{IsWord}
 use Rattle.client_records.proofs.WordsCurrent.{words_make_current}
+use Rattle.client_records.proofs.Seated.{IsHere, here_as, here_step, put_here}
 use Rattle.client_records.proofs.Talked.{AreHeardSmall}
 use Rattle.client_records.proofs.Entries.{SceneKnown, arrival_in, arrival_stays, the_client, the_serial}
 use Rattle.client_records.proofs.Keeping.{KeepsBy, all_known, arrival_by_then, first_stands, keeps_by, nobody, prints_at, sent_here, texts_stay_short}
@@ -184,7 +185,7 @@ Known_then k entries s = SceneKnown k (λ n. arrival_by_then n nobody (empty_sce
 talk_current : (k : Setup) (entries : List Entry) (s t : Scene) (event : house.Event) (piece : Piece) (q : ℕ) (before v b : SeatedVisitor) (moved later : World) (left : Option SeatedVisitor) (printed new more : List ℕ) → IsPrintable k → IsRecord k entries (empty_scene k) s
     → IsEntry k s (record { event = event; after = t; piece = piece }) → lets_in q event ≡ false → is_left q event ≡ false → sent_in q event ≡ more → shown_in q piece ≡ new
     → Client k q (arrival_by_then q nobody (empty_scene k) entries) (sent_by_then q [] entries ++ more) (shown_by_then q [] entries) moved b.session
-    → b.session.unsaid ≡ before.session.unsaid → b.serial ≡ (arrival_by_then q nobody (empty_scene k) entries).serial → AreHeardSmall (moved.heard (session_seat k q))
+    → b.session.unsaid ≡ before.session.unsaid → IsHere k.config (session_seat k q) (arrival_by_then q nobody (empty_scene k) entries).serial moved b → AreHeardSmall (moved.heard (session_seat k q))
     → (g : SessionTalks k false q (moved.heard (session_seat k q)) moved b later left printed) → new ++ g.speaks.still ≡ b.session.unsaid ++ g.speaks.said
     → t ≡ with_visitor (with_world s later) q left → t.visitor q ≡ Some v → AnswersAt k entries (record { event = event; after = t; piece = piece }) q before v
 talk_current k entries s t event piece q before v b moved later left printed new more printable r is lets goes came shown c same own small g fit after there =
@@ -200,7 +201,7 @@ talk_current k entries s t event piece q before v b moved later left printed new
       since = record { talked = c.reached.talked; fresh = untold refl };
       waits = c.reached.waits;
     } in
-    let l = goes_lately k.config q false (session_seat k q) heard first a.began base (sent ++ more) c.said b g.speaks.spoken moved g.mid g.speaks.said (heeds k q b.serial a moved small own) g.speaks.goes start in
+    let l = goes_lately k.config q false (session_seat k q) heard first a.began base (sent ++ more) c.said b g.speaks.spoken moved g.mid g.speaks.said (heeds k q b a moved small own) g.speaks.goes start in
     let still : SeatedVisitor = still_unsaid g.speaks.still g.speaks.spoken in
     let whole : IsWhole (b.session.unsaid ++ g.speaks.said) =
     whole_append b.session.unsaid g.speaks.said c.whole (goes_whole (Meets k.config q) false (session_seat k q) heard b moved g.mid g.speaks.spoken g.speaks.said g.speaks.goes) in
@@ -256,7 +257,8 @@ says_current k entries s t session bytes piece v printed new printable r is p sh
     let c = the_client k (λ n. arrival_by_then n nobody (empty_scene k) entries) (λ n. sent_by_then n [] entries) (λ n. shown_by_then n [] entries) s q p.visitor K p.there p.is_read in
     let own = the_serial k (λ n. arrival_by_then n nobody (empty_scene k) entries) (λ n. sent_by_then n [] entries) (λ n. shown_by_then n [] entries) s q p.visitor K p.there in
     let more = client_more k q (arrival_by_then q nobody (empty_scene k) entries) (sent_by_then q [] entries) (shown_by_then q [] entries) bytes.now s.world p.visitor.session c in
-    talk_current k entries s t (Say session bytes) piece q p.visitor v (with_session (session_more_waits p.visitor.session bytes.now) p.visitor) s.world p.moved p.left printed new bytes.now printable r is refl refl (sent_here session bytes.now) shown more refl own
+    talk_current k entries s t (Say session bytes) piece q p.visitor v (with_session (session_more_waits p.visitor.session bytes.now) p.visitor) s.world p.moved p.left printed new bytes.now printable r is refl refl (sent_here session bytes.now) shown more refl
+    (here_as k.config (session_seat k q) (arrival_by_then q nobody (empty_scene k) entries).serial s.world p.visitor (with_session (session_more_waits p.visitor.session bytes.now) p.visitor) refl refl refl own)
     (heard_small k.config K.events s.world (session_seat k q) printable.numbers K.came) p.goes (fits c.whole) p.after left
 
 pub answers_make_current : AnswersMakeCurrent
@@ -283,7 +285,7 @@ answers_make_current k entries s t session bytes piece before v printable r is t
 -- from the world to which that leads
 step_current : (k : Setup) (entries : List Entry) (s t : Scene) (event : house.Event) (piece : Piece) (q : ℕ) (visitor v b : SeatedVisitor) (moves : Event) (moved later : World) (left : Option SeatedVisitor) (printed new : List ℕ) → IsPrintable k → IsRecord k entries (empty_scene k) s
     → IsEntry k s (record { event = event; after = t; piece = piece }) → lets_in q event ≡ false → is_left q event ≡ false → sent_in q event ≡ [] → shown_in q piece ≡ new
-    → s.visitor q ≡ Some visitor → visitor.gone ≡ false → b.session ≡ visitor.session → b.serial ≡ visitor.serial → IsOfOthers q moves → Step k.config s.world moves moved
+    → s.visitor q ≡ Some visitor → visitor.gone ≡ false → b.session ≡ visitor.session → (IsHere k.config (session_seat k q) (arrival_by_then q nobody (empty_scene k) entries).serial s.world visitor → IsHere k.config (session_seat k q) (arrival_by_then q nobody (empty_scene k) entries).serial moved b) → IsOfOthers q moves → Step k.config s.world moves moved
     → (g : SessionTalks k false q (moved.heard (session_seat k q)) moved b later left printed) → (IsWhole b.session.unsaid → new ++ g.speaks.still ≡ b.session.unsaid ++ g.speaks.said)
     → t ≡ with_visitor (with_world s later) q left → t.visitor q ≡ Some v → AnswersAt k entries (record { event = event; after = t; piece = piece }) q visitor v
 step_current k entries s t event piece q visitor v b moves moved later left printed new printable r is lets goes came shown at read same alike own step g fits after there =
@@ -297,7 +299,7 @@ step_current k entries s t event piece q visitor v b moves moved later left prin
     let d : Client k q a (sent ++ []) shown_so moved b.session = subst (λ (x : List ℕ). Client k q a x shown_so moved b.session) (sym (append-nil sent)) c in
     let serial = the_serial k (λ n. arrival_by_then n nobody (empty_scene k) entries) (λ n. sent_by_then n [] entries) (λ n. shown_by_then n [] entries) s q visitor K at in
     let world : IsWorld k.config (K.events ++ moves ∷ []) moved = steps_join k.config empty_world K.events s.world (moves ∷ []) moved K.came (moved, step, refl) in
-    talk_current k entries s t event piece q visitor v b moved later left printed new [] printable r is lets goes came shown d (ap (λ (x : Visitor). x.unsaid) same) (alike ∙ serial)
+    talk_current k entries s t event piece q visitor v b moved later left printed new [] printable r is lets goes came shown d (ap (λ (x : Visitor). x.unsaid) same) (alike serial)
     (heard_small k.config (K.events ++ moves ∷ []) moved (session_seat k q) printable.numbers world) g (fits d.whole) after there
 
 -- nothing was printed of it
@@ -321,13 +323,15 @@ put_current : (k : Setup) (entries : List Entry) (s t : Scene) (number q : ℕ) 
     → (IsWhole p.visitor.session.unsaid → new ++ g.speaks.still ≡ p.visitor.session.unsaid ++ g.speaks.said) → t.visitor q ≡ Some v → AnswersAt k entries (record { event = Put number; after = t; piece = piece }) q p.visitor v
 put_current k entries s t number q piece v printed new printable r is p read shown g fits there =
     step_current k entries s t (Put number) piece q p.visitor v (record { session = p.visitor.session; serial = p.visitor.serial; gone = p.visitor.gone; to_put = p.others })
-    (world.Put (session_seat k q) (world.shard_of k.config p.copy.mailbox) p.copy) p.moved p.later p.left printed new printable r is refl refl refl shown p.there read refl refl tt p.step g fits p.after there
+    (world.Put (session_seat k q) (world.shard_of k.config p.copy.mailbox) p.copy) p.moved p.later p.left printed new printable r is refl refl refl shown p.there read refl
+    (λ here. put_here k.config (session_seat k q) (arrival_by_then q nobody (empty_scene k) entries).serial s.world p.moved p.visitor p.copy p.others p.front p.step here) tt p.step g fits p.after there
 
 hear_current : (k : Setup) (entries : List Entry) (s t : Scene) (number q : ℕ) (piece : Piece) (v : SeatedVisitor) (printed new : List ℕ) → IsPrintable k → IsRecord k entries (empty_scene k) s → IsEntry k s (record { event = Hear number; after = t; piece = piece })
     → (p : SessionHears k false s q t printed) → p.visitor.gone ≡ false → shown_in q piece ≡ new → (g : SessionTalks k false q (p.moved.heard (session_seat k q)) p.moved p.visitor p.later p.left printed)
     → (IsWhole p.visitor.session.unsaid → new ++ g.speaks.still ≡ p.visitor.session.unsaid ++ g.speaks.said) → t.visitor q ≡ Some v → AnswersAt k entries (record { event = Hear number; after = t; piece = piece }) q p.visitor v
 hear_current k entries s t number q piece v printed new printable r is p read shown g fits there =
-    step_current k entries s t (Hear number) piece q p.visitor v p.visitor (world.Hear (session_seat k q)) p.moved p.later p.left printed new printable r is refl refl refl shown p.there read refl refl tt p.step g fits p.after there
+    step_current k entries s t (Hear number) piece q p.visitor v p.visitor (world.Hear (session_seat k q)) p.moved p.later p.left printed new printable r is refl refl refl shown p.there read refl
+    (λ here. here_step k.config (session_seat k q) (arrival_by_then q nobody (empty_scene k) entries).serial s.world (world.Hear (session_seat k q)) p.moved p.visitor p.step here) tt p.step g fits p.after there
 
 still_read : (s : Scene) (q : ℕ) (before b : SeatedVisitor) → s.visitor q ≡ Some before → s.visitor q ≡ Some b → before.gone ≡ false → b.gone ≡ false
 still_read s q before b there other read = subst (λ (x : SeatedVisitor). x.gone ≡ false) (sym (ap (the_one b) (sym other ∙ there))) read

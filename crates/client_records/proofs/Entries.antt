@@ -28,6 +28,7 @@ use Rattle.client_records.specs.Records.{began_in, is_left, lets_in, sent_in, sh
 use Rattle.client_records.specs.Sizes.{HasSmallNumbers}
 use Rattle.client_records.specs.Views.{IsOfOthers}
 use Rattle.client_records.proofs.Recording.{Arrival, Client, Walk, Watched, client_more, client_others, came_as, client_said, goes, heard_small, lingers_watched, parted, stands, still_whole, talks_walk, talks_watched, walk_call, walk_met, walk_parts, walk_then, walk_world, watched_others, watched_walk}
+use Rattle.client_records.proofs.Seated.{IsHere, here_as, here_met, idle_here}
 use Rattle.client_records.proofs.Talked.{idles_reached, talked_none}
 
 -- ---- places
@@ -170,15 +171,15 @@ let_known k users sent shown s session user t printed new piece h K p at fits =
     (visit_known k users sent shown s q (Enter session user) piece true [] new p.moved p.left s.caller s.next (set_at s.entered q (s.entered q + 1)) s.shut a K at (rw (eq-eqb q q refl) refl)
     (talks_walk k false q (s.world.heard (session_seat k q)) s.world (seated_greeted (s.entered q) (Some k.max_message) (folders_of k.directory user.now)) p.moved p.left printed p.goes)
     (talks_watched k false q a [] [] new s.world (seated_greeted (s.entered q) (Some k.max_message) (folders_of k.directory user.now)) p.moved p.left printed
-    (heard_small k.config K.events s.world (session_seat k q) h K.came) refl refl p.goes fits c))
+    (heard_small k.config K.events s.world (session_seat k q) h K.came) refl (record { own = refl; due = inl refl; out = λ none. tt }) p.goes fits c))
 
 -- ---- its client sends
 
 pub the_client : (k : Setup) (users : ℕ → Arrival) (sent shown : ℕ → List ℕ) (s : Scene) (q : ℕ) (v : SeatedVisitor) → SceneKnown k users sent shown s → s.visitor q ≡ Some v → v.gone ≡ false → Client k q (users q) (sent q) (shown q) s.world v.session
 the_client k users sent shown s q v K there read = (subst (λ (o : Option SeatedVisitor). Watched k q (users q) (sent q) (shown q) s.world o) there (K.watched q)).0 read
 
--- it has the serial under which it was let in
-pub the_serial : (k : Setup) (users : ℕ → Arrival) (sent shown : ℕ → List ℕ) (s : Scene) (q : ℕ) (v : SeatedVisitor) → SceneKnown k users sent shown s → s.visitor q ≡ Some v → v.serial ≡ (users q).serial
+-- it has the serial under which it was let in, and its copy is where it should be
+pub the_serial : (k : Setup) (users : ℕ → Arrival) (sent shown : ℕ → List ℕ) (s : Scene) (q : ℕ) (v : SeatedVisitor) → SceneKnown k users sent shown s → s.visitor q ≡ Some v → IsHere k.config (session_seat k q) (users q).serial s.world v
 the_serial k users sent shown s q v K there = (subst (λ (o : Option SeatedVisitor). Watched k q (users q) (sent q) (shown q) s.world o) there (K.watched q)).2
 
 -- one whose client is gone doesn't stay
@@ -195,7 +196,8 @@ say_known k users sent shown s session bytes t printed new piece h K p at fits =
     subst (λ (x : Scene). SceneKnown k (users_then s users (Say session bytes)) (sent_then sent (Say session bytes)) (shown_then shown (Say session bytes) piece) x) (sym p.after)
     (visit_known k users sent shown s q (Say session bytes) piece false bytes.now new p.moved p.left s.caller s.next s.entered s.shut (users q) K at refl
     (talks_walk k false q (s.world.heard (session_seat k q)) s.world b p.moved p.left printed p.goes)
-    (talks_watched k false q (users q) (sent q ++ bytes.now) (shown q) new s.world b p.moved p.left printed (heard_small k.config K.events s.world (session_seat k q) h K.came) p.is_read (the_serial k users sent shown s q p.visitor K p.there) p.goes fits c))
+    (talks_watched k false q (users q) (sent q ++ bytes.now) (shown q) new s.world b p.moved p.left printed (heard_small k.config K.events s.world (session_seat k q) h K.came) p.is_read
+    (here_as k.config (session_seat k q) (users q).serial s.world p.visitor b refl refl refl (the_serial k users sent shown s q p.visitor K p.there)) p.goes fits c))
 
 -- ---- it has a turn while it idles
 
@@ -212,7 +214,8 @@ idle_known k users sent shown s session t printed new piece K p at fits =
     subst (λ (x : Scene). SceneKnown k (users_then s users (Idle session)) (sent_then sent (Idle session)) (shown_then shown (Idle session) piece) x) (sym p.after)
     (visit_known k users sent shown s q (Idle session) piece false [] new p.moved p.left s.caller s.next s.entered s.shut (users q) K at refl
     (walk_parts k false q s.world g.mid (with_session g.after p.visitor) p.moved p.left (walk_met k.config q s.world s.world g.idles.turned.events g.mid stands g.idles.turned.met) g.left)
-    (subst (λ (x : List ℕ). Watched k q (users q) x (shown q ++ new) p.moved p.left) (sym (append-nil (sent q))) (parted k false q (users q) (sent q) (shown q ++ new) (with_session g.after p.visitor) g.mid p.moved p.left g.is_read (the_serial k users sent shown s q p.visitor K p.there) d g.left)))
+    (subst (λ (x : List ℕ). Watched k q (users q) x (shown q ++ new) p.moved p.left) (sym (append-nil (sent q))) (parted k false q (users q) (sent q) (shown q ++ new) (with_session g.after p.visitor) g.mid p.moved p.left g.is_read
+    (idle_here k.config q (session_seat k q) (users q).serial s.world g.mid p.visitor g.after g.idles.said g.shown g.idles.turned (the_serial k users sent shown s q p.visitor K p.there)) d g.left)))
 
 -- ---- its client is gone
 
@@ -225,7 +228,9 @@ leave_known k users sent shown s session t printed K p =
     (visit_known k users sent shown s q (Leave session) Silence false [] [] p.moved p.left s.caller s.next s.entered s.shut a K (silent_at q (Leave session) false [] refl refl (λ n other. refl) (λ n other. refl) (λ n other. differs q n other))
     (rw (eq-eqb q q refl) refl)
     (walk_call k.config q s.world s.world (calls.Leave false) p.leaves.0 p.moved stands p.leaves.1)
-    (lingers_watched k q (session_seat k q) a (sent q ++ []) (shown q ++ []) (s.world.heard (session_seat k q)) p.moved _ p.left refl (the_serial k users sent shown s q p.visitor K p.there) refl p.stays))
+    (lingers_watched k q (session_seat k q) a (sent q ++ []) (shown q ++ []) (s.world.heard (session_seat k q)) p.moved _ p.left refl
+    (here_as k.config (session_seat k q) (users q).serial p.moved p.visitor _ refl refl refl
+    (here_met k.config q (session_seat k q) (users q).serial s.world (record { call = calls.Leave false; answer = p.leaves.0 } ∷ []) p.moved p.visitor (p.moved, p.leaves.1, refl) (the_serial k users sent shown s q p.visitor K p.there))) refl p.stays))
 
 -- ---- its copy is put, and its verdict is heard
 
@@ -239,7 +244,7 @@ speech_walk k q heard w b v o new (says {printed = printed} l g fits) = talks_wa
 speech_walk k q heard w b v o new (lingers l g same) = rw same stands
 
 pub moved_known : (k : Setup) (users : ℕ → Arrival) (sent shown : ℕ → List ℕ) (s : Scene) (event : house.Event) (q : ℕ) (moves : Event) (moved : World) (visitor b : SeatedVisitor) (later : World) (left : Option SeatedVisitor) (new : List ℕ) (piece : Piece)
-    → HasSmallNumbers k.config → SceneKnown k users sent shown s → s.visitor q ≡ Some visitor → b.session ≡ visitor.session → b.gone ≡ visitor.gone → b.serial ≡ visitor.serial → IsAt q event piece false [] new → is_left q event ≡ false → ((n : ℕ) → IsOfOthers n moves) → Step k.config s.world moves moved
+    → HasSmallNumbers k.config → SceneKnown k users sent shown s → s.visitor q ≡ Some visitor → b.session ≡ visitor.session → b.gone ≡ visitor.gone → (IsHere k.config (session_seat k q) (users q).serial s.world visitor → IsHere k.config (session_seat k q) (users q).serial moved b) → IsAt q event piece false [] new → is_left q event ≡ false → ((n : ℕ) → IsOfOthers n moves) → Step k.config s.world moves moved
     → Speech k q (moved.heard (session_seat k q)) moved b later left new
     → SceneKnown k (users_then s users event) (sent_then sent event) (shown_then shown event piece) (record { world = later; caller = s.caller; next = s.next; visitor = set_at s.visitor q left; entered = s.entered; shut = s.shut })
 moved_known k users sent shown s event q moves moved visitor b later left new piece h K there same alike still at stays own step speech =
@@ -254,5 +259,5 @@ moved_known k users sent shown s event q moves moved visitor b later left new pi
         let c : Client k q (users q) (sent q) (shown q) moved b.session = subst (λ (x : Visitor). Client k q (users q) (sent q) (shown q) moved x) (sym same) c1 in
         let came : IsWorld k.config (K.events ++ moves ∷ []) moved = steps_join k.config empty_world K.events s.world (moves ∷ []) moved K.came (moved, step, refl) in
         talks_watched k false q (users q) (sent q) (shown q) new moved b later left printed
-        (heard_small k.config (K.events ++ moves ∷ []) moved (session_seat k q) h came) l (still ∙ the_serial k users sent shown s q visitor K there) g fits c
-    by (lingers l g e) = lingers_watched k q (session_seat k q) (users q) (sent q) (shown q ++ new) (moved.heard (session_seat k q)) later b left l (still ∙ the_serial k users sent shown s q visitor K there) (gone_client k users sent shown s q visitor K there (sym alike ∙ l)) g
+        (heard_small k.config (K.events ++ moves ∷ []) moved (session_seat k q) h came) l (still (the_serial k users sent shown s q visitor K there)) g fits c
+    by (lingers l g e) = lingers_watched k q (session_seat k q) (users q) (sent q) (shown q ++ new) (moved.heard (session_seat k q)) later b left l (subst (λ (x : World). IsHere k.config (session_seat k q) (users q).serial x b) (sym e) (still (the_serial k users sent shown s q visitor K there))) (gone_client k users sent shown s q visitor K there (sym alike ∙ l)) g

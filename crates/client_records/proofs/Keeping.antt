@@ -30,6 +30,7 @@ use Rattle.client_records.proofs.Current.{all_counted}
 use Rattle.client_records.proofs.Moved.{moved, moved_extends, short_before}
 use Rattle.client_records.proofs.Names.{goes_extends}
 use Rattle.client_records.proofs.Recording.{Arrival, Client, Finished, Watched, fits_lines, fits_silence}
+use Rattle.client_records.proofs.Seated.{here_step, put_here}
 use Rattle.client_records.proofs.Shortness.{texts_short}
 use Rattle.client_records.proofs.Texts.{has_short}
 use Rattle.client_records.proofs.Worlds.{sound_always}
@@ -94,13 +95,15 @@ session_puts_known : (k : Setup) (users : ℕ → Arrival) (sent shown : ℕ →
 session_puts_known k users sent shown s number q t printed new piece h K p at speech =
     subst (λ (x : Scene). Then k s users sent shown (Put number) piece x) (sym p.after)
     (moved_known k users sent shown s (Put number) q (world.Put (session_seat k q) (world.shard_of k.config p.copy.mailbox) p.copy) p.moved p.visitor
-    (record { session = p.visitor.session; serial = p.visitor.serial; gone = p.visitor.gone; to_put = p.others }) p.later p.left new piece h K p.there refl refl refl at refl (λ n. tt) p.step speech)
+    (record { session = p.visitor.session; serial = p.visitor.serial; gone = p.visitor.gone; to_put = p.others }) p.later p.left new piece h K p.there refl refl
+    (λ here. put_here k.config (session_seat k q) (users q).serial s.world p.moved p.visitor p.copy p.others p.front p.step here) at refl (λ n. tt) p.step speech)
 
 session_hears_known : (k : Setup) (users : ℕ → Arrival) (sent shown : ℕ → List ℕ) (s : Scene) (number q : ℕ) (t : Scene) (printed new : List ℕ) (piece : Piece) → HasSmallNumbers k.config → SceneKnown k users sent shown s → (p : SessionHears k false s q t printed)
     → IsAt q (Hear number) piece false [] new → Speech k q (p.moved.heard (session_seat k q)) p.moved p.visitor p.later p.left new → Then k s users sent shown (Hear number) piece t
 session_hears_known k users sent shown s number q t printed new piece h K p at speech =
     subst (λ (x : Scene). Then k s users sent shown (Hear number) piece x) (sym p.after)
-    (moved_known k users sent shown s (Hear number) q (world.Hear (session_seat k q)) p.moved p.visitor p.visitor p.later p.left new piece h K p.there refl refl refl at refl (λ n. tt) p.step speech)
+    (moved_known k users sent shown s (Hear number) q (world.Hear (session_seat k q)) p.moved p.visitor p.visitor p.later p.left new piece h K p.there refl refl
+    (λ here. here_step k.config (session_seat k q) (users q).serial s.world (world.Hear (session_seat k q)) p.moved p.visitor p.step here) at refl (λ n. tt) p.step speech)
 
 put_silent : (k : Setup) (users : ℕ → Arrival) (sent shown : ℕ → List ℕ) (s : Scene) (number : ℕ) (t : Scene) → HasSmallNumbers k.config → SceneKnown k users sent shown s → PutPlay k false s (seat_of number) t [] → Then k s users sent shown (Put number) Silence t
 put_silent k users sent shown s number t h K (connection_puts l p) = puts_known k users sent shown s number (seat_of number) t [] Silence K (silent_aside (Put number) (λ n. refl) (λ n. refl) (λ n. refl)) p

@@ -19,6 +19,7 @@ mod Submitted
 mod Lanes
 mod Histories
 mod Out
+mod Seated
 mod Answered
 mod Talked
 pub mod Folded

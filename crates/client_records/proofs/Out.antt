@@ -25,6 +25,11 @@ use Rattle.client_records.proofs.Histories.{every_in}
 use Rattle.client_records.proofs.Lanes.{IsNoPutOf, Puts, PutsNoCopy, put_by, step_puts, step_puts_copy}
 use Rattle.client_records.proofs.Moved.{Calls, Moved, moved, rested, stepped}
 
+-- the copy of a message of the session with this serial at a seat
+abbrev pub copy_of : (seat serial : ℕ) → Sent → Job
+copy_of seat serial message =
+    record { key = record { seat = seat; serial = serial; message = message.append.message; recipient = 0 }; mailbox = message.append.mailbox; text = message.append.text; flags = message.append.flags }
+
 -- an entry of this key is this copy
 abbrev pub IsOnly : Job → Entry Job → Type 0
 IsOnly c (Item p d) = d.key ≡ c.key → d ≡ c

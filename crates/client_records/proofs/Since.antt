@@ -39,18 +39,18 @@ pub record Since (k : Config) (n : ℕ) (first : Came) (began : World) (base : L
   pub fresh : Fresh k n first began base talked.told w
 
 since_turn : (k : Config) (n : ℕ) (first : Came) (began : World) (base : List Told) (sent said : List ℕ) (now : Standing) (w : World) (happening : Happening) (bytes : List ℕ) (turn : Turn) (v : World)
-    → Since k n first began base sent said now w → IsSentFor happening bytes → HappensSo first w now happening → leads_to now happening ≡ Some turn → Met (Calls k n) w turn.events v
+    → Since k n first began base sent said now w → IsSentFor happening bytes → HappensSo k first w now happening → leads_to now happening ≡ Some turn → Met (Calls k n) w turn.events v
     → Since k n first began base (sent ++ bytes) (said ++ turn.bytes) turn.standing v
 since_turn k n first began base sent said now w happening bytes turn v t is so e met =
     let grown = fresh_grown k n first began base t.talked.told w t.fresh in
     let one : Told = told_of now happening turn.bytes in record {
       talked = record {
         told = t.talked.told ++ one ∷ [];
-        lives = turns t.talked.lives happening bytes turn v is (so_printed first w now happening so) e met;
+        lives = turns t.talked.lives happening bytes turn v is (so_printed k first w now happening so) e met;
         bytes = flat_map-append bytes_in t.talked.told (one ∷ []) ∙ ap₂ (λ (a b : List ℕ). a ++ b) t.talked.bytes (append-nil (bytes_in one) ∙ told_bytes now happening turn.bytes);
         notes = turn_notes k n first sent bytes t.talked.told now w happening turn v t.talked.notes so is e met;
       };
-      fresh = turned grown.0 sent now w (subst (λ (told : List Told). Lives k n first.standing began sent told now w) grown.1 t.talked.lives) happening bytes turn is (so_printed first w now happening so) (ap (λ (told : List Told). told ++ one ∷ []) grown.1) e met;
+      fresh = turned grown.0 sent now w (subst (λ (told : List Told). Lives k n first.standing began sent told now w) grown.1 t.talked.lives) happening bytes turn is (so_printed k first w now happening so) (ap (λ (told : List Told). told ++ one ∷ []) grown.1) e met;
     }
 
 -- ---- what its client sends
@@ -103,7 +103,7 @@ works_lately k n seat first began base came heard v after old new said w r = rec
   waits = r.waits ∙ ap (λ (x : List ℕ). r.sent ++ x) w.answers.waited ∙ sym (append_assoc r.sent (flat_map spelled w.answers.sent) after.session.waits);
 }
 
-verdict_since : (k : Config) (n : ℕ) (first : Came) (began : World) (base : List Told) (sent heard : List ℕ) (now : Standing) (verdict : Verdict) (old new : World) (said : List ℕ) (how : After) (next : Standing) → ((answers : List Answer) → HappensSo first old now (Heard verdict answers))
+verdict_since : (k : Config) (n : ℕ) (first : Came) (began : World) (base : List Told) (sent heard : List ℕ) (now : Standing) (verdict : Verdict) (old new : World) (said : List ℕ) (how : After) (next : Standing) → ((answers : List Answer) → HappensSo k first old now (Heard verdict answers))
     → AnswersVerdict (Calls k n) now verdict old new [] said how next → Since k n first began base sent heard now old → Since k n first began base (sent ++ []) (heard ++ said) next new
 verdict_since k n first began base sent heard now verdict old new said how next so a t =
     let turn : Turn = record { events = a.events; bytes = a.bytes; after = how; standing = next } in
@@ -114,11 +114,11 @@ same_lately : (k : Config) (n : ℕ) (first : Came) (began : World) (base : List
     → Lately k n first began base came heard v.session old → Lately k n first began base came (heard ++ said) after.session new
 same_lately k n first began base came heard v after old new said e f g r = rw (e, f, g, append-nil heard) r
 
-pub goes_lately : (k : Config) (n : ℕ) (whole : Bool) (seat : ℕ) (notes : List Noted) (first : Came) (began : World) (base : List Told) (came heard : List ℕ) (v after : SeatedVisitor) (old new : World) (said : List ℕ) → Heeds first seat v.serial notes old
+pub goes_lately : (k : Config) (n : ℕ) (whole : Bool) (seat : ℕ) (notes : List Noted) (first : Came) (began : World) (base : List Told) (came heard : List ℕ) (v after : SeatedVisitor) (old new : World) (said : List ℕ) → Heeds k first seat v notes old
     → GoesOn (Calls k n) whole seat notes v old new after said → Lately k n first began base came heard v.session old → Lately k n first began base came (heard ++ said) after.session new
 goes_lately k n whole seat notes first began base came heard v after old new said small (seated.works none w) r = works_lately k n seat first began base came heard v after old new said w r
 goes_lately k n whole seat notes first began base came heard v after old new said small (seated.answers verdict mid one two how next still known a w e) r =
-    let t = verdict_since k n first began base r.sent heard v.session.standing verdict old mid one how next (λ answers. verdict_so first seat notes old v verdict answers small known) a r.since in
+    let t = verdict_since k n first began base r.sent heard v.session.standing verdict old mid one how next (λ answers. verdict_so k first seat notes old v verdict answers small known) a r.since in
     let between : Lately k n first began base came (heard ++ one) (record { standing = next; waits = v.session.waits; unsaid = v.session.unsaid }) mid =
     record { sent = r.sent ++ []; since = t; waits = r.waits ∙ ap (λ (s : List ℕ). s ++ v.session.waits) (sym (append-nil r.sent)) } in
     subst (λ (h : List ℕ). Lately k n first began base came h after.session new) (append_assoc heard one two ∙ ap (λ (s : List ℕ). heard ++ s) (sym e))

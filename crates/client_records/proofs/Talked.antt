@@ -22,7 +22,8 @@ use Rattle.client_records.specs.Clients.{Told, bytes_in}
 use Rattle.client_records.specs.Lives.{IsSentFor, Lives, comes, turns, others}
 use Rattle.client_records.specs.Turns.{told_of}
 use Rattle.client_records.specs.Views.{IsOfOthers}
-use Rattle.client_records.proofs.Answered.{Came, HappensSo, HasHeard, Notes, no_notes, notes_later, notes_turn, so_printed, told_bytes}
+use Rattle.client_records.proofs.Out.{Fate, copy_of, fate_met, fate_step}
+use Rattle.client_records.proofs.Answered.{Came, KnownAt, HappensSo, HasHeard, Notes, no_notes, notes_later, notes_turn, so_printed, told_bytes}
 use Rattle.client_records.proofs.LastLines.{IsWord}
 use Rattle.client_records.proofs.Moved.{Calls, Moved, moved, rested, stepped}
 use Rattle.client_list.proofs.IdleTags.{AreTagsOf}
@@ -33,10 +34,10 @@ pub record Talked (k : Config) (n : ℕ) (first : Came) (began : World) (sent sa
   pub told : List Told
   pub lives : Lives k n first.standing began sent told now w
   pub bytes : flat_map bytes_in told ≡ said
-  pub notes : Notes k.uidvalidity first sent told now (w.heard first.seat)
+  pub notes : Notes k.uidvalidity first sent told now (KnownAt k first w)
 
 pub talked_none : (k : Config) (n : ℕ) (first : Came) (began : World) → AreTagsOf IsWord first.standing → first.standing.mailing.begun ≡ None → first.standing.mailing.sent ≡ None → Talked k n first began [] [] first.standing began
-talked_none k n first began tags unbegun none = record { told = []; lives = comes; bytes = refl; notes = no_notes k.uidvalidity first (began.heard first.seat) tags unbegun none }
+talked_none k n first began tags unbegun none = record { told = []; lives = comes; bytes = refl; notes = no_notes k.uidvalidity first (KnownAt k first began) tags unbegun none }
 
 -- what a seat has heard stays heard by what a session asks
 call_hears : (k : Config) (n : ℕ) (w v : World) (p : ℕ) (note : Noted) → Moved k n w v → Contains (w.heard p) note → Contains (v.heard p) note
@@ -48,19 +49,20 @@ met_hears k n w [] v p note met c = rw met c
 met_hears k n w (e ∷ events) v p note (mid, one, more) c = met_hears k n mid events v p note more (call_hears k n w mid p note (moved k n w e.call e.answer mid one) c)
 
 -- what is known of its answers behind a turn
-pub turn_notes : (k : Config) (n : ℕ) (first : Came) (sent bytes : List ℕ) (told : List Told) (now : Standing) (w : World) (happening : Happening) (turn : Turn) (v : World) → Notes k.uidvalidity first sent told now (w.heard first.seat)
-    → HappensSo first w now happening → IsSentFor happening bytes → leads_to now happening ≡ Some turn → Met (Calls k n) w turn.events v → Notes k.uidvalidity first (sent ++ bytes) (told ++ told_of now happening turn.bytes ∷ []) turn.standing (v.heard first.seat)
+pub turn_notes : (k : Config) (n : ℕ) (first : Came) (sent bytes : List ℕ) (told : List Told) (now : Standing) (w : World) (happening : Happening) (turn : Turn) (v : World) → Notes k.uidvalidity first sent told now (KnownAt k first w)
+    → HappensSo k first w now happening → IsSentFor happening bytes → leads_to now happening ≡ Some turn → Met (Calls k n) w turn.events v → Notes k.uidvalidity first (sent ++ bytes) (told ++ told_of now happening turn.bytes ∷ []) turn.standing (KnownAt k first v)
 turn_notes k n first sent bytes told now w happening turn v t so for e met =
-    notes_later k.uidvalidity first (sent ++ bytes) (told ++ told_of now happening turn.bytes ∷ []) turn.standing (w.heard first.seat) (v.heard first.seat) (λ note c. met_hears k n w turn.events v first.seat note met c)
+    notes_later k.uidvalidity first (sent ++ bytes) (told ++ told_of now happening turn.bytes ∷ []) turn.standing (KnownAt k first w) (KnownAt k first v)
+    (λ note message h. (met_hears k n w turn.events v first.seat note met h.0, fate_met k n w turn.events v first.seat (copy_of first.seat first.serial message) met h.1))
     (notes_turn k n first sent bytes told now w happening turn v t so for e met)
 
 -- a turn
 pub talked_turn : (k : Config) (n : ℕ) (first : Came) (began : World) (sent said : List ℕ) (now : Standing) (w : World) (happening : Happening) (bytes : List ℕ) (turn : Turn) (v : World)
-    → Talked k n first began sent said now w → IsSentFor happening bytes → HappensSo first w now happening → leads_to now happening ≡ Some turn → Met (Calls k n) w turn.events v
+    → Talked k n first began sent said now w → IsSentFor happening bytes → HappensSo k first w now happening → leads_to now happening ≡ Some turn → Met (Calls k n) w turn.events v
     → Talked k n first began (sent ++ bytes) (said ++ turn.bytes) turn.standing v
 talked_turn k n first began sent said now w happening bytes turn v t is so e met = record {
   told = t.told ++ told_of now happening turn.bytes ∷ [];
-  lives = turns t.lives happening bytes turn v is (so_printed first w now happening so) e met;
+  lives = turns t.lives happening bytes turn v is (so_printed k first w now happening so) e met;
   bytes = flat_map-append bytes_in t.told (told_of now happening turn.bytes ∷ [])
       ∙ ap₂ (λ (a b : List ℕ). a ++ b) t.bytes (append-nil (bytes_in (told_of now happening turn.bytes)) ∙ told_bytes now happening turn.bytes);
   notes = turn_notes k n first sent bytes t.told now w happening turn v t.notes so is e met;
@@ -73,7 +75,8 @@ talked_others k n first began sent said now w event v t o step = record {
   told = t.told;
   lives = others t.lives event v o step;
   bytes = t.bytes;
-  notes = notes_later k.uidvalidity first sent t.told now (w.heard first.seat) (v.heard first.seat) (λ note c. heard_stays_heard k w (event ∷ []) v first.seat note (v, step, refl) c) t.notes;
+  notes = notes_later k.uidvalidity first sent t.told now (KnownAt k first w) (KnownAt k first v)
+      (λ note message h. (heard_stays_heard k w (event ∷ []) v first.seat note (v, step, refl) h.0, fate_step k w event v first.seat (copy_of first.seat first.serial message) step h.1)) t.notes;
 }
 
 -- ---- what its client sends
@@ -130,23 +133,25 @@ works_reached k n seat first began came heard v after old new said w r = record 
   waits = r.waits ∙ ap (λ (x : List ℕ). r.sent ++ x) w.answers.waited ∙ sym (append_assoc r.sent (flat_map spelled w.answers.sent) after.session.waits);
 }
 
--- Each UID among these notes can be printed. They are notes of the session's own seat, which has its serial.
-pub record Heeds (first : Came) (seat serial : ℕ) (notes : List Noted) (w : World) : Type 0 where
+-- Each UID among these notes can be printed. They are notes of the session's own seat, which has its serial; and where it has put the copy of its message, that is out.
+pub record Heeds (k : Config) (first : Came) (seat : ℕ) (v : SeatedVisitor) (notes : List Noted) (w : World) : Type 0 where
   pub small : AreHeardSmall notes
   pub at : seat ≡ first.seat
-  pub own : serial ≡ first.serial
+  pub own : v.serial ≡ first.serial
+  pub out : v.to_put ≡ [] → IfSome (sent_by v) (λ (message : Sent). Fate k w first.seat (copy_of first.seat first.serial message))
   pub heard : (noted : Noted) → Contains notes noted → Contains (w.heard first.seat) noted
 
 -- so a verdict that it answers can be printed, and was heard
-pub verdict_so : (first : Came) (seat : ℕ) (notes : List Noted) (w : World) (v : SeatedVisitor) (verdict : Verdict) (answers : List Answer) → Heeds first seat v.serial notes w → IsAnswered seat notes v verdict
-    → HappensSo first w v.session.standing (Heard verdict answers)
-verdict_so first seat notes w v verdict answers heeds known = (tt, by (sent_by v) known.each)
+pub verdict_so : (k : Config) (first : Came) (seat : ℕ) (notes : List Noted) (w : World) (v : SeatedVisitor) (verdict : Verdict) (answers : List Answer) → Heeds k first seat v notes w → IsAnswered seat notes v verdict
+    → HappensSo k first w v.session.standing (Heard verdict answers)
+verdict_so k first seat notes w v verdict answers heeds known = (tt, by (sent_by v) known.each (heeds.out known.put))
   where
-    by : (o : Option Sent) → HeardFor notes (keys_of seat v.serial o) (verdict ∷ []) → IsPrinted verdict × IfSome o (HasHeard first (w.heard first.seat) verdict)
-    by None h = absurd h
-    by (Some sent) h =
+    by : (o : Option Sent) → HeardFor notes (keys_of seat v.serial o) (verdict ∷ []) → IfSome o (λ (message : Sent). Fate k w first.seat (copy_of first.seat first.serial message))
+        → IsPrinted verdict × IfSome o (HasHeard first (KnownAt k first w) verdict)
+    by None h fate = absurd h
+    by (Some sent) h fate =
         let noted : Noted = record { key = record { seat = seat; serial = v.serial; message = sent.append.message; recipient = 0 }; mailbox = h.0.0; verdict = verdict } in
-        (heeds.small noted h.0.1, (h.0.0, there seat v.serial heeds.at heeds.own (heeds.heard noted h.0.1)))
+        (heeds.small noted h.0.1, (h.0.0, (there seat v.serial heeds.at heeds.own (heeds.heard noted h.0.1), fate)))
       where
         there : (p number : ℕ) → p ≡ first.seat → number ≡ first.serial → Contains (w.heard first.seat) (record { key = record { seat = p; serial = number; message = sent.append.message; recipient = 0 }; mailbox = h.0.0; verdict = verdict })
             → Contains (w.heard first.seat) (record { key = record { seat = first.seat; serial = first.serial; message = sent.append.message; recipient = 0 }; mailbox = h.0.0; verdict = verdict })
@@ -154,7 +159,7 @@ verdict_so first seat notes w v verdict answers heeds known = (tt, by (sent_by v
             subst (λ (x : ℕ). Contains (w.heard first.seat) (record { key = record { seat = x; serial = first.serial; message = sent.append.message; recipient = 0 }; mailbox = h.0.0; verdict = verdict })) e
             (subst (λ (y : ℕ). Contains (w.heard first.seat) (record { key = record { seat = p; serial = y; message = sent.append.message; recipient = 0 }; mailbox = h.0.0; verdict = verdict })) f c)
 
-verdict_talked : (k : Config) (n : ℕ) (first : Came) (began : World) (sent heard : List ℕ) (now : Standing) (verdict : Verdict) (old new : World) (said : List ℕ) (how : After) (next : Standing) → ((answers : List Answer) → HappensSo first old now (Heard verdict answers))
+verdict_talked : (k : Config) (n : ℕ) (first : Came) (began : World) (sent heard : List ℕ) (now : Standing) (verdict : Verdict) (old new : World) (said : List ℕ) (how : After) (next : Standing) → ((answers : List Answer) → HappensSo k first old now (Heard verdict answers))
     → AnswersVerdict (Calls k n) now verdict old new [] said how next → Talked k n first began sent heard now old → Talked k n first began (sent ++ []) (heard ++ said) next new
 verdict_talked k n first began sent heard now verdict old new said how next so a t =
     let turn : Turn = record { events = a.events; bytes = a.bytes; after = how; standing = next } in
@@ -165,11 +170,11 @@ same_reached : (k : Config) (n : ℕ) (first : Came) (began : World) (came heard
     → Reached k n first began came heard v.session old → Reached k n first began came (heard ++ said) after.session new
 same_reached k n first began came heard v after old new said e f g r = rw (e, f, g, append-nil heard) r
 
-pub goes_reached : (k : Config) (n : ℕ) (whole : Bool) (seat : ℕ) (notes : List Noted) (first : Came) (began : World) (came heard : List ℕ) (v after : SeatedVisitor) (old new : World) (said : List ℕ) → Heeds first seat v.serial notes old
+pub goes_reached : (k : Config) (n : ℕ) (whole : Bool) (seat : ℕ) (notes : List Noted) (first : Came) (began : World) (came heard : List ℕ) (v after : SeatedVisitor) (old new : World) (said : List ℕ) → Heeds k first seat v notes old
     → GoesOn (Calls k n) whole seat notes v old new after said → Reached k n first began came heard v.session old → Reached k n first began came (heard ++ said) after.session new
 goes_reached k n whole seat notes first began came heard v after old new said small (seated.works none w) r = works_reached k n seat first began came heard v after old new said w r
 goes_reached k n whole seat notes first began came heard v after old new said small (seated.answers verdict mid one two how next still known a w e) r =
-    let t = verdict_talked k n first began r.sent heard v.session.standing verdict old mid one how next (λ answers. verdict_so first seat notes old v verdict answers small known) a r.talked in
+    let t = verdict_talked k n first began r.sent heard v.session.standing verdict old mid one how next (λ answers. verdict_so k first seat notes old v verdict answers small known) a r.talked in
     let between : Reached k n first began came (heard ++ one) (record { standing = next; waits = v.session.waits; unsaid = v.session.unsaid }) mid =
     record { sent = r.sent ++ []; talked = t; waits = r.waits ∙ ap (λ (s : List ℕ). s ++ v.session.waits) (sym (append-nil r.sent)) } in
     subst (λ (h : List ℕ). Reached k n first began came h after.session new) (append_assoc heard one two ∙ ap (λ (s : List ℕ). heard ++ s) (sym e))
