@@ -29,7 +29,7 @@ inner_byte o (c ∷ line) b h = by (b == 10) h
     by true e = absurd (false≢true e)
     by false e = refl
 
-both : (a b : Bool) → (a && b) ≡ true → (a ≡ true) × (b ≡ true)
+pub both : (a b : Bool) → (a && b) ≡ true → (a ≡ true) × (b ≡ true)
 both true b e = (refl, e)
 both false b e = absurd (false≢true e)
 

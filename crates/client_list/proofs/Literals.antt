@@ -39,7 +39,7 @@ brace_back n line = 125 ∷ (reverse (decimal n) ++ 123 ∷ line)
 abbrev count_back : ℕ → List ℕ → List ℕ
 count_back n line = 10 ∷ 13 ∷ brace_back n line
 
-count_is : (n : ℕ) (line : List ℕ) → n < 2 ^ 64 → literal_of (brace_back n line) ≡ Some n
+pub count_is : (n : ℕ) (line : List ℕ) → n < 2 ^ 64 → literal_of (brace_back n line) ≡ Some n
 count_is n line h =
     count_digits (reverse (decimal n)) [] line (digits_back (decimal n) (decimal_digits n h))
     ∙ ap number (append-nil (reverse (reverse (decimal n))) ∙ reverse-reverse (decimal n))

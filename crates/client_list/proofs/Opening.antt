@@ -25,16 +25,16 @@ exists_of_none n =
     let all : n - 0 ≡ n = omega arith in
     rw (le-leb 0 n (omega arith)) (ap (λ (k : ℕ). Some (more k)) all)
 
-abbrev flags_line : List ℕ
+abbrev pub flags_line : List ℕ
 flags_line = codes "* FLAGS (" ++ all_flags ++ codes ")\r\n"
 
-abbrev validity_line : ℕ → List ℕ
+abbrev pub validity_line : ℕ → List ℕ
 validity_line n = codes "* OK [UIDVALIDITY " ++ decimal n ++ codes "] UIDs valid\r\n"
 
-abbrev next_line : ℕ → List ℕ
+abbrev pub next_line : ℕ → List ℕ
 next_line n = codes "* OK [UIDNEXT " ++ decimal n ++ codes "] Predicted next UID\r\n"
 
-abbrev permanent_line : Bool → List ℕ
+abbrev pub permanent_line : Bool → List ℕ
 permanent_line read_only = codes "* OK [PERMANENTFLAGS (" ++ (if read_only then [] else all_flags) ++ codes ")] Flags kept\r\n"
 
 flags_told : TellsNothing flags_line
@@ -66,7 +66,7 @@ next_told n h messages =
     (numbered_inner (codes "* OK [UIDNEXT ") (codes "] Predicted next UI") n 68 h refl refl) (λ o. refl) messages
 
 -- the lines behind the number of messages
-abbrev behind : Bool → List ℕ → ℕ → ℕ → List ℕ
+abbrev pub behind : Bool → List ℕ → ℕ → ℕ → List ℕ
 behind read_only name validity next = validity_line validity ++ (next_line next ++ (permanent_line read_only ++ name_answer name))
 
 behind_told : (read_only : Bool) (name : List ℕ) (validity next : ℕ) → IsPlain name → validity < 2 ^ 64 → next < 2 ^ 64 → TellsNothing (behind read_only name validity next)
@@ -81,7 +81,7 @@ lines_shape : (a f b s c e t v u r n m p q w l name z : List ℕ)
     ≡ (a ++ f ++ b) ++ ((s ++ c ++ e) ++ ((t ++ v ++ u) ++ ((r ++ n ++ m) ++ ((p ++ q ++ w) ++ (l ++ name ++ z)))))
 lines_shape a f b s c e t v u r n m p q w l name z = simp append_assoc
 
-opening_shape : (read_only : Bool) (name : List ℕ) (o : Opening) → opening_text read_only name o ≡ flags_line ++ (exists_line o.count ++ behind read_only name o.uidvalidity o.uidnext)
+pub opening_shape : (read_only : Bool) (name : List ℕ) (o : Opening) → opening_text read_only name o ≡ flags_line ++ (exists_line o.count ++ behind read_only name o.uidvalidity o.uidnext)
 opening_shape read_only name o =
     lines_shape (codes "* FLAGS (") all_flags (codes ")\r\n") (codes "* ") (decimal o.count) (codes " EXISTS\r\n") (codes "* OK [UIDVALIDITY ") (decimal o.uidvalidity) (codes "] UIDs valid\r\n")
     (codes "* OK [UIDNEXT ") (decimal o.uidnext) (codes "] Predicted next UID\r\n") (codes "* OK [PERMANENTFLAGS (") (if read_only then [] else all_flags) (codes ")] Flags kept\r\n")

@@ -17,22 +17,25 @@ use Rattle.client_list.specs.Turns.{is_inner, IsTag}
 use Rattle.client_list.specs.Laws.{TagsAreTags}
 use Rattle.client_list.proofs.Bytes.{first_of, rest_of}
 
--- the tag that is read, or told in a fault
+-- the tag that is read, or told in a fault, is so
+abbrev pub TaggedOf : (List ℕ → Type 0) → Result (List ℕ × Command) ImapFault → Type 0
+TaggedOf P (Ok line) = P line.0
+TaggedOf P (Err NoTag) = Unit {0}
+TaggedOf P (Err (Unknown tag)) = P tag
+TaggedOf P (Err (LeftOut tag)) = P tag
+TaggedOf P (Err (Arguments tag)) = P tag
+
 abbrev pub Tagged : Result (List ℕ × Command) ImapFault → Type 0
-Tagged (Ok line) = IsTag line.0
-Tagged (Err NoTag) = Unit {0}
-Tagged (Err (Unknown tag)) = IsTag tag
-Tagged (Err (LeftOut tag)) = IsTag tag
-Tagged (Err (Arguments tag)) = IsTag tag
+Tagged r = TaggedOf IsTag r
 
 inner_tag : (b : ℕ) → is_tag b ≡ true → is_inner b ≡ true
 inner_tag b h = rw (not_true (b == 10) (excludes is_tag 10 refl b h)) refl
 
-inner_all : (tag : List ℕ) → list_all is_tag tag ≡ true → list_all is_inner tag ≡ true
+pub inner_all : (tag : List ℕ) → list_all is_tag tag ≡ true → list_all is_inner tag ≡ true
 inner_all [] h = refl
 inner_all (b ∷ bs) h = rw (inner_tag b (first_of is_tag b bs h), inner_all bs (rest_of is_tag b bs h)) refl
 
-word_is_tag : (tag : List ℕ) → is_word_of is_tag tag ≡ true → IsTag tag
+pub word_is_tag : (tag : List ℕ) → is_word_of is_tag tag ≡ true → IsTag tag
 word_is_tag [] h = absurd (false≢true h)
 word_is_tag (b ∷ bs) h =
     let all : list_all is_tag (b ∷ bs) ≡ true = word_all (list_all is_tag (b ∷ bs)) (not (length (b ∷ bs) == 0)) h in record {
@@ -47,23 +50,27 @@ word_is_tag (b ∷ bs) h =
     word_all true t e = refl
     word_all false t e = absurd (false≢true e)
 
-verb_tagged : (tag : List ℕ) → IsTag tag → (verb : Option (Verb × List ℕ)) → Tagged (of_verb tag verb)
-verb_tagged tag t None = t
-verb_tagged tag t (Some found) = by (is_left_out found.0) (command_at found.0 found.1)
+verb_tagged : (P : List ℕ → Type 0) (tag : List ℕ) → P tag → (verb : Option (Verb × List ℕ)) → TaggedOf P (of_verb tag verb)
+verb_tagged P tag t None = t
+verb_tagged P tag t (Some found) = by (is_left_out found.0) (command_at found.0 found.1)
   where
-    by : (b : Bool) (command : Option Command) → Tagged (if b then Err (LeftOut tag) else of_command tag command)
+    by : (b : Bool) (command : Option Command) → TaggedOf P (if b then Err (LeftOut tag) else of_command tag command)
     by true command = t
     by false None = t
     by false (Some command) = t
 
-pub read_tagged : (line : List ℕ) → Tagged (read line)
+-- whatever holds of all words of tags holds of the tag of a line
+pub read_tagged_so : (P : List ℕ → Type 0) → ((tag : List ℕ) → is_word_of is_tag tag ≡ true → P tag) → (line : List ℕ) → TaggedOf P (read line)
 unfolding read
-read_tagged line = by (is_word_of is_tag (word_at line).0) refl
+read_tagged_so P make line = by (is_word_of is_tag (word_at line).0) refl
   where
     by : (b : Bool) → is_word_of is_tag (word_at line).0 ≡ b
-        → Tagged (if b then of_verb (word_at line).0 (verb_at (after_spaces (word_at line).1)) else Err NoTag)
-    by true e = verb_tagged (word_at line).0 (word_is_tag (word_at line).0 e) (verb_at (after_spaces (word_at line).1))
+        → TaggedOf P (if b then of_verb (word_at line).0 (verb_at (after_spaces (word_at line).1)) else Err NoTag)
+    by true e = verb_tagged P (word_at line).0 (make (word_at line).0 e) (verb_at (after_spaces (word_at line).1))
     by false e = tt
+
+pub read_tagged : (line : List ℕ) → Tagged (read line)
+read_tagged = read_tagged_so IsTag word_is_tag
 
 pub tags_are_tags : TagsAreTags
 tags_are_tags line tag command e = subst (λ (r : Result (List ℕ × Command) ImapFault). Tagged r) e (read_tagged line)

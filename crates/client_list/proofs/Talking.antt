@@ -13,41 +13,48 @@ use Rattle.client_list.specs.Talks.{Happening, Line, LongLine, Turned, Literal, 
 use Rattle.client_list.specs.Turns.{AreTags, IsTag, SeesAll}
 use Rattle.client_list.proofs.Commands.{answer_is_followed, long_line_tells_nothing, verdict_is_followed}
 use Rattle.client_list.proofs.Ends.{leaves}
-use Rattle.client_list.proofs.IdleTags.{Kept, bytes_keep, kept_tags_are_tags, verdict_keeps}
+use Rattle.client_list.proofs.IdleTags.{AreTagsOf, Kept, bytes_keep, line_keeps, verdict_keeps}
+use Rattle.client_list.proofs.Tags.{word_is_tag}
+use Rattle.imap_grammar.specs.Bytes.{is_tag}
+use Rattle.imap_grammar.specs.Items.{is_word_of}
 use Rattle.client_list.proofs.IdleTurns.{idle_turn_is_followed}
 use Rattle.client_list.proofs.Turns.{rests_in, the_turn, then_follows}
 
-turned_keeps : (selected : Option Selected) (idling : Bool) (now : Standing) (answers : List Answer) (turn : Turn) → AreTags now → idle_turn_in selected idling now answers ≡ Some turn → Kept turn
-turned_keeps (Some selected) true now [] turn k e = absurd (none-some turn e)
-turned_keeps (Some selected) true now (Fed met changes ∷ []) turn k e = subst (λ (s : Turn). Kept s) (ap (the_turn turn) e) k
-turned_keeps (Some selected) true now (Fed met changes ∷ b ∷ more) turn k e = absurd (none-some turn e)
-turned_keeps (Some selected) true now (Refused Lapped ∷ []) turn k e = subst (λ (s : Turn). Kept s) (ap (the_turn turn) e) k
-turned_keeps (Some selected) true now (Refused Lapped ∷ b ∷ more) turn k e = absurd (none-some turn e)
-turned_keeps (Some selected) true now (Refused Stranger ∷ []) turn k e = subst (λ (s : Turn). Kept s) (ap (the_turn turn) e) k
-turned_keeps (Some selected) true now (Refused Stranger ∷ b ∷ more) turn k e = absurd (none-some turn e)
-turned_keeps (Some selected) true now (Refused Spent ∷ more) turn k e = absurd (none-some turn e)
-turned_keeps (Some selected) true now (Refused NoMemory ∷ more) turn k e = absurd (none-some turn e)
-turned_keeps (Some selected) true now (Entered a ∷ more) turn k e = absurd (none-some turn e)
-turned_keeps (Some selected) true now (Looked a ∷ more) turn k e = absurd (none-some turn e)
-turned_keeps (Some selected) true now (Found a ∷ more) turn k e = absurd (none-some turn e)
-turned_keeps (Some selected) true now (Counted a ∷ more) turn k e = absurd (none-some turn e)
-turned_keeps (Some selected) true now (Altered a ∷ more) turn k e = absurd (none-some turn e)
-turned_keeps (Some selected) true now (Expunged a b c ∷ more) turn k e = absurd (none-some turn e)
-turned_keeps (Some selected) true now (Left a ∷ more) turn k e = absurd (none-some turn e)
-turned_keeps (Some selected) true now (Starved a ∷ more) turn k e = absurd (none-some turn e)
-turned_keeps (Some selected) false now [] turn k e = subst (λ (s : Turn). Kept s) (ap (the_turn turn) e) k
-turned_keeps (Some selected) false now (a ∷ more) turn k e = absurd (none-some turn e)
-turned_keeps None true now [] turn k e = subst (λ (s : Turn). Kept s) (ap (the_turn turn) e) k
-turned_keeps None true now (a ∷ more) turn k e = absurd (none-some turn e)
-turned_keeps None false now [] turn k e = subst (λ (s : Turn). Kept s) (ap (the_turn turn) e) k
-turned_keeps None false now (a ∷ more) turn k e = absurd (none-some turn e)
+turned_keeps : (P : List ℕ → Type 0) (selected : Option Selected) (idling : Bool) (now : Standing) (answers : List Answer) (turn : Turn) → AreTagsOf P now → idle_turn_in selected idling now answers ≡ Some turn → Kept (AreTagsOf P) turn
+turned_keeps P (Some selected) true now [] turn k e = absurd (none-some turn e)
+turned_keeps P (Some selected) true now (Fed met changes ∷ []) turn k e = subst (λ (s : Turn). Kept (AreTagsOf P) s) (ap (the_turn turn) e) k
+turned_keeps P (Some selected) true now (Fed met changes ∷ b ∷ more) turn k e = absurd (none-some turn e)
+turned_keeps P (Some selected) true now (Refused Lapped ∷ []) turn k e = subst (λ (s : Turn). Kept (AreTagsOf P) s) (ap (the_turn turn) e) k
+turned_keeps P (Some selected) true now (Refused Lapped ∷ b ∷ more) turn k e = absurd (none-some turn e)
+turned_keeps P (Some selected) true now (Refused Stranger ∷ []) turn k e = subst (λ (s : Turn). Kept (AreTagsOf P) s) (ap (the_turn turn) e) k
+turned_keeps P (Some selected) true now (Refused Stranger ∷ b ∷ more) turn k e = absurd (none-some turn e)
+turned_keeps P (Some selected) true now (Refused Spent ∷ more) turn k e = absurd (none-some turn e)
+turned_keeps P (Some selected) true now (Refused NoMemory ∷ more) turn k e = absurd (none-some turn e)
+turned_keeps P (Some selected) true now (Entered a ∷ more) turn k e = absurd (none-some turn e)
+turned_keeps P (Some selected) true now (Looked a ∷ more) turn k e = absurd (none-some turn e)
+turned_keeps P (Some selected) true now (Found a ∷ more) turn k e = absurd (none-some turn e)
+turned_keeps P (Some selected) true now (Counted a ∷ more) turn k e = absurd (none-some turn e)
+turned_keeps P (Some selected) true now (Altered a ∷ more) turn k e = absurd (none-some turn e)
+turned_keeps P (Some selected) true now (Expunged a b c ∷ more) turn k e = absurd (none-some turn e)
+turned_keeps P (Some selected) true now (Left a ∷ more) turn k e = absurd (none-some turn e)
+turned_keeps P (Some selected) true now (Starved a ∷ more) turn k e = absurd (none-some turn e)
+turned_keeps P (Some selected) false now [] turn k e = subst (λ (s : Turn). Kept (AreTagsOf P) s) (ap (the_turn turn) e) k
+turned_keeps P (Some selected) false now (a ∷ more) turn k e = absurd (none-some turn e)
+turned_keeps P None true now [] turn k e = subst (λ (s : Turn). Kept (AreTagsOf P) s) (ap (the_turn turn) e) k
+turned_keeps P None true now (a ∷ more) turn k e = absurd (none-some turn e)
+turned_keeps P None false now [] turn k e = subst (λ (s : Turn). Kept (AreTagsOf P) s) (ap (the_turn turn) e) k
+turned_keeps P None false now (a ∷ more) turn k e = absurd (none-some turn e)
 
-pub happening_keeps : (now : Standing) (view : List ℕ) (happening : Happening) (turn : Turn) → AreTags now → leads_to now happening ≡ Some turn → Kept turn
-happening_keeps now view (Line line answers) turn k e = kept_tags_are_tags now line answers turn k e
-happening_keeps now view LongLine turn k e = subst (λ (s : Turn). Kept s) (ap (the_turn turn) e) (tt, tt, k.2)
-happening_keeps now view (Turned answers) turn k e = turned_keeps now.selected (is_idling now) now answers turn k e
-happening_keeps now view (Literal kept bytes) turn k e = subst (λ (s : Turn). Kept s) (ap (the_turn turn) e) (bytes_keep now kept bytes k)
-happening_keeps now view (Heard verdict answers) turn k e = verdict_keeps now verdict answers turn k e
+-- whatever holds of all words of tags
+pub happening_keeps_so : (P : List ℕ → Type 0) → ((tag : List ℕ) → is_word_of is_tag tag ≡ true → P tag) → (now : Standing) (happening : Happening) (turn : Turn) → AreTagsOf P now → leads_to now happening ≡ Some turn → Kept (AreTagsOf P) turn
+happening_keeps_so P make now (Line line answers) turn k e = line_keeps P make now line answers turn k e
+happening_keeps_so P make now LongLine turn k e = subst (λ (s : Turn). Kept (AreTagsOf P) s) (ap (the_turn turn) e) (tt, tt, k.2)
+happening_keeps_so P make now (Turned answers) turn k e = turned_keeps P now.selected (is_idling now) now answers turn k e
+happening_keeps_so P make now (Literal kept bytes) turn k e = subst (λ (s : Turn). Kept (AreTagsOf P) s) (ap (the_turn turn) e) (bytes_keep P now kept bytes k)
+happening_keeps_so P make now (Heard verdict answers) turn k e = verdict_keeps P now verdict answers turn k e
+
+pub happening_keeps : (now : Standing) (view : List ℕ) (happening : Happening) (turn : Turn) → AreTags now → leads_to now happening ≡ Some turn → Kept (AreTagsOf IsTag) turn
+happening_keeps now view happening turn k e = happening_keeps_so IsTag word_is_tag now happening turn k e
 
 pub kept_is_tag : (begun : Option Appending) (idling : Option (List ℕ)) → IfSome begun (λ a. IsTag a.tag) → IfSome idling IsTag → IfSome (kept_behind begun idling) IsTag
 kept_is_tag None idling b i = i

@@ -56,7 +56,7 @@ list_tells_nothing reference pattern folders plain = by (asks_for_root reference
 
 -- ---- STATUS
 
-word_inner : (item : StatusItem) → list_all is_inner (status_word item ++ codes " ") ≡ true
+pub word_inner : (item : StatusItem) → list_all is_inner (status_word item ++ codes " ") ≡ true
 word_inner status.Messages = refl
 word_inner status.UidNext = refl
 word_inner status.UidValidity = refl
@@ -83,7 +83,7 @@ texts_inner s (item ∷ []) h = text_inner s item h
 texts_inner s (item ∷ other ∷ items) h =
     inner_both (status_text s item) (32 ∷ spaced (map (status_text s) (other ∷ items))) (text_inner s item h) (texts_inner s (other ∷ items) h)
 
-plain_inner : (name : List ℕ) → IsPlain name → list_all is_inner name ≡ true
+pub plain_inner : (name : List ℕ) → IsPlain name → list_all is_inner name ≡ true
 plain_inner name plain = ap (list_all is_inner) plain.is ∙ plain.inner
 
 pub status_tells_nothing : (name : List ℕ) (items : List StatusItem) (s : Status) → IsPlain name → IsCounted s → TellsNothing (status_answer name items s)

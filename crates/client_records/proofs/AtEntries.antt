@@ -1,11 +1,15 @@
 -- At the entry with which a client's bytes came its list is the mailbox as it is, where the last that it is told is the OK of a command that shows all.
-use Rattle.std.proofs.Common.{◌≡◌, ℕ, ◌+◌, true, false, eq-eqb, List, [], ◌∷◌, ◌++◌, length, refl, sym, subst, ap, ◌∙◌, arith, append_assoc, length-append, Option, Some, None}
+use Rattle.std.proofs.Common.{◌≡◌, ℕ, ◌+◌, Bool, true, false, eq-eqb, List, [], ◌∷◌, ◌++◌, length, refl, sym, subst, ap, ◌∙◌, arith, append-nil, append_assoc, length-append, Option, Some, None}
+use Rattle.std.proofs.lemmas.Bool.{false≢true}
 use Rattle.std.specs.Prelude.{Ok, codes}
 use Rattle.std.proofs.lemmas.Option.{none-some}
-use Rattle.line_io.specs.Wire.{joined}
+use Rattle.line_io.specs.Wire.{IsCut, joined}
 use Rattle.std.specs.Borrow.{Bor}
 use Rattle.shard_queue.proofs.AtLaws.{set_at-same}
-use Rattle.world.specs.World.{Config, Event, IsWorld, Session, World}
+use Rattle.world.specs.World as world
+use Rattle.world.specs.World.{Config, Event, IsWorld, Session, Step, World, empty_world}
+use Rattle.world.proofs.Always.{steps_join}
+use Rattle.delivery_token.specs.declared.log.Noted.{Noted}
 use Rattle.imap_grammar.specs.Reading.{read}
 use Rattle.imap_grammar.specs.Verbs.{verb_of}
 use Rattle.imap_grammar.specs.declared.command.Command.{Command}
@@ -17,26 +21,34 @@ use Rattle.house_session.specs.Visitor.{more_waits as session_more_waits}
 use Rattle.house_session.specs.SeatedVisitor.{SeatedVisitor}
 use Rattle.house.specs.Setup.{Setup, session_seat}
 use Rattle.house.specs.Printing.{still_unsaid, with_session}
-use Rattle.house.specs.Scene.{Parts, SayPlay, Scene, empty_scene, parts, place_of, remains}
-use Rattle.house.specs.declared.event.Event.TheVariants.{Say}
+use Rattle.house.specs.Scene.{HearPlay, Parts, PutPlay, SayPlay, Scene, SessionGoes, SessionHears, SessionPuts, SessionTalks, connection_hears, connection_puts, empty_scene, lingers, parts, place_of, remains, seat_of, session_hears, session_puts, talks, with_visitor, with_world}
+use Rattle.house.specs.declared.event.Event as house
+use Rattle.house.specs.declared.event.Event.TheVariants.{Hear, Put, Say}
 use Rattle.exactly_once.specs.Promise.{Entry, IsEntry, IsRecord, Lines, Piece, Replies, Silence, text_of}
 use Rattle.exactly_once.proofs.Going.{record_append}
 use Rattle.exactly_once.proofs.Whole.{IsWhole, goes_whole, whole_append}
 use Rattle.client_list.specs.Beliefs.{IsRight}
 use Rattle.client_list.specs.Client.{Client as Reader, Known, knowing}
 use Rattle.client_list.specs.Talks.{Happening, Heard, Line, Literal, LongLine, Turned, leads_to}
-use Rattle.client_records.specs.AtEntries.{AnswersAt, AnswersMakeCurrent}
-use Rattle.client_records.specs.Clients.{Answer, Told, Words, hears_all}
+use Rattle.client_records.specs.Appends.{EndsWith}
+use Rattle.client_records.specs.AtEntries.{AnswersAt, AnswersMakeCurrent, VerdictsMakeCurrent}
+use Rattle.client_records.specs.Clients.{Answer, Told, Words, bytes_in, hears_all}
 use Rattle.client_records.specs.Current.{shows_all}
 use Rattle.client_records.specs.Lives.{Lives}
-use Rattle.client_records.specs.Records.{IsPrintable, first_standing, is_left, lets_in, sent_by_then, sent_in, shown_by_then, shown_in, unless}
+use Rattle.client_records.specs.Records.{IsPrintable, is_left, lets_in, sent_by_then, sent_in, shown_by_then, shown_in, unless}
 use Rattle.client_records.specs.Sizes.{HasShortTexts, HasSmallNumbers}
 use Rattle.client_records.specs.Turns.{Stands, told_line, told_of}
-use Rattle.client_records.specs.Views.{messages_of}
-use Rattle.client_records.proofs.Entries.{arrival_in, arrival_stays, the_client}
+use Rattle.client_records.specs.Views.{IsOfOthers, messages_of}
+use Rattle.client_list.proofs.IdleTags.{AreTagsOf}
+use Rattle.client_records.proofs.Answered.{Came, told_bytes}
+use Rattle.client_records.proofs.LastLines.{IsWord}
+use Rattle.client_records.proofs.WordsCurrent.{words_make_current}
+use Rattle.client_records.proofs.Seated.{IsHere, here_as, here_step, put_here}
+use Rattle.client_records.proofs.Talked.{AreHeardSmall}
+use Rattle.client_records.proofs.Entries.{SceneKnown, arrival_in, arrival_stays, the_client, the_serial}
 use Rattle.client_records.proofs.Keeping.{KeepsBy, all_known, arrival_by_then, first_stands, keeps_by, nobody, prints_at, sent_here, texts_stay_short}
 use Rattle.client_records.proofs.OkCurrent.{lists_are_current}
-use Rattle.client_records.proofs.Recording.{Arrival, Client, fits_lines, fits_silence, heard_small, regroup, still_whole}
+use Rattle.client_records.proofs.Recording.{Arrival, Client, came_as, client_more, client_others, fits_lines, fits_silence, heard_small, heeds, regroup, still_whole}
 use Rattle.client_records.proofs.Since.{Fresh, Lately, fresh_grown, goes_lately, turned, untold}
 
 -- ---- one entry more
@@ -104,20 +116,35 @@ answers_line now (Literal kept literal) turn line bytes e = absurd (no_words tur
 answers_line now (Heard verdict answers) turn line bytes e = absurd (no_words turn.bytes line bytes e)
 
 -- so its list is the mailbox in the world in which that ended
-fresh_current : (k : Config) (events : List Event) (n : ℕ) (first : Standing) (began : World) (base told more : List Told) (w : World) → HasSmallNumbers k → IsWorld k events began → HasShortTexts w → Stands first
+fresh_current : (k : Config) (events : List Event) (n : ℕ) (first : Came) (began : World) (base told more : List Told) (w : World) → HasSmallNumbers k → IsWorld k events began → HasShortTexts w → Stands first.standing
     → told ≡ base ++ more → Fresh k n first began base told w → (front : List Told) (line tag bytes ending : List ℕ) (command : Command) (client : Reader) (s : Session) → more ≡ front ++ Answer line bytes ∷ []
     → read line ≡ Ok (tag, command) → shows_all command ≡ true → bytes ≡ ending ++ tagged tag (codes "OK " ++ verb_text (verb_of command) ++ codes " completed") → hears_all None (base ++ front) ≡ Some client → w.session n ≡ Some s
     → (list : List Known) × (hears_all None told ≡ Some (knowing (Some list))) × IsRight (messages_of (w.box s.mailbox)) list
 fresh_current k events n first began base told more w h is short stands grown (untold e) front line tag bytes ending command client s last reads shows wrote knows at =
     absurd (omega (arith, ap length (sym e ∙ grown), length-append base more, ap length last, length-append front (Answer line bytes ∷ [])))
-fresh_current k events n first began base told more w h is short stands grown (turned new sent now u lives happening came turn for e leads met) front line tag bytes ending command client s last reads shows wrote knows at =
+fresh_current k events n first began base told more w h is short stands grown (turned new sent now u lives happening came turn for printed e leads met) front line tag bytes ending command client s last reads shows wrote knows at =
     let all : told ≡ (base ++ front) ++ Answer line bytes ∷ [] = grown ∙ ap (λ (x : List Told). base ++ x) last ∙ sym (append_assoc base front (Answer line bytes ∷ [])) in
     let both = last_same (base ++ new) (base ++ front) (told_of now happening turn.bytes) (Answer line bytes) (sym e ∙ all) in
     let a = answers_line now happening turn line bytes both.1 in
     let answered : turn_of now line a.answers ≡ Some turn = subst (λ (x : Happening). leads_to now x ≡ Some turn) a.is leads in
-    let c = lists_are_current k events n first began sent (base ++ front) now u client line tag command a.answers turn w ending s h is short stands
-    (subst (λ (t : List Told). Lives k n first began sent t now u) both.0 lives) knows answered met a.kept reads shows (a.wrote ∙ wrote) at in
+    let c = lists_are_current k events n first.standing began sent (base ++ front) now u client line tag command a.answers turn w ending s h is short stands
+    (subst (λ (t : List Told). Lives k n first.standing began sent t now u) both.0 lives) knows answered met a.kept reads shows (a.wrote ∙ wrote) at in
     (c.0, ap (hears_all None) (all ∙ ap (λ (b : List ℕ). (base ++ front) ++ Answer line b ∷ []) (sym a.wrote)) ∙ c.1, c.2)
+
+-- and so it is where that came to no command
+fresh_done : (k : Config) (events : List Event) (n : ℕ) (first : Came) (began : World) (base told more : List Told) (w : World) → HasSmallNumbers k → IsWorld k events began → HasShortTexts w → Stands first.standing → AreTagsOf IsWord first.standing
+    → told ≡ base ++ more → Fresh k n first began base told w → (front : List Told) (tag words bytes : List ℕ) (client : Reader) (s : Session) → more ≡ front ++ Words bytes ∷ []
+    → EndsWith tag (codes "OK " ++ words) bytes → hears_all None (base ++ front) ≡ Some client → w.session n ≡ Some s
+    → (list : List Known) × (hears_all None told ≡ Some (knowing (Some list))) × IsRight (messages_of (w.box s.mailbox)) list
+fresh_done k events n first began base told more w h is short stands tags grown (untold e) front tag words bytes client s last ends knows at =
+    absurd (omega (arith, ap length (sym e ∙ grown), length-append base more, ap length last, length-append front (Words bytes ∷ [])))
+fresh_done k events n first began base told more w h is short stands tags grown (turned new sent now u lives happening came turn for printed e leads met) front tag words bytes client s last ends knows at =
+    let all : told ≡ (base ++ front) ++ Words bytes ∷ [] = grown ∙ ap (λ (x : List Told). base ++ x) last ∙ sym (append_assoc base front (Words bytes ∷ [])) in
+    let both = last_same (base ++ new) (base ++ front) (told_of now happening turn.bytes) (Words bytes) (sym e ∙ all) in
+    let wrote : bytes ≡ turn.bytes = sym (ap bytes_in both.1) ∙ told_bytes now happening turn.bytes in
+    let c = words_make_current k events n first.standing began sent (base ++ front) now u client happening came turn w bytes s h is short stands tags
+    (subst (λ (t : List Told). Lives k n first.standing began sent t now u) both.0 lives) knows for printed leads met both.1 wrote (tag, words, ends) at in
+    (c.0, ap (hears_all None) all ∙ c.1, c.2)
 
 -- ---- the entry
 
@@ -139,15 +166,86 @@ its_lines : (place number : ℕ) (lines : List (List ℕ)) → number ≡ place 
 its_lines place number lines own = rw (own, eq-eqb (place + 1) (place + 1) refl) refl
 
 -- a session that is there behind the entry hasn't ended
-still_there : (k : Setup) (s t : Scene) (place : ℕ) (bytes printed : List ℕ) (v : SeatedVisitor) → (p : SayPlay k false s place bytes t printed) → t.visitor place ≡ Some v → (t.world ≡ p.goes.mid) × (v ≡ p.goes.after)
-still_there k s t place bytes printed v p left = by p.goes.left
+still_there : (k : Setup) (s t : Scene) (place : ℕ) (heard : List Noted) (w : World) (b v : SeatedVisitor) (later : World) (left : Option SeatedVisitor) (printed : List ℕ) → (g : SessionTalks k false place heard w b later left printed)
+    → t ≡ with_visitor (with_world s later) place left → t.visitor place ≡ Some v → (t.world ≡ g.mid) × (v ≡ g.after)
+still_there k s t place heard w b v later left printed g after there = by g.left
   where
-    here : p.left ≡ Some v
-    here = sym (set_at-same s.visitor place p.left) ∙ sym (ap (λ (x : Scene). x.visitor place) p.after) ∙ left
+    here : left ≡ Some v
+    here = sym (set_at-same s.visitor place left) ∙ sym (ap (λ (x : Scene). x.visitor place) after) ∙ there
 
-    by : Parts k false place p.goes.after p.goes.mid p.moved p.left → (t.world ≡ p.goes.mid) × (v ≡ p.goes.after)
+    by : Parts k false place g.after g.mid later left → (t.world ≡ g.mid) × (v ≡ g.after)
     by (parts over said leaves e) = absurd (none-some v (sym e ∙ here))
-    by (remains not e f) = (ap (λ (x : Scene). x.world) p.after ∙ e, ap (the_one v) (sym here ∙ f))
+    by (remains not e f) = (ap (λ (x : Scene). x.world) after ∙ e, ap (the_one v) (sym here ∙ f))
+
+-- what is known of all places behind some entries
+abbrev Known_then : Setup → List Entry → Scene → Type 0
+Known_then k entries s = SceneKnown k (λ n. arrival_by_then n nobody (empty_scene k) entries) (λ n. sent_by_then n [] entries) (λ n. shown_by_then n [] entries) s
+
+-- A session talks at an entry, from a world to which that leads: its client was told so much before, and this came and was printed.
+talk_current : (k : Setup) (entries : List Entry) (s t : Scene) (event : house.Event) (piece : Piece) (q : ℕ) (before v b : SeatedVisitor) (moved later : World) (left : Option SeatedVisitor) (printed new more : List ℕ) → IsPrintable k → IsRecord k entries (empty_scene k) s
+    → IsEntry k s (record { event = event; after = t; piece = piece }) → lets_in q event ≡ false → is_left q event ≡ false → sent_in q event ≡ more → shown_in q piece ≡ new
+    → Client k q (arrival_by_then q nobody (empty_scene k) entries) (sent_by_then q [] entries ++ more) (shown_by_then q [] entries) moved b.session
+    → b.session.unsaid ≡ before.session.unsaid → IsHere k.config (session_seat k q) (arrival_by_then q nobody (empty_scene k) entries).serial moved b → AreHeardSmall (moved.heard (session_seat k q))
+    → (g : SessionTalks k false q (moved.heard (session_seat k q)) moved b later left printed) → new ++ g.speaks.still ≡ b.session.unsaid ++ g.speaks.said
+    → t ≡ with_visitor (with_world s later) q left → t.visitor q ≡ Some v → AnswersAt k entries (record { event = event; after = t; piece = piece }) q before v
+talk_current k entries s t event piece q before v b moved later left printed new more printable r is lets goes came shown c same own small g fit after there =
+    let e : Entry = record { event = event; after = t; piece = piece } in
+    let a : Arrival = arrival_by_then q nobody (empty_scene k) entries in
+    let sent : List ℕ = sent_by_then q [] entries in
+    let told_so : List ℕ = shown_by_then q [] entries in
+    let base : List Told = c.reached.talked.told in
+    let first : Came = came_as k q a in
+    let heard : List Noted = moved.heard (session_seat k q) in
+    let start : Lately k.config q first a.began base (sent ++ more) c.said b.session moved = record {
+      sent = c.reached.sent;
+      since = record { talked = c.reached.talked; fresh = untold refl };
+      waits = c.reached.waits;
+    } in
+    let l = goes_lately k.config q false (session_seat k q) heard first a.began base (sent ++ more) c.said b g.speaks.spoken moved g.mid g.speaks.said (heeds k q b a moved small own) g.speaks.goes start in
+    let still : SeatedVisitor = still_unsaid g.speaks.still g.speaks.spoken in
+    let whole : IsWhole (b.session.unsaid ++ g.speaks.said) =
+    whole_append b.session.unsaid g.speaks.said c.whole (goes_whole (Meets k.config q) false (session_seat k q) heard b moved g.mid g.speaks.spoken g.speaks.said g.speaks.goes) in
+    let told : List Told = l.since.talked.told in
+    let d : Client k q a (sent ++ more) (told_so ++ new) g.mid still.session = record {
+      events = c.events;
+      came = c.came;
+      said = c.said ++ g.speaks.said;
+      reached = record { sent = l.sent; talked = l.since.talked; waits = l.waits };
+      printed = regroup greeting c.said g.speaks.said told_so b.session.unsaid c.printed ∙ ap (λ (x : List ℕ). told_so ++ x) (sym fit) ∙ sym (append_assoc told_so new g.speaks.still);
+      whole = still_whole (q + 1) (b.session.unsaid ++ g.speaks.said) g.speaks.still printed whole g.speaks.prints;
+    } in
+    let at = still_there k s t q heard moved b v later left printed g after there in
+    let this : TellsThis k q a (sent ++ more) (told_so ++ new) g.mid still.session told = record { client = d; is = refl } in
+    let sent_is : sent_by_then q [] (entries ++ e ∷ []) ≡ sent ++ more = sent_more q [] entries e ∙ ap (λ (x : Bool). unless x sent ++ sent_in q event) lets ∙ ap (λ (x : List ℕ). sent ++ x) came in
+    let shown_is : shown_by_then q [] (entries ++ e ∷ []) ≡ told_so ++ new = shown_more q [] entries e ∙ ap (λ (x : Bool). unless x told_so ++ shown_in q piece) lets ∙ ap (λ (x : List ℕ). told_so ++ x) shown in
+    let seen : TellsThis k q (arrival_by_then q nobody (empty_scene k) (entries ++ e ∷ [])) (sent_by_then q [] (entries ++ e ∷ [])) (shown_by_then q [] (entries ++ e ∷ [])) t.world v.session told =
+    moved_to k q a (arrival_by_then q nobody (empty_scene k) (entries ++ e ∷ [])) (sent ++ more) (sent_by_then q [] (entries ++ e ∷ [])) (told_so ++ new) (shown_by_then q [] (entries ++ e ∷ [])) g.mid t.world still v told
+    (arrival_more q nobody (empty_scene k) entries e lets goes) sent_is shown_is at.0 (at.1 ∙ g.speaks.is) this in
+    let all : IsRecord k (entries ++ e ∷ []) (empty_scene k) t = record_append k entries (e ∷ []) (empty_scene k) s t r (is, refl) in
+    let kb : KeepsBy k (entries ++ e ∷ []) q v t seen.client.reached.talked.told = keeps_by k (entries ++ e ∷ []) t q v printable all seen.client in
+    let same_told : kb.keeps.told ≡ told = kb.is ∙ seen.is in
+    let grown = fresh_grown k.config q first a.began base told g.mid l.since.fresh in
+    let short : HasShortTexts g.mid = subst (λ (w : World). HasShortTexts w) at.0 (texts_stay_short k (entries ++ e ∷ []) t printable.texts all) in record {
+      keeps = kb.keeps;
+      earlier = base;
+      more = grown.0;
+      told = same_told ∙ grown.1;
+      printed = ap (λ (x : List ℕ). greeting ++ x) c.reached.talked.bytes ∙ c.printed ∙ ap (λ (x : List ℕ). told_so ++ x) same;
+      current = λ front line tag words ending command client x last reads shows wrote knows session.
+          let here = fresh_current k.config c.events q first a.began base told grown.0 g.mid printable.numbers c.came short (first_stands k a.user printable) grown.1 l.since.fresh front line tag words ending command client x last reads shows wrote knows
+          (sym (ap (λ (w : World). w.session q) at.0) ∙ session) in
+          (here.0, ap (hears_all None) same_told ∙ here.1, subst (λ (w : World). IsRight (messages_of (w.box x.mailbox)) here.0) (sym at.0) here.2);
+      done = λ front tag words bytes client x last ends knows session.
+          let here = fresh_done k.config c.events q first a.began base told grown.0 g.mid printable.numbers c.came short (first_stands k a.user printable) (tt, tt, tt) grown.1 l.since.fresh front tag words bytes client x last ends knows
+          (sym (ap (λ (w : World). w.session q) at.0) ∙ session) in
+          (here.0, ap (hears_all None) same_told ∙ here.1, subst (λ (w : World). IsRight (messages_of (w.box x.mailbox)) here.0) (sym at.0) here.2);
+    }
+
+-- who is there is who was there
+of_before : (k : Setup) (entries : List Entry) (s : Scene) (e : Entry) (place : ℕ) (before b v : SeatedVisitor) → s.visitor place ≡ Some before → s.visitor place ≡ Some b → AnswersAt k entries e place b v → AnswersAt k entries e place before v
+of_before k entries s e place before b v there other answers = subst (λ (x : SeatedVisitor). AnswersAt k entries e place x v) (ap (the_one b) (sym other ∙ there)) answers
+
+-- ---- its client's bytes
 
 says_current : (k : Setup) (entries : List Entry) (s t : Scene) (session : ℕ) (bytes : Bor (List ℕ)) (piece : Piece) (v : SeatedVisitor) (printed new : List ℕ) → IsPrintable k → IsRecord k entries (empty_scene k) s
     → IsEntry k s (record { event = Say session bytes; after = t; piece = piece }) → (p : SayPlay k false s (place_of session) bytes.now t printed) → shown_in (place_of session) piece ≡ new
@@ -155,78 +253,148 @@ says_current : (k : Setup) (entries : List Entry) (s t : Scene) (session : ℕ) 
     → AnswersAt k entries (record { event = Say session bytes; after = t; piece = piece }) (place_of session) p.visitor v
 says_current k entries s t session bytes piece v printed new printable r is p shown fits left =
     let q : ℕ = place_of session in
-    let e : Entry = record { event = Say session bytes; after = t; piece = piece } in
-    let a : Arrival = arrival_by_then q nobody (empty_scene k) entries in
-    let sent : List ℕ = sent_by_then q [] entries in
-    let told_so : List ℕ = shown_by_then q [] entries in
-    let K = all_known k entries s printable.numbers r in
-    let c : Client k q a sent told_so s.world p.visitor.session =
-    the_client k (λ n. arrival_by_then n nobody (empty_scene k) entries) (λ n. sent_by_then n [] entries) (λ n. shown_by_then n [] entries) s q p.visitor K p.there p.is_read in
-    let g = p.goes in
-    let b : SeatedVisitor = with_session (session_more_waits p.visitor.session bytes.now) p.visitor in
-    let base : List Told = c.reached.talked.told in
-    let first : Standing = first_standing k a.user in
-    let start : Lately k.config q first a.began base (sent ++ bytes.now) c.said b.session s.world = record {
-      sent = c.reached.sent;
-      since = record { talked = c.reached.talked; fresh = untold refl };
-      waits = ap (λ (x : List ℕ). x ++ bytes.now) c.reached.waits ∙ append_assoc c.reached.sent p.visitor.session.waits bytes.now;
-    } in
-    let l = goes_lately k.config q false (session_seat k q) (s.world.heard (session_seat k q)) first a.began base (sent ++ bytes.now) c.said b g.speaks.spoken s.world g.mid g.speaks.said
-    (heard_small k.config K.events s.world (session_seat k q) printable.numbers K.came) g.speaks.goes start in
-    let fit = fits c.whole in
-    let still : SeatedVisitor = still_unsaid g.speaks.still g.speaks.spoken in
-    let whole : IsWhole (p.visitor.session.unsaid ++ g.speaks.said) =
-    whole_append p.visitor.session.unsaid g.speaks.said c.whole (goes_whole (Meets k.config q) false (session_seat k q) (s.world.heard (session_seat k q)) b s.world g.mid g.speaks.spoken g.speaks.said g.speaks.goes) in
-    let told : List Told = l.since.talked.told in
-    let d : Client k q a (sent ++ bytes.now) (told_so ++ new) g.mid still.session = record {
-      events = c.events;
-      came = c.came;
-      said = c.said ++ g.speaks.said;
-      reached = record { sent = l.sent; talked = l.since.talked; waits = l.waits };
-      printed = regroup greeting c.said g.speaks.said told_so p.visitor.session.unsaid c.printed ∙ ap (λ (x : List ℕ). told_so ++ x) (sym fit) ∙ sym (append_assoc told_so new g.speaks.still);
-      whole = still_whole (q + 1) (p.visitor.session.unsaid ++ g.speaks.said) g.speaks.still printed whole g.speaks.prints;
-    } in
-    let there = still_there k s t q bytes.now printed v p left in
-    let this : TellsThis k q a (sent ++ bytes.now) (told_so ++ new) g.mid still.session told = record { client = d; is = refl } in
-    let sent_is : sent_by_then q [] (entries ++ e ∷ []) ≡ sent ++ bytes.now = sent_more q [] entries e ∙ ap (λ (x : List ℕ). sent ++ x) (sent_here session bytes.now) in
-    let shown_is : shown_by_then q [] (entries ++ e ∷ []) ≡ told_so ++ new = shown_more q [] entries e ∙ ap (λ (x : List ℕ). told_so ++ x) shown in
-    let seen : TellsThis k q (arrival_by_then q nobody (empty_scene k) (entries ++ e ∷ [])) (sent_by_then q [] (entries ++ e ∷ [])) (shown_by_then q [] (entries ++ e ∷ [])) t.world v.session told =
-    moved_to k q a (arrival_by_then q nobody (empty_scene k) (entries ++ e ∷ [])) (sent ++ bytes.now) (sent_by_then q [] (entries ++ e ∷ [])) (told_so ++ new) (shown_by_then q [] (entries ++ e ∷ [])) g.mid t.world still v told
-    (arrival_more q nobody (empty_scene k) entries e refl refl) sent_is shown_is there.0 (there.1 ∙ g.speaks.is) this in
-    let kb : KeepsBy k (entries ++ e ∷ []) q v t seen.client.reached.talked.told = keeps_by k (entries ++ e ∷ []) t q v printable (record_append k entries (e ∷ []) (empty_scene k) s t r (is, refl)) seen.client in
-    let same_told : kb.keeps.told ≡ told = kb.is ∙ seen.is in
-    let grown = fresh_grown k.config q first a.began base told g.mid l.since.fresh in
-    let short : HasShortTexts g.mid = subst (λ (w : World). HasShortTexts w) there.0 (texts_stay_short k (entries ++ e ∷ []) t printable.texts (record_append k entries (e ∷ []) (empty_scene k) s t r (is, refl))) in record {
-      keeps = kb.keeps;
-      earlier = base;
-      more = grown.0;
-      told = same_told ∙ grown.1;
-      printed = ap (λ (x : List ℕ). greeting ++ x) c.reached.talked.bytes ∙ c.printed;
-      current = λ front line tag words ending command client x last reads shows wrote knows at.
-          let here = fresh_current k.config c.events q first a.began base told grown.0 g.mid printable.numbers c.came short (first_stands k a.user printable) grown.1 l.since.fresh front line tag words ending command client x last reads shows wrote knows
-          (sym (ap (λ (w : World). w.session q) there.0) ∙ at) in
-          (here.0, ap (hears_all None) same_told ∙ here.1, subst (λ (w : World). IsRight (messages_of (w.box x.mailbox)) here.0) (sym there.0) here.2);
-    }
+    let K : Known_then k entries s = all_known k entries s printable.numbers r in
+    let c = the_client k (λ n. arrival_by_then n nobody (empty_scene k) entries) (λ n. sent_by_then n [] entries) (λ n. shown_by_then n [] entries) s q p.visitor K p.there p.is_read in
+    let own = the_serial k (λ n. arrival_by_then n nobody (empty_scene k) entries) (λ n. sent_by_then n [] entries) (λ n. shown_by_then n [] entries) s q p.visitor K p.there in
+    let more = client_more k q (arrival_by_then q nobody (empty_scene k) entries) (sent_by_then q [] entries) (shown_by_then q [] entries) bytes.now s.world p.visitor.session c in
+    talk_current k entries s t (Say session bytes) piece q p.visitor v (with_session (session_more_waits p.visitor.session bytes.now) p.visitor) s.world p.moved p.left printed new bytes.now printable r is refl refl (sent_here session bytes.now) shown more refl
+    (here_as k.config (session_seat k q) (arrival_by_then q nobody (empty_scene k) entries).serial s.world p.visitor (with_session (session_more_waits p.visitor.session bytes.now) p.visitor) refl refl refl own)
+    (heard_small k.config K.events s.world (session_seat k q) printable.numbers K.came) p.goes (fits c.whole) p.after left
 
 pub answers_make_current : AnswersMakeCurrent
 answers_make_current k entries s t session bytes piece before v printable r is there left = by piece is
   where
-    -- who is there is who was there
-    of_before : (piece : Piece) (b : SeatedVisitor) → s.visitor (place_of session) ≡ Some b → AnswersAt k entries (record { event = Say session bytes; after = t; piece = piece }) (place_of session) b v
-        → AnswersAt k entries (record { event = Say session bytes; after = t; piece = piece }) (place_of session) before v
-    of_before piece b other answers = subst (λ (x : SeatedVisitor). AnswersAt k entries (record { event = Say session bytes; after = t; piece = piece }) (place_of session) x v) (ap (the_one b) (sym other ∙ there)) answers
-
     by : (piece : Piece) → IsEntry k s (record { event = Say session bytes; after = t; piece = piece }) → AnswersAt k entries (record { event = Say session bytes; after = t; piece = piece }) (place_of session) before v
     by Silence is =
         let p = is.plays in
         let g = p.goes.speaks in
-        of_before Silence p.visitor p.there (says_current k entries s t session bytes Silence v [] [] printable r is p refl
+        of_before k entries s (record { event = Say session bytes; after = t; piece = Silence }) (place_of session) before p.visitor v there p.there (says_current k entries s t session bytes Silence v [] [] printable r is p refl
         (λ whole. fits_silence (place_of session + 1) (p.visitor.session.unsaid ++ g.said) g.still []
         (whole_append p.visitor.session.unsaid g.said whole (goes_whole _ false (session_seat k (place_of session)) _ _ s.world p.goes.mid g.spoken g.said g.goes)) refl g.prints) left)
     by (Lines number lines) is =
         let own : number ≡ place_of session + 1 = is.own.0 in
         let p = is.own.1 in
         let g = p.goes.speaks in
-        of_before (Lines number lines) p.visitor p.there (says_current k entries s t session bytes (Lines number lines) v (text_of k (Lines number lines)) (joined lines) printable r is p (its_lines (place_of session) number lines own)
+        of_before k entries s (record { event = Say session bytes; after = t; piece = Lines number lines }) (place_of session) before p.visitor v there p.there
+        (says_current k entries s t session bytes (Lines number lines) v (text_of k (Lines number lines)) (joined lines) printable r is p (its_lines (place_of session) number lines own)
         (λ whole. fits_lines k (place_of session + 1) (p.visitor.session.unsaid ++ g.said) g.still lines is.own.2 (prints_at k (place_of session) number (p.visitor.session.unsaid ++ g.said) g.still lines own g.prints)) left)
     by (Replies seat said) is = absurd is.own
+
+-- ---- a copy of it is put, or its seat hears a verdict
+
+-- from the world to which that leads
+step_current : (k : Setup) (entries : List Entry) (s t : Scene) (event : house.Event) (piece : Piece) (q : ℕ) (visitor v b : SeatedVisitor) (moves : Event) (moved later : World) (left : Option SeatedVisitor) (printed new : List ℕ) → IsPrintable k → IsRecord k entries (empty_scene k) s
+    → IsEntry k s (record { event = event; after = t; piece = piece }) → lets_in q event ≡ false → is_left q event ≡ false → sent_in q event ≡ [] → shown_in q piece ≡ new
+    → s.visitor q ≡ Some visitor → visitor.gone ≡ false → b.session ≡ visitor.session → (IsHere k.config (session_seat k q) (arrival_by_then q nobody (empty_scene k) entries).serial s.world visitor → IsHere k.config (session_seat k q) (arrival_by_then q nobody (empty_scene k) entries).serial moved b) → IsOfOthers q moves → Step k.config s.world moves moved
+    → (g : SessionTalks k false q (moved.heard (session_seat k q)) moved b later left printed) → (IsWhole b.session.unsaid → new ++ g.speaks.still ≡ b.session.unsaid ++ g.speaks.said)
+    → t ≡ with_visitor (with_world s later) q left → t.visitor q ≡ Some v → AnswersAt k entries (record { event = event; after = t; piece = piece }) q visitor v
+step_current k entries s t event piece q visitor v b moves moved later left printed new printable r is lets goes came shown at read same alike own step g fits after there =
+    let K : Known_then k entries s = all_known k entries s printable.numbers r in
+    let a : Arrival = arrival_by_then q nobody (empty_scene k) entries in
+    let sent : List ℕ = sent_by_then q [] entries in
+    let shown_so : List ℕ = shown_by_then q [] entries in
+    let c0 = the_client k (λ n. arrival_by_then n nobody (empty_scene k) entries) (λ n. sent_by_then n [] entries) (λ n. shown_by_then n [] entries) s q visitor K at read in
+    let c1 = client_others k q a sent shown_so s.world visitor.session moves moved c0 own step in
+    let c : Client k q a sent shown_so moved b.session = subst (λ (x : Visitor). Client k q a sent shown_so moved x) (sym same) c1 in
+    let d : Client k q a (sent ++ []) shown_so moved b.session = subst (λ (x : List ℕ). Client k q a x shown_so moved b.session) (sym (append-nil sent)) c in
+    let serial = the_serial k (λ n. arrival_by_then n nobody (empty_scene k) entries) (λ n. sent_by_then n [] entries) (λ n. shown_by_then n [] entries) s q visitor K at in
+    let world : IsWorld k.config (K.events ++ moves ∷ []) moved = steps_join k.config empty_world K.events s.world (moves ∷ []) moved K.came (moved, step, refl) in
+    talk_current k entries s t event piece q visitor v b moved later left printed new [] printable r is lets goes came shown d (ap (λ (x : Visitor). x.unsaid) same) (alike serial)
+    (heard_small k.config (K.events ++ moves ∷ []) moved (session_seat k q) printable.numbers world) g (fits d.whole) after there
+
+-- nothing was printed of it
+silence_fits : (k : Setup) (q : ℕ) (heard : List Noted) (w : World) (b : SeatedVisitor) (later : World) (left : Option SeatedVisitor) → (g : SessionTalks k false q heard w b later left []) → IsWhole b.session.unsaid → [] ++ g.speaks.still ≡ b.session.unsaid ++ g.speaks.said
+silence_fits k q heard w b later left g whole =
+    fits_silence (q + 1) (b.session.unsaid ++ g.speaks.said) g.speaks.still [] (whole_append b.session.unsaid g.speaks.said whole (goes_whole _ false (session_seat k q) heard b w g.mid g.speaks.spoken g.speaks.said g.speaks.goes)) refl g.speaks.prints
+
+-- these lines were
+lines_fit : (k : Setup) (q number : ℕ) (heard : List Noted) (w : World) (b : SeatedVisitor) (later : World) (left : Option SeatedVisitor) (lines : List (List ℕ)) → number ≡ q + 1 → (g : SessionTalks k false q heard w b later left (text_of k (Lines number lines)))
+    → IsCut (b.session.unsaid ++ g.speaks.said) lines [] → IsWhole b.session.unsaid → joined lines ++ g.speaks.still ≡ b.session.unsaid ++ g.speaks.said
+lines_fit k q number heard w b later left lines own g cut whole = fits_lines k (q + 1) (b.session.unsaid ++ g.speaks.said) g.speaks.still lines cut (prints_at k q number (b.session.unsaid ++ g.speaks.said) g.speaks.still lines own g.speaks.prints)
+
+talks_there : (k : Setup) (q : ℕ) (heard : List Noted) (w : World) (b : SeatedVisitor) (later : World) (left : Option SeatedVisitor) (printed : List ℕ) → b.gone ≡ false → SessionGoes k false q heard w b later left printed
+    → SessionTalks k false q heard w b later left printed
+talks_there k q heard w b later left printed there (talks l g) = g
+talks_there k q heard w b later left printed there (lingers gone g e f) = absurd (false≢true (sym there ∙ gone))
+
+put_current : (k : Setup) (entries : List Entry) (s t : Scene) (number q : ℕ) (piece : Piece) (v : SeatedVisitor) (printed new : List ℕ) → IsPrintable k → IsRecord k entries (empty_scene k) s → IsEntry k s (record { event = Put number; after = t; piece = piece })
+    → (p : SessionPuts k false s q t printed) → p.visitor.gone ≡ false → shown_in q piece ≡ new
+    → (g : SessionTalks k false q (p.moved.heard (session_seat k q)) p.moved (record { session = p.visitor.session; serial = p.visitor.serial; gone = p.visitor.gone; to_put = p.others }) p.later p.left printed)
+    → (IsWhole p.visitor.session.unsaid → new ++ g.speaks.still ≡ p.visitor.session.unsaid ++ g.speaks.said) → t.visitor q ≡ Some v → AnswersAt k entries (record { event = Put number; after = t; piece = piece }) q p.visitor v
+put_current k entries s t number q piece v printed new printable r is p read shown g fits there =
+    step_current k entries s t (Put number) piece q p.visitor v (record { session = p.visitor.session; serial = p.visitor.serial; gone = p.visitor.gone; to_put = p.others })
+    (world.Put (session_seat k q) (world.shard_of k.config p.copy.mailbox) p.copy) p.moved p.later p.left printed new printable r is refl refl refl shown p.there read refl
+    (λ here. put_here k.config (session_seat k q) (arrival_by_then q nobody (empty_scene k) entries).serial s.world p.moved p.visitor p.copy p.others p.front p.step here) tt p.step g fits p.after there
+
+hear_current : (k : Setup) (entries : List Entry) (s t : Scene) (number q : ℕ) (piece : Piece) (v : SeatedVisitor) (printed new : List ℕ) → IsPrintable k → IsRecord k entries (empty_scene k) s → IsEntry k s (record { event = Hear number; after = t; piece = piece })
+    → (p : SessionHears k false s q t printed) → p.visitor.gone ≡ false → shown_in q piece ≡ new → (g : SessionTalks k false q (p.moved.heard (session_seat k q)) p.moved p.visitor p.later p.left printed)
+    → (IsWhole p.visitor.session.unsaid → new ++ g.speaks.still ≡ p.visitor.session.unsaid ++ g.speaks.said) → t.visitor q ≡ Some v → AnswersAt k entries (record { event = Hear number; after = t; piece = piece }) q p.visitor v
+hear_current k entries s t number q piece v printed new printable r is p read shown g fits there =
+    step_current k entries s t (Hear number) piece q p.visitor v p.visitor (world.Hear (session_seat k q)) p.moved p.later p.left printed new printable r is refl refl refl shown p.there read refl
+    (λ here. here_step k.config (session_seat k q) (arrival_by_then q nobody (empty_scene k) entries).serial s.world (world.Hear (session_seat k q)) p.moved p.visitor p.step here) tt p.step g fits p.after there
+
+still_read : (s : Scene) (q : ℕ) (before b : SeatedVisitor) → s.visitor q ≡ Some before → s.visitor q ≡ Some b → before.gone ≡ false → b.gone ≡ false
+still_read s q before b there other read = subst (λ (x : SeatedVisitor). x.gone ≡ false) (sym (ap (the_one b) (sym other ∙ there))) read
+
+puts_current : (k : Setup) (entries : List Entry) (s t : Scene) (place number : ℕ) (piece : Piece) (before v : SeatedVisitor) → IsPrintable k → IsRecord k entries (empty_scene k) s → IsEntry k s (record { event = Put number; after = t; piece = piece })
+    → seat_of number ≡ session_seat k place → s.visitor place ≡ Some before → before.gone ≡ false → t.visitor place ≡ Some v → AnswersAt k entries (record { event = Put number; after = t; piece = piece }) place before v
+puts_current k entries s t place number piece before v printable r is seat there read left = by piece is
+  where
+    silent : IsEntry k s (record { event = Put number; after = t; piece = Silence }) → PutPlay k false s (seat_of number) t [] → AnswersAt k entries (record { event = Put number; after = t; piece = Silence }) place before v
+    silent is (connection_puts few p) = absurd (omega (arith, few, seat))
+    silent is (session_puts q e p) = of_q (let f : session_seat k q ≡ session_seat k place = sym e ∙ seat in omega (arith, f)) p
+      where
+        of_q : q ≡ place → SessionPuts k false s q t [] → AnswersAt k entries (record { event = Put number; after = t; piece = Silence }) place before v
+        of_q same p0 =
+            let p : SessionPuts k false s place t [] = subst (λ (n : ℕ). SessionPuts k false s n t []) same p0 in
+            let here : p.visitor.gone ≡ false = still_read s place before p.visitor there p.there read in
+            let g = talks_there k place _ _ _ _ _ [] here p.goes in
+            of_before k entries s (record { event = Put number; after = t; piece = Silence }) place before p.visitor v there p.there (put_current k entries s t number place Silence v [] [] printable r is p here refl g (silence_fits k place _ _ _ _ _ g) left)
+
+    by : (piece : Piece) → IsEntry k s (record { event = Put number; after = t; piece = piece }) → AnswersAt k entries (record { event = Put number; after = t; piece = piece }) place before v
+    by Silence is = silent is is.plays
+    by (Replies p said) is = absurd (let own = is.own in let few = own.1 in let at = own.0 in omega (arith, few, at, seat))
+    by (Lines n lines) is = of_q (let own = is.own in let f : session_seat k own.place ≡ session_seat k place = sym own.seat ∙ seat in omega (arith, f))
+      where
+        of_q : is.own.place ≡ place → AnswersAt k entries (record { event = Put number; after = t; piece = Lines n lines }) place before v
+        of_q same =
+            subst (λ (q : ℕ). s.visitor q ≡ Some before → t.visitor q ≡ Some v → AnswersAt k entries (record { event = Put number; after = t; piece = Lines n lines }) q before v) same
+            (λ at then.
+            let own = is.own in
+            let p = own.puts in
+            of_before k entries s (record { event = Put number; after = t; piece = Lines n lines }) own.place before p.visitor v at p.there (put_current k entries s t number own.place (Lines n lines) v (text_of k (Lines n lines)) (joined lines) printable r is p
+            (still_read s own.place before p.visitor at p.there read) (its_lines own.place n lines own.own) own.talks (lines_fit k own.place n _ _ _ _ _ lines own.own own.talks own.cut) then)) there left
+
+hears_current : (k : Setup) (entries : List Entry) (s t : Scene) (place number : ℕ) (piece : Piece) (before v : SeatedVisitor) → IsPrintable k → IsRecord k entries (empty_scene k) s → IsEntry k s (record { event = Hear number; after = t; piece = piece })
+    → seat_of number ≡ session_seat k place → s.visitor place ≡ Some before → before.gone ≡ false → t.visitor place ≡ Some v → AnswersAt k entries (record { event = Hear number; after = t; piece = piece }) place before v
+hears_current k entries s t place number piece before v printable r is seat there read left = by piece is
+  where
+    silent : IsEntry k s (record { event = Hear number; after = t; piece = Silence }) → HearPlay k false s (seat_of number) t [] → AnswersAt k entries (record { event = Hear number; after = t; piece = Silence }) place before v
+    silent is (connection_hears few p) = absurd (omega (arith, few, seat))
+    silent is (session_hears q e p) = of_q (let f : session_seat k q ≡ session_seat k place = sym e ∙ seat in omega (arith, f)) p
+      where
+        of_q : q ≡ place → SessionHears k false s q t [] → AnswersAt k entries (record { event = Hear number; after = t; piece = Silence }) place before v
+        of_q same p0 =
+            let p : SessionHears k false s place t [] = subst (λ (n : ℕ). SessionHears k false s n t []) same p0 in
+            let here : p.visitor.gone ≡ false = still_read s place before p.visitor there p.there read in
+            let g = talks_there k place _ _ _ _ _ [] here p.goes in
+            of_before k entries s (record { event = Hear number; after = t; piece = Silence }) place before p.visitor v there p.there (hear_current k entries s t number place Silence v [] [] printable r is p here refl g (silence_fits k place _ _ _ _ _ g) left)
+
+    by : (piece : Piece) → IsEntry k s (record { event = Hear number; after = t; piece = piece }) → AnswersAt k entries (record { event = Hear number; after = t; piece = piece }) place before v
+    by Silence is = silent is is.plays
+    by (Replies p said) is = absurd (let own = is.own in let few = own.1 in let at = own.0 in omega (arith, few, at, seat))
+    by (Lines n lines) is = of_q (let own = is.own in let f : session_seat k own.place ≡ session_seat k place = sym own.seat ∙ seat in omega (arith, f))
+      where
+        of_q : is.own.place ≡ place → AnswersAt k entries (record { event = Hear number; after = t; piece = Lines n lines }) place before v
+        of_q same =
+            subst (λ (q : ℕ). s.visitor q ≡ Some before → t.visitor q ≡ Some v → AnswersAt k entries (record { event = Hear number; after = t; piece = Lines n lines }) q before v) same
+            (λ at then.
+            let own = is.own in
+            let p = own.hears in
+            of_before k entries s (record { event = Hear number; after = t; piece = Lines n lines }) own.place before p.visitor v at p.there (hear_current k entries s t number own.place (Lines n lines) v (text_of k (Lines n lines)) (joined lines) printable r is p
+            (still_read s own.place before p.visitor at p.there read) (its_lines own.place n lines own.own) own.talks (lines_fit k own.place n _ _ _ _ _ lines own.own own.talks own.cut) then)) there left
+
+pub verdicts_make_current : VerdictsMakeCurrent
+verdicts_make_current k entries s t place (Put number) piece before v printable r is on there read left = puts_current k entries s t place number piece before v printable r is on there read left
+verdicts_make_current k entries s t place (Hear number) piece before v printable r is on there read left = hears_current k entries s t place number piece before v printable r is on there read left
+verdicts_make_current k entries s t place _ piece before v printable r is on there read left = absurd on

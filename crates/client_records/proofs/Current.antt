@@ -1,5 +1,5 @@
 -- Where all that was pending was shown, what the session counts is what is there.
-use Rattle.std.proofs.Common.{zero, suc, ◌≡◌, ℕ, ◌+◌, ◌-◌, ◌≤◌, Bool, true, List, [], ◌∷◌, ◌++◌, length, take, drop, refl, sym, subst, ap, ◌∙◌, arith, append-nil}
+use Rattle.std.proofs.Common.{zero, suc, ◌≡◌, ◌⊎◌, inl, inr, ℕ, ◌+◌, ◌-◌, ◌≤◌, Bool, true, List, [], ◌∷◌, ◌++◌, length, take, drop, refl, sym, subst, ap, ◌∙◌, arith, append-nil}
 use Rattle.std.specs.Prelude.{Option, Some, None, IfSome, Result, Ok, codes, if◌then◌else◌}
 use Rattle.std.proofs.Math.Seq.{take-length}
 use Rattle.std.proofs.lemmas.Bool.{false≢true}
@@ -10,6 +10,7 @@ use Rattle.shard_queue.proofs.AtLaws.{set_at-same}
 use Rattle.change_ring.specs.declared.change.Change.{Change}
 use Rattle.change_ring.specs.Log.{replay, view_at}
 use Rattle.change_ring.proofs.LogLaws.{uids-rows_after}
+use Rattle.mailbox.specs.declared.clients.MailFault.{MailFault}
 use Rattle.cursor_set.specs.Lines.{lines}
 use Rattle.world.specs.World.{Config, Session, World, pending, shows}
 use Rattle.world.specs.Law.{IsShown}
@@ -22,7 +23,7 @@ use Rattle.imap_grammar.specs.declared.command.ImapFault.{ImapFault}
 use Rattle.imap_session.specs.declared.standing.After.{After}
 use Rattle.imap_session.specs.declared.standing.After.TheVariants.{Go}
 use Rattle.imap_session.specs.declared.standing.Selected.{Selected}
-use Rattle.imap_session.specs.Exchange.{Answer, Entered, Looked, Found, Counted, Altered, Expunged, Fed, Left, Refused, Starved, Appending, Event as Happened, Done, Feed, Standing, Turn, having, kept_behind, kept_tag, played, refused, saying}
+use Rattle.imap_session.specs.Exchange.{Answer, Entered, Looked, Found, Counted, Altered, Expunged, Fed, Left, Refused, Starved, Appending, Event as Happened, Done, Feed, Standing, Turn, having, kept_behind, kept_tag, played, refusal_text, refused, saying}
 use Rattle.imap_session.specs.Commands.{completed, on_idle_line, on_read, says, showing, turn_behind, turn_while, unlimited}
 use Rattle.imap_session.specs.Store.{Met}
 use Rattle.session_store.specs.Meets.{Meets}
@@ -77,30 +78,39 @@ fed_current k w n met changes v K (step, (s, is, (D, shown))) t now =
     all_shown s.cursor unlimited log ok.within (omega (arith, (K.boxes s.mailbox).room)) ∙ ap length (sym (append-nil log)) ∙ ap length (sym box) in
     subst (λ (u : Session). view_of v n ≡ messages_of (v.box u.mailbox)) same (at_end v n (shows s some) there end)
 
--- all that is pending is shown, and then the last line is said
-shown_current : (k : Config) (n : ℕ) (tag words : List ℕ) (how : After) (now : Standing) (w : World) (answers : List Answer) (turn : Turn) (v : World) → Kept k w → IsTag tag
-    → played tag now (Feed unlimited (Done words how)) answers ≡ Some turn → Met (Calls k n) w turn.events v → has_ok true tag turn.bytes ≡ true → IsCurrent v n
-shown_current k n tag words how now w [] turn v K t e met ok = absurd (none-some turn e)
-shown_current k n tag words how now w (Fed view changes ∷ more) turn v K t e met ok =
+-- all that is pending is shown, and then the last line is said, or the store refused
+pub fed_or_refused : (k : Config) (n : ℕ) (tag words : List ℕ) (how : After) (now : Standing) (w : World) (answers : List Answer) (turn : Turn) (v : World) → Kept k w
+    → played tag now (Feed unlimited (Done words how)) answers ≡ Some turn → Met (Calls k n) w turn.events v → IsCurrent v n ⊎ ((fault : MailFault) × (turn.bytes ≡ refusal_text tag fault))
+fed_or_refused k n tag words how now w [] turn v K e met = absurd (none-some turn e)
+fed_or_refused k n tag words how now w (Fed view changes ∷ more) turn v K e met =
     let m = mapped (λ (x : Turn). having (Feed unlimited) (Fed view changes) (saying (lines view changes) x)) (played tag now (Done words how) more) turn e in
     let d = only_done tag words how now more m.more m.is in
     let events : turn.events ≡ record { call = Feed unlimited; answer = Fed view changes } ∷ [] =
     ap (λ (x : Turn). x.events) (sym m.makes) ∙ ap (λ (es : List Happened). record { call = Feed unlimited; answer = Fed view changes } ∷ es) d.events in
     let met1 : Met (Calls k n) w (record { call = Feed unlimited; answer = Fed view changes } ∷ []) v = subst (λ (es : List Happened). Met (Calls k n) w es v) events met in
-    subst (λ (u : World). IsCurrent u n) (sym met1.2) (fed_current k w n view changes met1.0 K met1.1)
-shown_current k n tag words how now w (Refused fault ∷ []) turn v K t e met ok =
+    inl (subst (λ (u : World). IsCurrent u n) (sym met1.2) (fed_current k w n view changes met1.0 K met1.1))
+fed_or_refused k n tag words how now w (Refused fault ∷ []) turn v K e met =
     let m = mapped (having (Feed unlimited) (Refused fault)) (Some (refused tag now fault)) turn e in
     let only = only_refused tag now fault m.more m.is in
-    absurd (false≢true (sym (refusal_has_none tag fault t) ∙ ap (has_ok true tag) (sym only.bytes ∙ ap (λ (x : Turn). x.bytes) m.makes) ∙ ok))
-shown_current k n tag words how now w (Refused fault ∷ b ∷ more) turn v K t e met ok = absurd (none-some turn e)
-shown_current k n tag words how now w (Entered a ∷ more) turn v K t e met ok = absurd (none-some turn e)
-shown_current k n tag words how now w (Looked a ∷ more) turn v K t e met ok = absurd (none-some turn e)
-shown_current k n tag words how now w (Found a ∷ more) turn v K t e met ok = absurd (none-some turn e)
-shown_current k n tag words how now w (Counted a ∷ more) turn v K t e met ok = absurd (none-some turn e)
-shown_current k n tag words how now w (Altered a ∷ more) turn v K t e met ok = absurd (none-some turn e)
-shown_current k n tag words how now w (Expunged a b c ∷ more) turn v K t e met ok = absurd (none-some turn e)
-shown_current k n tag words how now w (Left a ∷ more) turn v K t e met ok = absurd (none-some turn e)
-shown_current k n tag words how now w (Starved a ∷ more) turn v K t e met ok = absurd (none-some turn e)
+    inr (fault, ap (λ (x : Turn). x.bytes) (sym m.makes) ∙ only.bytes)
+fed_or_refused k n tag words how now w (Refused fault ∷ b ∷ more) turn v K e met = absurd (none-some turn e)
+fed_or_refused k n tag words how now w (Entered a ∷ more) turn v K e met = absurd (none-some turn e)
+fed_or_refused k n tag words how now w (Looked a ∷ more) turn v K e met = absurd (none-some turn e)
+fed_or_refused k n tag words how now w (Found a ∷ more) turn v K e met = absurd (none-some turn e)
+fed_or_refused k n tag words how now w (Counted a ∷ more) turn v K e met = absurd (none-some turn e)
+fed_or_refused k n tag words how now w (Altered a ∷ more) turn v K e met = absurd (none-some turn e)
+fed_or_refused k n tag words how now w (Expunged a b c ∷ more) turn v K e met = absurd (none-some turn e)
+fed_or_refused k n tag words how now w (Left a ∷ more) turn v K e met = absurd (none-some turn e)
+fed_or_refused k n tag words how now w (Starved a ∷ more) turn v K e met = absurd (none-some turn e)
+
+-- and where an OK was said, it was shown
+shown_current : (k : Config) (n : ℕ) (tag words : List ℕ) (how : After) (now : Standing) (w : World) (answers : List Answer) (turn : Turn) (v : World) → Kept k w → IsTag tag
+    → played tag now (Feed unlimited (Done words how)) answers ≡ Some turn → Met (Calls k n) w turn.events v → has_ok true tag turn.bytes ≡ true → IsCurrent v n
+shown_current k n tag words how now w answers turn v K t e met ok = by (fed_or_refused k n tag words how now w answers turn v K e met)
+  where
+    by : IsCurrent v n ⊎ ((fault : MailFault) × (turn.bytes ≡ refusal_text tag fault)) → IsCurrent v n
+    by (inl current) = current
+    by (inr (fault, bytes)) = absurd (false≢true (sym (refusal_has_none tag fault t) ∙ ap (has_ok true tag) (sym bytes) ∙ ok))
 
 noop_current : (k : Config) (n : ℕ) (now : Standing) (line tag : List ℕ) (w : World) (turn : Turn) (v : World) → Kept k w → IsAnswered k n now line w turn v
     → kept_tag now ≡ None → read line ≡ Ok (tag, commands.Noop) → has_ok true tag turn.bytes ≡ true → IsCurrent v n

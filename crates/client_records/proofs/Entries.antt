@@ -1,6 +1,6 @@
 -- Entry by entry: the client of each session that is there goes on to keep up.
 use Rattle.std.proofs.Common.{◌≡◌, ◌≢◌, ℕ, ◌+◌, ◌⊎◌, inl, inr, Bool, true, false, ◌==◌, eqb, List, [], ◌∷◌, ◌++◌, refl, sym, subst, ◌∙◌, arith, append-nil}
-use Rattle.std.specs.Prelude.{Option, Some}
+use Rattle.std.specs.Prelude.{Option, Some, if◌then◌else◌}
 use Rattle.std.proofs.lemmas.Bool.{eq-eqb}
 use Rattle.std.proofs.lemmas.Bool.Decides.{eqb_tells}
 use Rattle.std.specs.Borrow.{Bor}
@@ -24,10 +24,11 @@ use Rattle.house.specs.declared.event.Event as house
 use Rattle.house.specs.declared.event.Event.TheVariants.{Enter, Say, Idle, Leave}
 use Rattle.exactly_once.specs.Promise.{Lines, Piece, Silence}
 use Rattle.exactly_once.proofs.Whole.{IsWhole, greeting_whole, idles_whole, whole_append}
-use Rattle.client_records.specs.Records.{began_in, first_standing, is_left, lets_in, sent_in, shown_in, stays_in, unless, user_in}
+use Rattle.client_records.specs.Records.{began_in, is_left, lets_in, sent_in, shown_in, stays_in, unless, user_in}
 use Rattle.client_records.specs.Sizes.{HasSmallNumbers}
 use Rattle.client_records.specs.Views.{IsOfOthers}
-use Rattle.client_records.proofs.Recording.{Arrival, Client, Walk, Watched, client_more, client_others, client_said, goes, heard_small, lingers_watched, parted, stands, still_whole, talks_walk, talks_watched, walk_call, walk_met, walk_parts, walk_then, walk_world, watched_others, watched_walk}
+use Rattle.client_records.proofs.Recording.{Arrival, Client, Walk, Watched, client_more, client_others, came_as, client_said, goes, heard_small, lingers_watched, parted, stands, still_whole, talks_walk, talks_watched, walk_call, walk_met, walk_parts, walk_then, walk_world, watched_others, watched_walk}
+use Rattle.client_records.proofs.Seated.{IsHere, here_as, here_met, idle_here}
 use Rattle.client_records.proofs.Talked.{idles_reached, talked_none}
 
 -- ---- places
@@ -45,9 +46,13 @@ pub record SceneKnown (k : Setup) (users : ℕ → Arrival) (sent shown : ℕ �
   pub came : IsWorld k.config events s.world
   pub watched : (n : ℕ) → Watched k n (users n) (sent n) (shown n) s.world (s.visitor n)
 
+-- under which serial, where it was that before
+abbrev pub serial_in : ℕ → Scene → house.Event → ℕ → ℕ
+serial_in n s event before = if lets_in n event then s.entered n else before
+
 -- who was let in there, behind an event
 abbrev pub arrival_in : ℕ → Scene → house.Event → Arrival → Arrival
-arrival_in n s event a = record { user = user_in n event a.user; began = began_in n s event a.began; stays = stays_in n event a.stays }
+arrival_in n s event a = record { user = user_in n event a.user; began = began_in n s event a.began; stays = stays_in n event a.stays; serial = serial_in n s event a.serial }
 
 abbrev pub users_then : Scene → (ℕ → Arrival) → house.Event → ℕ → Arrival
 users_then s users event n = arrival_in n s event (users n)
@@ -153,25 +158,29 @@ pub let_known : (k : Setup) (users : ℕ → Arrival) (sent shown : ℕ → List
 let_known k users sent shown s session user t printed new piece h K p at fits =
     let q : ℕ = place_of session in
     let first : Visitor = greeted (Some k.max_message) (folders_of k.directory user.now) in
-    let a : Arrival = record { user = user.now; began = s.world; stays = true } in
+    let a : Arrival = record { user = user.now; began = s.world; stays = true; serial = s.entered q } in
     let c : Client k q a [] [] s.world first = record {
       events = K.events;
       came = K.came;
       said = [];
-      reached = record { sent = []; talked = talked_none k.config q (first_standing k user.now) s.world; waits = refl };
+      reached = record { sent = []; talked = talked_none k.config q (came_as k q a) s.world (tt, tt, tt) refl refl; waits = refl };
       printed = append-nil greeting;
       whole = greeting_whole;
     } in
     subst (λ (x : Scene). SceneKnown k (users_then s users (Enter session user)) (sent_then sent (Enter session user)) (shown_then shown (Enter session user) piece) x) (sym p.after)
     (visit_known k users sent shown s q (Enter session user) piece true [] new p.moved p.left s.caller s.next (set_at s.entered q (s.entered q + 1)) s.shut a K at (rw (eq-eqb q q refl) refl)
     (talks_walk k false q (s.world.heard (session_seat k q)) s.world (seated_greeted (s.entered q) (Some k.max_message) (folders_of k.directory user.now)) p.moved p.left printed p.goes)
-    (talks_watched k false q a [] [] new (s.world.heard (session_seat k q)) s.world (seated_greeted (s.entered q) (Some k.max_message) (folders_of k.directory user.now)) p.moved p.left printed
-    (heard_small k.config K.events s.world (session_seat k q) h K.came) refl p.goes fits c))
+    (talks_watched k false q a [] [] new s.world (seated_greeted (s.entered q) (Some k.max_message) (folders_of k.directory user.now)) p.moved p.left printed
+    (heard_small k.config K.events s.world (session_seat k q) h K.came) refl (record { own = refl; due = inl refl; out = λ none. tt }) p.goes fits c))
 
 -- ---- its client sends
 
 pub the_client : (k : Setup) (users : ℕ → Arrival) (sent shown : ℕ → List ℕ) (s : Scene) (q : ℕ) (v : SeatedVisitor) → SceneKnown k users sent shown s → s.visitor q ≡ Some v → v.gone ≡ false → Client k q (users q) (sent q) (shown q) s.world v.session
 the_client k users sent shown s q v K there read = (subst (λ (o : Option SeatedVisitor). Watched k q (users q) (sent q) (shown q) s.world o) there (K.watched q)).0 read
+
+-- it has the serial under which it was let in, and its copy is where it should be
+pub the_serial : (k : Setup) (users : ℕ → Arrival) (sent shown : ℕ → List ℕ) (s : Scene) (q : ℕ) (v : SeatedVisitor) → SceneKnown k users sent shown s → s.visitor q ≡ Some v → IsHere k.config (session_seat k q) (users q).serial s.world v
+the_serial k users sent shown s q v K there = (subst (λ (o : Option SeatedVisitor). Watched k q (users q) (sent q) (shown q) s.world o) there (K.watched q)).2
 
 -- one whose client is gone doesn't stay
 gone_client : (k : Setup) (users : ℕ → Arrival) (sent shown : ℕ → List ℕ) (s : Scene) (q : ℕ) (v : SeatedVisitor) → SceneKnown k users sent shown s → s.visitor q ≡ Some v → v.gone ≡ true → (users q).stays ≡ false
@@ -187,7 +196,8 @@ say_known k users sent shown s session bytes t printed new piece h K p at fits =
     subst (λ (x : Scene). SceneKnown k (users_then s users (Say session bytes)) (sent_then sent (Say session bytes)) (shown_then shown (Say session bytes) piece) x) (sym p.after)
     (visit_known k users sent shown s q (Say session bytes) piece false bytes.now new p.moved p.left s.caller s.next s.entered s.shut (users q) K at refl
     (talks_walk k false q (s.world.heard (session_seat k q)) s.world b p.moved p.left printed p.goes)
-    (talks_watched k false q (users q) (sent q ++ bytes.now) (shown q) new (s.world.heard (session_seat k q)) s.world b p.moved p.left printed (heard_small k.config K.events s.world (session_seat k q) h K.came) p.is_read p.goes fits c))
+    (talks_watched k false q (users q) (sent q ++ bytes.now) (shown q) new s.world b p.moved p.left printed (heard_small k.config K.events s.world (session_seat k q) h K.came) p.is_read
+    (here_as k.config (session_seat k q) (users q).serial s.world p.visitor b refl refl refl (the_serial k users sent shown s q p.visitor K p.there)) p.goes fits c))
 
 -- ---- it has a turn while it idles
 
@@ -198,13 +208,14 @@ idle_known k users sent shown s session t printed new piece K p at fits =
     let q : ℕ = place_of session in
     let c = the_client k users sent shown s q p.visitor K p.there p.goes.is_read in
     let g = p.goes in
-    let r = idles_reached k.config q (first_standing k (users q).user) (users q).began (sent q) c.said p.visitor.session g.after s.world g.mid g.idles.said g.shown g.idles.turned g.idles.waits c.reached in
+    let r = idles_reached k.config q (came_as k q (users q)) (users q).began (sent q) c.said p.visitor.session g.after s.world g.mid g.idles.said g.shown g.idles.turned g.idles.waits c.reached in
     let all : IsWhole (p.visitor.session.unsaid ++ g.idles.said) = whole_append p.visitor.session.unsaid g.idles.said c.whole (idles_whole _ p.visitor.session.standing s.world g.mid g.idles.said g.shown g.after.standing g.idles.turned) in
     let d = client_said k q (users q) (sent q) (shown q) new g.idles.said s.world g.mid p.visitor.session g.after c r fits (still_whole (q + 1) (p.visitor.session.unsaid ++ g.idles.said) g.after.unsaid printed all g.idles.prints) in
     subst (λ (x : Scene). SceneKnown k (users_then s users (Idle session)) (sent_then sent (Idle session)) (shown_then shown (Idle session) piece) x) (sym p.after)
     (visit_known k users sent shown s q (Idle session) piece false [] new p.moved p.left s.caller s.next s.entered s.shut (users q) K at refl
     (walk_parts k false q s.world g.mid (with_session g.after p.visitor) p.moved p.left (walk_met k.config q s.world s.world g.idles.turned.events g.mid stands g.idles.turned.met) g.left)
-    (subst (λ (x : List ℕ). Watched k q (users q) x (shown q ++ new) p.moved p.left) (sym (append-nil (sent q))) (parted k false q (users q) (sent q) (shown q ++ new) (with_session g.after p.visitor) g.mid p.moved p.left g.is_read d g.left)))
+    (subst (λ (x : List ℕ). Watched k q (users q) x (shown q ++ new) p.moved p.left) (sym (append-nil (sent q))) (parted k false q (users q) (sent q) (shown q ++ new) (with_session g.after p.visitor) g.mid p.moved p.left g.is_read
+    (idle_here k.config q (session_seat k q) (users q).serial s.world g.mid p.visitor g.after g.idles.said g.shown g.idles.turned (the_serial k users sent shown s q p.visitor K p.there)) d g.left)))
 
 -- ---- its client is gone
 
@@ -212,12 +223,14 @@ pub leave_known : (k : Setup) (users : ℕ → Arrival) (sent shown : ℕ → Li
     → SceneKnown k (users_then s users (Leave session)) (sent_then sent (Leave session)) (shown_then shown (Leave session) Silence) t
 leave_known k users sent shown s session t printed K p =
     let q : ℕ = place_of session in
-    let a : Arrival = record { user = (users q).user; began = (users q).began; stays = false } in
+    let a : Arrival = record { user = (users q).user; began = (users q).began; stays = false; serial = (users q).serial } in
     subst (λ (x : Scene). SceneKnown k (users_then s users (Leave session)) (sent_then sent (Leave session)) (shown_then shown (Leave session) Silence) x) (sym p.after)
     (visit_known k users sent shown s q (Leave session) Silence false [] [] p.moved p.left s.caller s.next s.entered s.shut a K (silent_at q (Leave session) false [] refl refl (λ n other. refl) (λ n other. refl) (λ n other. differs q n other))
     (rw (eq-eqb q q refl) refl)
     (walk_call k.config q s.world s.world (calls.Leave false) p.leaves.0 p.moved stands p.leaves.1)
-    (lingers_watched k q (session_seat k q) a (sent q ++ []) (shown q ++ []) (s.world.heard (session_seat k q)) p.moved _ p.left refl refl p.stays))
+    (lingers_watched k q (session_seat k q) a (sent q ++ []) (shown q ++ []) (s.world.heard (session_seat k q)) p.moved _ p.left refl
+    (here_as k.config (session_seat k q) (users q).serial p.moved p.visitor _ refl refl refl
+    (here_met k.config q (session_seat k q) (users q).serial s.world (record { call = calls.Leave false; answer = p.leaves.0 } ∷ []) p.moved p.visitor (p.moved, p.leaves.1, refl) (the_serial k users sent shown s q p.visitor K p.there))) refl p.stays))
 
 -- ---- its copy is put, and its verdict is heard
 
@@ -231,10 +244,10 @@ speech_walk k q heard w b v o new (says {printed = printed} l g fits) = talks_wa
 speech_walk k q heard w b v o new (lingers l g same) = rw same stands
 
 pub moved_known : (k : Setup) (users : ℕ → Arrival) (sent shown : ℕ → List ℕ) (s : Scene) (event : house.Event) (q : ℕ) (moves : Event) (moved : World) (visitor b : SeatedVisitor) (later : World) (left : Option SeatedVisitor) (new : List ℕ) (piece : Piece)
-    → HasSmallNumbers k.config → SceneKnown k users sent shown s → s.visitor q ≡ Some visitor → b.session ≡ visitor.session → b.gone ≡ visitor.gone → IsAt q event piece false [] new → is_left q event ≡ false → ((n : ℕ) → IsOfOthers n moves) → Step k.config s.world moves moved
+    → HasSmallNumbers k.config → SceneKnown k users sent shown s → s.visitor q ≡ Some visitor → b.session ≡ visitor.session → b.gone ≡ visitor.gone → (IsHere k.config (session_seat k q) (users q).serial s.world visitor → IsHere k.config (session_seat k q) (users q).serial moved b) → IsAt q event piece false [] new → is_left q event ≡ false → ((n : ℕ) → IsOfOthers n moves) → Step k.config s.world moves moved
     → Speech k q (moved.heard (session_seat k q)) moved b later left new
     → SceneKnown k (users_then s users event) (sent_then sent event) (shown_then shown event piece) (record { world = later; caller = s.caller; next = s.next; visitor = set_at s.visitor q left; entered = s.entered; shut = s.shut })
-moved_known k users sent shown s event q moves moved visitor b later left new piece h K there same alike at stays own step speech =
+moved_known k users sent shown s event q moves moved visitor b later left new piece h K there same alike still at stays own step speech =
     visit_known k users sent shown s q event piece false [] new later left s.caller s.next s.entered s.shut (users q) K at (arrival_stays q s event (users q) at.let_in stays)
     (walk_then k.config q s.world moved later (goes stands moves (λ n other. own n) moved step) (speech_walk k q (moved.heard (session_seat k q)) moved b later left new speech))
     (subst (λ (x : List ℕ). Watched k q (users q) x (shown q ++ new) later left) (sym (append-nil (sent q))) (by speech))
@@ -245,6 +258,6 @@ moved_known k users sent shown s event q moves moved visitor b later left new pi
         let c1 = client_others k q (users q) (sent q) (shown q) s.world visitor.session moves moved c0 (own q) step in
         let c : Client k q (users q) (sent q) (shown q) moved b.session = subst (λ (x : Visitor). Client k q (users q) (sent q) (shown q) moved x) (sym same) c1 in
         let came : IsWorld k.config (K.events ++ moves ∷ []) moved = steps_join k.config empty_world K.events s.world (moves ∷ []) moved K.came (moved, step, refl) in
-        talks_watched k false q (users q) (sent q) (shown q) new (moved.heard (session_seat k q)) moved b later left printed
-        (heard_small k.config (K.events ++ moves ∷ []) moved (session_seat k q) h came) l g fits c
-    by (lingers l g e) = lingers_watched k q (session_seat k q) (users q) (sent q) (shown q ++ new) (moved.heard (session_seat k q)) later b left l (gone_client k users sent shown s q visitor K there (sym alike ∙ l)) g
+        talks_watched k false q (users q) (sent q) (shown q) new moved b later left printed
+        (heard_small k.config (K.events ++ moves ∷ []) moved (session_seat k q) h came) l (still (the_serial k users sent shown s q visitor K there)) g fits c
+    by (lingers l g e) = lingers_watched k q (session_seat k q) (users q) (sent q) (shown q ++ new) (moved.heard (session_seat k q)) later b left l (subst (λ (x : World). IsHere k.config (session_seat k q) (users q).serial x b) (sym e) (still (the_serial k users sent shown s q visitor K there))) (gone_client k users sent shown s q visitor K there (sym alike ∙ l)) g

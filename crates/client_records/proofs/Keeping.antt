@@ -21,7 +21,7 @@ use Rattle.client_records.specs.Records.{TextsStayShort, ClientsKeepUp, ClientsK
 use Rattle.client_records.specs.Sizes.{HasShortTexts, HasSmallNumbers}
 use Rattle.client_records.specs.Turns.{Stands}
 use Rattle.client_records.specs.Views.{IsOfOthers}
-use Rattle.client_records.proofs.Entries.{IsAside, IsAt, SceneKnown, Speech, aside_known, differs, idle_known, leave_known, let_known, lines_at, lingers, moved_known, moves_known, say_known, says, sent_then, shown_then, users_then, silent_at, the_client}
+use Rattle.client_records.proofs.Entries.{IsAside, IsAt, SceneKnown, Speech, aside_known, differs, idle_known, leave_known, let_known, lines_at, lingers, moved_known, moves_known, say_known, says, sent_then, serial_in, shown_then, users_then, silent_at, the_client}
 use Rattle.client_records.proofs.Folded.{folders_plain}
 use Rattle.client_records.proofs.Living.{lives_known}
 use Rattle.client_records.specs.Clients.{IsRightAbout, Told, hears_all}
@@ -30,6 +30,7 @@ use Rattle.client_records.proofs.Current.{all_counted}
 use Rattle.client_records.proofs.Moved.{moved, moved_extends, short_before}
 use Rattle.client_records.proofs.Names.{goes_extends}
 use Rattle.client_records.proofs.Recording.{Arrival, Client, Finished, Watched, fits_lines, fits_silence}
+use Rattle.client_records.proofs.Seated.{here_step, put_here}
 use Rattle.client_records.proofs.Shortness.{texts_short}
 use Rattle.client_records.proofs.Texts.{has_short}
 use Rattle.client_records.proofs.Worlds.{sound_always}
@@ -94,13 +95,15 @@ session_puts_known : (k : Setup) (users : ℕ → Arrival) (sent shown : ℕ →
 session_puts_known k users sent shown s number q t printed new piece h K p at speech =
     subst (λ (x : Scene). Then k s users sent shown (Put number) piece x) (sym p.after)
     (moved_known k users sent shown s (Put number) q (world.Put (session_seat k q) (world.shard_of k.config p.copy.mailbox) p.copy) p.moved p.visitor
-    (record { session = p.visitor.session; serial = p.visitor.serial; gone = p.visitor.gone; to_put = p.others }) p.later p.left new piece h K p.there refl refl at refl (λ n. tt) p.step speech)
+    (record { session = p.visitor.session; serial = p.visitor.serial; gone = p.visitor.gone; to_put = p.others }) p.later p.left new piece h K p.there refl refl
+    (λ here. put_here k.config (session_seat k q) (users q).serial s.world p.moved p.visitor p.copy p.others p.front p.step here) at refl (λ n. tt) p.step speech)
 
 session_hears_known : (k : Setup) (users : ℕ → Arrival) (sent shown : ℕ → List ℕ) (s : Scene) (number q : ℕ) (t : Scene) (printed new : List ℕ) (piece : Piece) → HasSmallNumbers k.config → SceneKnown k users sent shown s → (p : SessionHears k false s q t printed)
     → IsAt q (Hear number) piece false [] new → Speech k q (p.moved.heard (session_seat k q)) p.moved p.visitor p.later p.left new → Then k s users sent shown (Hear number) piece t
 session_hears_known k users sent shown s number q t printed new piece h K p at speech =
     subst (λ (x : Scene). Then k s users sent shown (Hear number) piece x) (sym p.after)
-    (moved_known k users sent shown s (Hear number) q (world.Hear (session_seat k q)) p.moved p.visitor p.visitor p.later p.left new piece h K p.there refl refl at refl (λ n. tt) p.step speech)
+    (moved_known k users sent shown s (Hear number) q (world.Hear (session_seat k q)) p.moved p.visitor p.visitor p.later p.left new piece h K p.there refl refl
+    (λ here. here_step k.config (session_seat k q) (users q).serial s.world (world.Hear (session_seat k q)) p.moved p.visitor p.step here) at refl (λ n. tt) p.step speech)
 
 put_silent : (k : Setup) (users : ℕ → Arrival) (sent shown : ℕ → List ℕ) (s : Scene) (number : ℕ) (t : Scene) → HasSmallNumbers k.config → SceneKnown k users sent shown s → PutPlay k false s (seat_of number) t [] → Then k s users sent shown (Put number) Silence t
 put_silent k users sent shown s number t h K (connection_puts l p) = puts_known k users sent shown s number (seat_of number) t [] Silence K (silent_aside (Put number) (λ n. refl) (λ n. refl) (λ n. refl)) p
@@ -248,9 +251,14 @@ entry_known k users sent shown s (Leave session) t (Lines n lines) h K p own = a
 
 -- ---- the whole record
 
+-- under which serial one was let in at a place
+abbrev pub serial_by_then : ℕ → ℕ → Scene → List Entry → ℕ
+serial_by_then n before s [] = before
+serial_by_then n before s (entry ∷ entries) = serial_by_then n (serial_in n s entry.event before) entry.after entries
+
 -- who was let in at a place, by these entries
 abbrev pub arrival_by_then : ℕ → Arrival → Scene → List Entry → Arrival
-arrival_by_then n a s entries = record { user = user_by_then n a.user entries; began = began_by_then n a.began s entries; stays = stays_by_then n a.stays entries }
+arrival_by_then n a s entries = record { user = user_by_then n a.user entries; began = began_by_then n a.began s entries; stays = stays_by_then n a.stays entries; serial = serial_by_then n a.serial s entries }
 
 record_known : (k : Setup) (users : ℕ → Arrival) (sent shown : ℕ → List ℕ) (s : Scene) (entries : List Entry) (t : Scene) → HasSmallNumbers k.config → SceneKnown k users sent shown s → IsRecord k entries s t
     → SceneKnown k (λ n. arrival_by_then n (users n) s entries) (λ n. sent_by_then n (sent n) entries) (λ n. shown_by_then n (shown n) entries) t
@@ -263,7 +271,7 @@ texts_stay_short k entries t small is = has_short t.world (texts_short k entries
 
 -- nobody was let in yet
 abbrev pub nobody : Arrival
-nobody = record { user = []; began = empty_world; stays = false }
+nobody = record { user = []; began = empty_world; stays = false; serial = 0 }
 
 -- what is known behind a whole record
 pub all_known : (k : Setup) (entries : List Entry) (t : Scene) → HasSmallNumbers k.config → IsRecord k entries (empty_scene k) t

@@ -10,6 +10,17 @@ pub mod Entering
 pub mod Known
 pub mod Living
 pub mod Current
+mod LastLines
+mod LastRests
+mod LastWords
+mod LastTurns
+mod Waiting
+mod Submitted
+mod Lanes
+mod Histories
+mod Out
+mod Seated
+mod Answered
 mod Talked
 pub mod Folded
 mod Recording
@@ -18,7 +29,13 @@ pub mod Keeping
 mod Refuted
 mod Onward
 mod Since
+mod Appended
+mod WordsCurrent
 mod AtEntries
+mod CutBytes
+mod CutTexts
+mod CutTurns
+mod Cutting
 pub mod OneLife
 mod Dialogues
 mod Texts

@@ -383,7 +383,7 @@ neither_shows tag commands.Unselect e = absurd (false≢true e)
 neither_shows tag _ e = refl
 
 -- a client that is right about a view has a list
-has_list : (view : List ℕ) (client : Client) (heard : Option Client) → heard ≡ Some client → IsRightAbout view (Some client) → (list : List Known) × (heard ≡ Some (knowing (Some list))) × IsRight view list
+pub has_list : (view : List ℕ) (client : Client) (heard : Option Client) → heard ≡ Some client → IsRightAbout view (Some client) → (list : List Known) × (heard ≡ Some (knowing (Some list))) × IsRight view list
 has_list view client heard e right = (right.0, e ∙ ap (λ (c : Client). Some c) right.1, right.2)
 
 pub lists_are_current : ListsAreCurrent

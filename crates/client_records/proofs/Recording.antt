@@ -1,6 +1,6 @@
 -- The client of each session that is there keeps up, entry by entry.
 use Rattle.std.proofs.Common.{◌≡◌, ◌≢◌, ℕ, ◌+◌, inl, inr, Bool, true, false, List, [], ◌∷◌, ◌++◌, length, map, refl, sym, subst, ap, ap₂, ◌∙◌, arith, append-nil, append_assoc}
-use Rattle.std.specs.Prelude.{Option, Some, None, codes, decimal, flat_map}
+use Rattle.std.specs.Prelude.{IfSome, Option, Some, None, codes, decimal, flat_map}
 use Rattle.std.proofs.lemmas.Bool.{false≢true}
 use Rattle.line_io.specs.Wire.{IsCut, joined, wire_lines}
 use Rattle.line_io.specs.inner.WireLaws.{lines_are}
@@ -20,7 +20,7 @@ use Rattle.imap_session.specs.Store.{Met}
 use Rattle.session_store.specs.Meets.{Meets}
 use Rattle.house_session.specs.Visitor.{Visitor}
 use Rattle.house_session.specs.SeatedVisitor as seated
-use Rattle.house_session.specs.SeatedVisitor.{GoesOn, SeatedVisitor, answers, rests, stalls, works}
+use Rattle.house_session.specs.SeatedVisitor.{GoesOn, SeatedVisitor, answers, rests, sent_by, stalls, works}
 use Rattle.house.specs.Setup.{Setup, session_seat}
 use Rattle.house.specs.Printing.{Prints, Speaks, marked_session, of_session, prints_all, prints_none, still_unsaid}
 use Rattle.house.specs.Scene.{LeavesMailbox, Lingers, Parts, SessionTalks, parts, remains, waits, fades}
@@ -33,7 +33,9 @@ use Rattle.client_records.specs.Sizes.{HasSmallNumbers}
 use Rattle.client_records.specs.Views.{IsOfOthers}
 use Rattle.client_records.proofs.Moved.{Calls, Moved, moved, rested, stepped}
 use Rattle.client_records.proofs.Names.{in_range, is_in, numbers}
-use Rattle.client_records.proofs.Talked.{AreHeardSmall, Reached, goes_reached, talked_others}
+use Rattle.client_records.proofs.Answered.{Came}
+use Rattle.client_records.proofs.Seated.{IsFated, IsHere, goes_here, here_as, here_step}
+use Rattle.client_records.proofs.Talked.{AreHeardSmall, Heeds, Reached, goes_reached, talked_others}
 use Rattle.client_records.proofs.Worlds.{Sound, sound_always}
 
 -- ---- what a seat has heard
@@ -128,17 +130,21 @@ still_whole n bytes still printed w (prints_none all p) = subst IsWhole (sym all
 
 -- ---- the client of a session that is there
 
--- who was let in, into which world, and whether its client stays
+-- who was let in, into which world, whether its client stays, and under which serial
 pub record Arrival : Type 0 where
   pub user : List ℕ
   pub began : World
   pub stays : Bool
+  pub serial : ℕ
+
+abbrev pub came_as : Setup → (place : ℕ) → Arrival → Came
+came_as k place a = record { standing = first_standing k a.user; seat = session_seat k place; serial = a.serial }
 
 pub record Client (k : Setup) (place : ℕ) (a : Arrival) (sent shown : List ℕ) (w : World) (v : Visitor) : Type 0 where
   pub events : List Event
   pub came : IsWorld k.config events a.began
   pub said : List ℕ
-  pub reached : Reached k.config place (first_standing k a.user) a.began sent said v w
+  pub reached : Reached k.config place (came_as k place a) a.began sent said v w
   pub printed : greeting ++ said ≡ shown ++ v.unsaid
   pub whole : IsWhole v.unsaid
 
@@ -156,7 +162,7 @@ pub record Finished (k : Setup) (place : ℕ) (a : Arrival) (sent shown : List �
 
 abbrev pub Watched : Setup → ℕ → Arrival → List ℕ → List ℕ → World → Option SeatedVisitor → Type 0
 Watched k place a sent shown w None = a.stays ≡ true → Finished k place a sent shown w
-Watched k place a sent shown w (Some v) = (v.gone ≡ false → Client k place a sent shown w v.session) × (v.gone ≡ true → a.stays ≡ false)
+Watched k place a sent shown w (Some v) = (v.gone ≡ false → Client k place a sent shown w v.session) × (v.gone ≡ true → a.stays ≡ false) × IsHere k.config (session_seat k place) a.serial w v
 
 -- an event of others
 pub client_others : (k : Setup) (n : ℕ) (a : Arrival) (sent shown : List ℕ) (w : World) (v : Visitor) (event : Event) (u : World) → Client k n a sent shown w v → IsOfOthers n event → Step k.config w event u → Client k n a sent shown u v
@@ -166,7 +172,7 @@ client_others k n a sent shown w v event u c o step = record {
   said = c.said;
   reached = record {
     sent = c.reached.sent;
-    talked = talked_others k.config n (first_standing k a.user) a.began c.reached.sent c.said v.standing w event u c.reached.talked o step;
+    talked = talked_others k.config n (came_as k n a) a.began c.reached.sent c.said v.standing w event u c.reached.talked o step;
     waits = c.reached.waits;
   };
   printed = c.printed;
@@ -186,7 +192,7 @@ watched_others k n a sent shown w None event u own step c = λ stays.
       later = f.later ++ event ∷ [];
       moved = steps_join k.config f.left f.later w (event ∷ []) u f.moved (u, step, refl);
     }
-watched_others k n a sent shown w (Some v) event u own step c = ((λ there. client_others k n a sent shown w v.session event u (c.0 there) own step), c.1)
+watched_others k n a sent shown w (Some v) event u own step c = ((λ there. client_others k n a sent shown w v.session event u (c.0 there) own step), c.1, here_step k.config (session_seat k n) a.serial w event u v step c.2)
 
 pub watched_walk : (k : Setup) (n q : ℕ) (a : Arrival) (sent shown : List ℕ) (w : World) (o : Option SeatedVisitor) {u : World} → n ≢ q → Walk k.config q w u → Watched k n a sent shown w o → Watched k n a sent shown u o
 watched_walk k n q a sent shown w o other stands c = c
@@ -213,7 +219,7 @@ pub regroup : (g a b s u : List ℕ) → g ++ a ≡ s ++ u → g ++ (a ++ b) ≡
 regroup g a b s u e = sym (append_assoc g a b) ∙ ap (λ (x : List ℕ). x ++ b) e ∙ append_assoc s u b
 
 -- it said more, of which this was printed
-pub client_said : (k : Setup) (n : ℕ) (a : Arrival) (sent shown new said : List ℕ) (w u : World) (v after : Visitor) → (c : Client k n a sent shown w v) → Reached k.config n (first_standing k a.user) a.began sent (c.said ++ said) after u
+pub client_said : (k : Setup) (n : ℕ) (a : Arrival) (sent shown new said : List ℕ) (w u : World) (v after : Visitor) → (c : Client k n a sent shown w v) → Reached k.config n (came_as k n a) a.began sent (c.said ++ said) after u
     → new ++ after.unsaid ≡ v.unsaid ++ said → IsWhole after.unsaid → Client k n a sent (shown ++ new) u after
 client_said k n a sent shown new said w u v after c reached fits whole = record {
   events = c.events;
@@ -226,10 +232,10 @@ client_said k n a sent shown new said w u v after c reached fits whole = record 
 
 -- ---- a session that talks
 
-pub parted : (k : Setup) (whole : Bool) (n : ℕ) (a : Arrival) (sent shown : List ℕ) (after : SeatedVisitor) (u v : World) (o : Option SeatedVisitor) → after.gone ≡ false → Client k n a sent shown u after.session → Parts k whole n after u v o → Watched k n a sent shown v o
-parted k whole n a sent shown after u v o there c (parts over silent leaves e) =
+pub parted : (k : Setup) (whole : Bool) (n : ℕ) (a : Arrival) (sent shown : List ℕ) (after : SeatedVisitor) (u v : World) (o : Option SeatedVisitor) → after.gone ≡ false → IsHere k.config (session_seat k n) a.serial u after → Client k n a sent shown u after.session → Parts k whole n after u v o → Watched k n a sent shown v o
+parted k whole n a sent shown after u v o there own c (parts over silent leaves e) =
     rw e (λ stays. record { last = u; visitor = after.session; client = c; ended = over; silent = silent; left = v; leaves = leaves; later = []; moved = refl })
-parted k whole n a sent shown after u v o there c (remains not e f) = rw (f, e) ((λ same. c), λ gone. absurd (false≢true (sym there ∙ gone)))
+parted k whole n a sent shown after u v o there own c (remains not e f) = rw (f, e) ((λ same. c), (λ gone. absurd (false≢true (sym there ∙ gone))), own)
 
 -- its client is there as before
 goes_gone : (k : Config) (n : ℕ) (whole : Bool) (seat : ℕ) (heard : List Noted) (b after : SeatedVisitor) (w u : World) (said : List ℕ) → GoesOn (Meets k n) whole seat heard b w u after said → after.gone ≡ b.gone
@@ -239,13 +245,25 @@ goes_gone k n whole seat heard b after w u said (seated.waits awaits e f g) = ap
 goes_gone k n whole seat heard b after w u said (rests ended e f g) = ap (λ (v : SeatedVisitor). v.gone) f
 goes_gone k n whole seat heard b after w u said (stalls part e f g) = ap (λ (v : SeatedVisitor). v.gone) f
 
+-- the notes of its own seat
+pub heeds : (k : Setup) (place : ℕ) (b : SeatedVisitor) (a : Arrival) (w : World) → AreHeardSmall (w.heard (session_seat k place)) → IsHere k.config (session_seat k place) a.serial w b
+    → Heeds k.config (came_as k place a) (session_seat k place) b (w.heard (session_seat k place)) w
+heeds k place b a w small here = record {
+  small = small;
+  at = refl;
+  own = here.own;
+  out = λ none. subst (λ (n : ℕ). IfSome (sent_by b) (IsFated k.config w (session_seat k place) n)) here.own (here.out none);
+  heard = λ noted c. c;
+}
+
 -- what it said was printed so
-pub talks_watched : (k : Setup) (whole : Bool) (n : ℕ) (a : Arrival) (sent shown new : List ℕ) (heard : List Noted) (w : World) (b : SeatedVisitor) (v : World) (o : Option SeatedVisitor) (printed : List ℕ) → AreHeardSmall heard → b.gone ≡ false
-    → (g : SessionTalks k whole n heard w b v o printed) → new ++ g.speaks.still ≡ b.session.unsaid ++ g.speaks.said → Client k n a sent shown w b.session → Watched k n a sent (shown ++ new) v o
-talks_watched k whole n a sent shown new heard w b v o printed small there g fits c =
+pub talks_watched : (k : Setup) (whole : Bool) (n : ℕ) (a : Arrival) (sent shown new : List ℕ) (w : World) (b : SeatedVisitor) (v : World) (o : Option SeatedVisitor) (printed : List ℕ) → AreHeardSmall (w.heard (session_seat k n)) → b.gone ≡ false → IsHere k.config (session_seat k n) a.serial w b
+    → (g : SessionTalks k whole n (w.heard (session_seat k n)) w b v o printed) → new ++ g.speaks.still ≡ b.session.unsaid ++ g.speaks.said → Client k n a sent shown w b.session → Watched k n a sent (shown ++ new) v o
+talks_watched k whole n a sent shown new w b v o printed small there own g fits c =
+    let heard : List Noted = w.heard (session_seat k n) in
     let spoken : SeatedVisitor = g.speaks.spoken in
-    let r : Reached k.config n (first_standing k a.user) a.began sent (c.said ++ g.speaks.said) spoken.session g.mid =
-    goes_reached k.config n whole (session_seat k n) heard (first_standing k a.user) a.began sent c.said b spoken w g.mid g.speaks.said small g.speaks.goes c.reached in
+    let r : Reached k.config n (came_as k n a) a.began sent (c.said ++ g.speaks.said) spoken.session g.mid =
+    goes_reached k.config n whole (session_seat k n) heard (came_as k n a) a.began sent c.said b spoken w g.mid g.speaks.said (heeds k n b a w small own) g.speaks.goes c.reached in
     let still : SeatedVisitor = still_unsaid g.speaks.still spoken in
     let all : IsWhole (b.session.unsaid ++ g.speaks.said) =
     whole_append b.session.unsaid g.speaks.said c.whole (goes_whole (Meets k.config n) whole (session_seat k n) heard b w g.mid spoken g.speaks.said g.speaks.goes) in
@@ -254,6 +272,8 @@ talks_watched k whole n a sent shown new heard w b v o printed small there g fit
     (still_whole (n + 1) (b.session.unsaid ++ g.speaks.said) g.speaks.still printed all g.speaks.prints) in
     parted k whole n a sent (shown ++ new) g.after g.mid v o
     (ap (λ (x : SeatedVisitor). x.gone) g.speaks.is ∙ goes_gone k.config n whole (session_seat k n) heard b spoken w g.mid g.speaks.said g.speaks.goes ∙ there)
+    (subst (λ (x : SeatedVisitor). IsHere k.config (session_seat k n) a.serial g.mid x) (sym g.speaks.is)
+    (here_as k.config (session_seat k n) a.serial g.mid spoken still refl refl refl (goes_here k.config n whole (session_seat k n) a.serial heard b spoken w g.mid g.speaks.said g.speaks.goes own)))
     (subst (λ (x : SeatedVisitor). Client k n a sent (shown ++ new) g.mid x.session) (sym g.speaks.is) d) g.left
 
 pub talks_walk : (k : Setup) (whole : Bool) (n : ℕ) (heard : List Noted) (w : World) (b : SeatedVisitor) (v : World) (o : Option SeatedVisitor) (printed : List ℕ) → SessionTalks k whole n heard w b v o printed → Walk k.config n w v
@@ -261,6 +281,6 @@ talks_walk k whole n heard w b v o printed g =
     walk_parts k whole n w g.mid g.after v o (walk_speaks k.config n whole (session_seat k n) (n + 1) heard w g.mid b g.after printed g.speaks) g.left
 
 -- one whose client is gone isn't watched
-pub lingers_watched : (k : Setup) (n seat : ℕ) (a : Arrival) (sent shown : List ℕ) (heard : List Noted) (w : World) (b : SeatedVisitor) (o : Option SeatedVisitor) → b.gone ≡ true → a.stays ≡ false → Lingers seat heard b o → Watched k n a sent shown w o
-lingers_watched k n seat a sent shown heard w b o gone left (waits awaits e) = rw e ((λ there. absurd (false≢true (sym there ∙ gone))), λ same. left)
-lingers_watched k n seat a sent shown heard w b o gone left (fades settled e) = rw e (λ stays. absurd (false≢true (sym left ∙ stays)))
+pub lingers_watched : (k : Setup) (n seat : ℕ) (a : Arrival) (sent shown : List ℕ) (heard : List Noted) (w : World) (b : SeatedVisitor) (o : Option SeatedVisitor) → b.gone ≡ true → IsHere k.config (session_seat k n) a.serial w b → a.stays ≡ false → Lingers seat heard b o → Watched k n a sent shown w o
+lingers_watched k n seat a sent shown heard w b o gone own left (waits awaits e) = rw e ((λ there. absurd (false≢true (sym there ∙ gone))), (λ same. left), own)
+lingers_watched k n seat a sent shown heard w b o gone own left (fades settled e) = rw e (λ stays. absurd (false≢true (sym left ∙ stays)))

@@ -7,6 +7,8 @@ pub mod Lives
 pub mod Current
 pub mod Records
 pub mod AtEntries
+pub mod Appends
+pub mod Cuts
 pub mod Selecting
 pub mod One
 pub mod rows

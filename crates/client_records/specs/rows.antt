@@ -1,1 +1,2 @@
 pub mod ClientRows
+pub mod AnswerRows

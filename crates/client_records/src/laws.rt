@@ -2,9 +2,11 @@
 //! come to, its turns, and its whole life. Laws of what a client reads ask that the numbers can be printed (`HasSmallNumbers` of
 //! the settings) and that texts are short (`HasShortTexts` of the world): settings without a fault see to both (`clients_keep_up`).
 
-ghost use Rattle.client_records.specs.AtEntries.{AnswersMakeCurrent};
+ghost use Rattle.client_records.specs.Appends.{AppendsAreTold};
+ghost use Rattle.client_records.specs.AtEntries.{AnswersMakeCurrent, VerdictsMakeCurrent};
 ghost use Rattle.client_records.specs.Clients.{KnowsWhereItIs};
 ghost use Rattle.client_records.specs.Current.{DoneCommandsMakeCurrent, DoneMakesCurrent, FeedsMakeCurrent, ListsAreCurrent, NoopMakesCurrent};
+ghost use Rattle.client_records.specs.Cuts.{AnswersAreCut};
 ghost use Rattle.client_records.specs.Laws.{CallsAreSeen, CountedAreGiven, EntriesAreCounted, GoneStayGone, LeaversCountNothing, OthersLeaveViews, UidsStay, ViewsAreNumbered};
 ghost use Rattle.client_records.specs.Lives.{LivesAreKnown};
 ghost use Rattle.client_records.specs.One.{OneLifeIsLived};
@@ -100,7 +102,11 @@ pub fn lists_are_current()
     ensures list { ListsAreCurrent }
 
     // So it is at each entry of a record with which a client's bytes came: where that is the last that it is told, its list is the mailbox behind the entry.
+    // DONE ends an IDLE with such an OK, too.
     ensures entries { AnswersMakeCurrent }
+
+    // And at each entry at which a session puts a message that its client appended, or hears the verdict on it: behind the OK of an APPEND.
+    ensures verdicts { VerdictsMakeCurrent }
 {}
 
 /// Over any record of a house that was new, of whatever events: the client of each session that is there, by all that it sent
@@ -123,4 +129,22 @@ pub fn clients_keep_up()
 
     // A house of settings that are in range and without a fault is printable.
     ensures settings { SettingsCanBePrinted }
+{}
+
+/// What a client may conclude of the messages that it appended, by the answers that its session gave it, over any record of a house
+/// that was new. Where the last line of an answer begins `OK [APPENDUID ` behind a tag, it tells the house's UIDVALIDITY and the UID
+/// under which one copy of this very session stands in its mailbox's history, exactly once: its seat has heard so (RFC 9051, 6.3.12;
+/// RFC 4315, 3). Such answers are about different messages, in the order in which they were appended; and to each verdict that says
+/// that the message is stored the session answers that OK, unless the store refuses.
+pub fn appends_are_told()
+    // Beside each answer of a session that is there stands the verdict that it was said to, or none; and it says what is said to that.
+    ensures { AppendsAreTold }
+{}
+
+/// The answers into which a record cuts what was printed to a client are those that the bytes allow: each has one tagged line at
+/// most, outside of literals, and it is its last (RFC 9051, 2.2.2 and 4.3). So a client that cuts what it reads behind each tagged
+/// line, and knows nothing else, cuts between these answers and nowhere else.
+pub fn answers_are_cut()
+    // Whoever is there: what is printed to it, and is still to be printed, is cut so.
+    ensures { AnswersAreCut }
 {}

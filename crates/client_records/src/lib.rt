@@ -5,6 +5,6 @@
 mod laws;
 
 pub use laws::{
-    calls_are_seen, clients_keep_up, lists_are_current, lives_are_known, one_life_happens,
-    turns_are_known, uids_stay,
+    answers_are_cut, appends_are_told, calls_are_seen, clients_keep_up, lists_are_current,
+    lives_are_known, one_life_happens, turns_are_known, uids_stay,
 };

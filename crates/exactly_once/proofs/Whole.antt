@@ -52,7 +52,7 @@ whole_append a b p (inl e) = subst (λ (x : List ℕ). IsWhole (a ++ x)) (sym e)
 whole_append a b p (inr (front, e)) = inr (a ++ front, ap (λ (x : List ℕ). a ++ x) e ∙ sym (append_assoc a front crlf))
 
 -- what ends in the last word of a line
-ends : (front words : List ℕ) → IsWhole (front ++ (words ++ crlf))
+pub ends : (front words : List ℕ) → IsWhole (front ++ (words ++ crlf))
 ends front words = inr (front ++ words, sym (append_assoc front words crlf))
 
 -- these are lines
@@ -65,19 +65,19 @@ cut_of bytes (inr (front, e)) =
 
 -- ---- what is said
 
-line_whole : (view : List ℕ) (c : Change) → IsWhole (line view c)
+pub line_whole : (view : List ℕ) (c : Change) → IsWhole (line view c)
 line_whole view (Add uid) = ends (codes "* " ++ decimal (length view + 1)) (codes " EXISTS")
 line_whole view (Gone uid) = ends (codes "* " ++ decimal (position uid view)) (codes " EXPUNGE")
 line_whole view (SetFlags uid flags) = ends (codes "* " ++ decimal (position uid view) ++ codes " FETCH (UID " ++ decimal uid ++ codes " FLAGS (" ++ spaced (flag_words flags)) (codes "))")
 
-lines_whole : (view : List ℕ) (changes : List Change) → IsWhole (lines view changes)
+pub lines_whole : (view : List ℕ) (changes : List Change) → IsWhole (lines view changes)
 lines_whole view [] = inl refl
 lines_whole view (c ∷ cs) = whole_append (line view c) (lines (shown view c) cs) (line_whole view c) (lines_whole (shown view c) cs)
 
 tagged_whole : (tag words : List ℕ) → IsWhole (tagged tag words)
 tagged_whole tag words = inr (tag ++ codes " " ++ words, refl)
 
-bye_whole : (words : List ℕ) → IsWhole (bye words)
+pub bye_whole : (words : List ℕ) → IsWhole (bye words)
 bye_whole words = inr (codes "* BYE " ++ words, refl)
 
 closed_whole : (now : Standing) (how : After) → IsWhole (closed now how).bytes
@@ -292,7 +292,7 @@ in_done command true gone = tt
 in_done command false true = tt
 in_done command false false = tt
 
-fetched_whole : (fetch : Fetch) (view : List ℕ) (uid : ℕ) (row : Row) → IsWhole (fetched fetch view uid row)
+pub fetched_whole : (fetch : Fetch) (view : List ℕ) (uid : ℕ) (row : Row) → IsWhole (fetched fetch view uid row)
 fetched_whole fetch view uid row = ends (codes "* " ++ decimal (position uid view) ++ codes " FETCH (" ++ spaced (map (item_text row) (answered fetch.by_uid row.newly_seen fetch.items))) (codes ")")
 
 in_fetching : (fetch : Fetch) (mark : Bool) (view : List ℕ) (done : Bool → Exchange) → ((gone : Bool) → SaysWhole (done gone)) → (uids : List ℕ) (gone : Bool) → SaysWhole (fetching fetch mark view done uids gone)
@@ -300,7 +300,7 @@ in_fetching fetch mark view done p [] gone = p gone
 in_fetching fetch mark view done p (uid ∷ uids) gone =
     elim [ None ↦ in_fetching fetch mark view done p uids true | Some row ↦ (fetched_whole fetch view uid row, in_fetching fetch mark view done p uids gone) ]
 
-flags_whole : (by_uid : Bool) (k uid : ℕ) (flags : Flags) → IsWhole (flags_answer by_uid k uid flags)
+pub flags_whole : (by_uid : Bool) (k uid : ℕ) (flags : Flags) → IsWhole (flags_answer by_uid k uid flags)
 flags_whole by_uid k uid flags =
     ends (codes "* " ++ decimal k ++ codes " FETCH (" ++ (if by_uid then codes "UID " ++ decimal uid ++ codes " " else []) ++ codes "FLAGS (" ++ spaced (flag_words flags)) (codes "))")
 
@@ -313,7 +313,7 @@ in_storing store view done p [] gone = p gone
 in_storing store view done p (uid ∷ uids) gone =
     elim [ None ↦ in_storing store view done p uids true | Some flags ↦ in_silence store.silent _ _ (flags_whole store.by_uid (position uid view) uid flags) (in_storing store view done p uids gone) ]
 
-opening_whole : (read_only : Bool) (name : List ℕ) (opening : Opening) → IsWhole (opening_text read_only name opening)
+pub opening_whole : (read_only : Bool) (name : List ℕ) (opening : Opening) → IsWhole (opening_text read_only name opening)
 opening_whole read_only name opening = inr (
   codes "* FLAGS (" ++ all_flags ++ codes ")\r\n* " ++ decimal opening.count ++ codes " EXISTS\r\n" ++ codes "* OK [UIDVALIDITY " ++ decimal opening.uidvalidity ++ codes "] UIDs valid\r\n"
       ++ codes "* OK [UIDNEXT " ++ decimal opening.uidnext ++ codes "] Predicted next UID\r\n" ++ codes "* OK [PERMANENTFLAGS (" ++ (if read_only then [] else all_flags) ++ codes ")] Flags kept\r\n"
@@ -336,7 +336,7 @@ if_whole : (b : Bool) (x y : List ℕ) → IsWhole x → IsWhole y → IsWhole (
 if_whole true x y p q = p
 if_whole false x y p q = q
 
-list_whole : (reference pattern : List ℕ) (names : List (List ℕ)) → IsWhole (list_answer reference pattern names)
+pub list_whole : (reference pattern : List ℕ) (names : List (List ℕ)) → IsWhole (list_answer reference pattern names)
 list_whole reference pattern names = if_whole (asks_for_root reference pattern) root_answer _ (inr (codes "* LIST (\\Noselect) \"/\" \"\"", refl)) (each_listed (reference ++ pattern) names)
 
 in_folder : (next : Folder → Exchange) → ((folder : Folder) → SaysWhole (next folder)) → (found : Option Folder) → SaysWhole (on_found next (says (codes "NO [NONEXISTENT] No such mailbox")) found)

@@ -1,4 +1,4 @@
-use Rattle.client_records.proofs.AtEntries.{answers_make_current}
+use Rattle.client_records.proofs.AtEntries.{answers_make_current, verdicts_make_current}
 use Rattle.client_records.proofs.Current.{done_makes_current, feeds_make_current, noop_makes_current}
 use Rattle.client_records.proofs.OkCurrent.{done_commands_make_current, lists_are_current}
 use Rattle.client_records.proofs.laws.lists_are_current.Goals as goal
@@ -20,3 +20,6 @@ returns-clause-commands c = done_commands_make_current
 
 pub returns-clause-entries : goal.returns-clause-entries
 returns-clause-entries c = answers_make_current
+
+pub returns-clause-verdicts : goal.returns-clause-verdicts
+returns-clause-verdicts c = verdicts_make_current

@@ -1,0 +1,439 @@
+-- What a session knows of the messages that its client appends: it changes where an exchange waits, and by what it waits for.
+use Rattle.std.proofs.Common.{◌≡◌, ◌⊎◌, inl, inr, ℕ, zero, suc, ◌+◌, Bool, true, false, List, [], ◌∷◌, ◌++◌, length, refl, sym, ap, ◌∙◌, subst, Option, Some, None}
+use Rattle.std.specs.Prelude.{codes, nat_le, nat_lt, ◌==◌, if◌then◌else◌}
+use Rattle.std.specs.List.{list_any}
+use Rattle.std.specs.Option.{option_map}
+use Rattle.change_ring.specs.declared.change.Change.{Change}
+use Rattle.change_ring.specs.declared.change.Flags.{Flags}
+use Rattle.cursor_set.specs.Lines.{lines, position}
+use Rattle.delivery_token.specs.declared.Verdict.{Verdict}
+use Rattle.delivery_token.specs.declared.Verdict.TheVariants as verdicts
+use Rattle.mailbox.specs.declared.clients.MailFault.TheVariants.{NoMemory}
+use Rattle.mailbox.specs.declared.clients.Opening.{Opening}
+use Rattle.mailbox.specs.declared.clients.Row.{Row}
+use Rattle.mailbox.specs.declared.mailbox.Status.{Status}
+use Rattle.imap_grammar.specs.Reading.{is_done}
+use Rattle.imap_grammar.specs.Sets.{named_in}
+use Rattle.imap_grammar.specs.declared.command.Append.{Append}
+use Rattle.imap_grammar.specs.declared.command.Command.{Command}
+use Rattle.imap_grammar.specs.declared.command.Command.TheVariants as commands
+use Rattle.imap_grammar.specs.declared.command.Fetch.{Fetch}
+use Rattle.imap_grammar.specs.declared.command.Store.{Store}
+use Rattle.imap_session.specs.declared.standing.After.{After}
+use Rattle.imap_session.specs.declared.standing.After.TheVariants.{Go, Bye}
+use Rattle.imap_session.specs.declared.standing.After.TheVariants as afters
+use Rattle.imap_session.specs.declared.standing.Selected.{Selected}
+use Rattle.imap_session.specs.Exchange as ex
+use Rattle.imap_session.specs.Exchange.{Answer, Appending, Asked, Call, Dropped, Entered, Looked, Found, Counted, Altered, Expunged, Fed, Left, Refused, Starved, Exchange, Folder, ForDone, ForLiteral, ForNothing, ForVerdict, Mailing, Standing, Turn, Unasked, Waiting, bye, closed, having, played, refusal_after, saying, text_before, unkept, waiting, where_long, refused}
+use Rattle.imap_session.specs.Commands.{appending, asking, closing, coming, completed, counting, entering, expunge_set, fetch_messages, fetching, folder_of, if_writable, is_over, last_number, messages_done, most_unasked, notice, noticing, nowhere, number_named, on_chosen, on_command, on_found, on_idle_line, on_rest, on_text, on_verdict, over, says, showing, store_messages, storing, unlimited, wanting, wrong_state}
+
+-- ---- an exchange
+
+-- it waits only so
+abbrev pub WaitsAs : (Waiting → Type 0) → Exchange → Type 0
+WaitsAs A (ex.Done words how) = Unit {0}
+WaitsAs A (ex.Wait bytes waits) = A waits
+WaitsAs A (ex.Write bytes x) = WaitsAs A x
+WaitsAs A (ex.Put bytes x) = WaitsAs A x
+WaitsAs A (ex.Enter selected next) = (opening : Opening) → WaitsAs A (next opening)
+WaitsAs A (ex.Look next) = (view : List ℕ) → WaitsAs A (next view)
+WaitsAs A (ex.Read uid mark next) = (row : Option Row) → WaitsAs A (next row)
+WaitsAs A (ex.Count mailbox next) = (status : Status) → WaitsAs A (next status)
+WaitsAs A (ex.Alter uid op next) = (flags : Option Flags) → WaitsAs A (next flags)
+WaitsAs A (ex.Expunge uids x) = WaitsAs A x
+WaitsAs A (ex.Feed limit x) = WaitsAs A x
+WaitsAs A (ex.Leave remove x) = WaitsAs A x
+
+-- who waits for a literal that wasn't asked for may drop its bytes
+abbrev pub Drops : (Waiting → Type 0) → Type 0
+Drops A = (mailbox : Option ℕ) (flags : Flags) (size : ℕ) → A (ForLiteral Unasked mailbox flags size) → A (ForLiteral Dropped None flags size)
+
+-- what is known of messages where it waits so
+abbrev pub waiting_mail : List ℕ → Waiting → Mailing → Mailing
+waiting_mail tag ForDone m = m
+waiting_mail tag (ForLiteral coming mailbox flags size) m = record m { begun = Some (record { tag = tag; mailbox = mailbox; flags = flags; size = size; due = size; text = text_before coming }) }
+waiting_mail tag (ForVerdict mailbox flags text) m = record m { number = m.number + 1; sent = Some (record { tag = tag; append = record { message = m.number; mailbox = mailbox; text = text; flags = flags } }) }
+waiting_mail tag ForNothing m = m
+
+waiting_is : (tag : List ℕ) (w : Waiting) (now : Standing) → (waiting tag w now).mailing ≡ waiting_mail tag w now.mailing
+waiting_is tag ForDone now = refl
+waiting_is tag (ForLiteral coming mailbox flags size) now = refl
+waiting_is tag (ForVerdict mailbox flags text) now = refl
+waiting_is tag ForNothing now = refl
+
+-- it is as before, or it waits so
+abbrev pub IsMail : (Waiting → Type 0) → (tag : List ℕ) → Mailing → Mailing → Type 0
+IsMail A tag m next = (next ≡ m) ⊎ ((w : Waiting) × A w × (next ≡ waiting_mail tag w m))
+
+abbrev pub TurnMail : (Waiting → Type 0) → (tag : List ℕ) → Mailing → Option Turn → Type 0
+TurnMail A tag m None = Unit {0}
+TurnMail A tag m (Some turn) = IsMail A tag m turn.standing.mailing
+
+then_having : (A : Waiting → Type 0) (tag : List ℕ) (m : Mailing) (call : Call) (answer : Answer) (o : Option Turn) → TurnMail A tag m o → TurnMail A tag m (option_map (having call answer) o)
+then_having A tag m call answer None p = tt
+then_having A tag m call answer (Some turn) p = p
+
+then_saying : (A : Waiting → Type 0) (tag : List ℕ) (m : Mailing) (bytes : List ℕ) (o : Option Turn) → TurnMail A tag m o → TurnMail A tag m (option_map (saying bytes) o)
+then_saying A tag m bytes None p = tt
+then_saying A tag m bytes (Some turn) p = p
+
+then_showing : (A : Waiting → Type 0) (tag : List ℕ) (m : Mailing) (call : Call) (answer : Answer) (view : List ℕ) (changes : List Change) (o : Option Turn) → TurnMail A tag m o
+    → TurnMail A tag m (option_map (λ turn. having call answer (saying (lines view changes) turn)) o)
+then_showing A tag m call answer view changes None p = tt
+then_showing A tag m call answer view changes (Some turn) p = p
+
+closed_mail : (A : Waiting → Type 0) (tag : List ℕ) (now : Standing) (how : After) → IsMail A tag now.mailing (closed now how).standing.mailing
+closed_mail A tag now Go = inl refl
+closed_mail A tag now Bye = inl refl
+closed_mail A tag now afters.Idle = inl refl
+closed_mail A tag now (afters.Literal due) = inl refl
+closed_mail A tag now afters.Submit = inl refl
+
+long_mail : (A : Waiting → Type 0) (tag : List ℕ) (m : Mailing) (turn : Turn) → IsMail A tag m turn.standing.mailing → TurnMail A tag m (where_long tag turn)
+long_mail A tag m turn p = by (nat_lt ex.most_in_place (length tag))
+  where
+    by : (b : Bool) → TurnMail A tag m (if b then Some turn else None)
+    by true = p
+    by false = tt
+
+unkept_mail : (A : Waiting → Type 0) → Drops A → (tag : List ℕ) (w : Waiting) (now : Standing) (n : ℕ) → A w → TurnMail A tag now.mailing (unkept tag w now n)
+unkept_mail A drops tag ForDone now zero p = long_mail A tag now.mailing (refused tag now NoMemory) (closed_mail A tag now (refusal_after NoMemory))
+unkept_mail A drops tag ForDone now (suc n) p = tt
+unkept_mail A drops tag (ForLiteral Asked mailbox flags size) now zero p = long_mail A tag now.mailing (refused tag now NoMemory) (closed_mail A tag now (refusal_after NoMemory))
+unkept_mail A drops tag (ForLiteral Asked mailbox flags size) now (suc n) p = tt
+unkept_mail A drops tag (ForLiteral Unasked mailbox flags size) now zero p = inr (ForLiteral Dropped None flags size, drops mailbox flags size p, refl)
+unkept_mail A drops tag (ForLiteral Unasked mailbox flags size) now (suc zero) p = long_mail A tag now.mailing _ (inl refl)
+unkept_mail A drops tag (ForLiteral Unasked mailbox flags size) now (suc (suc n)) p = tt
+unkept_mail A drops tag (ForLiteral Dropped mailbox flags size) now zero p = tt
+unkept_mail A drops tag (ForLiteral Dropped mailbox flags size) now (suc n) p = tt
+unkept_mail A drops tag (ForVerdict mailbox flags text) now zero p = tt
+unkept_mail A drops tag (ForVerdict mailbox flags text) now (suc n) p = tt
+unkept_mail A drops tag ForNothing now zero p = tt
+unkept_mail A drops tag ForNothing now (suc n) p = tt
+
+pub played_mail : (A : Waiting → Type 0) → Drops A → (tag : List ℕ) (now : Standing) (x : Exchange) (answers : List Answer) → WaitsAs A x → TurnMail A tag now.mailing (played tag now x answers)
+played_mail A drops tag now (ex.Done words how) [] p = closed_mail A tag now how
+played_mail A drops tag now (ex.Done words how) (answer ∷ more) p = tt
+played_mail A drops tag now (ex.Wait bytes waits) [] p = inr (waits, p, waiting_is tag waits now)
+played_mail A drops tag now (ex.Wait bytes waits) ((Entered a) ∷ more) p = tt
+played_mail A drops tag now (ex.Wait bytes waits) ((Looked a) ∷ more) p = tt
+played_mail A drops tag now (ex.Wait bytes waits) ((Found a) ∷ more) p = tt
+played_mail A drops tag now (ex.Wait bytes waits) ((Counted a) ∷ more) p = tt
+played_mail A drops tag now (ex.Wait bytes waits) ((Altered a) ∷ more) p = tt
+played_mail A drops tag now (ex.Wait bytes waits) ((Expunged a b c) ∷ more) p = tt
+played_mail A drops tag now (ex.Wait bytes waits) ((Fed a b) ∷ more) p = tt
+played_mail A drops tag now (ex.Wait bytes waits) ((Left a) ∷ more) p = tt
+played_mail A drops tag now (ex.Wait bytes waits) ((Refused a) ∷ more) p = tt
+played_mail A drops tag now (ex.Wait bytes waits) (Starved n ∷ []) p = unkept_mail A drops tag waits now n p
+played_mail A drops tag now (ex.Wait bytes waits) (Starved n ∷ d ∷ more) p = tt
+played_mail A drops tag now (ex.Write bytes x) [] p = then_saying A tag now.mailing bytes (played tag now x []) (played_mail A drops tag now x [] p)
+played_mail A drops tag now (ex.Write bytes x) ((Entered a) ∷ more) p = then_saying A tag now.mailing bytes (played tag now x ((Entered a) ∷ more)) (played_mail A drops tag now x ((Entered a) ∷ more) p)
+played_mail A drops tag now (ex.Write bytes x) ((Looked a) ∷ more) p = then_saying A tag now.mailing bytes (played tag now x ((Looked a) ∷ more)) (played_mail A drops tag now x ((Looked a) ∷ more) p)
+played_mail A drops tag now (ex.Write bytes x) ((Found a) ∷ more) p = then_saying A tag now.mailing bytes (played tag now x ((Found a) ∷ more)) (played_mail A drops tag now x ((Found a) ∷ more) p)
+played_mail A drops tag now (ex.Write bytes x) ((Counted a) ∷ more) p = then_saying A tag now.mailing bytes (played tag now x ((Counted a) ∷ more)) (played_mail A drops tag now x ((Counted a) ∷ more) p)
+played_mail A drops tag now (ex.Write bytes x) ((Altered a) ∷ more) p = then_saying A tag now.mailing bytes (played tag now x ((Altered a) ∷ more)) (played_mail A drops tag now x ((Altered a) ∷ more) p)
+played_mail A drops tag now (ex.Write bytes x) ((Expunged a b c) ∷ more) p = then_saying A tag now.mailing bytes (played tag now x ((Expunged a b c) ∷ more)) (played_mail A drops tag now x ((Expunged a b c) ∷ more) p)
+played_mail A drops tag now (ex.Write bytes x) ((Fed a b) ∷ more) p = then_saying A tag now.mailing bytes (played tag now x ((Fed a b) ∷ more)) (played_mail A drops tag now x ((Fed a b) ∷ more) p)
+played_mail A drops tag now (ex.Write bytes x) ((Left a) ∷ more) p = then_saying A tag now.mailing bytes (played tag now x ((Left a) ∷ more)) (played_mail A drops tag now x ((Left a) ∷ more) p)
+played_mail A drops tag now (ex.Write bytes x) ((Refused a) ∷ more) p = then_saying A tag now.mailing bytes (played tag now x ((Refused a) ∷ more)) (played_mail A drops tag now x ((Refused a) ∷ more) p)
+played_mail A drops tag now (ex.Write bytes x) (Starved zero ∷ []) p = closed_mail A tag now (refusal_after NoMemory)
+played_mail A drops tag now (ex.Write bytes x) (Starved zero ∷ d ∷ more) p = then_saying A tag now.mailing bytes (played tag now x (Starved zero ∷ d ∷ more)) (played_mail A drops tag now x (Starved zero ∷ d ∷ more) p)
+played_mail A drops tag now (ex.Write bytes x) (Starved (suc a) ∷ []) p = then_saying A tag now.mailing bytes (played tag now x (Starved a ∷ [])) (played_mail A drops tag now x (Starved a ∷ []) p)
+played_mail A drops tag now (ex.Write bytes x) (Starved (suc a) ∷ d ∷ more) p = then_saying A tag now.mailing bytes (played tag now x (Starved (suc a) ∷ d ∷ more)) (played_mail A drops tag now x (Starved (suc a) ∷ d ∷ more) p)
+played_mail A drops tag now (ex.Put bytes x) answers p = then_saying A tag now.mailing bytes (played tag now x answers) (played_mail A drops tag now x answers p)
+played_mail A drops tag now (ex.Enter selected next) [] p = tt
+played_mail A drops tag now (ex.Enter selected next) ((Entered a) ∷ more) p = then_having A tag now.mailing (ex.Enter selected.mailbox) (Entered a) (played tag (record now { selected = Some selected }) (next a) more) (played_mail A drops tag (record now { selected = Some selected }) (next a) more (p a))
+played_mail A drops tag now (ex.Enter selected next) ((Looked a) ∷ more) p = tt
+played_mail A drops tag now (ex.Enter selected next) ((Found a) ∷ more) p = tt
+played_mail A drops tag now (ex.Enter selected next) ((Counted a) ∷ more) p = tt
+played_mail A drops tag now (ex.Enter selected next) ((Altered a) ∷ more) p = tt
+played_mail A drops tag now (ex.Enter selected next) ((Expunged a b c) ∷ more) p = tt
+played_mail A drops tag now (ex.Enter selected next) ((Fed a b) ∷ more) p = tt
+played_mail A drops tag now (ex.Enter selected next) ((Left a) ∷ more) p = tt
+played_mail A drops tag now (ex.Enter selected next) (Refused a ∷ []) p = closed_mail A tag now (refusal_after a)
+played_mail A drops tag now (ex.Enter selected next) (Refused a ∷ d ∷ more) p = tt
+played_mail A drops tag now (ex.Enter selected next) ((Starved zero) ∷ more) p = tt
+played_mail A drops tag now (ex.Enter selected next) ((Starved (suc a)) ∷ more) p = tt
+played_mail A drops tag now (ex.Look next) [] p = tt
+played_mail A drops tag now (ex.Look next) ((Entered a) ∷ more) p = tt
+played_mail A drops tag now (ex.Look next) ((Looked a) ∷ more) p = then_having A tag now.mailing ex.Look (Looked a) (played tag now (next a) more) (played_mail A drops tag now (next a) more (p a))
+played_mail A drops tag now (ex.Look next) ((Found a) ∷ more) p = tt
+played_mail A drops tag now (ex.Look next) ((Counted a) ∷ more) p = tt
+played_mail A drops tag now (ex.Look next) ((Altered a) ∷ more) p = tt
+played_mail A drops tag now (ex.Look next) ((Expunged a b c) ∷ more) p = tt
+played_mail A drops tag now (ex.Look next) ((Fed a b) ∷ more) p = tt
+played_mail A drops tag now (ex.Look next) ((Left a) ∷ more) p = tt
+played_mail A drops tag now (ex.Look next) (Refused a ∷ []) p = closed_mail A tag now (refusal_after a)
+played_mail A drops tag now (ex.Look next) (Refused a ∷ d ∷ more) p = tt
+played_mail A drops tag now (ex.Look next) (Starved a ∷ more) p = tt
+played_mail A drops tag now (ex.Read uid mark next) [] p = tt
+played_mail A drops tag now (ex.Read uid mark next) ((Entered a) ∷ more) p = tt
+played_mail A drops tag now (ex.Read uid mark next) ((Looked a) ∷ more) p = tt
+played_mail A drops tag now (ex.Read uid mark next) ((Found a) ∷ more) p = then_having A tag now.mailing (ex.Read uid mark) (Found a) (played tag now (next a) more) (played_mail A drops tag now (next a) more (p a))
+played_mail A drops tag now (ex.Read uid mark next) ((Counted a) ∷ more) p = tt
+played_mail A drops tag now (ex.Read uid mark next) ((Altered a) ∷ more) p = tt
+played_mail A drops tag now (ex.Read uid mark next) ((Expunged a b c) ∷ more) p = tt
+played_mail A drops tag now (ex.Read uid mark next) ((Fed a b) ∷ more) p = tt
+played_mail A drops tag now (ex.Read uid mark next) ((Left a) ∷ more) p = tt
+played_mail A drops tag now (ex.Read uid mark next) (Refused a ∷ []) p = closed_mail A tag now (refusal_after a)
+played_mail A drops tag now (ex.Read uid mark next) (Refused a ∷ d ∷ more) p = tt
+played_mail A drops tag now (ex.Read uid mark next) ((Starved zero) ∷ more) p = tt
+played_mail A drops tag now (ex.Read uid mark next) ((Starved (suc a)) ∷ more) p = tt
+played_mail A drops tag now (ex.Count mailbox next) [] p = tt
+played_mail A drops tag now (ex.Count mailbox next) ((Entered a) ∷ more) p = tt
+played_mail A drops tag now (ex.Count mailbox next) ((Looked a) ∷ more) p = tt
+played_mail A drops tag now (ex.Count mailbox next) ((Found a) ∷ more) p = tt
+played_mail A drops tag now (ex.Count mailbox next) ((Counted a) ∷ more) p = then_having A tag now.mailing (ex.Count mailbox) (Counted a) (played tag now (next a) more) (played_mail A drops tag now (next a) more (p a))
+played_mail A drops tag now (ex.Count mailbox next) ((Altered a) ∷ more) p = tt
+played_mail A drops tag now (ex.Count mailbox next) ((Expunged a b c) ∷ more) p = tt
+played_mail A drops tag now (ex.Count mailbox next) ((Fed a b) ∷ more) p = tt
+played_mail A drops tag now (ex.Count mailbox next) ((Left a) ∷ more) p = tt
+played_mail A drops tag now (ex.Count mailbox next) (Refused a ∷ []) p = closed_mail A tag now (refusal_after a)
+played_mail A drops tag now (ex.Count mailbox next) (Refused a ∷ d ∷ more) p = tt
+played_mail A drops tag now (ex.Count mailbox next) ((Starved zero) ∷ more) p = tt
+played_mail A drops tag now (ex.Count mailbox next) ((Starved (suc a)) ∷ more) p = tt
+played_mail A drops tag now (ex.Alter uid op next) [] p = tt
+played_mail A drops tag now (ex.Alter uid op next) ((Entered a) ∷ more) p = tt
+played_mail A drops tag now (ex.Alter uid op next) ((Looked a) ∷ more) p = tt
+played_mail A drops tag now (ex.Alter uid op next) ((Found a) ∷ more) p = tt
+played_mail A drops tag now (ex.Alter uid op next) ((Counted a) ∷ more) p = tt
+played_mail A drops tag now (ex.Alter uid op next) ((Altered a) ∷ more) p = then_having A tag now.mailing (ex.Alter uid op) (Altered a) (played tag now (next a) more) (played_mail A drops tag now (next a) more (p a))
+played_mail A drops tag now (ex.Alter uid op next) ((Expunged a b c) ∷ more) p = tt
+played_mail A drops tag now (ex.Alter uid op next) ((Fed a b) ∷ more) p = tt
+played_mail A drops tag now (ex.Alter uid op next) ((Left a) ∷ more) p = tt
+played_mail A drops tag now (ex.Alter uid op next) (Refused a ∷ []) p = closed_mail A tag now (refusal_after a)
+played_mail A drops tag now (ex.Alter uid op next) (Refused a ∷ d ∷ more) p = tt
+played_mail A drops tag now (ex.Alter uid op next) ((Starved zero) ∷ more) p = tt
+played_mail A drops tag now (ex.Alter uid op next) ((Starved (suc a)) ∷ more) p = tt
+played_mail A drops tag now (ex.Expunge uids x) [] p = tt
+played_mail A drops tag now (ex.Expunge uids x) ((Entered a) ∷ more) p = tt
+played_mail A drops tag now (ex.Expunge uids x) ((Looked a) ∷ more) p = tt
+played_mail A drops tag now (ex.Expunge uids x) ((Found a) ∷ more) p = tt
+played_mail A drops tag now (ex.Expunge uids x) ((Counted a) ∷ more) p = tt
+played_mail A drops tag now (ex.Expunge uids x) ((Altered a) ∷ more) p = tt
+played_mail A drops tag now (ex.Expunge uids x) ((Expunged a b c) ∷ more) p = then_showing A tag now.mailing (ex.Expunge uids) (Expunged a b c) a b (played tag now x more) (played_mail A drops tag now x more p)
+played_mail A drops tag now (ex.Expunge uids x) ((Fed a b) ∷ more) p = tt
+played_mail A drops tag now (ex.Expunge uids x) ((Left a) ∷ more) p = tt
+played_mail A drops tag now (ex.Expunge uids x) (Refused a ∷ []) p = closed_mail A tag now (refusal_after a)
+played_mail A drops tag now (ex.Expunge uids x) (Refused a ∷ d ∷ more) p = tt
+played_mail A drops tag now (ex.Expunge uids x) ((Starved zero) ∷ more) p = tt
+played_mail A drops tag now (ex.Expunge uids x) ((Starved (suc a)) ∷ more) p = tt
+played_mail A drops tag now (ex.Feed limit x) [] p = tt
+played_mail A drops tag now (ex.Feed limit x) ((Entered a) ∷ more) p = tt
+played_mail A drops tag now (ex.Feed limit x) ((Looked a) ∷ more) p = tt
+played_mail A drops tag now (ex.Feed limit x) ((Found a) ∷ more) p = tt
+played_mail A drops tag now (ex.Feed limit x) ((Counted a) ∷ more) p = tt
+played_mail A drops tag now (ex.Feed limit x) ((Altered a) ∷ more) p = tt
+played_mail A drops tag now (ex.Feed limit x) ((Expunged a b c) ∷ more) p = tt
+played_mail A drops tag now (ex.Feed limit x) ((Fed a b) ∷ more) p = then_showing A tag now.mailing (ex.Feed limit) (Fed a b) a b (played tag now x more) (played_mail A drops tag now x more p)
+played_mail A drops tag now (ex.Feed limit x) ((Left a) ∷ more) p = tt
+played_mail A drops tag now (ex.Feed limit x) (Refused a ∷ []) p = closed_mail A tag now (refusal_after a)
+played_mail A drops tag now (ex.Feed limit x) (Refused a ∷ d ∷ more) p = tt
+played_mail A drops tag now (ex.Feed limit x) ((Starved zero) ∷ more) p = tt
+played_mail A drops tag now (ex.Feed limit x) ((Starved (suc a)) ∷ more) p = tt
+played_mail A drops tag now (ex.Leave remove x) [] p = tt
+played_mail A drops tag now (ex.Leave remove x) ((Entered a) ∷ more) p = tt
+played_mail A drops tag now (ex.Leave remove x) ((Looked a) ∷ more) p = tt
+played_mail A drops tag now (ex.Leave remove x) ((Found a) ∷ more) p = tt
+played_mail A drops tag now (ex.Leave remove x) ((Counted a) ∷ more) p = tt
+played_mail A drops tag now (ex.Leave remove x) ((Altered a) ∷ more) p = tt
+played_mail A drops tag now (ex.Leave remove x) ((Expunged a b c) ∷ more) p = tt
+played_mail A drops tag now (ex.Leave remove x) ((Fed a b) ∷ more) p = tt
+played_mail A drops tag now (ex.Leave remove x) ((Left a) ∷ more) p = then_having A tag now.mailing (ex.Leave remove) (Left a) (played tag (record now { selected = None }) x more) (played_mail A drops tag (record now { selected = None }) x more p)
+played_mail A drops tag now (ex.Leave remove x) (Refused a ∷ []) p = closed_mail A tag now (refusal_after a)
+played_mail A drops tag now (ex.Leave remove x) (Refused a ∷ d ∷ more) p = tt
+played_mail A drops tag now (ex.Leave remove x) ((Starved zero) ∷ more) p = tt
+played_mail A drops tag now (ex.Leave remove x) ((Starved (suc a)) ∷ more) p = tt
+
+
+-- ---- what an exchange is made of
+
+in_either : (A : Waiting → Type 0) → (b : Bool) (x y : Exchange) → WaitsAs A x → WaitsAs A y → WaitsAs A (if b then x else y)
+in_either A true x y p q = p
+in_either A false x y p q = q
+
+in_showing : (A : Waiting → Type 0) → (selected : Option Selected) (x : Exchange) → WaitsAs A x → WaitsAs A (showing selected x)
+in_showing A None x p = p
+in_showing A (Some selected) x p = p
+
+in_closing : (A : Waiting → Type 0) → (selected : Option Selected) (x : Exchange) → WaitsAs A x → WaitsAs A (closing selected x)
+in_closing A None x p = p
+in_closing A (Some selected) x p = p
+
+in_found : {X : Type 0} (A : Waiting → Type 0) (next : X → Exchange) (gone : Exchange) → ((a : X) → WaitsAs A (next a)) → WaitsAs A gone → (found : Option X) → WaitsAs A (on_found next gone found)
+in_found A next gone p q None = q
+in_found A next gone p q (Some a) = p a
+
+in_writable : (A : Waiting → Type 0) → (selected : Option Selected) (x : Exchange) → WaitsAs A x → WaitsAs A (on_found (if_writable x) wrong_state selected)
+in_writable A selected x p = in_found A (if_writable x) wrong_state (λ (s : Selected). in_either A s.read_only (says (codes "NO Mailbox is read-only")) x tt p) tt selected
+
+in_chosen : (A : Waiting → Type 0) → (chosen : Option (List ℕ)) (next : List ℕ → Exchange) → ((uids : List ℕ) → WaitsAs A (next uids)) → WaitsAs A (on_chosen chosen next)
+in_chosen A None next p = tt
+in_chosen A (Some uids) next p = p uids
+
+in_done : (A : Waiting → Type 0) → (command : Command) (by_uid gone : Bool) → WaitsAs A (completed command) → WaitsAs A (messages_done command by_uid gone)
+in_done A command true gone p = p
+in_done A command false true p = tt
+in_done A command false false p = p
+
+in_fetching : (A : Waiting → Type 0) → (fetch : Fetch) (mark : Bool) (view : List ℕ) (done : Bool → Exchange) → ((gone : Bool) → WaitsAs A (done gone))
+    → (uids : List ℕ) (gone : Bool) → WaitsAs A (fetching fetch mark view done uids gone)
+in_fetching A fetch mark view done p [] gone = p gone
+in_fetching A fetch mark view done p (uid ∷ uids) gone =
+    elim [ None ↦ in_fetching A fetch mark view done p uids true | Some row ↦ in_fetching A fetch mark view done p uids gone ]
+
+in_silence : (A : Waiting → Type 0) → (silent : Bool) (text : List ℕ) (x : Exchange) → WaitsAs A x → WaitsAs A (if silent then x else ex.Write text x)
+in_silence A true text x p = p
+in_silence A false text x p = p
+
+in_storing : (A : Waiting → Type 0) → (store : Store) (view : List ℕ) (done : Bool → Exchange) → ((gone : Bool) → WaitsAs A (done gone))
+    → (uids : List ℕ) (gone : Bool) → WaitsAs A (storing store view done uids gone)
+in_storing A store view done p [] gone = p gone
+in_storing A store view done p (uid ∷ uids) gone =
+    elim [ None ↦ in_storing A store view done p uids true | Some flags ↦ in_silence A store.silent _ _ (in_storing A store view done p uids gone) ]
+
+-- ---- commands
+
+-- an APPEND waits for the literal that it announced, for the mailbox that it named
+abbrev pub ForItsLiteral : Option ℕ → Append → Waiting → Type 0
+ForItsLiteral found append (ForLiteral Dropped mailbox flags size) = Unit {0}
+ForItsLiteral found append (ForLiteral coming mailbox flags size) = (mailbox ≡ found) × (flags ≡ append.flags) × (size ≡ append.literal.size)
+ForItsLiteral found append ForNothing = Unit {0}
+ForItsLiteral found append w = ⊥
+
+literal_drops : (found : Option ℕ) (append : Append) → Drops (ForItsLiteral found append)
+literal_drops found append mailbox flags size p = tt
+
+pub append_waits : (most : Option ℕ) (folders : List Folder) (a : Append) → WaitsAs (ForItsLiteral (number_named a.name folders) a) (appending most folders a)
+append_waits most folders a = by (number_named a.name folders)
+  where
+    over_waits : (A : Waiting → Type 0) (most : Option ℕ) → WaitsAs A (over most)
+    over_waits A None = tt
+    over_waits A (Some most) = tt
+
+    by : (found : Option ℕ) → WaitsAs (ForItsLiteral found a) (if a.literal.waits then wanting (on_found (λ mailbox. if is_over most a.literal.size then over most else asking mailbox a.flags a.literal.size) nowhere found)
+        else (if nat_lt most_unasked a.literal.size then ex.Wait (bye (codes "Literal too big")) ForNothing else coming found a.flags a.literal.size))
+    by None = in_either (ForItsLiteral None a) a.literal.waits _ _ tt (in_either (ForItsLiteral None a) (nat_lt most_unasked a.literal.size) _ _ tt (refl, refl, refl))
+    by (Some m) =
+        in_either (ForItsLiteral (Some m) a) a.literal.waits _ _ (in_either (ForItsLiteral (Some m) a) (is_over most a.literal.size) (over most) _ (over_waits (ForItsLiteral (Some m) a) most) (refl, refl, refl))
+        (in_either (ForItsLiteral (Some m) a) (nat_lt most_unasked a.literal.size) _ _ tt (refl, refl, refl))
+
+-- an IDLE waits for DONE, and nothing else waits
+abbrev pub ForItsDone : Waiting → Type 0
+ForItsDone ForDone = Unit {0}
+ForItsDone w = ⊥
+
+-- a command that is no APPEND
+abbrev pub IsNoAppend : Command → Type 0
+IsNoAppend (commands.Append append) = ⊥
+IsNoAppend command = Unit {0}
+
+notice_waits : (A : Waiting → Type 0) (said : Option (List ℕ)) (x : Exchange) → WaitsAs A x → WaitsAs A (noticing said x)
+notice_waits A None x p = p
+notice_waits A (Some words) x p = p
+
+command_waits : (now : Standing) (command : Command) → IsNoAppend command → WaitsAs ForItsDone (on_command now command)
+command_waits now commands.Noop other = in_showing ForItsDone now.selected (completed commands.Noop) tt
+command_waits now commands.Logout other = tt
+command_waits now commands.Idle other = tt
+command_waits now commands.Login other = tt
+command_waits now commands.Authenticate other = tt
+command_waits now commands.StartTls other = tt
+command_waits now (commands.Select name) other = in_closing ForItsDone now.selected _ (in_found ForItsDone (entering false) (says (codes "NO [NONEXISTENT] No such mailbox")) (λ (f : Folder) opening. tt) tt (folder_of name now.folders))
+command_waits now (commands.Examine name) other = in_closing ForItsDone now.selected _ (in_found ForItsDone (entering true) (says (codes "NO [NONEXISTENT] No such mailbox")) (λ (f : Folder) opening. tt) tt (folder_of name now.folders))
+command_waits now (commands.List reference pattern) other = in_showing ForItsDone now.selected (completed (commands.List reference pattern)) tt
+command_waits now (commands.Status name items) other =
+    in_found ForItsDone (counting now name items) (says (codes "NO [NONEXISTENT] No such mailbox")) (λ (f : Folder) status. in_showing ForItsDone now.selected (completed (commands.Status name items)) tt) tt (folder_of name now.folders)
+command_waits now commands.Close other = in_found ForItsDone _ wrong_state (λ (s : Selected). tt) tt now.selected
+command_waits now commands.Unselect other = in_found ForItsDone _ wrong_state (λ (s : Selected). tt) tt now.selected
+command_waits now commands.Expunge other = in_writable ForItsDone now.selected (ex.Expunge None (ex.Feed unlimited (completed commands.Expunge))) tt
+command_waits now (commands.UidExpunge set) other =
+    in_writable ForItsDone now.selected (expunge_set set) (λ view. in_chosen ForItsDone (named_in true set view) (λ uids. wanting (ex.Expunge (Some uids) (ex.Feed unlimited (completed (commands.UidExpunge set))))) (λ uids. tt))
+command_waits now (commands.Fetch fetch) other =
+    in_found ForItsDone (fetch_messages fetch) wrong_state
+    (λ (s : Selected) view. in_chosen ForItsDone (named_in fetch.by_uid fetch.set view) _
+    (λ uids. in_fetching ForItsDone fetch _ view (messages_done (commands.Fetch fetch) fetch.by_uid) (λ gone. in_done ForItsDone (commands.Fetch fetch) fetch.by_uid gone tt) uids false)) tt now.selected
+command_waits now (commands.Store store) other =
+    in_writable ForItsDone now.selected (store_messages store)
+    (λ view. in_chosen ForItsDone (named_in store.by_uid store.set view) _
+    (λ uids. in_storing ForItsDone store view (messages_done (commands.Store store) store.by_uid) (λ gone. in_done ForItsDone (commands.Store store) store.by_uid gone tt) uids false))
+command_waits now (commands.Append append) other = absurd other
+command_waits now command other = notice_waits ForItsDone (notice command) (completed command) tt
+
+done_mail : (tag : List ℕ) (m next : Mailing) → IsMail ForItsDone tag m next → next ≡ m
+done_mail tag m next (inl e) = e
+done_mail tag m next (inr (ForDone, p, e)) = e
+done_mail tag m next (inr (ForNothing, p, e)) = e
+done_mail tag m next (inr (ForLiteral coming mailbox flags size, p, e)) = absurd p
+done_mail tag m next (inr (ForVerdict mailbox flags text, p, e)) = absurd p
+
+done_drops : Drops ForItsDone
+done_drops mailbox flags size p = absurd p
+
+some_mail : (A : Waiting → Type 0) (tag : List ℕ) (m : Mailing) (o : Option Turn) (turn : Turn) → TurnMail A tag m o → o ≡ Some turn → IsMail A tag m turn.standing.mailing
+some_mail A tag m o turn p e = subst (TurnMail A tag m) e p
+
+pub other_mail : (tag : List ℕ) (now : Standing) (command : Command) (answers : List Answer) (turn : Turn) → IsNoAppend command → played tag now (on_command now command) answers ≡ Some turn → turn.standing.mailing ≡ now.mailing
+other_mail tag now command answers turn other e =
+    done_mail tag now.mailing turn.standing.mailing (some_mail ForItsDone tag now.mailing _ turn (played_mail ForItsDone done_drops tag now (on_command now command) answers (command_waits now command other)) e)
+
+pub append_mail : (tag : List ℕ) (now : Standing) (append : Append) (answers : List Answer) (turn : Turn) → played tag now (on_command now (commands.Append append)) answers ≡ Some turn
+    → IsMail (ForItsLiteral (number_named append.name now.folders) append) tag now.mailing turn.standing.mailing
+append_mail tag now append answers turn e =
+    let A : Waiting → Type 0 = ForItsLiteral (number_named append.name now.folders) append in
+    some_mail A tag now.mailing _ turn (played_mail A (literal_drops (number_named append.name now.folders) append) tag now (on_command now (commands.Append append)) answers (append_waits now.mailing.most now.folders append)) e
+
+-- ---- other lines, and verdicts
+
+idling_waits : (selected : Option Selected) (line : List ℕ) → WaitsAs ForItsDone (on_idle_line selected line)
+idling_waits selected line = in_either ForItsDone (is_done line) (showing selected (completed commands.Idle)) (says (codes "BAD Expected DONE")) (in_showing ForItsDone selected (completed commands.Idle) tt) tt
+
+pub idling_mail : (tag : List ℕ) (now : Standing) (selected : Option Selected) (line : List ℕ) (answers : List Answer) (turn : Turn) → played tag now (on_idle_line selected line) answers ≡ Some turn → turn.standing.mailing ≡ now.mailing
+idling_mail tag now selected line answers turn e =
+    done_mail tag now.mailing turn.standing.mailing (some_mail ForItsDone tag now.mailing _ turn (played_mail ForItsDone done_drops tag now (on_idle_line selected line) answers (idling_waits selected line)) e)
+
+verdict_waits : (selected : Option Selected) (mailbox : ℕ) (verdict : Verdict) → WaitsAs ForItsDone (on_verdict selected mailbox verdict)
+verdict_waits selected mailbox (verdicts.Stored uid) = λ status. in_showing ForItsDone selected _ tt
+verdict_waits selected mailbox (verdicts.Refused why) = tt
+
+pub verdict_mail : (tag : List ℕ) (now : Standing) (selected : Option Selected) (mailbox : ℕ) (verdict : Verdict) (answers : List Answer) (turn : Turn) → played tag now (on_verdict selected mailbox verdict) answers ≡ Some turn → turn.standing.mailing ≡ now.mailing
+verdict_mail tag now selected mailbox verdict answers turn e =
+    done_mail tag now.mailing turn.standing.mailing (some_mail ForItsDone tag now.mailing _ turn (played_mail ForItsDone done_drops tag now (on_verdict selected mailbox verdict) answers (verdict_waits selected mailbox verdict)) e)
+
+-- behind a literal it waits for the verdict on that message
+abbrev pub ForItsVerdict : Appending → Bool → Waiting → Type 0
+ForItsVerdict a empty (ForVerdict mailbox flags text) = (a.mailbox ≡ Some mailbox) × (flags ≡ a.flags) × (a.text ≡ Some text) × (empty ≡ true)
+ForItsVerdict a empty w = ⊥
+
+verdict_drops : (a : Appending) (empty : Bool) → Drops (ForItsVerdict a empty)
+verdict_drops a empty mailbox flags size p = absurd p
+
+over_so : (A : Waiting → Type 0) (most : Option ℕ) → WaitsAs A (over most)
+over_so A None = tt
+over_so A (Some most) = tt
+
+text_waits : (mailing : Mailing) (a : Appending) (empty : Bool) (text : List ℕ) (mailbox : ℕ) → a.mailbox ≡ Some mailbox → a.text ≡ Some text → empty ≡ true → WaitsAs (ForItsVerdict a empty) (on_text mailing a text mailbox)
+text_waits mailing a empty text mailbox m t e =
+    let A : Waiting → Type 0 = ForItsVerdict a empty in
+    in_either A (is_over mailing.most a.size) (over mailing.most) _ (over_so A mailing.most)
+    (in_either A (list_any (λ b. b == 0) text) (says (codes "NO NUL byte")) _ tt
+    (in_either A (nat_le last_number mailing.number) (says (codes "NO Mailbox is spent")) (wanting (ex.Wait [] (ForVerdict mailbox a.flags text))) tt (m, refl, t, e)))
+
+rest_waits : (mailing : Mailing) (a : Appending) (empty : Bool) → WaitsAs (ForItsVerdict a empty) (on_rest mailing a empty)
+rest_waits mailing a empty = by_text a.text refl
+  where
+    by_mailbox : (text : List ℕ) → a.text ≡ Some text → empty ≡ true → (found : Option ℕ) → a.mailbox ≡ found → WaitsAs (ForItsVerdict a empty) (on_found (on_text mailing a text) nowhere found)
+    by_mailbox text t e None m = tt
+    by_mailbox text t e (Some mailbox) m = text_waits mailing a empty text mailbox m t e
+
+    by_empty : (text : List ℕ) → a.text ≡ Some text → (b : Bool) → empty ≡ b → WaitsAs (ForItsVerdict a empty) (if b then on_found (on_text mailing a text) nowhere a.mailbox else says (codes "BAD Invalid arguments"))
+    by_empty text t true e = by_mailbox text t e a.mailbox refl
+    by_empty text t false e = tt
+
+    by_text : (o : Option (List ℕ)) → a.text ≡ o → WaitsAs (ForItsVerdict a empty) (on_found (λ text. if empty then on_found (on_text mailing a text) nowhere a.mailbox else says (codes "BAD Invalid arguments")) (says (codes "NO Out of memory")) o)
+    by_text None t = tt
+    by_text (Some text) t = by_empty text t empty refl
+
+pub rest_mail : (now : Standing) (mailing : Mailing) (a : Appending) (empty : Bool) (answers : List Answer) (turn : Turn) → played a.tag now (on_rest mailing a empty) answers ≡ Some turn → IsMail (ForItsVerdict a empty) a.tag now.mailing turn.standing.mailing
+rest_mail now mailing a empty answers turn e =
+    some_mail (ForItsVerdict a empty) a.tag now.mailing _ turn (played_mail (ForItsVerdict a empty) (verdict_drops a empty) a.tag now (on_rest mailing a empty) answers (rest_waits mailing a empty)) e
