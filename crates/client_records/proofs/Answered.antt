@@ -109,6 +109,7 @@ pub record Noting (uidvalidity : ℕ) (first : Came) (sent : List ℕ) (notes : 
   pub message : Sent
   pub heard : notes noted message
   pub number : noted.key.message ≡ message.append.message
+  pub key : noted.key ≡ (copy_of first.seat first.serial message).key
   pub came : IsSentAs first.standing.folders sent message
   pub chosen : IsWord message.tag
   pub says : SaysVerdict uidvalidity message.tag noted.verdict bytes
@@ -139,6 +140,7 @@ one_more u first sent bytes notes more grows said (Some n) h = record {
   heard = grows n h.message h.heard;
   message = h.message;
   number = h.number;
+  key = h.key;
   came = sent_more first.standing.folders sent bytes h.message h.came;
   chosen = h.chosen;
   says = h.says;
@@ -242,7 +244,7 @@ verdict_turn u first sent bytes told one message verdict now next notes t there 
     record {
       verdicts = t.verdicts ++ Some noted ∷ [];
       each = noted_append u first (sent ++ bytes) notes told (one ∷ []) t.verdicts (Some noted ∷ []) (still_noted u first sent bytes notes notes (λ n m c. c) told t.verdicts t.each)
-          (record { seat = refl; own = refl; heard = heard.1; message = message; number = refl; came = sent_more first.standing.folders sent bytes message own; chosen = word; says = says }, tt);
+          (record { seat = refl; own = refl; heard = heard.1; message = message; number = refl; key = refl; came = sent_more first.standing.folders sent bytes message own; chosen = word; says = says }, tt);
       tags = tags;
       mail = mail;
       order = subst (Rising InTurn) (sym more) (rising_push InTurn answered noted t.order below);

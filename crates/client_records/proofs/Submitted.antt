@@ -244,11 +244,11 @@ line_mailed folders sent line now answers turn m due e = behind now.mailing.begu
     reads (Ok l) is none e =
         command_case l.1
         (λ append same_command.
-            let as_append : played l.0 now (on_command now (commands.Append append)) answers ≡ Some turn = subst (λ (c : Command). played l.0 now (on_command now c) answers ≡ Some turn) same_command e in
-            append_begins folders sent line l.0 append now turn.standing m same none (subst (λ (c : Command). read line ≡ Ok (l.0, c)) same_command is) (append_mail l.0 now append answers turn as_append))
+        let as_append : played l.0 now (on_command now (commands.Append append)) answers ≡ Some turn = subst (λ (c : Command). played l.0 now (on_command now c) answers ≡ Some turn) same_command e in
+        append_begins folders sent line l.0 append now turn.standing m same none (subst (λ (c : Command). read line ≡ Ok (l.0, c)) same_command is) (append_mail l.0 now append answers turn as_append))
         (λ other.
-            let mailing = other_mail l.0 now l.1 answers turn other e in
-            same_mail folders sent (line ++ crlf) now turn.standing m same (ap (λ (x : Mailing). x.sent) mailing) (ap (λ (x : Mailing). x.begun) mailing ∙ none))
+        let mailing = other_mail l.0 now l.1 answers turn other e in
+        same_mail folders sent (line ++ crlf) now turn.standing m same (ap (λ (x : Mailing). x.sent) mailing) (ap (λ (x : Mailing). x.begun) mailing ∙ none))
 
     while : (idling : Option (List ℕ)) → now.mailing.begun ≡ None → turn_while idling now line answers ≡ Some turn → Mailed folders (sent ++ (line ++ crlf)) turn.standing
     while None none e = reads (read line) refl none e

@@ -245,7 +245,6 @@ played_mail A drops tag now (ex.Leave remove x) (Refused a ∷ d ∷ more) p = t
 played_mail A drops tag now (ex.Leave remove x) ((Starved zero) ∷ more) p = tt
 played_mail A drops tag now (ex.Leave remove x) ((Starved (suc a)) ∷ more) p = tt
 
-
 -- ---- what an exchange is made of
 
 in_either : (A : Waiting → Type 0) → (b : Bool) (x y : Exchange) → WaitsAs A x → WaitsAs A y → WaitsAs A (if b then x else y)
