@@ -1,6 +1,6 @@
 -- What a session tells of the messages that its client appended, over a whole record.
-use Rattle.std.proofs.Common.{◌≡◌, ◌⊎◌, inl, inr, ℕ, Bool, true, false, List, [], ◌∷◌, ◌++◌, Contains, refl, sym, ap, ◌∙◌, subst, Option, Some, None}
-use Rattle.std.specs.Prelude.{codes, filter_map}
+use Rattle.std.proofs.Common.{◌≡◌, inl, inr, ℕ, true, List, [], ◌∷◌, ◌++◌, Contains, refl, sym, ◌∙◌, subst, Option, Some, None}
+use Rattle.std.specs.Prelude.{filter_map}
 use Rattle.std.proofs.lemmas.Bool.{false≢true}
 use Rattle.delivery_token.specs.declared.CopyKey.{CopyKey}
 use Rattle.delivery_token.specs.declared.Job.{Job}
@@ -14,16 +14,15 @@ use Rattle.world.proofs.Base.{Every, Rising, rising_pair}
 use Rattle.imap_session.specs.Commands.{appended_words}
 use Rattle.imap_session.specs.Telling.{tells_uid}
 use Rattle.house_session.specs.Folders.{folders_of}
-use Rattle.house_session.specs.SeatedVisitor.{SeatedVisitor}
 use Rattle.house.specs.Scene.{empty_scene}
 use Rattle.house.specs.Setup.{Setup, session_seat}
 use Rattle.client_records.specs.Appends.{AnswersNoted, AppendsAreTold, AreAnswered, Author, EndsWith, IsAnswered, SaysVerdict, TellsKept, TellsOfNone, as_it_is, author_at, copy_under}
 use Rattle.client_records.specs.Clients.{Told, bytes_in}
 use Rattle.client_records.specs.Records.{sent_by_then}
-use Rattle.client_records.proofs.Answered.{AreNoted, InTurn, IsNoted, KnownAt, Noting, still_noted}
+use Rattle.client_records.proofs.Answered.{AreNoted, InTurn, IsNoted, KnownAt, still_noted}
 use Rattle.client_records.proofs.Entries.{the_client, the_serial}
 use Rattle.client_records.proofs.Keeping.{KeepsBy, all_known, arrival_by_then, keeps_by, nobody}
-use Rattle.client_records.proofs.LastLines.{Apart, apart_tells_none, refusal_apart, tags_of_words, words_of_tags}
+use Rattle.client_records.proofs.LastLines.{apart_tells_none, refusal_apart, tags_of_words, words_of_tags}
 use Rattle.client_records.proofs.LastRests.{no_apart}
 use Rattle.client_records.proofs.LastWords.{uid_spares}
 use Rattle.client_records.proofs.Out.{copy_of}

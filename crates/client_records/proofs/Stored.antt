@@ -1,12 +1,10 @@
 -- A copy that was stored under a UID is the copy of the message that was submitted.
-use Rattle.std.proofs.Common.{◌≡◌, ◌⊎◌, inl, inr, ℕ, zero, suc, ◌<◌, List, [], ◌∷◌, Contains, map, length, refl, sym, ap, ◌∙◌, subst, arith}
-use Rattle.std.specs.Prelude.{All, slice_index_or}
+use Rattle.std.proofs.Common.{◌≡◌, inl, inr, ℕ, zero, suc, ◌<◌, List, [], ◌∷◌, Contains, map, length, refl, sym, ap, ◌∙◌, subst, arith}
+use Rattle.std.specs.Prelude.{slice_index_or}
 use Rattle.std.proofs.lemmas.List.Elements.{All-contains}
 use Rattle.delivery_token.specs.declared.CopyKey.{CopyKey}
 use Rattle.delivery_token.specs.declared.Job.{Job}
-use Rattle.delivery_token.specs.declared.Refusal.{Refusal}
 use Rattle.delivery_token.specs.declared.Verdict.TheVariants.{Refused}
-use Rattle.shard_queue.specs.declared.lane.Entry.{Entry}
 use Rattle.shard_queue.specs.declared.lane.Entry.TheVariants.{Item}
 use Rattle.world.specs.Law.{StandsOnce, pair_of, pairs}
 use Rattle.world.specs.World.{Config, Event, IsWorld, World, shard_of}
@@ -14,7 +12,7 @@ use Rattle.world.proofs.Always.{always, kept_always}
 use Rattle.world.proofs.Mails.{IsIn, is_in_contains}
 use Rattle.client_records.proofs.Histories.{every_in, history_was_put}
 use Rattle.client_records.proofs.Lanes.{put_by}
-use Rattle.client_records.proofs.Out.{Fate, IsOnly, IsOut}
+use Rattle.client_records.proofs.Out.{Fate, IsOnly}
 
 -- the entry of a key that stands once
 entry_at : (accepted : List (Job × ℕ)) (position : ℕ) (pair : CopyKey × ℕ) → position < length (map pair_of accepted) → slice_index_or (map pair_of accepted) position pair ≡ pair

@@ -1,5 +1,5 @@
 -- The message that a session submits is one that its client sent: its line, its literal, and the CRLF behind that.
-use Rattle.std.proofs.Common.{◌≡◌, ◌⊎◌, inl, inr, ℕ, ◌+◌, ◌-◌, ◌≤◌, Bool, true, false, ◌==◌, List, [], ◌∷◌, ◌++◌, length, length-append, refl, sym, ap, ◌∙◌, subst, arith, append-nil, append_assoc, Option, Some, None}
+use Rattle.std.proofs.Common.{◌≡◌, inl, inr, ℕ, ◌+◌, ◌≤◌, Bool, true, false, ◌==◌, List, [], ◌∷◌, ◌++◌, length, length-append, refl, sym, ap, ◌∙◌, subst, arith, append-nil, append_assoc, Option, Some, None}
 use Rattle.std.specs.Prelude.{IfSome, Result, Ok, Err}
 use Rattle.std.specs.Option.{option_map}
 use Rattle.std.proofs.lemmas.Bool.{eqb-true}
@@ -24,7 +24,7 @@ use Rattle.client_list.proofs.Turns.{the_turn}
 use Rattle.client_records.specs.Appends.{IsSentAs}
 use Rattle.client_records.specs.Lives.{IsSentFor}
 use Rattle.client_records.proofs.Moved.{Calls}
-use Rattle.client_records.proofs.Waiting.{ForItsLiteral, ForItsVerdict, IsMail, IsNoAppend, append_mail, idling_mail, other_mail, rest_mail, verdict_mail, waiting_mail}
+use Rattle.client_records.proofs.Waiting.{ForItsLiteral, ForItsVerdict, IsMail, IsNoAppend, append_mail, idling_mail, other_mail, rest_mail, verdict_mail}
 
 -- ---- what stays so behind a line
 
