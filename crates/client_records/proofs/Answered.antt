@@ -1,6 +1,6 @@
 -- Turn by turn: to which verdicts the answers of a session were said, and that those are on its messages one after the other.
-use Rattle.std.proofs.Common.{◌≡◌, ◌⊎◌, inl, inr, ℕ, ◌+◌, ◌<◌, ◌≤◌, Bool, true, false, List, [], ◌∷◌, ◌++◌, Contains, length, refl, sym, ap, ◌∙◌, subst, arith, append-nil, Option, Some, None}
-use Rattle.std.specs.Prelude.{codes, filter_map, IfSome, Result, Ok, Err, ◌==◌, if◌then◌else◌}
+use Rattle.std.proofs.Common.{◌≡◌, ◌⊎◌, inl, inr, ℕ, ◌<◌, ◌≤◌, List, [], ◌∷◌, ◌++◌, Contains, refl, sym, ap, ◌∙◌, subst, arith, append-nil, Option, Some, None}
+use Rattle.std.specs.Prelude.{filter_map, IfSome}
 use Rattle.std.proofs.lemmas.List.Elements.{filter_map-append}
 use Rattle.std.proofs.lemmas.Option.{none-some}
 use Rattle.delivery_token.specs.Keys.{Below}
@@ -9,17 +9,13 @@ use Rattle.delivery_token.specs.declared.Verdict.{Verdict}
 use Rattle.delivery_token.specs.declared.log.Noted.{Noted}
 use Rattle.world.specs.World.{Config, World}
 use Rattle.world.proofs.Base.{Every, Rising, every_append, every_weaker, rising_push}
-use Rattle.imap_grammar.specs.Reading.{read}
-use Rattle.imap_grammar.specs.declared.command.Command.{Command}
-use Rattle.imap_grammar.specs.declared.command.ImapFault.{ImapFault}
-use Rattle.imap_session.specs.declared.standing.After.{After}
-use Rattle.imap_session.specs.Exchange.{Answer, Appending, ForDone, ForLiteral, ForNothing, ForVerdict, Mailing, Sent, Standing, Turn, Waiting, kept_tag, played, waiting}
-use Rattle.imap_session.specs.Commands.{fault_text, on_command, on_idle_line, on_read, on_rest, on_verdict, only_says, turn_behind, turn_of, turn_of_long_line, turn_of_verdict, turn_while, turn_with, with_bytes, without_begun, without_sent}
+use Rattle.imap_session.specs.Exchange.{Answer, Appending, ForDone, ForLiteral, ForNothing, ForVerdict, Mailing, Sent, Standing, Turn, Waiting, kept_tag, waiting}
+use Rattle.imap_session.specs.Commands.{on_verdict, turn_of, turn_with, without_sent}
 use Rattle.imap_session.specs.Store.{IdleTurns, Met}
 use Rattle.house_session.proofs.Rising.{NumbersRise, idles_keep, then_rises}
 use Rattle.client_list.specs.Commands.{IsPrinted}
 use Rattle.client_list.specs.Talks.{Happening, Line, LongLine, Turned, Literal, Heard, leads_to}
-use Rattle.client_list.proofs.IdleTags.{AreTagsOf, Keeps, Kept, played_keeps}
+use Rattle.client_list.proofs.IdleTags.{AreTagsOf, Keeps, played_keeps}
 use Rattle.client_list.proofs.Talking.{happening_keeps_so}
 use Rattle.client_list.proofs.Turns.{the_turn}
 use Rattle.client_records.specs.Appends.{IsSentAs, SaysVerdict, TellsOfNone, as_it_is}
@@ -29,7 +25,7 @@ use Rattle.client_records.proofs.Submitted.{ComesInTurn, IsBegunAs, Mailed, line
 use Rattle.client_records.specs.Clients.{Told, bytes_in}
 use Rattle.client_records.specs.Turns.{VerdictsArePrinted, told_line, told_of}
 use Rattle.client_records.proofs.LastLines.{IsWord}
-use Rattle.client_records.proofs.LastTurns.{SaysSent, TurnTells, turn_tells}
+use Rattle.client_records.proofs.LastTurns.{SaysSent, turn_tells}
 use Rattle.client_records.proofs.Moved.{Calls}
 
 -- ---- numbers of messages
@@ -109,6 +105,7 @@ pub record Noting (uidvalidity : ℕ) (first : Came) (sent : List ℕ) (notes : 
   pub message : Sent
   pub heard : notes noted message
   pub number : noted.key.message ≡ message.append.message
+  pub key : noted.key ≡ (copy_of first.seat first.serial message).key
   pub came : IsSentAs first.standing.folders sent message
   pub chosen : IsWord message.tag
   pub says : SaysVerdict uidvalidity message.tag noted.verdict bytes
@@ -139,6 +136,7 @@ one_more u first sent bytes notes more grows said (Some n) h = record {
   heard = grows n h.message h.heard;
   message = h.message;
   number = h.number;
+  key = h.key;
   came = sent_more first.standing.folders sent bytes h.message h.came;
   chosen = h.chosen;
   says = h.says;
@@ -242,7 +240,7 @@ verdict_turn u first sent bytes told one message verdict now next notes t there 
     record {
       verdicts = t.verdicts ++ Some noted ∷ [];
       each = noted_append u first (sent ++ bytes) notes told (one ∷ []) t.verdicts (Some noted ∷ []) (still_noted u first sent bytes notes notes (λ n m c. c) told t.verdicts t.each)
-          (record { seat = refl; own = refl; heard = heard.1; message = message; number = refl; came = sent_more first.standing.folders sent bytes message own; chosen = word; says = says }, tt);
+          (record { seat = refl; own = refl; heard = heard.1; message = message; number = refl; key = refl; came = sent_more first.standing.folders sent bytes message own; chosen = word; says = says }, tt);
       tags = tags;
       mail = mail;
       order = subst (Rising InTurn) (sym more) (rising_push InTurn answered noted t.order below);

@@ -1,7 +1,9 @@
 -- What a session tells of the messages that its client appended, over a whole record.
-use Rattle.std.proofs.Common.{◌≡◌, ◌⊎◌, inl, inr, ℕ, Bool, true, false, List, [], ◌∷◌, ◌++◌, Contains, refl, sym, ap, ◌∙◌, subst, Option, Some, None}
-use Rattle.std.specs.Prelude.{codes, filter_map}
+use Rattle.std.proofs.Common.{◌≡◌, inl, inr, ℕ, true, List, [], ◌∷◌, ◌++◌, Contains, refl, sym, ◌∙◌, subst, Option, Some, None}
+use Rattle.std.specs.Prelude.{filter_map}
 use Rattle.std.proofs.lemmas.Bool.{false≢true}
+use Rattle.delivery_token.specs.declared.CopyKey.{CopyKey}
+use Rattle.delivery_token.specs.declared.Job.{Job}
 use Rattle.delivery_token.specs.declared.Verdict.{Verdict}
 use Rattle.delivery_token.specs.declared.Verdict.TheVariants as verdicts
 use Rattle.delivery_token.specs.declared.log.Noted.{Noted}
@@ -12,19 +14,20 @@ use Rattle.world.proofs.Base.{Every, Rising, rising_pair}
 use Rattle.imap_session.specs.Commands.{appended_words}
 use Rattle.imap_session.specs.Telling.{tells_uid}
 use Rattle.house_session.specs.Folders.{folders_of}
-use Rattle.house_session.specs.SeatedVisitor.{SeatedVisitor}
 use Rattle.house.specs.Scene.{empty_scene}
 use Rattle.house.specs.Setup.{Setup, session_seat}
-use Rattle.client_records.specs.Appends.{AnswersNoted, AppendsAreTold, AreAnswered, Author, EndsWith, IsAnswered, SaysVerdict, TellsKept, TellsOfNone, as_it_is, author_at}
+use Rattle.client_records.specs.Appends.{AnswersNoted, AppendsAreTold, AreAnswered, Author, EndsWith, IsAnswered, SaysVerdict, TellsKept, TellsOfNone, as_it_is, author_at, copy_under}
 use Rattle.client_records.specs.Clients.{Told, bytes_in}
 use Rattle.client_records.specs.Records.{sent_by_then}
-use Rattle.client_records.proofs.Answered.{AreNoted, InTurn, IsNoted, KnownAt, Noting, still_noted}
+use Rattle.client_records.proofs.Answered.{AreNoted, InTurn, IsNoted, KnownAt, still_noted}
 use Rattle.client_records.proofs.Entries.{the_client, the_serial}
 use Rattle.client_records.proofs.Keeping.{KeepsBy, all_known, arrival_by_then, keeps_by, nobody}
-use Rattle.client_records.proofs.LastLines.{Apart, apart_tells_none, refusal_apart, tags_of_words, words_of_tags}
+use Rattle.client_records.proofs.LastLines.{apart_tells_none, refusal_apart, tags_of_words, words_of_tags}
 use Rattle.client_records.proofs.LastRests.{no_apart}
 use Rattle.client_records.proofs.LastWords.{uid_spares}
+use Rattle.client_records.proofs.Out.{copy_of}
 use Rattle.client_records.proofs.Recording.{Arrival, came_as}
+use Rattle.client_records.proofs.Stored.{stored_copy}
 
 -- ---- each answer
 
@@ -45,9 +48,19 @@ one_answered k events w place serial a sent bytes (Some noted) came own h = reco
   came = h.came;
   chosen = h.chosen;
   says = h.says;
-  stands = λ uid e. (always k.config events w came).answered noted.key.seat uid noted there e;
+  stands = λ uid e. once uid e;
+  stored = λ uid e.
+      let key : noted.key ≡ c.key = h.key in
+      let s = stored_copy k.config events w (session_seat k place) noted.mailbox uid c came refl (subst (λ (x : CopyKey). StandsOnce (pairs (w.box noted.mailbox).accepted) x uid) key (once uid e)) h.heard.1 in
+      (s.0, subst (λ (x : CopyKey). Contains (w.box noted.mailbox).accepted (copy_under x h.message, uid)) (sym key) s.1);
 }
   where
+    c : Job
+    c = copy_of (session_seat k place) a.serial h.message
+
+    once : (uid : ℕ) → noted.verdict ≡ verdicts.Stored uid → StandsOnce (pairs (w.box noted.mailbox).accepted) noted.key uid
+    once uid e = (always k.config events w came).answered noted.key.seat uid noted (subst (λ (p : ℕ). Contains (w.heard p) noted) (sym h.seat) h.heard.0) e
+
     there : Contains (w.heard noted.key.seat) noted
     there = subst (λ (p : ℕ). Contains (w.heard p) noted) (sym h.seat) h.heard.0
 
@@ -82,6 +95,8 @@ said_kept k w author bytes tag words noted h ends tells = by noted.verdict refl 
       heard = h.heard;
       stored = e;
       once = h.stands uid e;
+      mailbox = (h.stored uid e).0;
+      copy = (h.stored uid e).1;
     }
     by (verdicts.Stored uid) e (inr (fault, s)) =
         absurd (untold bytes tag words (subst TellsOfNone (sym s) (apart_tells_none tells_uid _ (refusal_apart tells_uid uid_spares h.message.tag h.chosen fault))) ends tells)

@@ -1,10 +1,10 @@
 -- How a client that cuts reads lines and literals.
-use Rattle.std.proofs.Common.{◌≡◌, ℕ, zero, suc, ◌^◌, ◌<◌, Bool, true, false, ◌==◌, ◌&&◌, List, [], ◌∷◌, ◌++◌, length, ap, ap₂, ◌∙◌, sym, refl, subst, append_assoc, append-nil}
-use Rattle.std.specs.Prelude.{codes, decimal, reverse, Option, Some, None, if◌then◌else◌}
+use Rattle.std.proofs.Common.{◌≡◌, ℕ, ◌^◌, ◌<◌, Bool, true, false, ◌==◌, ◌&&◌, List, [], ◌∷◌, ◌++◌, length, ap, ap₂, ◌∙◌, sym, refl, append_assoc, append-nil}
+use Rattle.std.specs.Prelude.{codes, decimal, reverse, Option, None, if◌then◌else◌}
 use Rattle.std.specs.List.{list_all}
 use Rattle.std.proofs.lemmas.Bool.{false≢true}
 use Rattle.std.proofs.lemmas.Grind.{reverse_onto}
-use Rattle.std.proofs.lemmas.List.{reverse-append, reverse-reverse}
+use Rattle.std.proofs.lemmas.List.{reverse-reverse}
 use Rattle.imap_answers.specs.Answers.{literal}
 use Rattle.client_list.specs.Client.{literal_of}
 use Rattle.client_list.specs.Turns.{is_inner}

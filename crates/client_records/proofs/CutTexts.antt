@@ -21,7 +21,6 @@ use Rattle.imap_grammar.specs.declared.items.Section.{Section}
 use Rattle.imap_grammar.specs.declared.items.Section.TheVariants.{Whole, Header, Text}
 use Rattle.imap_grammar.specs.declared.items.Span.{Span}
 use Rattle.imap_grammar.specs.declared.items.StatusItem.{StatusItem}
-use Rattle.imap_grammar.specs.declared.items.StatusItem.TheVariants as status
 use Rattle.imap_session.specs.Exchange.{Folder, bye, tagged}
 use Rattle.client_list.specs.Client.{count_of, literal_of}
 use Rattle.client_list.specs.Commands.{AreNames}

@@ -1,5 +1,5 @@
 -- The answers into which a record cuts what was printed are those that the bytes allow.
-use Rattle.std.proofs.Common.{◌≡◌, ◌⊎◌, inl, inr, ℕ, ◌^◌, ◌<◌, Bool, true, false, List, [], ◌∷◌, ◌++◌, length, refl, sym, ap, ◌∙◌, subst, arith, Option, Some, None}
+use Rattle.std.proofs.Common.{◌≡◌, inl, inr, ℕ, Bool, true, false, List, [], ◌∷◌, ◌++◌, refl, sym, ap, ◌∙◌, subst, Option, Some, None}
 use Rattle.std.specs.Prelude.{Ok, codes, flat_map, if◌then◌else◌}
 use Rattle.mailbox.specs.declared.clients.Row.{Row}
 use Rattle.world.specs.World.{Config, World}
@@ -7,16 +7,12 @@ use Rattle.imap_session.specs.Commands.{greeting}
 use Rattle.imap_session.specs.Exchange.{Alter, Call, Count, Enter, Event as Happened, Expunge, Feed, Found, Leave, Look, Read, Answer as StoreAnswer, Entered, Looked, Counted, Altered, Expunged, Fed, Left, Refused, Starved, Standing, Turn, kept_tag}
 use Rattle.imap_session.specs.Store.{Met}
 use Rattle.session_store.specs.Meets.{Meets}
-use Rattle.house_session.specs.SeatedVisitor.{SeatedVisitor}
-use Rattle.house.specs.Scene.{empty_scene}
-use Rattle.house.specs.Setup.{Setup}
 use Rattle.client_list.specs.Turns.{IsRead, IsRowOf, Sees, SeesAll}
 use Rattle.client_list.proofs.IdleTags.{AreTagsOf}
-use Rattle.client_list.proofs.Talking.{happening_keeps_so}
 use Rattle.client_records.specs.Clients.{Answer, Told, Words, bytes_in}
 use Rattle.client_records.specs.Cuts.{AnswersAreCut, Cutter, EachIsOne, IsAnswered, IsOneAnswer, between, cut_between, cuts, ends, has_any, is_ended, leaves_open, opens}
 use Rattle.client_records.specs.Lives.{Lives, comes, others, turns}
-use Rattle.client_records.specs.Records.{first_standing, shown_by_then}
+use Rattle.client_records.specs.Records.{first_standing}
 use Rattle.client_records.specs.Sizes.{HasShortTexts, HasSmallNumbers}
 use Rattle.client_records.specs.Turns.{Stands, told_line, told_of}
 use Rattle.client_list.specs.Commands.{AreNames}

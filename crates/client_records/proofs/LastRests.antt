@@ -1,13 +1,12 @@
 -- How an answer ends that is said behind a literal, or to a line that is too long, or where a message is refused.
-use Rattle.std.proofs.Common.{◌≡◌, ℕ, Bool, true, false, List, [], ◌∷◌, ◌++◌, length, refl, Option, Some, None}
-use Rattle.std.specs.Prelude.{codes, IfSome, nat_le, nat_lt, ◌==◌, if◌then◌else◌}
-use Rattle.std.specs.List.{list_all, list_any}
+use Rattle.std.proofs.Common.{ℕ, Bool, true, false, List, [], refl, Option, Some, None}
+use Rattle.std.specs.Prelude.{codes, IfSome, nat_le, ◌==◌, if◌then◌else◌}
+use Rattle.std.specs.List.{list_any}
 use Rattle.delivery_token.specs.declared.Refusal.{Refusal}
 use Rattle.delivery_token.specs.declared.Refusal.TheVariants as refusals
 use Rattle.imap_session.specs.Exchange as ex
 use Rattle.imap_session.specs.Exchange.{Answer, Appending, Exchange, ForVerdict, Mailing, Standing, played}
 use Rattle.imap_session.specs.Commands.{is_over, last_number, long_rest_words, long_text, nowhere, on_found, on_rest, on_text, over, refused_words, says, turn_of_long_line, wanting}
-use Rattle.client_list.specs.Turns.{is_inner}
 use Rattle.client_list.proofs.IdleTags.{AreTagsOf}
 use Rattle.client_records.proofs.LastLines.{Apart, IsWord, SaysApart, Spares, TurnFine, fine, fine_wait, fine_wanting, played_apart, tagged_apart, untagged_apart}
 

@@ -15,7 +15,6 @@ use Rattle.cursor_set.specs.Lines.{flag_words, line, lines, position, spaced}
 use Rattle.delivery_token.specs.declared.Verdict.{Verdict}
 use Rattle.delivery_token.specs.declared.Verdict.TheVariants as verdicts
 use Rattle.mailbox.specs.declared.clients.MailFault.TheVariants.{Stranger, Lapped, Spent, NoMemory}
-use Rattle.mailbox.specs.declared.mailbox.Status.{Status}
 use Rattle.world.specs.World.{Config, World}
 use Rattle.imap_session.specs.declared.standing.After.TheVariants.{Go}
 use Rattle.imap_session.specs.declared.standing.Selected.{Selected}
@@ -23,7 +22,7 @@ use Rattle.imap_session.specs.Exchange as ex
 use Rattle.imap_session.specs.Exchange.{Answer, Entered, Looked, Found, Counted, Altered, Expunged, Fed, Left, Refused, Starved, Count, Done, Event as Happened, Feed, Sent, Standing, Turn, bye, having, is_idling, played, refused, refusal_text, saying, tagged}
 use Rattle.imap_session.specs.Commands.{appended_words, idle_turn_in, on_verdict, refused_words, says, showing, turn_of, turn_with, unlimited, without_sent}
 use Rattle.imap_session.specs.Store.{Met}
-use Rattle.exactly_once.proofs.Whole.{IsWhole, line_whole, lines_whole}
+use Rattle.exactly_once.proofs.Whole.{line_whole, lines_whole}
 use Rattle.client_list.specs.Turns.{is_inner}
 use Rattle.client_list.specs.Talks.{Happening, Line, LongLine, Turned, Literal, Heard, leads_to}
 use Rattle.client_list.proofs.Bytes.{both}

@@ -1,14 +1,7 @@
 -- Whatever a client sends but a message that is stored, its answer tells no UID in its last line.
-use Rattle.std.proofs.Common.{◌≡◌, ◌⊎◌, inl, inr, ℕ, zero, suc, ◌+◌, Bool, true, false, List, [], ◌∷◌, ◌++◌, map, length, refl, sym, ap, ◌∙◌, subst, append-nil, append_assoc, Option, Some, None, Result, Ok, Err}
-use Rattle.std.specs.Prelude.{codes, decimal, IfSome, nat_le, nat_lt, ◌==◌, ◌/◌, ◌%◌, if◌then◌else◌}
-use Rattle.std.specs.List.{list_all, list_any}
-use Rattle.std.proofs.lemmas.Option.{none-some}
-use Rattle.change_ring.specs.declared.change.Change.{Change}
-use Rattle.change_ring.specs.declared.change.Change.TheVariants.{Add, Gone, Flags as SetFlags}
-use Rattle.change_ring.specs.declared.change.Flags.{Flags}
-use Rattle.cursor_set.specs.Lines.{flag_words, position, spaced}
-use Rattle.delivery_token.specs.declared.Refusal.{Refusal}
-use Rattle.delivery_token.specs.declared.Refusal.TheVariants as refusals
+use Rattle.std.proofs.Common.{inl, inr, ℕ, Bool, true, false, List, [], ◌∷◌, ◌++◌, map, length, refl, sym, subst, append-nil, Option, Some, None, Result, Ok, Err}
+use Rattle.std.specs.Prelude.{codes, IfSome, nat_lt, ◌==◌, if◌then◌else◌}
+use Rattle.cursor_set.specs.Lines.{position, spaced}
 use Rattle.imap_grammar.specs.Reading.{is_done, read}
 use Rattle.imap_grammar.specs.Sets.{named_in}
 use Rattle.imap_grammar.specs.declared.command.Append.{Append}
@@ -22,14 +15,13 @@ use Rattle.imap_grammar.specs.declared.command.Verb.TheVariants as verbs
 use Rattle.imap_session.specs.declared.standing.Selected.{Selected}
 use Rattle.imap_session.specs.Exchange as ex
 use Rattle.imap_session.specs.Exchange.{Answer, Appending, Exchange, Folder, ForVerdict, Mailing, Standing, Turn, bye, played}
-use Rattle.imap_session.specs.Commands.{appending, asking, closing, coming, completed, counting, entering, expunge_set, fault_text, fetch_messages, fetching, folder_of, if_writable, is_over, last_number, long_rest_words, long_text, messages_done, most_unasked, notice, noticing, nowhere, number_named, on_chosen, on_command, on_found, on_idle_line, on_read, on_rest, on_text, only_says, over, refused_words, says, showing, store_messages, storing, turn_behind, turn_of, turn_of_long_line, turn_while, unlimited, verb_text, wanting, without_begun, wrong_state}
+use Rattle.imap_session.specs.Commands.{appending, asking, closing, completed, counting, entering, expunge_set, fetch_messages, fetching, folder_of, if_writable, is_over, messages_done, most_unasked, notice, noticing, nowhere, number_named, on_chosen, on_command, on_found, on_idle_line, on_read, over, says, showing, store_messages, storing, turn_behind, turn_of, turn_while, unlimited, verb_text, wanting, without_begun, wrong_state}
 use Rattle.imap_session.specs.Telling.{tells_uid}
 use Rattle.exactly_once.proofs.Whole.{IsWhole, bye_whole, ends, fetched_whole, flags_whole, list_whole, opening_whole}
-use Rattle.client_list.specs.Turns.{is_inner}
 use Rattle.client_list.proofs.IdleTags.{AreTagsOf}
 use Rattle.client_list.proofs.Tags.{TaggedOf, read_tagged_so}
 use Rattle.client_records.proofs.LastRests.{EndsFine, either_fine, rest_fine, says_fine}
-use Rattle.client_records.proofs.LastLines.{Apart, IsWord, SaysApart, Spares, TurnFine, bye_apart, fine, fine_wait, fine_wanting, played_apart, tagged_apart, untagged_apart}
+use Rattle.client_records.proofs.LastLines.{Apart, IsWord, SaysApart, Spares, TurnFine, bye_apart, fine_wait, tagged_apart, untagged_apart}
 
 pub uid_spares : Spares tells_uid
 uid_spares = record { no = λ rest. refl; bad = λ rest. refl }

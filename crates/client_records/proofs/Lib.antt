@@ -29,6 +29,7 @@ pub mod Keeping
 mod Refuted
 mod Onward
 mod Since
+mod Stored
 mod Appended
 mod WordsCurrent
 mod AtEntries

@@ -1,8 +1,7 @@
 -- The copy of a message is out: its seat put it into the lane of its mailbox's shard, or heard at once that it was refused.
-use Rattle.std.proofs.Common.{◌≡◌, ◌≢◌, ℕ, ◌⊎◌, inl, inr, false, true, eqb, List, [], ◌∷◌, ◌++◌, Contains, refl, ap, sym, ◌∙◌, subst, Option, Some, None}
+use Rattle.std.proofs.Common.{◌≡◌, ◌≢◌, ℕ, ◌⊎◌, inl, inr, false, true, eqb, List, [], ◌∷◌, ◌++◌, Contains, refl, ap, sym, ◌∙◌, subst}
 use Rattle.std.specs.Prelude.{All}
 use Rattle.std.proofs.lemmas.Bool.Decides.{eqb_tells}
-use Rattle.std.proofs.lemmas.List.Elements.{All-contains}
 use Rattle.delivery_token.specs.declared.CopyKey.{CopyKey}
 use Rattle.delivery_token.specs.declared.Job.{Job}
 use Rattle.delivery_token.specs.declared.Refusal.{Refusal}
@@ -22,7 +21,7 @@ use Rattle.imap_session.specs.Store.{Met}
 use Rattle.exactly_once.proofs.Going.{below_itself}
 use Rattle.exactly_once.proofs.Grown.{heard_stays_heard}
 use Rattle.client_records.proofs.Histories.{every_in}
-use Rattle.client_records.proofs.Lanes.{IsNoPutOf, Puts, PutsNoCopy, put_by, step_puts, step_puts_copy}
+use Rattle.client_records.proofs.Lanes.{Puts, PutsNoCopy, put_by, step_puts, step_puts_copy}
 use Rattle.client_records.proofs.Moved.{Calls, Moved, moved, rested, stepped}
 
 -- the copy of a message of the session with this serial at a seat

@@ -19,7 +19,7 @@ use Rattle.house_session.specs.SeatedVisitor.{SeatedVisitor}
 use Rattle.client_list.specs.Beliefs.{IsRight}
 use Rattle.client_list.specs.Client.{Client, Known, Messages, fresh}
 use Rattle.client_list.specs.Talks.{LongLine, Turned}
-use Rattle.client_records.specs.Appends.{Author, EndsWith, IsAnswered, SaysVerdict, TellsKept, TellsOfAppends, as_it_is}
+use Rattle.client_records.specs.Appends.{Author, EndsWith, IsAnswered, SaysVerdict, TellsKept, TellsOfAppends, as_it_is, copy_under}
 use Rattle.client_records.specs.Clients.{IsRightAbout, bytes_in}
 use Rattle.client_records.specs.Cuts.{Cutter, IsOneAnswer, ends, opens}
 use Rattle.client_records.proofs.LastLines.{Apart, IsWord, apart_tells_none, refusal_apart, words_of_tags}
@@ -86,6 +86,15 @@ no_verdict k w author v uid tag bytes none said = false≢true (sym (none tag (a
 -- or to one that the message was refused
 refused_message : (v uid : ℕ) (tag bytes : List ℕ) (why : Refusal) → IsWord tag → SaysVerdict v tag (Refused why) bytes → EndsWith tag (appended_words v uid) bytes → ⊥
 refused_message v uid tag bytes why word s said = false≢true (sym (apart_tells_none tells_uid bytes (subst (Apart tells_uid) (sym s) (no_apart tells_uid uid_spares tag word why)) tag (appended_words v uid) said))
+
+-- of a copy in another mailbox than the APPEND named
+another_mailboxs : (k : Setup) (w : World) (author : Author) (tag said : List ℕ) (noted : Noted) → (kept : TellsKept k w author tag said noted) → noted.mailbox ≢ kept.message.append.mailbox → ⊥
+another_mailboxs k w author tag said noted kept other = other kept.mailbox
+
+-- of a UID under which another text stands there than was sent
+another_text : (k : Setup) (w : World) (author : Author) (tag said : List ℕ) (noted : Noted) → (kept : TellsKept k w author tag said noted)
+    → ((copy : Job) → Contains (w.box noted.mailbox).accepted (copy, kept.uid) → copy.text ≢ kept.message.append.text) → ⊥
+another_text k w author tag said noted kept other = other (copy_under noted.key kept.message) kept.copy refl
 
 -- of a copy of another session
 another_sessions : (k : Setup) (w : World) (author : Author) (tag said : List ℕ) (noted : Noted) → noted.key.serial ≢ author.serial → TellsKept k w author tag said noted → ⊥

@@ -1,7 +1,6 @@
 -- A session at its seat: its serial, and the copy of the message that it submitted, which is still to be put, or out.
 use Rattle.std.proofs.Common.{◌≡◌, ◌⊎◌, inl, inr, ℕ, List, [], ◌∷◌, length, refl, sym, ap, ◌∙◌, subst, arith, Option, Some, None}
 use Rattle.std.specs.Prelude.{Bool, IfSome}
-use Rattle.std.proofs.lemmas.Option.{none-some}
 use Rattle.delivery_token.specs.declared.Job.{Job}
 use Rattle.delivery_token.specs.declared.log.Noted.{Noted}
 use Rattle.world.specs.World.{Config, Event, Put, Step, World, shard_of}

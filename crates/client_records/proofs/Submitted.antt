@@ -1,5 +1,5 @@
 -- The message that a session submits is one that its client sent: its line, its literal, and the CRLF behind that.
-use Rattle.std.proofs.Common.{◌≡◌, ◌⊎◌, inl, inr, ℕ, ◌+◌, ◌-◌, ◌≤◌, Bool, true, false, ◌==◌, List, [], ◌∷◌, ◌++◌, length, length-append, refl, sym, ap, ◌∙◌, subst, arith, append-nil, append_assoc, Option, Some, None}
+use Rattle.std.proofs.Common.{◌≡◌, inl, inr, ℕ, ◌+◌, ◌≤◌, Bool, true, false, ◌==◌, List, [], ◌∷◌, ◌++◌, length, length-append, refl, sym, ap, ◌∙◌, subst, arith, append-nil, append_assoc, Option, Some, None}
 use Rattle.std.specs.Prelude.{IfSome, Result, Ok, Err}
 use Rattle.std.specs.Option.{option_map}
 use Rattle.std.proofs.lemmas.Bool.{eqb-true}
@@ -24,7 +24,7 @@ use Rattle.client_list.proofs.Turns.{the_turn}
 use Rattle.client_records.specs.Appends.{IsSentAs}
 use Rattle.client_records.specs.Lives.{IsSentFor}
 use Rattle.client_records.proofs.Moved.{Calls}
-use Rattle.client_records.proofs.Waiting.{ForItsLiteral, ForItsVerdict, IsMail, IsNoAppend, append_mail, idling_mail, other_mail, rest_mail, verdict_mail, waiting_mail}
+use Rattle.client_records.proofs.Waiting.{ForItsLiteral, ForItsVerdict, IsMail, IsNoAppend, append_mail, idling_mail, other_mail, rest_mail, verdict_mail}
 
 -- ---- what stays so behind a line
 
@@ -244,11 +244,11 @@ line_mailed folders sent line now answers turn m due e = behind now.mailing.begu
     reads (Ok l) is none e =
         command_case l.1
         (λ append same_command.
-            let as_append : played l.0 now (on_command now (commands.Append append)) answers ≡ Some turn = subst (λ (c : Command). played l.0 now (on_command now c) answers ≡ Some turn) same_command e in
-            append_begins folders sent line l.0 append now turn.standing m same none (subst (λ (c : Command). read line ≡ Ok (l.0, c)) same_command is) (append_mail l.0 now append answers turn as_append))
+        let as_append : played l.0 now (on_command now (commands.Append append)) answers ≡ Some turn = subst (λ (c : Command). played l.0 now (on_command now c) answers ≡ Some turn) same_command e in
+        append_begins folders sent line l.0 append now turn.standing m same none (subst (λ (c : Command). read line ≡ Ok (l.0, c)) same_command is) (append_mail l.0 now append answers turn as_append))
         (λ other.
-            let mailing = other_mail l.0 now l.1 answers turn other e in
-            same_mail folders sent (line ++ crlf) now turn.standing m same (ap (λ (x : Mailing). x.sent) mailing) (ap (λ (x : Mailing). x.begun) mailing ∙ none))
+        let mailing = other_mail l.0 now l.1 answers turn other e in
+        same_mail folders sent (line ++ crlf) now turn.standing m same (ap (λ (x : Mailing). x.sent) mailing) (ap (λ (x : Mailing). x.begun) mailing ∙ none))
 
     while : (idling : Option (List ℕ)) → now.mailing.begun ≡ None → turn_while idling now line answers ≡ Some turn → Mailed folders (sent ++ (line ++ crlf)) turn.standing
     while None none e = reads (read line) refl none e

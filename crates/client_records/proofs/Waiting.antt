@@ -1,11 +1,11 @@
 -- What a session knows of the messages that its client appends: it changes where an exchange waits, and by what it waits for.
-use Rattle.std.proofs.Common.{◌≡◌, ◌⊎◌, inl, inr, ℕ, zero, suc, ◌+◌, Bool, true, false, List, [], ◌∷◌, ◌++◌, length, refl, sym, ap, ◌∙◌, subst, Option, Some, None}
+use Rattle.std.proofs.Common.{◌≡◌, ◌⊎◌, inl, inr, ℕ, zero, suc, ◌+◌, Bool, true, false, List, [], ◌∷◌, length, refl, subst, Option, Some, None}
 use Rattle.std.specs.Prelude.{codes, nat_le, nat_lt, ◌==◌, if◌then◌else◌}
 use Rattle.std.specs.List.{list_any}
 use Rattle.std.specs.Option.{option_map}
 use Rattle.change_ring.specs.declared.change.Change.{Change}
 use Rattle.change_ring.specs.declared.change.Flags.{Flags}
-use Rattle.cursor_set.specs.Lines.{lines, position}
+use Rattle.cursor_set.specs.Lines.{lines}
 use Rattle.delivery_token.specs.declared.Verdict.{Verdict}
 use Rattle.delivery_token.specs.declared.Verdict.TheVariants as verdicts
 use Rattle.mailbox.specs.declared.clients.MailFault.TheVariants.{NoMemory}
@@ -244,7 +244,6 @@ played_mail A drops tag now (ex.Leave remove x) (Refused a ∷ []) p = closed_ma
 played_mail A drops tag now (ex.Leave remove x) (Refused a ∷ d ∷ more) p = tt
 played_mail A drops tag now (ex.Leave remove x) ((Starved zero) ∷ more) p = tt
 played_mail A drops tag now (ex.Leave remove x) ((Starved (suc a)) ∷ more) p = tt
-
 
 -- ---- what an exchange is made of
 

@@ -12,8 +12,8 @@ use Rattle.imap_grammar.specs.Reading.{is_done}
 use Rattle.imap_grammar.specs.declared.command.Command.TheVariants as commands
 use Rattle.imap_session.specs.declared.standing.After.TheVariants.{Go}
 use Rattle.imap_session.specs.declared.standing.Selected.{Selected}
-use Rattle.imap_session.specs.Exchange.{Answer, Appending, Entered, Looked, Found, Counted, Altered, Expunged, Fed, Left, Refused, Starved, Count, Done, Feed, Sent, Standing, Turn, having, is_idling, kept_behind, kept_tag, played, refusal_text, refused, tagged}
-use Rattle.imap_session.specs.Commands.{appended_words, completed, idle_turn_in, on_idle_line, on_rest, on_verdict, refused_words, says, showing, turn_behind, turn_of, turn_while, turn_with, unlimited, without_begun, without_sent}
+use Rattle.imap_session.specs.Exchange.{Answer, Appending, Entered, Looked, Found, Counted, Altered, Expunged, Fed, Left, Refused, Starved, Count, Done, Feed, Sent, Standing, Turn, having, is_idling, kept_behind, kept_tag, played, refusal_text, refused}
+use Rattle.imap_session.specs.Commands.{appended_words, completed, on_idle_line, on_verdict, refused_words, says, showing, turn_behind, turn_of, turn_while, turn_with, unlimited, without_begun, without_sent}
 use Rattle.imap_session.specs.Store.{Met}
 use Rattle.client_list.specs.Beliefs.{IsRight}
 use Rattle.client_list.specs.Client.{Client, Known, knowing, reads}

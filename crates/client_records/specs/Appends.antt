@@ -1,6 +1,8 @@
 -- What the answers to a client tell of the messages that it appended (RFC 9051, 6.3.12; RFC 4315, 3).
-use Rattle.std.specs.Prelude.{◌≡◌, ◌⊎◌, ◌==◌, ℕ, false, true, codes, drop, length, reverse, List, [], ◌∷◌, ◌++◌, All, AllPairs, Contains, filter_map, Ok, Option, Some, None, if◌then◌else◌}
+use Rattle.std.specs.Prelude.{◌≡◌, ◌⊎◌, ◌==◌, ℕ, false, true, codes, drop, length, reverse, List, [], ◌∷◌, ◌++◌, AllPairs, Contains, filter_map, Ok, Option, Some, None, if◌then◌else◌}
 use Rattle.delivery_token.specs.Keys.{Below}
+use Rattle.delivery_token.specs.declared.CopyKey.{CopyKey}
+use Rattle.delivery_token.specs.declared.Job.{Job}
 use Rattle.delivery_token.specs.declared.Verdict.{Verdict}
 use Rattle.delivery_token.specs.declared.Verdict.TheVariants.{Stored, Refused}
 use Rattle.delivery_token.specs.declared.log.Noted.{Noted}
@@ -67,6 +69,10 @@ abbrev pub SaysVerdict : (uidvalidity : ℕ) (tag : List ℕ) → Verdict → Li
 SaysVerdict uidvalidity tag (Stored uid) bytes = EndsWith tag (appended_words uidvalidity uid) bytes ⊎ ((fault : MailFault) × (bytes ≡ refusal_text tag fault))
 SaysVerdict uidvalidity tag (Refused why) bytes = bytes ≡ tagged tag (refused_words why)
 
+-- the copy of a message, under this key
+abbrev pub copy_under : CopyKey → Sent → Job
+copy_under key message = record { key = key; mailbox = message.append.mailbox; text = message.append.text; flags = message.append.flags }
+
 -- Who appended: the session with this serial at a place, with these mailboxes, to which its client sent all this.
 pub record Author : Type 0 where
   pub place : ℕ
@@ -86,8 +92,9 @@ pub record AnswersNoted (k : Setup) (w : World) (author : Author) (bytes : List 
   pub came : IsSentAs author.folders author.sent message
   pub chosen : is_word_of is_tag message.tag ≡ true
   pub says : SaysVerdict k.config.uidvalidity message.tag noted.verdict bytes
-  -- a copy that was stored under a UID stands exactly once in its mailbox's history, under that UID
+  -- a copy that was stored under a UID stands exactly once in the history of the mailbox that was named, under that UID, and with the text and the flags that were sent
   pub stands : (uid : ℕ) → noted.verdict ≡ Stored uid → StandsOnce (pairs (w.box noted.mailbox).accepted) noted.key uid
+  pub stored : (uid : ℕ) → noted.verdict ≡ Stored uid → (noted.mailbox ≡ message.append.mailbox) × Contains (w.box noted.mailbox).accepted (copy_under noted.key message, uid)
 
 -- ---- all that a client was told
 
@@ -108,7 +115,7 @@ abbrev pub as_it_is : Option Noted → Option Noted
 as_it_is verdict = verdict
 
 -- These words, under this tag, are the OK for one copy of this session: of a message that its client sent under that tag. They tell the house's UIDVALIDITY and the UID under which it
--- stands, once, as its seat has heard.
+-- stands, once, as its seat has heard: in the mailbox that was named, with the text and the flags that were sent.
 pub record TellsKept (k : Setup) (w : World) (author : Author) (tag said : List ℕ) (noted : Noted) : Type 0 where
   pub message : Sent
   pub number : noted.key.message ≡ message.append.message
@@ -121,6 +128,8 @@ pub record TellsKept (k : Setup) (w : World) (author : Author) (tag said : List 
   pub heard : Contains (w.heard noted.key.seat) noted
   pub stored : noted.verdict ≡ Stored uid
   pub once : StandsOnce (pairs (w.box noted.mailbox).accepted) noted.key uid
+  pub mailbox : noted.mailbox ≡ message.append.mailbox
+  pub copy : Contains (w.box noted.mailbox).accepted (copy_under noted.key message, uid)
 
 -- a session that is there, behind a record
 abbrev pub author_at : Setup → List Entry → (place : ℕ) → SeatedVisitor → Author

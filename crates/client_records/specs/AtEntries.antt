@@ -1,5 +1,5 @@
 -- When a client's list is the mailbox as it is, by the entry of a record at which it was told so.
-use Rattle.std.specs.Prelude.{◌≡◌, ℕ, Bool, false, true, codes, List, [], ◌∷◌, ◌++◌, flat_map, Some, None, Ok}
+use Rattle.std.specs.Prelude.{◌≡◌, ℕ, false, true, codes, List, [], ◌∷◌, ◌++◌, flat_map, Some, None, Ok}
 use Rattle.std.specs.Borrow.{Bor}
 use Rattle.world.specs.World.{Session}
 use Rattle.imap_grammar.specs.Reading.{read}

@@ -1,5 +1,5 @@
 -- How a client cuts what it reads into answers: behind each tagged line. What stands in literals is passed over (RFC 9051, 2.2.2, 4.3 and 7).
-use Rattle.std.specs.Prelude.{◌≡◌, ◌⊎◌, ◌==◌, ◌&&◌, ◌||◌, ℕ, zero, suc, Bool, false, true, codes, not, reverse, flat_map, List, [], ◌∷◌, ◌++◌, Ok, Option, Some, None, if◌then◌else◌}
+use Rattle.std.specs.Prelude.{◌≡◌, ◌⊎◌, ◌==◌, ◌&&◌, ◌||◌, ℕ, zero, suc, Bool, false, true, codes, not, reverse, List, [], ◌∷◌, ◌++◌, Ok, Option, Some, None, if◌then◌else◌}
 use Rattle.imap_grammar.specs.Reading.{read}
 use Rattle.imap_grammar.specs.declared.command.Command.{Command}
 use Rattle.imap_grammar.specs.declared.command.Command.TheVariants as commands

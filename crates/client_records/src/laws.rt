@@ -132,10 +132,11 @@ pub fn clients_keep_up()
 {}
 
 /// What a client may conclude of the messages that it appended, by the answers that its session gave it, over any record of a house
-/// that was new. Where the last line of an answer begins `OK [APPENDUID ` behind a tag, it tells the house's UIDVALIDITY and the UID
-/// under which one copy of this very session stands in its mailbox's history, exactly once: its seat has heard so (RFC 9051, 6.3.12;
-/// RFC 4315, 3). Such answers are about different messages, in the order in which they were appended; and to each verdict that says
-/// that the message is stored the session answers that OK, unless the store refuses.
+/// that was new. Where the last line of an answer begins `OK [APPENDUID ` behind a tag, that is the tag of an APPEND that it sent, and
+/// the line tells the house's UIDVALIDITY and the UID under which one copy of this very session stands in the history of the mailbox
+/// that this APPEND named, exactly once, with the text that was sent as its literal: its seat has heard so (RFC 9051, 6.3.12; RFC 4315,
+/// 3). Such answers are about different messages, in the order in which they were appended; and to each verdict that says that the
+/// message is stored the session answers that OK, unless the store refuses.
 pub fn appends_are_told()
     // Beside each answer of a session that is there stands the verdict that it was said to, or none; and it says what is said to that.
     ensures { AppendsAreTold }

@@ -1,12 +1,12 @@
 -- How answers end, which numbers their last lines tell, and how a client cuts what it reads.
-use Rattle.std.specs.Prelude.{◌≡◌, ℕ, true, false, codes, decimal, List, [], ◌∷◌, ◌++◌}
+use Rattle.std.specs.Prelude.{◌≡◌, false, codes, [], ◌∷◌}
 use Rattle.std.specs.Fmt.{digits}
 use Rattle.std.proofs.Common.{refl}
 use Rattle.imap_session.specs.Commands.{appended_words}
 use Rattle.imap_session.specs.Telling.{tells_uid}
 use Rattle.client_records.specs.Appends.{EndsWith, last_line}
 use Rattle.client_records.specs.Clients.{Answer, Words}
-use Rattle.client_records.specs.Cuts.{Cutter, amid, between, cut_between, cuts, is_ended}
+use Rattle.client_records.specs.Cuts.{amid, between, cut_between, cuts, is_ended}
 
 -- ---- the last line
 
