@@ -1,2 +1,3 @@
 mod AskLaws
+mod GivenLaws
 mod WordLaws

@@ -1,5 +1,5 @@
 -- From what a run promises to what the program does.
-use Rattle.std.proofs.Common.{lit<, ◌≡◌, ◌⊎◌, ◌∙◌, ap, ℕ, Bool, true, List, inl, inr, refl, sym, subst, Option, Some, None, Result, Err, arith}
+use Rattle.std.proofs.Common.{lit<, ◌≡◌, ◌⊎◌, ◌∙◌, ap, ℕ, Bool, true, List, inl, inr, refl, sym, subst, Option, Some, None, Result, Ok, Err, arith}
 use Rattle.std.specs.Prelude.{IfSome}
 use Rattle.house.specs.Settings.{setup_of}
 use Rattle.house.specs.House.{House}
@@ -15,9 +15,11 @@ use Rattle.script.proofs.Once.{wrote_beginning}
 use Rattle.script.proofs.RunLaws.{run_unbegun}
 use Rattle.serving.specs.declared.fault.ServeFault.{ServeFault}
 use Rattle.serving.specs.declared.fault.ServeFault.TheVariants as serve_faults
-use Rattle.post_house.specs.inner.Playing.{Played}
+use Rattle.post_house.specs.inner.Playing.{WasPlayed}
 use Rattle.post_house.specs.Status.{config_failure, run_failure, serve_failure, status_of}
-use Rattle.post_house.specs.inner.Status.{IsStatus}
+use Rattle.post_house.specs.inner.Status.{IsStatus, status_for, status_of_done, status_served}
+use Rattle.post_house.specs.declared.outcome.Done.{Done}
+use Rattle.post_house.specs.declared.outcome.Done.TheVariants.{Played, Served}
 use Rattle.post_house.specs.declared.failure.Failure.{Failure}
 use Rattle.post_house.specs.declared.failure.Failure.TheVariants as failures
 
@@ -32,13 +34,13 @@ pub failed_played : (config : Config) (lines : List ScriptLine) (h : House) (fai
     → ((sent : ℕ) → ◌≡◌ {A = Result (Unit {0}) RunFault} (Err f) (Err (run_faults.Write sent)) → failed ≡ true)
     → (◌≡◌ {A = Result (Unit {0}) RunFault} (Err f) (Err run_faults.NoMemory) → WritesBeginning (setup_of config) lines (IsLeftWanting (setup_of config) h) old new)
     → (◌≡◌ {A = Result (Unit {0}) RunFault} (Err f) (Err run_faults.Read) → WritesBeginning (setup_of config) lines (IsLeft (setup_of config) h) old new)
-    → Played config lines failed (Err r) old new
+    → WasPlayed config lines failed (Err r) old new
 failed_played config lines h failed old new (run_faults.Write sent) r e write fails wants reads =
-    subst (λ (x : Failure). Played config lines failed (Err x) old new) (sym e) (inr (h, sent, write sent refl, fails sent refl))
+    subst (λ (x : Failure). WasPlayed config lines failed (Err x) old new) (sym e) (inr (h, sent, write sent refl, fails sent refl))
 failed_played config lines h failed old new run_faults.Read r e write fails wants reads =
-    subst (λ (x : Failure). Played config lines failed (Err x) old new) (sym e) (inl (h, reads refl))
+    subst (λ (x : Failure). WasPlayed config lines failed (Err x) old new) (sym e) (inl (h, reads refl))
 failed_played config lines h failed old new run_faults.NoMemory r e write fails wants reads =
-    subst (λ (x : Failure). Played config lines failed (Err x) old new) (sym e) (inr (h, wants refl))
+    subst (λ (x : Failure). WasPlayed config lines failed (Err x) old new) (sym e) (inr (h, wants refl))
 
 -- ---- settings that are wrong
 
@@ -74,14 +76,39 @@ fault_named A (Some y) f r x (inl s) none is e =
 fault_named A (Some y) f r x (inr s) none is e =
     absurd (no_config x (ap config_failure (sym (same_fault A f config_faults.NoMemory s)) ∙ sym is ∙ same_failure r (failures.Config x) e))
 
--- ---- a server
+-- ---- what came of it
 
 -- each failure has a status of its own
-pub has_status : (r : Failure) (n : ℕ) → n ≡ status_of r → IsStatus n
+has_status : (r : Failure) (n : ℕ) → n ≡ status_of r → IsStatus n
 has_status (failures.Config fault) n e = subst IsStatus (sym e) (2, lit< tt, refl)
 has_status failures.Device n e = subst IsStatus (sym e) (3, lit< tt, refl)
 has_status failures.NoMemory n e = subst IsStatus (sym e) (4, lit< tt, refl)
 has_status failures.Torn n e = subst IsStatus (sym e) (5, lit< tt, refl)
+
+went_well : (n : ℕ) → n ≡ 0 → IsStatus n
+went_well n e = subst IsStatus (sym e) (0, lit< tt, refl)
+
+pub done_status : (d : Done) (n : ℕ) → n ≡ status_of_done d → IsStatus n
+done_status (Played (Ok done)) n e = went_well n e
+done_status (Played (Err r)) n e = has_status r n e
+done_status (Served (Ok done)) n e = went_well n e
+done_status (Served (Err f)) n e = has_status (serve_failure f) n e
+
+-- none of them is that of words that are refused
+failed_not_two : (r : Failure) (n : ℕ) → n ≡ status_of r → n ≡ 2 → ⊥
+failed_not_two (failures.Config fault) n e two = omega (arith, e, two)
+failed_not_two failures.Device n e two = omega (arith, e, two)
+failed_not_two failures.NoMemory n e two = omega (arith, e, two)
+failed_not_two failures.Torn n e two = omega (arith, e, two)
+
+pub not_two : (d : Done) (n : ℕ) → n ≡ status_of_done d → n ≡ 2 → ⊥
+not_two (Played (Ok done)) n e two = omega (arith, e, two)
+not_two (Played (Err r)) n e two = failed_not_two r n e two
+not_two (Served (Ok done)) n e two = omega (arith, e, two)
+not_two (Served (Err f)) n e two = failed_not_two (serve_failure f) n e two
+
+no_none : ◌≡◌ {A = ℕ} 0 3 → ⊥
+no_none e = (let z : ⊥ = omega (arith, e) in z)
 
 no_four : (n : ℕ) → n ≡ 4 → n ≡ 3 → ⊥
 no_four n e f = (let z : ⊥ = omega (arith, e, f) in z)
@@ -93,10 +120,19 @@ no_six : (n : ℕ) → n ≡ 6 → n ≡ 3 → ⊥
 no_six n e f = (let z : ⊥ = omega (arith, e, f) in z)
 
 -- wrong settings alone have this status
-pub server_not_set : {A : Type 0} (old new : A) (f : ServeFault) (n : ℕ) → n ≡ status_of (serve_failure f)
-    → ((x : ConfigFault) → ◌≡◌ {A = Result (Unit {0}) ServeFault} (Err f) (Err (serve_faults.Config x)) → new ≡ old) → n ≡ 3 → new ≡ old
-server_not_set old new (serve_faults.Config x) n is same e = same x refl
-server_not_set old new serve_faults.Device n is same e = absurd (no_four n is e)
-server_not_set old new serve_faults.Spawn n is same e = absurd (no_four n is e)
-server_not_set old new serve_faults.NoMemory n is same e = absurd (no_five n is e)
-server_not_set old new serve_faults.Torn n is same e = absurd (no_six n is e)
+pub played_not_set : {A : Type 0} (old new : A) (r : Result (Unit {0}) Failure)
+    → ((x : ConfigFault) → r ≡ Err (failures.Config x) → new ≡ old) → status_for r ≡ 3 → new ≡ old
+played_not_set old new (Ok done) same e = absurd (no_none e)
+played_not_set old new (Err (failures.Config x)) same e = same x refl
+played_not_set old new (Err failures.Device) same e = absurd (no_four 4 refl e)
+played_not_set old new (Err failures.NoMemory) same e = absurd (no_five 5 refl e)
+played_not_set old new (Err failures.Torn) same e = absurd (no_six 6 refl e)
+
+pub served_not_set : {A : Type 0} (old new : A) (r : Result (Unit {0}) ServeFault)
+    → ((x : ConfigFault) → r ≡ Err (serve_faults.Config x) → new ≡ old) → status_served r ≡ 3 → new ≡ old
+served_not_set old new (Ok done) same e = absurd (no_none e)
+served_not_set old new (Err (serve_faults.Config x)) same e = same x refl
+served_not_set old new (Err serve_faults.Device) same e = absurd (no_four 4 refl e)
+served_not_set old new (Err serve_faults.Spawn) same e = absurd (no_four 4 refl e)
+served_not_set old new (Err serve_faults.NoMemory) same e = absurd (no_five 5 refl e)
+served_not_set old new (Err serve_faults.Torn) same e = absurd (no_six 6 refl e)

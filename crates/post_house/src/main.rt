@@ -3,6 +3,7 @@
 #![tactic(auto)]
 
 mod failure;
+mod outcome;
 
 ghost use Rattle.std.specs.Prelude.{◌≡◌, ◌⊎◌, ◌↔◌, false, true, ℕ, List, Some, Err, map};
 ghost use Rattle.clap.specs.Words.{kind_of};
@@ -11,19 +12,20 @@ ghost use Rattle.script.specs.Promise.{WroteOnce};
 ghost use Rattle.house.specs.Settings.{IsInRange, config_fault, setup_of};
 ghost use Rattle.house.specs.declared.config.ConfigFault.{ConfigFault};
 ghost use Rattle.command_line.specs.Asking.{IsAskedInRange};
-ghost use Rattle.post_house.specs.inner.Playing.{HasDone, HasDoneAsked, HasServed, Played, RanScript};
+ghost use Rattle.post_house.specs.inner.Playing.{HasDone, HasRun, WasPlayed};
 ghost use Rattle.post_house.specs.Status.{status_of};
-ghost use Rattle.post_house.specs.inner.Status.{IsStatus};
-ghost use Rattle.post_house.specs.inner.Telling.{HasRefused, HasTold, IsRequest, Tells};
+ghost use Rattle.post_house.specs.inner.Status.{IsStatus, status_of_done};
+ghost use Rattle.post_house.specs.inner.Telling.{HasTold, IsRequest, Tells};
 
 use crate::failure::{Failure, device_or_memory};
+use crate::outcome::{Done, Outcome, Ran};
 use clap::Error;
 use clap::error::ErrorKind;
 use command_line::{Asked, asked_of};
 use house::{Config, House};
 use line_io::{Sink, Watched, send};
 use script::drive;
-use serving::{Uidvalidity, serve};
+use serving::serve;
 use std::alloc::Global;
 use std::convert::AsStr;
 use std::env::{self, Env};
@@ -101,7 +103,7 @@ fn play<R: BufRead, W: Sink>(
     requires range { IsInRange config.now }
     requires live { W.failed output.old ≡ false }
     ensures played { (bytes : List ℕ) → R.remaining input.old ≡ Some bytes →
-        Played config.now (script_of bytes) (W.failed output.new) result (W.taken output.old) (W.taken output.new) }
+        WasPlayed config.now (script_of bytes) (W.failed output.new) result (W.taken output.old) (W.taken output.new) }
     ensures once { (bytes : List ℕ) → R.remaining input.old ≡ Some bytes →
         WroteOnce (setup_of config.now) (script_of bytes) (W.taken output.old) (W.taken output.new) }
     ensures fault { (fault : ConfigFault) → result ≡ Err (Failure.Config fault) → config_fault config.now ≡ Some fault }
@@ -117,81 +119,39 @@ fn play<R: BufRead, W: Sink>(
     }
 }
 
-// Runs a script as `play` does, and gives the exit status; a failure is said on standard error.
-fn run_script<I: BufRead, W: Sink, F: Write>(
-    alloc: Global,
-    config: &Config,
-    input: &mut I,
-    output: &mut W,
-    faults: &mut F,
-) -> u8
-    requires range { IsInRange config.now }
-    requires live { W.failed output.old ≡ false }
-    ensures status { IsStatus result }
-    ensures not_asked { result ≡ NOT_ASKED_RIGHT → ⊥ }
-    ensures not_set { result ≡ 3 → output.new ≡ output.old }
-    ensures ran { (bytes : List ℕ) → I.remaining input.old ≡ Some bytes →
-        RanScript config.now bytes (W.failed output.new) result (W.taken output.old) (W.taken output.new) }
-{
-    match play(alloc, config, input, output) {
-        Ok(()) => DONE,
-        Err(failure) => fail(failure, faults),
-    }
-}
-
-// Serves a house of these settings until the input is at its end, and gives the exit status; a failure is said on standard error.
-fn run_server<
-    R: Net<Listener = TcpListener, Stream = TcpStream> + Threads + Wait + Sync,
-    I: BufRead,
-    W: Sink,
-    F: Write,
->(
-    rt: &R,
-    alloc: Global,
-    config: &Config,
-    uidvalidity: Uidvalidity,
-    input: &mut I,
-    output: &mut W,
-    faults: &mut F,
-) -> u8
-    requires range { IsInRange config.now }
-    requires live { W.failed output.old ≡ false }
-    ensures status { IsStatus result }
-    ensures not_asked { result ≡ NOT_ASKED_RIGHT → ⊥ }
-    ensures not_set { result ≡ 3 → output.new ≡ output.old }
-    ensures served { HasServed config.now uidvalidity result (W.taken output.old) (W.taken output.new) }
-{
-    match serve(rt, alloc, config, uidvalidity, input, output) {
-        Ok(()) => DONE,
-        Err(fault) => fail(Failure::from(fault), faults),
-    }
-}
-
-// Does what is asked for, and gives the exit status; a failure is said on standard error.
+// Does what is asked for, and hands out what came of it.
 fn carry_out<
     R: Net<Listener = TcpListener, Stream = TcpStream> + Threads + Wait + Sync,
     I: BufRead,
     W: Sink,
-    F: Write,
->(rt: &R, alloc: Global, asked: &Asked, input: &mut I, output: &mut W, faults: &mut F) -> u8
+>(rt: &R, alloc: Global, asked: &Asked, input: &mut I, output: &mut W) -> Done
     requires range { IsAskedInRange asked.now }
     requires live { W.failed output.old ≡ false }
-    ensures status { IsStatus result }
-    ensures not_asked { result ≡ NOT_ASKED_RIGHT → ⊥ }
-    ensures not_set { result ≡ 3 → output.new ≡ output.old }
-    ensures done { HasDone asked.now (I.remaining input.old) (W.failed output.new) result (W.taken output.old) (W.taken output.new) }
+    ensures not_set { status_of_done result ≡ 3 → output.new ≡ output.old }
+    ensures done { HasDone asked.now result (I.remaining input.old) (W.failed output.new) (W.taken output.old) (W.taken output.new) }
 {
     match asked {
-        Asked::Script(config) => run_script(alloc, config, input, output, faults),
+        Asked::Script(config) => Done::Played(play(alloc, config, input, output)),
         Asked::Serve {
             config,
             uidvalidity,
-        } => run_server(rt, alloc, config, *uidvalidity, input, output, faults),
+        } => Done::Served(serve(rt, alloc, config, *uidvalidity, input, output)),
     }
 }
 
-/// Does what the words ask for, the first of which is the program's name, and gives the exit status: 0 where all was done, also where
-/// only the help was asked for; 2 for a command line that is refused, with clap's text on `faults`; 3 for settings that are wrong,
+// Says a failure on standard error, and gives the exit status.
+fn finish<F: Write>(done: Done, faults: &mut F) -> u8
+    ensures { result ≡ status_of_done done }
+{
+    match done {
+        Done::Played(Ok(())) | Done::Served(Ok(())) => DONE,
+        Done::Played(Err(failure)) => fail(failure, faults),
+        Done::Served(Err(fault)) => fail(Failure::from(fault), faults),
+    }
+}
+
+/// Does what the words ask for, the first of which is the program's name, and hands out what came of it, with the exit status: 0 where all
+/// was done, also where only the help was asked for; 2 for a command line that is refused, with clap's text on `faults`; 3 for settings that are wrong,
 /// 4 for a device that fails, 5 for want of memory and 6 for a server that was torn, each with a line of its own on `faults`. At 2 and 3
 /// nothing is written to `output`. A script's bytes are played as they come, and what was written is what it prints, or after a failure a
 /// beginning of it. A server writes a line for each of its listeners, or after a failure a beginning of them, and ends with the input.
@@ -201,23 +161,29 @@ fn command<
     I: BufRead,
     W: Sink,
     F: Write,
->(rt: &R, alloc: Global, words: &[S], input: &mut I, output: &mut W, faults: &mut F) -> u8
+>(rt: &R, alloc: Global, words: &[S], input: &mut I, output: &mut W, faults: &mut F) -> Ran
     requires { W.failed output.old ≡ false }
 
     // The exit status is 0, or 2 to 6; at 2 and 3 nothing was written to `output`.
-    ensures status { IsStatus result }
-    ensures not_asked { result ≡ NOT_ASKED_RIGHT → output.new ≡ output.old }
-    ensures not_set { result ≡ 3 → output.new ≡ output.old }
+    ensures status { IsStatus result.status }
+    ensures not_asked { result.status ≡ NOT_ASKED_RIGHT → output.new ≡ output.old }
+    ensures not_set { result.status ≡ 3 → output.new ≡ output.old }
     // What the words asked for was done; or they ask for nothing that is done, the input wasn't touched, and that was told.
-    ensures ran { HasDoneAsked (map S.text words.now) (I.remaining input.old) (W.failed output.new) result (W.taken output.old) (W.taken output.new)
-        ⊎ (input.new ≡ input.old) × HasRefused (map S.text words.now) (output.new ≡ output.old) (W.failed output.new) result
-        (W.taken output.old) (W.taken output.new) }
+    ensures ran { HasRun (map S.text words.now) result.outcome (input.new ≡ input.old) (I.remaining input.old) (output.new ≡ output.old)
+        (W.failed output.new) result.status (W.taken output.old) (W.taken output.new) }
 {
     let asked = match asked_of(alloc, words) {
         Ok(asked) => asked,
-        Err(error) => return tell(alloc, &error, output, faults),
+        Err(error) => {
+            let status = tell(alloc, &error, output, faults);
+            let outcome = Outcome::Refused(error.kind());
+            return Ran { outcome, status };
+        }
     };
-    carry_out(rt, alloc, &asked, input, output, faults)
+    let done = carry_out(rt, alloc, &asked, input, output);
+    let status = finish(done, faults);
+    let outcome = Outcome::Did(asked, done);
+    Ran { outcome, status }
 }
 
 // Says why the process's words can't be had: they are no text, or memory was refused.
@@ -257,14 +223,15 @@ fn program<
     let (Ok(words), Ok(mut input)) = (words, BufReader::new(alloc, rt.reader())) else {
         return fail(Failure::NoMemory, faults);
     };
-    command(
+    let ran = command(
         rt,
         alloc,
         words.as_slice(),
         &mut input,
         &mut Watched::new(io::writer(rt)),
         faults,
-    )
+    );
+    ran.status
 }
 
 fn main(rt: HostRuntime) -> ExitCode {

@@ -1,3 +1,5 @@
 mod AnnouncingLaws
+mod Endings
 mod Serving
 mod Users
+mod Visits

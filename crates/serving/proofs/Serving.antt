@@ -1,7 +1,8 @@
 -- How a server ends.
-use Rattle.std.proofs.Common.{◌≡◌, ◌∙◌, ◌⊎◌, inl, inr, Bool, true, false, ap, sym, refl, subst, Option, Some, Result, Ok, Err}
+use Rattle.std.proofs.Common.{◌≡◌, ◌∙◌, ◌⊎◌, inl, inr, Bool, true, false, ap, sym, refl, subst, Option, None, Some, Result, Ok, Err}
 use Rattle.std.specs.Prelude.{IfErr, IsErr, OnOk}
 use Rattle.house.specs.declared.config.ConfigFault.{ConfigFault}
+use Rattle.reckoning.specs.declared.balancing.Closes.{Closes}
 use Rattle.serving.specs.declared.fault.ServeFault.{ServeFault}
 use Rattle.serving.specs.declared.fault.ServeFault.TheVariants as faults
 use Rattle.serving.specs.inner.Faults.{IsOfSettings}
@@ -10,14 +11,14 @@ false_true : (b : Bool) → b ≡ false → b ≡ true → ⊥
 false_true b e f = cc
 
 -- what holds of each way in which a house may end holds of how it ended
-pub by_end : (all said whole : Bool) (r : Result (Unit {0}) ServeFault) (P : Result (Unit {0}) ServeFault → Type 0) → (all ≡ false → r ≡ Err faults.Spawn)
-    → (all ≡ true → said ≡ false → r ≡ Err faults.Device) → (all ≡ true → said ≡ true → whole ≡ false → r ≡ Err faults.Torn)
-    → (all ≡ true → said ≡ true → whole ≡ true → r ≡ Ok tt) → (all ≡ false → P (Err faults.Spawn)) → P (Err faults.Device) → P (Err faults.Torn)
-    → (said ≡ true → whole ≡ true → P (Ok tt)) → P r
-by_end false said whole r P spawn device torn done unstarted unsaid ill well = subst P (sym (spawn refl)) (unstarted refl)
-by_end true false whole r P spawn device torn done unstarted unsaid ill well = subst P (sym (device refl refl)) unsaid
-by_end true true false r P spawn device torn done unstarted unsaid ill well = subst P (sym (torn refl refl refl)) ill
-by_end true true true r P spawn device torn done unstarted unsaid ill well = subst P (sym (done refl refl refl)) (well refl refl)
+pub by_end : (all said : Bool) (closes : Option Closes) (r : Result Closes ServeFault) (P : Result Closes ServeFault → Type 0) → (all ≡ false → r ≡ Err faults.Spawn)
+    → (all ≡ true → said ≡ false → r ≡ Err faults.Device) → (all ≡ true → said ≡ true → closes ≡ None → r ≡ Err faults.Torn)
+    → ((taken : Closes) → all ≡ true → said ≡ true → closes ≡ Some taken → r ≡ Ok taken) → (all ≡ false → P (Err faults.Spawn)) → P (Err faults.Device) → P (Err faults.Torn)
+    → ((taken : Closes) → said ≡ true → closes ≡ Some taken → P (Ok taken)) → P r
+by_end false said closes r P spawn device torn done unstarted unsaid ill well = subst P (sym (spawn refl)) (unstarted refl)
+by_end true false closes r P spawn device torn done unstarted unsaid ill well = subst P (sym (device refl refl)) unsaid
+by_end true true None r P spawn device torn done unstarted unsaid ill well = subst P (sym (torn refl refl refl)) ill
+by_end true true (Some taken) r P spawn device torn done unstarted unsaid ill well = subst P (sym (done taken refl refl refl)) (well taken refl refl)
 
 -- what holds anyway holds where all went well
 pub where_ok : (r : Result (Unit {0}) ServeFault) (P : Type 0) → P → OnOk r P

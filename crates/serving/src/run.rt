@@ -1,7 +1,7 @@
 //! The threads of a server: workers first, then two for each berth of a session; it is waited for the end, all are stopped and joined, and
 //! the house is closed. What the threads do stands in `serving_workers` and `sessions`.
 
-ghost use Rattle.std.specs.Prelude.{ℕ, ◌≡◌, ◌≢◌, ◌≤◌, ◌<◌, ◌+◌, All, Err, Ok, OnOk, Some, IfOk, [], false, true, length, take, vec_len, vec_capacity};
+ghost use Rattle.std.specs.Prelude.{ℕ, ◌≡◌, ◌≢◌, ◌≤◌, ◌<◌, ◌+◌, All, Err, None, Ok, OnOk, Option, Some, IfOk, [], false, true, length, map, take, vec_len, vec_capacity};
 ghost use Rattle.std.specs.Io.KnownBytes.{Appends};
 ghost use Rattle.std.specs.List.{list_all};
 ghost use Rattle.house.specs.declared.config.ConfigFault.{ConfigFault};
@@ -11,9 +11,9 @@ ghost use Rattle.std.specs.Thread.{IsSync};
 ghost use Rattle.house_floor.specs.Crew.{AllAt, IsCrew, IsHouse, IsPost};
 ghost use Rattle.house_floor.specs.Opening.{AreBaskets};
 ghost use Rattle.lane_permits.specs.Rooms.{AreRooms};
-ghost use Rattle.serving_workers.specs.Leaving.{IsHired, IsServed, has_thread};
+ghost use Rattle.serving_workers.specs.Leaving.{IsHired, IsServed, has_thread, serves_mail};
 ghost use Rattle.serving.specs.inner.Dealing.{IsDealt};
-ghost use Rattle.serving.specs.inner.Ending.{HasEndedWhole};
+ghost use Rattle.serving.specs.inner.Ending.{CameTo, FirstTakeMail};
 
 use crate::announcing::Announcer;
 use crate::equipment::{Crowd, Equipment, Grips, crowd_for, equip, grips_of_all};
@@ -28,9 +28,9 @@ use house_floor::{Baskets, Crew, Floor, Guest, Post, Stand};
 use house_threads::{Ran, Started};
 use lane_work::{Consumed, Worked};
 use line_io::Sink;
-use reckoning::abandon;
+use reckoning::{Closes, abandon};
 use serving_workers::{
-    Begun, Buffers, Hired, Mark, Served, close_house, join_producers, packed, start_workers,
+    Begun, Buffers, Hired, Mark, Served, close_all, join_producers, packed, start_workers,
 };
 use session_bells::Sleeper;
 use shard_queue::SenderEnded;
@@ -101,6 +101,7 @@ fn start_all<'s, E, H: Hall + Send, R: Threads + Wait + Sync>(
     requires room { (hired.items ≡ []) × (length site.now.floor.depot.channels.items ≤ vec_capacity hired) }
     requires imap { All (λ v. v.user < vec_len site.now.sockets.imap) site.now.guests.items }
     ensures hired { AllAt (IsHired site.now.floor) 0 result.0.items }
+    ensures mail { FirstTakeMail (length site.now.grips.mail.items) (map serves_mail result.0.items) }
     ensures count { vec_len result.0 ≡ length site.now.floor.depot.channels.items }
     ensures all { result.1 ≡ true → list_all has_thread result.0.items ≡ true }
 {
@@ -147,6 +148,7 @@ fn start_and_tell<'s, 'o, E, H: Hall + Send, R: Threads + Wait + Sync, W: Sink>(
     requires imap { All (λ v. v.user < vec_len site.now.sockets.imap) site.now.guests.items }
     requires live { W.failed announcer.output.now ≡ false }
     ensures hired { AllAt (IsHired site.now.floor) 0 result.hired.items }
+    ensures mail { FirstTakeMail (length site.now.grips.mail.items) (map serves_mail result.hired.items) }
     ensures count { vec_len result.hired ≡ length site.now.floor.depot.channels.items }
     ensures there { result.all_started ≡ true → list_all has_thread result.hired.items ≡ true }
     ensures same { result.announcer.output.ghost_name ≡ announcer.entry.output.ghost_name }
@@ -207,9 +209,11 @@ fn stop_and_join<'s, 'o, H: Hall, R: Threads + Wait, I: Read + Drop, W: Sink>(
     stop: I,
 ) -> Left<'o, W>
     requires hired { AllAt (IsHired site.now.floor) 0 begin.hired.items × (vec_len begin.hired ≡ length site.now.floor.depot.channels.items) }
+    requires mail { FirstTakeMail (length site.now.grips.mail.items) (map serves_mail begin.hired.items) }
     requires room { (served.items ≡ []) × (length site.now.floor.depot.channels.items ≤ vec_capacity served) }
     ensures served { AllAt (IsServed site.now.floor) 0 result.over.served.items ×
         (vec_len result.over.served ≡ length site.now.floor.depot.channels.items) × (result.over.posts.items ≡ []) }
+    ensures mail { FirstTakeMail (length site.now.grips.mail.items) (map (λ s. s.mail) result.over.served.items) }
     ensures some { result.over.none_started ≡ false }
     ensures all { (result.over.all_started ≡ begin.entry.all_started) × (result.over.is_told ≡ begin.entry.is_told) }
     ensures same { result.announcer.output.ghost_name ≡ begin.entry.announcer.output.ghost_name }
@@ -256,6 +260,7 @@ fn in_scope<'s, 'o, E, H: Hall + Send, R: Threads + Wait + Sync, I: Read + Drop,
     requires live { W.failed announcer.output.now ≡ false }
     ensures served { result.over.none_started ≡ false → AllAt (IsServed site.now.floor) 0 result.over.served.items ×
         (vec_len result.over.served ≡ length site.now.floor.depot.channels.items) × (result.over.posts.items ≡ []) }
+    ensures mail { result.over.none_started ≡ false → FirstTakeMail (length site.now.grips.mail.items) (map (λ s. s.mail) result.over.served.items) }
     ensures none_started { result.over.none_started ≡ true → AllAt (IsPost site.now.floor) 0 result.over.posts.items ×
         (vec_len result.over.posts ≡ length site.now.floor.depot.channels.items) × (result.over.served.items ≡ []) }
     ensures same { result.announcer.output.ghost_name ≡ announcer.entry.output.ghost_name }
@@ -317,6 +322,7 @@ fn serve_in_threads<H: Hall + Send, R: Threads + Wait + Sync, I: Read + Drop, W:
     requires live { W.failed output.old ≡ false }
     ensures served { result.none_started ≡ false → AllAt (IsServed site.now.floor) 0 result.served.items ×
         (vec_len result.served ≡ length site.now.floor.depot.channels.items) × (result.posts.items ≡ []) }
+    ensures mail { result.none_started ≡ false → FirstTakeMail (length site.now.grips.mail.items) (map (λ s. s.mail) result.served.items) }
     ensures none_started { result.none_started ≡ true → AllAt (IsPost site.now.floor) 0 result.posts.items ×
         (vec_len result.posts ≡ length site.now.floor.depot.channels.items) × (result.served.items ≡ []) }
     ensures untried { result.none_started ≡ true → output.new ≡ output.old }
@@ -339,6 +345,7 @@ fn serve_in_threads<H: Hall + Send, R: Threads + Wait + Sync, I: Read + Drop, W:
             requires live { W.failed announcer.output.now ≡ false }
             ensures served { result.over.none_started ≡ false → AllAt (IsServed site.entry.now.floor) 0 result.over.served.items ×
                 (vec_len result.over.served ≡ length site.entry.now.floor.depot.channels.items) × (result.over.posts.items ≡ []) }
+            ensures mail { result.over.none_started ≡ false → FirstTakeMail (length site.entry.now.grips.mail.items) (map (λ s. s.mail) result.over.served.items) }
             ensures none_started { result.over.none_started ≡ true → AllAt (IsPost site.entry.now.floor) 0 result.over.posts.items ×
                 (vec_len result.over.posts ≡ length site.entry.now.floor.depot.channels.items) × (result.over.served.items ≡ []) }
             ensures same { result.announcer.output.ghost_name ≡ announcer.entry.output.ghost_name }
@@ -415,12 +422,12 @@ fn give_up(
     ServeFault::NoMemory
 }
 
-// What the end of a house comes to.
-fn told(all_started: bool, is_told: bool, whole: bool) -> Result<(), ServeFault>
+// What the end of a house comes to: what was taken of its queues, where nothing was amiss.
+fn told(all_started: bool, is_told: bool, closes: Option<Closes>) -> Result<Closes, ServeFault>
     ensures spawn { all_started ≡ false → result ≡ Err ServeFault.Spawn }
     ensures device { all_started ≡ true → is_told ≡ false → result ≡ Err ServeFault.Device }
-    ensures torn { all_started ≡ true → is_told ≡ true → whole ≡ false → result ≡ Err ServeFault.Torn }
-    ensures done { all_started ≡ true → is_told ≡ true → whole ≡ true → result ≡ Ok tt }
+    ensures torn { all_started ≡ true → is_told ≡ true → closes ≡ None → result ≡ Err ServeFault.Torn }
+    ensures done { (taken : Closes) → all_started ≡ true → is_told ≡ true → closes ≡ Some taken → result ≡ Ok taken }
 {
     if !all_started {
         return Err(ServeFault::Spawn);
@@ -428,13 +435,14 @@ fn told(all_started: bool, is_told: bool, whole: bool) -> Result<(), ServeFault>
     if !is_told {
         return Err(ServeFault::Device);
     }
-    if !whole {
+    let Some(taken) = closes else {
         return Err(ServeFault::Torn);
-    }
-    Ok(())
+    };
+    Ok(taken)
 }
 
-// Closes the house that the threads have left, or spends it where none was started. Ok says that nothing was amiss.
+// Closes the house that the threads have left, and hands out what was taken of its queues, or spends it where none was started. Ok says that
+// nothing was amiss.
 fn close_or_spend<H: Hall, R: Wait>(
     rt: &R,
     site: Site<H>,
@@ -444,7 +452,7 @@ fn close_or_spend<H: Hall, R: Wait>(
     worked: Vec<Worked>,
     consumed: Vec<Consumed>,
     baskets: Baskets,
-) -> Result<(), ServeFault>
+) -> Result<Closes, ServeFault>
     requires lanes { H.lanes ≡ Some site.floor.office.lanes.items }
     requires depot { H.depot ≡ Some site.floor.depot }
     requires house { IsHouse site.floor (length site.floor.depot.channels.items) }
@@ -454,13 +462,14 @@ fn close_or_spend<H: Hall, R: Wait>(
     requires stands { (stands.items ≡ []) × (length site.floor.office.lanes.items ≤ vec_capacity stands) }
     requires served { over.none_started ≡ false → AllAt (IsServed site.floor) 0 over.served.items ×
         (vec_len over.served ≡ length site.floor.depot.channels.items) × (over.posts.items ≡ []) }
+    requires mail { over.none_started ≡ false → FirstTakeMail (length site.grips.mail.items) (map (λ s. s.mail) over.served.items) }
     requires none_started { over.none_started ≡ true → AllAt (IsPost site.floor) 0 over.posts.items ×
         (vec_len over.posts ≡ length site.floor.depot.channels.items) × (over.served.items ≡ []) }
     requires worked { (worked.items ≡ []) × (length site.floor.depot.channels.items ≤ vec_capacity worked) }
     requires consumed { (consumed.items ≡ []) × (length site.floor.office.lanes.items ≤ vec_capacity consumed) }
     requires baskets { AreBaskets (length site.floor.depot.channels.items) (length site.floor.office.lanes.items) baskets }
     ensures setting { (fault : ConfigFault) → result ≢ Err (ServeFault.Config fault) }
-    ensures whole { OnOk result (HasEndedWhole site.floor) }
+    ensures whole { IfOk result (CameTo site.floor (length site.grips.mail.items)) }
     ensures told { OnOk result (over.is_told ≡ true) }
     ensures unsaid { result ≡ Err ServeFault.Spawn → over.all_started ≡ false }
     ensures untried { result ≡ Err ServeFault.NoMemory → over.none_started ≡ true }
@@ -493,11 +502,11 @@ fn close_or_spend<H: Hall, R: Wait>(
     }
     posts.destroy_empty();
     let dismissed = dismiss_all(rt, &gate, &floor, staff, consumed);
-    let whole = close_house(rt, floor, served, worked, dismissed, baskets);
-    told(all_started, is_told, whole)
+    let closes = close_all(rt, floor, served, worked, dismissed, baskets);
+    told(all_started, is_told, closes)
 }
 
-/// Serves the house until `stop` is at its end, and closes it. The first of its producers are so many workers; the others are the berths
+/// Serves the house until `stop` is at its end, closes it, and hands out what was taken of its queues. The first of its producers are so many workers; the others are the berths
 /// of sessions, those of `guests`, each with its own end of its bell. Once each thread stands the lines are written to `output`, and nobody
 /// is served before.
 ///
@@ -516,7 +525,7 @@ pub(crate) fn run_house_in<H: Hall + Send, R: Threads + Wait + Sync, I: Read + D
     stop: I,
     lines: Vec<u8>,
     output: &mut W,
-) -> Result<(), ServeFault>
+) -> Result<Closes, ServeFault>
     requires lanes { H.lanes ≡ Some floor.office.lanes.items }
     requires depot { H.depot ≡ Some floor.depot }
     requires house { IsHouse floor (length floor.depot.channels.items) }
@@ -528,7 +537,7 @@ pub(crate) fn run_house_in<H: Hall + Send, R: Threads + Wait + Sync, I: Read + D
     requires baskets { AreBaskets (length floor.depot.channels.items) (length floor.office.lanes.items) baskets }
     requires live { W.failed output.old ≡ false }
     ensures setting { (fault : ConfigFault) → result ≢ Err (ServeFault.Config fault) }
-    ensures whole { OnOk result (HasEndedWhole floor) }
+    ensures whole { IfOk result (CameTo floor workers) }
     ensures untried { result ≡ Err ServeFault.NoMemory → output.new ≡ output.old }
     ensures unsaid { result ≡ Err ServeFault.Spawn → output.new ≡ output.old }
     ensures told { (n : ℕ) × Appends (W.taken output.old) (W.taken output.new) (take n lines.items) }

@@ -184,7 +184,9 @@ pub fn serve<
         guests.as_slice(),
     )?;
     let workers = usize::from(config.workers);
-    run_house_in::<Brand, R, &mut I, W>(
+    // Over sockets nothing can be named that what was taken could be compared with.
+    let _taken = run_house_in::<Brand, R, &mut I, W>(
         rt, floor, workers, crew, baskets, sleepers, guests, sockets, stop, lines, output,
-    )
+    )?;
+    Ok(())
 }

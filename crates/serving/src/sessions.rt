@@ -1,13 +1,15 @@
 //! The threads of a berth: one accepts a user's clients, one at a time, and answers them, and what they append goes by way of the lanes;
 //! the other sleeps until a change was logged. What is answered stands in `imap_stream`.
 
-ghost use Rattle.std.specs.Prelude.{◌≡◌, ◌≤◌, ◌<◌, ◌+◌, [], All, IfSome, Some, false, length, slice_get, true, vec_len, vec_capacity};
+ghost use Rattle.std.specs.Prelude.{◌≡◌, ◌≤◌, ◌<◌, ◌+◌, ℕ, [], All, IfSome, List, Option, Some, false, length, map, slice_get, true, vec_len, vec_capacity};
 ghost use Rattle.std.specs.List.{list_all};
 ghost use Rattle.std.specs.Mem.{manually_drop_value};
 ghost use Rattle.house_floor.specs.Crew.{AllAt, IsHouse, IsPost};
 ghost use Rattle.lane_work.specs.Couriers.{IsReady, IsSameDesk};
 ghost use Rattle.lane_work.specs.Permits.{AreEnded, ArePermits};
-ghost use Rattle.serving_workers.specs.Leaving.{IsHired, IsServed, has_thread};
+ghost use Rattle.serving.specs.inner.Ending.{FirstTakeMail};
+ghost use Rattle.serving.specs.inner.Visiting.{IsVisitOf};
+ghost use Rattle.serving_workers.specs.Leaving.{IsHired, IsServed, has_thread, serves_mail};
 
 use crate::equipment::SharedBerth;
 use crate::site::Site;
@@ -20,7 +22,7 @@ use house_session::folders_of;
 use house_threads::most_of;
 use imap_stream::{Berth, Hush, Visit};
 use lane_work::{Desk, LaneCourier, Summons, Unkept, end_all};
-use line_io::Watched;
+use line_io::{Sink, Watched};
 use loopback::{Grip, Patience, Timely, prepare};
 use pace::{Actor, Pace};
 use serving_workers::{Door, Hired, Mark, Served, Serves, have_threads, packed};
@@ -89,21 +91,58 @@ fn gateway_of<H: Hall>(site: &Site<H>, session: u8) -> Gateway<'_>
     }
 }
 
-// Opens the visit of a client of this berth's user, who is greeted. None where memory or a handle is refused, or the client has gone.
-fn open_visit<'a, R: Wait>(
+// Opens the visit of a client of this berth's user, who is greeted on `output` and has that user's folders. None where memory is refused, or the
+// client has gone.
+fn open_visit<'a, R: Wait, W: Sink + Drop>(
     rt: &'a R,
     gateway: Gateway<'a>,
-    stream: &TcpStream,
-) -> Option<Visit<'a, R, Unhindered, ClientOutput>> {
+    output: W,
+) -> Option<Visit<'a, R, Unhindered, W>>
+    requires live { W.failed output ≡ false }
+    ensures { IfSome result (IsVisitOf gateway.entry.floor.now gateway.entry.user (W.taken output)) }
+{
     let (floor, gate) = (gateway.floor, gateway.gate);
     let directory = &floor.office.directory;
     let inbox = inbox_numbered(directory, gateway.user)?;
     let bells = floor.depot.sessions.get(usize::from(inbox))?;
-    let folders = folders_of(floor.alloc, directory, directory.user_of(inbox)).ok()?;
-    let output = Watched::new(Timely::new(stream.try_clone().ok()?));
+    let user = directory.user_of(inbox);
+    let Ok(folders) = folders_of(floor.alloc, directory, user) else {
+        return None;
+    };
     let store = LockedStore::new(rt, gate, gateway.session, &floor.depot.mailboxes, bells);
     let most = Some(most_of(floor.office.max_message));
-    Visit::open(rt, floor.alloc, store, folders, most, output).ok()
+    let Ok(visit) = Visit::open(rt, floor.alloc, store, folders, most, output) else {
+        return None;
+    };
+    Some(visit)
+}
+
+// One client's visit, which is of this berth's user, from its first byte to its end.
+fn attend_visit<'a, R: Wait, C: Courier>(
+    rt: &'a R,
+    berth: &ClientBerth<'a, R>,
+    courier: &mut C,
+    gateway: Gateway<'a>,
+    visit: Visit<'a, R, Unhindered, ClientOutput>,
+    stream: &TcpStream,
+    buffer: &mut [u8],
+)
+    requires ready { C.ready courier.old }
+    requires visit { (before : Option (List ℕ)) × IsVisitOf gateway.floor.now gateway.user before visit }
+    ensures ready { C.ready courier.new }
+    ensures kept { (first : C) → C.kept first courier.old → C.kept first courier.new }
+{
+    let mut input = stream;
+    // The berth has no other client: this thread alone brings them here.
+    let _ = berth.attend(
+        rt,
+        gateway.floor.alloc,
+        visit,
+        courier,
+        &mut input,
+        buffer,
+        &gateway.mark.stop,
+    );
 }
 
 // One client, from the greeting to its end.
@@ -122,20 +161,14 @@ fn serve_client<'a, R: Wait, C: Courier>(
     if prepare(stream, Patience::Endless).is_err() {
         return;
     }
-    let Some(visit) = open_visit(rt, gateway, stream) else {
+    let Ok(answers) = stream.try_clone() else {
         return;
     };
-    let mut input = stream;
-    // The berth has no other client: this thread alone brings them here.
-    let _ = berth.attend(
-        rt,
-        gateway.floor.alloc,
-        visit,
-        courier,
-        &mut input,
-        buffer,
-        &gateway.mark.stop,
-    );
+    let output = Watched::new(Timely::new(answers));
+    let Some(visit) = open_visit(rt, gateway, output) else {
+        return;
+    };
+    attend_visit(rt, berth, courier, gateway, visit, stream, buffer);
 }
 
 // The client that was accepted is at hand while it is served. Whoever stops the house sets its mark first and then looks for what is at
@@ -304,7 +337,8 @@ fn start_answering<'s, E, H: Hall + Send, R: Threads + Wait + Sync>(
     requires session { session < length site.now.guests.items }
     requires grips { length site.now.grips.clients.items ≡ length site.now.guests.items }
     requires imap { All (λ v. v.user < vec_len site.now.sockets.imap) site.now.guests.items }
-    ensures { IsHired site.now.floor number result }
+    ensures hired { IsHired site.now.floor number result }
+    ensures mail { serves_mail result ≡ false }
 {
     let floor = &site.floor;
     let parcel = packed(post);
@@ -374,8 +408,10 @@ pub(crate) fn start_berths<'s, E, H: Hall + Send, R: Threads + Wait + Sync>(
     requires posts { AllAt (IsPost site.now.floor) (vec_len hired) posts.items × (vec_len posts ≡ length site.now.guests.items) }
     requires all { vec_len hired + length site.now.guests.items ≡ length site.now.floor.depot.channels.items }
     requires hired { AllAt (IsHired site.now.floor) 0 hired.items × (length site.now.floor.depot.channels.items ≤ vec_capacity hired) }
+    requires mail { All (λ h. serves_mail h ≡ true) hired.items }
     requires imap { All (λ v. v.user < vec_len site.now.sockets.imap) site.now.guests.items }
     ensures hired { AllAt (IsHired site.now.floor) 0 result.0.items }
+    ensures mail { FirstTakeMail (vec_len hired.entry) (map serves_mail result.0.items) }
     ensures count { vec_len result.0 ≡ length site.now.floor.depot.channels.items }
     ensures all { result.1 ≡ true → list_all has_thread result.0.items ≡ true }
 {

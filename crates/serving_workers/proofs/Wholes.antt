@@ -1,8 +1,6 @@
 -- A house that was closed with nothing amiss.
-use Rattle.std.proofs.Common.{◌≡◌, ◌∙◌, List, [], ◌∷◌, Bool, true, false, Option, None, Some, map, ap, refl, sym, subst, Vec}
+use Rattle.std.proofs.Common.{◌≡◌, ◌∙◌, List, [], ◌∷◌, true, false, map, ap, refl, sym, subst, Vec}
 use Rattle.std.specs.Global.{Global}
-use Rattle.std.specs.Option.{is_some}
-use Rattle.std.specs.Prelude.{IfSome}
 use Rattle.std.specs.List.{list_any}
 use Rattle.delivery_token.specs.declared.Job.{Job}
 use Rattle.delivery_token.specs.declared.log.Noted.{Noted}
@@ -45,8 +43,3 @@ whole_of floor served d ws lanes channels closes order producers clerks of_lanes
       channels = (receivers, own, subst (λ (v : Vec (ReplyChannel Noted) Global). AreChannelsClosedWith v.items senders receivers closes.channels.items) of_channels shut);
       heard = subst (GoOn (map (λ (s : Served). received s.receiver) served)) (sym (histories_taken shut.2 ∙ got_twice ws)) grew;
     }
-
--- where something was handed out, it is that
-pub whole_if : (o : Option Closes) (P : Closes → Type 0) (b : Bool) → b ≡ is_some o → IfSome o P → b ≡ true → (x : Closes) × P x
-whole_if (Some x) P b e p is = (x, p)
-whole_if None P b e p is = absurd (let f : false ≡ true = sym e ∙ is in cc)

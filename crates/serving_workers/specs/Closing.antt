@@ -31,7 +31,3 @@ pub record WasClosed (floor : Floor) (served : List Served) (dismissed : Dismiss
       × AreChannelsClosedWith floor.depot.channels.items (map (λ c. c.senders.items) dismissed.consumed.items) receivers closes.channels.items
   -- what each producer had heard stands in front of all that came on its channel
   pub heard : GoOn (map (λ s. received s.receiver) served) (map reply_history closes.channels.items)
-
--- So it was, whatever was taken of them.
-abbrev pub IsWhole : Floor → List Served → Dismissed → Type 0
-IsWhole floor served dismissed = (closes : Closes) × WasClosed floor served dismissed closes

@@ -9,7 +9,7 @@ ghost use Rattle.lane_permits.specs.LanePermits.{AreConsumers};
 ghost use Rattle.lane_permits.specs.ChannelPermits.{AreSenderEndedHands};
 ghost use Rattle.house_floor.specs.Crew.{AllAt, IsHouse};
 ghost use Rattle.house_floor.specs.Opening.{AreBaskets};
-ghost use Rattle.serving_workers.specs.Closing.{GoOn, IsWhole, WasClosed};
+ghost use Rattle.serving_workers.specs.Closing.{GoOn, WasClosed};
 ghost use Rattle.serving_workers.specs.Leaving.{IsServed};
 ghost use Rattle.serving_workers.specs.inner.Leaving.{HasHeard};
 
@@ -185,28 +185,4 @@ pub fn close_all<R: Wait>(
         return None;
     };
     Some(Closes { lanes, channels })
-}
-
-/// The same, where nobody asks what was taken: whether all went well.
-pub fn close_house<R: Wait>(
-    rt: &R,
-    floor: Floor,
-    served: Vec<Served>,
-    worked: Vec<Worked>,
-    dismissed: Dismissed,
-    baskets: Baskets,
-) -> bool
-    requires house { IsHouse floor (vec_len served) }
-    requires some { (0 < vec_len served) × (0 < length floor.office.lanes.items) }
-    requires served { AllAt (IsServed floor) 0 served.items }
-    requires room { (worked.items ≡ []) × (vec_len served ≤ vec_capacity worked) }
-    requires consumed { vec_len dismissed.consumed ≡ length floor.office.lanes.items }
-    requires permits { dismissed.in_order ≡ true → AreConsumers floor.office.lanes.items (map (λ c. c.permit) dismissed.consumed.items) }
-    requires hands { dismissed.in_order ≡ true → AreSenderEndedHands floor.depot.channels.items 0
-        (map (λ c. c.senders.items) dismissed.consumed.items) }
-    requires senders { All (λ c. vec_len c.senders ≡ length floor.depot.channels.items) dismissed.consumed.items }
-    requires baskets { AreBaskets (vec_len served) (length floor.office.lanes.items) baskets }
-    ensures { result ≡ true → IsWhole floor served.items dismissed }
-{
-    close_all(rt, floor, served, worked, dismissed, baskets).is_some()
 }

@@ -10,7 +10,7 @@ mod parcels;
 mod threads;
 
 pub use accepting::{Buffers, Served};
-pub use closing::{close_all, close_house};
+pub use closing::close_all;
 pub use door::Door;
 pub use mark::Mark;
 pub use parcels::packed;

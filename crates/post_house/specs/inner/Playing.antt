@@ -6,9 +6,14 @@ use Rattle.house.specs.House.{House}
 use Rattle.house.specs.declared.config.Config.{Config}
 use Rattle.house.specs.declared.config.ConfigFault.{ConfigFault}
 use Rattle.clap.specs.Words.{Text}
-use Rattle.command_line.specs.Asking.{IsAskedInRange}
+use Rattle.command_line.specs.Asking.{AsksFor, IsAskedInRange}
 use Rattle.command_line.specs.Words.{faults_at}
-use Rattle.post_house.specs.inner.Status.{status_for, status_served}
+use Rattle.post_house.specs.inner.Status.{status_of_done}
+use Rattle.post_house.specs.inner.Telling.{HasRefused}
+use Rattle.post_house.specs.declared.outcome.Done.{Done}
+use Rattle.post_house.specs.declared.outcome.Done.TheVariants.{Played, Served}
+use Rattle.post_house.specs.declared.outcome.Outcome.{Outcome}
+use Rattle.post_house.specs.declared.outcome.Outcome.TheVariants.{Did, Refused}
 use Rattle.command_line.specs.declared.asked.Asked.{Asked}
 use Rattle.command_line.specs.declared.asked.Asked.TheVariants.{Script, Serve}
 use Rattle.post_house.specs.declared.failure.Failure.{Failure}
@@ -29,29 +34,25 @@ StoppedByDevice config lines failed old new =
     ⊎ ((h : House) × (sent : ℕ) × WritesFirst (setup_of config) lines sent h old new × (failed ≡ true))
 
 -- What was written of these lines with these settings, by how it went. `failed` says that the output failed.
-abbrev pub Played : Config → List ScriptLine → (failed : Bool) → Result (Unit {0}) Failure → (old new : Option (List ℕ)) → Type 0
-Played config lines failed (Ok done) old new = (h : House) × Writes (setup_of config) lines h old new
-Played config lines failed (Err (failures.Config fault)) old new = new ≡ old
-Played config lines failed (Err failures.Device) old new = StoppedByDevice config lines failed old new
-Played config lines failed (Err failures.NoMemory) old new = (new ≡ old) ⊎ ((h : House) × WritesBeginning (setup_of config) lines (IsLeftWanting (setup_of config) h) old new)
-Played config lines failed (Err failures.Torn) old new = ⊥
+abbrev pub WasPlayed : Config → List ScriptLine → (failed : Bool) → Result (Unit {0}) Failure → (old new : Option (List ℕ)) → Type 0
+WasPlayed config lines failed (Ok done) old new = (h : House) × Writes (setup_of config) lines h old new
+WasPlayed config lines failed (Err (failures.Config fault)) old new = new ≡ old
+WasPlayed config lines failed (Err failures.Device) old new = StoppedByDevice config lines failed old new
+WasPlayed config lines failed (Err failures.NoMemory) old new = (new ≡ old) ⊎ ((h : House) × WritesBeginning (setup_of config) lines (IsLeftWanting (setup_of config) h) old new)
+WasPlayed config lines failed (Err failures.Torn) old new = ⊥
 
--- These bytes were played as a script with these settings, and ended with this status; what was written delivers exactly once.
-pub record RanScript (config : Config) (bytes : List ℕ) (failed : Bool) (status : ℕ) (old new : Option (List ℕ)) : Type 0 where
-  pub result : Result (Unit {0}) Failure
-  pub status_is : status ≡ status_for result
+-- These bytes were played as a script with these settings, and so it went; what was written delivers exactly once.
+pub record RanScript (config : Config) (bytes : List ℕ) (failed : Bool) (result : Result (Unit {0}) Failure) (old new : Option (List ℕ)) : Type 0 where
   pub wrong : (fault : ConfigFault) → result ≡ Err (failures.Config fault) → config_fault config ≡ Some fault
-  pub played : Played config (script_of bytes) failed result old new
+  pub played : WasPlayed config (script_of bytes) failed result old new
   pub once : WroteOnce (setup_of config) (script_of bytes) old new
 
 -- what is said of the listeners of a server with these settings
 abbrev pub lines_of : Config → Uidvalidity → List ℕ
 lines_of config uidvalidity = announcement config.lmtp_port config.imap_port (setup_of config).directory.homes uidvalidity
 
--- A server with these settings ended with this status; a beginning of its lines was written, and all of them where all went well.
-pub record HasServed (config : Config) (uidvalidity : Uidvalidity) (status : ℕ) (old new : Option (List ℕ)) : Type 0 where
-  pub result : Result (Unit {0}) ServeFault
-  pub status_is : status ≡ status_served result
+-- A server with these settings ended so; a beginning of its lines was written, and all of them where all went well.
+pub record HasServed (config : Config) (uidvalidity : Uidvalidity) (result : Result (Unit {0}) ServeFault) (old new : Option (List ℕ)) : Type 0 where
   pub wrong : (fault : ConfigFault) → result ≡ Err (serve_faults.Config fault) → server_fault config ≡ Some fault
   pub right : OnOk result (server_fault config ≡ None)
   -- wrong settings are told, or want of memory is, and nothing was written
@@ -59,14 +60,22 @@ pub record HasServed (config : Config) (uidvalidity : Uidvalidity) (status : ℕ
   pub told : (n : ℕ) × Appends old new (take n (lines_of config uidvalidity))
   pub all : OnOk result (Appends old new (lines_of config uidvalidity))
 
--- What was asked for was done: a script from an input of which this remained, if that is known, or a server.
-abbrev pub HasDone : Asked → (remaining : Option (List ℕ)) → (failed : Bool) → (status : ℕ) → (old new : Option (List ℕ)) → Type 0
-HasDone (Script config) remaining failed status old new = (bytes : List ℕ) → remaining ≡ Some bytes → RanScript config bytes failed status old new
-HasDone (Serve config uidvalidity) remaining failed status old new = HasServed config uidvalidity status old new
+-- This came of what was asked for: of a script, from an input of which this remained, if that is known, or of a server.
+abbrev pub HasDone : Asked → Done → (remaining : Option (List ℕ)) → (failed : Bool) → (old new : Option (List ℕ)) → Type 0
+HasDone (Script config) (Played result) remaining failed old new = (bytes : List ℕ) → remaining ≡ Some bytes → RanScript config bytes failed result old new
+HasDone (Serve config uidvalidity) (Served result) remaining failed old new = HasServed config uidvalidity result old new
+HasDone asked done remaining failed old new = ⊥
 
--- Words that clap takes asked for something, with settings that are in their ranges, and it was done.
-pub record HasDoneAsked (words : List Text) (remaining : Option (List ℕ)) (failed : Bool) (status : ℕ) (old new : Option (List ℕ)) : Type 0 where
+-- Clap takes the words, they ask for this, with settings that are in their ranges, it was done, and the status tells what came of it.
+pub record HasDoneAsked (words : List Text) (asked : Asked) (done : Done) (remaining : Option (List ℕ)) (failed : Bool) (status : ℕ) (old new : Option (List ℕ)) : Type 0 where
   pub taken : faults_at words ≡ []
-  pub asked : Asked
+  pub asks : AsksFor words asked
   pub range : IsAskedInRange asked
-  pub done : HasDone asked remaining failed status old new
+  pub did : HasDone asked done remaining failed old new
+  pub status_is : status ≡ status_of_done done
+
+-- What the words ask for was done; or they ask for nothing that is done, the input wasn't touched (`unread`), and that was told.
+abbrev pub HasRun : (words : List Text) → Outcome → (unread : Type 0) → (remaining : Option (List ℕ)) → (untouched : Type 0) → (failed : Bool) → (status : ℕ)
+    → (old new : Option (List ℕ)) → Type 0
+HasRun words (Did asked done) unread remaining untouched failed status old new = HasDoneAsked words asked done remaining failed status old new
+HasRun words (Refused why) unread remaining untouched failed status old new = unread × HasRefused words why untouched failed status old new

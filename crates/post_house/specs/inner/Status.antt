@@ -1,6 +1,8 @@
 -- What bodies and proofs say besides: the exit statuses of the program.
 use Rattle.std.specs.Prelude.{ℕ, [], ◌∷◌, Contains, Result, Ok, Err}
 use Rattle.post_house.specs.declared.failure.Failure.{Failure}
+use Rattle.post_house.specs.declared.outcome.Done.{Done}
+use Rattle.post_house.specs.declared.outcome.Done.TheVariants.{Played, Served}
 use Rattle.serving.specs.declared.fault.ServeFault.{ServeFault}
 use Rattle.post_house.specs.Status.{status_of, serve_failure}
 
@@ -17,3 +19,8 @@ status_for (Err failure) = status_of failure
 abbrev pub status_served : Result (Unit {0}) ServeFault → ℕ
 status_served (Ok done) = 0
 status_served (Err fault) = status_of (serve_failure fault)
+
+-- the exit status of either
+abbrev pub status_of_done : Done → ℕ
+status_of_done (Played result) = status_for result
+status_of_done (Served result) = status_served result

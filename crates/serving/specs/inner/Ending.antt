@@ -1,17 +1,68 @@
--- What bodies and proofs say besides: how a house that served has ended.
-use Rattle.std.specs.Prelude.{◌≡◌, List, length}
-use Rattle.clerks.specs.declared.staff.Dismissed.{Dismissed}
-use Rattle.house_floor.specs.Crew.{AllAt}
+-- What bodies and proofs say besides: what a house that served came to, by what was taken of its queues.
+use Rattle.std.specs.Prelude.{◌≡◌, ◌<◌, ◌++◌, ℕ, zero, suc, Bool, List, [], ◌∷◌, All, true, false, length, map, slice_index_or}
+use Rattle.delivery_token.specs.declared.Job.{Job}
+use Rattle.delivery_token.specs.declared.log.Noted.{Noted}
+use Rattle.shard_queue.specs.Closing.{IsWhole}
+use Rattle.shard_queue.specs.Lane.{of}
+use Rattle.shard_queue.specs.Permits.{history, producers_of}
+use Rattle.shard_queue.specs.Reply.{reply_history, senders_of}
+use Rattle.shard_queue.specs.declared.ends.ReplyChannel.{ReplyChannel}
+use Rattle.shard_queue.specs.declared.lane.Entry.{Entry}
+use Rattle.shard_queue.specs.declared.lane.Entry.TheVariants.{End}
+use Rattle.shard_queue.specs.declared.queue.Closed.{Closed}
+use Rattle.shard_queue.specs.declared.queue.ShardQueue.{ShardQueue}
+use Rattle.shard_queue.specs.declared.reply.ReplyClosed.{ReplyClosed}
+use Rattle.lane_work.specs.Answering.{WereAnswered}
+use Rattle.lane_work.specs.Speaking.{premises_of}
 use Rattle.house_floor.specs.declared.floor.Floor.{Floor}
-use Rattle.serving_workers.specs.Closing.{IsWhole}
-use Rattle.serving_workers.specs.Leaving.{IsServed}
-use Rattle.serving_workers.specs.declared.accepting.Served.{Served}
+use Rattle.reckoning.specs.declared.balancing.Closes.{Closes}
+use Rattle.serving_workers.specs.Leaving.{HasServedMail}
 
--- each producer left what it does, each shard a clerk, and with that each queue was closed, and nothing was amiss
-pub record HasEndedWith (floor : Floor) (served : List Served) (dismissed : Dismissed) : Type 0 where
-  pub left : AllAt (IsServed floor) 0 served
-  pub count : length served ≡ length floor.depot.channels.items
-  pub whole : IsWhole floor served dismissed
+-- of each shard, all that was taken from its lane
+abbrev pub histories : Closes → List (List (Entry Job))
+histories closes = map history closes.lanes.items
 
-abbrev pub HasEndedWhole : Floor → Type 0
-HasEndedWhole floor = (served : List Served) × (dismissed : Dismissed) × HasEndedWith floor served dismissed
+-- of each producer, all that came on its reply channel
+abbrev pub answers : Closes → List (List (Entry Noted))
+answers closes = map reply_history closes.channels.items
+
+-- What the clerk of a shard told a producer: of these entries, which it took, one verdict on each copy of that producer, in their order, and then its end.
+-- `heard`: all that came on the producer's reply channel
+pub record WasAnswered (mailboxes shard producer : ℕ) (taken : List (Entry Job)) (heard : List (Entry Noted)) : Type 0 where
+  pub told : List (Entry Noted)
+  pub each : WereAnswered mailboxes shard producer taken told
+  pub ended : of shard heard ≡ told ++ End shard ∷ []
+
+-- All that was put on each of these lanes was taken, each of its producers has put its end, and nobody else put anything.
+abbrev pub WereEmptied : List (ShardQueue Job) → List (Closed Job) → Type 0
+WereEmptied [] [] = Unit {0}
+WereEmptied [] (c ∷ closed) = ⊥
+WereEmptied (lane ∷ lanes) [] = ⊥
+WereEmptied (lane ∷ lanes) (c ∷ closed) = IsWhole (producers_of lane) 0 (history c) × WereEmptied lanes closed
+
+-- the same of reply channels
+abbrev pub WereHeardOut : List (ReplyChannel Noted) → List (ReplyClosed Noted) → Type 0
+WereHeardOut [] [] = Unit {0}
+WereHeardOut [] (c ∷ closed) = ⊥
+WereHeardOut (channel ∷ channels) [] = ⊥
+WereHeardOut (channel ∷ channels) (c ∷ closed) = IsWhole (senders_of channel) 0 (reply_history c) × WereHeardOut channels closed
+
+-- What was taken of the queues of a house, the first of whose producers are so many workers.
+pub record CameTo (floor : Floor) (workers : ℕ) (closes : Closes) : Type 0 where
+  -- What was taken of a worker from each lane is what its connections submitted, one after another with the serials from 0 on, and then its end; and the verdict on
+  -- each of these copies came on its channel.
+  pub mail : (n : ℕ) → n < workers → HasServedMail (premises_of floor.office) n (slice_index_or (answers closes) n []) (map (of n) (histories closes))
+  -- Each copy that was taken of a producer, a worker or another, was answered once, by its shard's clerk and to that producer, in the order in which they were taken.
+  pub answered : (s p : ℕ) → s < length floor.office.lanes.items → p < length floor.depot.channels.items
+      → WasAnswered (length floor.depot.mailboxes.items) s p (slice_index_or (histories closes) s []) (slice_index_or (answers closes) p [])
+  -- Nothing else was on a lane or on a channel, and nothing was left there.
+  pub lanes : WereEmptied floor.office.lanes.items closes.lanes.items
+  pub channels : WereHeardOut floor.depot.channels.items closes.channels.items
+
+-- ---- on the way there
+
+-- Of these producers just the first so many are workers, and take mail.
+abbrev pub FirstTakeMail : ℕ → (marks : List Bool) → Type 0
+FirstTakeMail zero marks = All (λ mark. mark ≡ false) marks
+FirstTakeMail (suc n) [] = ⊥
+FirstTakeMail (suc n) (mark ∷ marks) = (mark ≡ true) × FirstTakeMail n marks

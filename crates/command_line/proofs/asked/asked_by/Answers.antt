@@ -1,7 +1,7 @@
 use Rattle.std.proofs.Common.{◌≡◌, [], map}
 use Rattle.clap.specs.Words.{HasKind}
 use Rattle.command_line.specs.Words.{faults_at}
-use Rattle.command_line.proofs.AskLaws.{here, own, passed_on}
+use Rattle.command_line.proofs.AskLaws.{asks_for, here, own, passed_on}
 use Rattle.command_line.proofs.asked.asked_by.Goals as goal
 
 pub returns-in_err-matches-clause-answered : goal.returns-in_err-matches-clause-answered
@@ -17,3 +17,7 @@ pub returns-clause-answered : goal.returns-clause-answered
 returns-clause-answered g c =
     let texts = map g.S.AsStr.text c.args.words.now in
     own (faults_at texts) c.in_ok-error_of-in-Err.field-0 (here c.args.command texts (λ faults. faults ≡ []) c.requires c.in_ok-matches.ensures.kinds) c.in_ok-error_of-in-Err.ensures
+
+pub returns-in-Ok-clause-asks : goal.returns-in-Ok-clause-asks
+returns-in-Ok-clause-asks g c =
+    asks_for c.args.command (map g.S.AsStr.text c.args.words.now) c.in_ok-matches.matches c.in-Ok.asked c.requires c.in_ok-matches.ensures.ok.2 c.in-Ok.ensures.asks

@@ -1,7 +1,9 @@
-use Rattle.std.proofs.Common.{rules, ◌≡◌, ◌<◌, ◌+◌, ℕ, length, vec_len, subst, sym, arith}
+use Rattle.std.proofs.Common.{rules, ◌≡◌, ◌<◌, ◌+◌, ℕ, length, map, vec_len, subst, sym, arith}
 use Rattle.house_floor.specs.Crew.{AllAt, IsPost}
 use Rattle.house_floor.proofs.Positions.{first_at, more_at}
-use Rattle.serving_workers.specs.Leaving.{IsHired}
+use Rattle.serving_workers.specs.Leaving.{IsHired, serves_mail}
+use Rattle.serving.specs.inner.Ending.{FirstTakeMail}
+use Rattle.serving.proofs.Endings.{all_take, more_without}
 use Rattle.serving.proofs.sessions.start_berths.Goals as goal
 
 pub loop-berth-preserved : goal.loop-berth-preserved
@@ -19,6 +21,22 @@ loop-berth-preserved g c =
       search rules,
       search rules,
       search rules,
-      more_at (IsHired floor) 0 before.items c.push_reserved.new.self.items c.start_answering-one.result c.len-number.result c.push_reserved.ensures.items v.6 at c.start_answering-one.ensures,
+      more_at (IsHired floor) 0 before.items c.push_reserved.new.self.items c.start_answering-one.result c.len-number.result c.push_reserved.ensures.items v.6 at c.start_answering-one.ensures.hired,
       search rules,
+      more_without serves_mail (vec_len c.args.hired) before.items c.push_reserved.new.self.items c.start_answering-one.result c.push_reserved.ensures.items c.start_answering-one.ensures.mail v.8,
+    )
+
+pub loop-berth-init : goal.loop-berth-init
+loop-berth-init g c =
+    let hired = c.args.hired in
+    let e : length hired.items ≡ vec_len hired = omega (arith, hired.ok.0) in (
+      search rules,
+      search rules,
+      search rules,
+      search rules,
+      search rules,
+      search rules,
+      search rules,
+      search rules,
+      subst (λ (n : ℕ). FirstTakeMail n (map serves_mail hired.items)) e (all_take serves_mail hired.items c.requires.mail),
     )

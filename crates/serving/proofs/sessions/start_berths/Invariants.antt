@@ -1,6 +1,7 @@
-use Rattle.std.proofs.Common.{◌≡◌, ◌≤◌, ◌+◌, length, vec_len, vec_capacity}
+use Rattle.std.proofs.Common.{◌≡◌, ◌≤◌, ◌+◌, length, map, vec_len, vec_capacity}
 use Rattle.house_floor.specs.Crew.{AllAt, IsPost}
-use Rattle.serving_workers.specs.Leaving.{IsHired}
+use Rattle.serving_workers.specs.Leaving.{IsHired, serves_mail}
+use Rattle.serving.specs.inner.Ending.{FirstTakeMail}
 use Rattle.serving.proofs.sessions.start_berths.Given as goal
 
 abbrev pub invariant-loop-berth : goal.invariant-loop-berth
@@ -10,3 +11,4 @@ invariant-loop-berth g l =
     × (vec_len l.furnishings.berths + l.berth ≡ length l.site.guests.items) × (vec_len l.furnishings.bells + l.berth ≡ length l.site.guests.items)
     × (vec_len l.furnishings.buffers + l.berth ≡ length l.site.guests.items) × AllAt (IsHired l.site.floor) 0 l.hired.items
     × (length l.site.floor.depot.channels.items ≤ vec_capacity l.hired)
+    × FirstTakeMail (vec_len l.fn.hired) (map serves_mail l.hired.items)

@@ -1,0 +1,35 @@
+use Rattle.std.proofs.Common.{rules, ◌≡◌, ap, subst, sym}
+use Rattle.command_line.specs.declared.asked.Asked.{Asked}
+use Rattle.command_line.specs.declared.asked.Asked.TheVariants.{Script, Serve}
+use Rattle.post_house.specs.inner.Playing.{HasDone}
+use Rattle.post_house.specs.declared.outcome.Done.TheVariants.{Played, Served}
+use Rattle.post_house.proofs.Playing.{played_not_set, served_not_set}
+use Rattle.post_house.proofs.carry_out.Goals as goal
+
+pub returns-in-Script-clause-done : goal.returns-in-Script-clause-done
+returns-in-Script-clause-done g c =
+    let is : c.args.asked.now ≡ Script c.in-Script.config = search rules in
+    subst (λ (a : Asked). HasDone a (Played c.play.result) (g.I.Read.remaining c.args.input.now) (g.W.Sink.failed c.play.new.output) (g.W.Sink.taken c.args.output.now) (g.W.Sink.taken c.play.new.output)) (sym is)
+    (λ bytes e. record {
+      wrong = c.play.ensures.fault;
+      played = c.play.ensures.played bytes e;
+      once = c.play.ensures.once bytes e;
+    })
+
+pub returns-in-Serve-clause-done : goal.returns-in-Serve-clause-done
+returns-in-Serve-clause-done g c =
+    let is : c.args.asked.now ≡ Serve c.in-Serve.config c.in-Serve.uidvalidity = search rules in
+    subst (λ (a : Asked). HasDone a (Served c.serve.result) (g.I.Read.remaining c.args.input.now) (g.W.Sink.failed c.serve.new.output) (g.W.Sink.taken c.args.output.now) (g.W.Sink.taken c.serve.new.output)) (sym is)
+    (record {
+      wrong = c.serve.ensures.wrong;
+      right = c.serve.ensures.right;
+      refused = λ fault e. let r = c.serve.ensures.refused fault e in (r.0, ap g.W.Sink.taken r.1);
+      told = c.serve.ensures.told;
+      all = c.serve.ensures.all;
+    })
+
+pub returns-in-Script-clause-not_set : goal.returns-in-Script-clause-not_set
+returns-in-Script-clause-not_set g c = played_not_set c.args.output.now c.play.new.output c.play.result c.play.ensures.not_set
+
+pub returns-in-Serve-clause-not_set : goal.returns-in-Serve-clause-not_set
+returns-in-Serve-clause-not_set g c = served_not_set c.args.output.now c.serve.new.output c.serve.result c.serve.ensures.not_set

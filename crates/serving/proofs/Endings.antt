@@ -1,0 +1,165 @@
+-- What a house came to, from what its producers and its clerks left and how it was closed.
+use Rattle.std.proofs.Common.{◌≡◌, ◌<◌, ◌+◌, ◌++◌, ◌∙◌, ◌||◌, ℕ, zero, suc, Bool, true, false, List, [], ◌∷◌, All, Some, length, map, slice_get, slice_index_or, ap, refl, sym, subst, arith}
+use Rattle.std.specs.List.{list_any}
+use Rattle.std.proofs.lemmas.List.{map-append}
+use Rattle.std.proofs.lemmas.List.Elements.{All-cons, All-head, All-nil, All-tail}
+use Rattle.delivery_token.specs.declared.Job.{Job}
+use Rattle.delivery_token.specs.declared.log.Noted.{Noted}
+use Rattle.shard_queue.specs.Closing.{IsWhole}
+use Rattle.shard_queue.specs.Lane.{of}
+use Rattle.shard_queue.specs.Permits.{history}
+use Rattle.shard_queue.specs.Reply.{received, reply_history}
+use Rattle.shard_queue.specs.Shared.{IsStartOf}
+use Rattle.shard_queue.specs.declared.ends.ReplyChannel.{ReplyChannel}
+use Rattle.shard_queue.specs.declared.lane.Entry.{Entry}
+use Rattle.shard_queue.specs.declared.queue.Closed.{Closed}
+use Rattle.shard_queue.specs.declared.queue.ConsumerPermit.{ConsumerPermit}
+use Rattle.shard_queue.specs.declared.queue.Ended.{Ended}
+use Rattle.shard_queue.specs.declared.queue.ShardQueue.{ShardQueue}
+use Rattle.shard_queue.specs.declared.reply.ReceiverPermit.{ReceiverPermit}
+use Rattle.shard_queue.specs.declared.reply.ReplyClosed.{ReplyClosed}
+use Rattle.shard_queue.specs.declared.reply.SenderEnded.{SenderEnded}
+use Rattle.lane_work.specs.Account.{Premises}
+use Rattle.lane_work.specs.Copies.{room_at}
+use Rattle.lane_work.specs.Speaking.{premises_of}
+use Rattle.lane_work.specs.declared.consumer.Consumed.{Consumed}
+use Rattle.lane_work.proofs.CopyLaws.{were_put_later}
+use Rattle.lane_work.proofs.HistoryLaws.{said_is_taken}
+use Rattle.lane_permits.specs.ChannelClosings.{AreChannelsClosed}
+use Rattle.lane_permits.specs.ChannelClosings as channel_closings
+use Rattle.lane_permits.specs.Closings.{AreClosed}
+use Rattle.lane_permits.specs.Closings as lane_closings
+use Rattle.lane_permits.proofs.CloseLaws.{are_heard}
+use Rattle.clerks.specs.Staff.{IsService}
+use Rattle.clerks.specs.declared.staff.Dismissed.{Dismissed}
+use Rattle.house_floor.specs.Crew.{AllAt}
+use Rattle.house_floor.specs.declared.floor.Floor.{Floor}
+use Rattle.house_threads.specs.Crew.{IsServiceOf}
+use Rattle.reckoning.proofs.Accounts.{answers_of, at_position, in_at}
+use Rattle.reckoning.proofs.Parts.{some_at}
+use Rattle.reckoning.specs.declared.balancing.Closes.{Closes}
+use Rattle.serving_workers.specs.Closing.{GoOn, WasClosed}
+use Rattle.serving_workers.specs.Leaving.{HasServedMail, IsServed}
+use Rattle.serving_workers.specs.declared.accepting.Served.{Served}
+use Rattle.serving.specs.inner.Ending.{CameTo, FirstTakeMail, WereEmptied, WereHeardOut, answers, histories}
+
+-- ---- who takes mail
+
+all_false : (marks : List Bool) → All (λ mark. mark ≡ false) marks → All (λ mark. mark ≡ false) (marks ++ false ∷ [])
+all_false [] all = All-cons (λ (mark : Bool). mark ≡ false) false [] refl all
+all_false (mark ∷ marks) all =
+    All-cons (λ (m : Bool). m ≡ false) mark (marks ++ false ∷ []) (All-head (λ (m : Bool). m ≡ false) mark marks all) (all_false marks (All-tail (λ (m : Bool). m ≡ false) mark marks all))
+
+-- one more behind them, who takes none
+one_without : (n : ℕ) (marks : List Bool) (mark : Bool) → mark ≡ false → FirstTakeMail n marks → FirstTakeMail n (marks ++ mark ∷ [])
+one_without n marks mark is first = subst (λ (m : Bool). FirstTakeMail n (marks ++ m ∷ [])) (sym is) (by_cases n marks first) where
+  by_cases : (n : ℕ) (marks : List Bool) → FirstTakeMail n marks → FirstTakeMail n (marks ++ false ∷ [])
+  by_cases zero marks first = all_false marks first
+  by_cases (suc n) [] first = absurd first
+  by_cases (suc n) (m ∷ marks) first = (first.0, by_cases n marks first.1)
+
+pub more_without : {A : Type 0} (f : A → Bool) (n : ℕ) (old new : List A) (x : A) → new ≡ old ++ x ∷ [] → f x ≡ false → FirstTakeMail n (map f old) → FirstTakeMail n (map f new)
+more_without {A} f n old new x is none first =
+    subst (FirstTakeMail n) (sym (ap (λ (xs : List A). map f xs) is ∙ map-append f old (x ∷ []))) (one_without n (map f old) (f x) none first)
+
+-- all of them do
+pub all_take : {A : Type 0} (f : A → Bool) (xs : List A) → All (λ x. f x ≡ true) xs → FirstTakeMail (length xs) (map f xs)
+all_take {A} f [] all = All-nil (λ (mark : Bool). mark ≡ false)
+all_take {A} f (x ∷ xs) all = (All-head (λ (y : A). f y ≡ true) x xs all, all_take f xs (All-tail (λ (y : A). f y ≡ true) x xs all))
+
+takes_mail : (workers n : ℕ) (served : List Served) (s : Served) → FirstTakeMail workers (map (λ s. s.mail) served) → n < workers → slice_get served n ≡ Some s → s.mail ≡ true
+takes_mail zero n served s first under at = absurd (omega (arith, under))
+takes_mail (suc workers) n [] s first under at = absurd first
+takes_mail (suc workers) zero (x ∷ served) s first under at = (let same : x ≡ s = cc in ap (λ (y : Served). y.mail) (sym same) ∙ first.0)
+takes_mail (suc workers) (suc n) (x ∷ served) s first under at = takes_mail workers n served s first.1 (omega (arith, under)) at
+
+there : (workers n : ℕ) (served : List Served) → FirstTakeMail workers (map (λ s. s.mail) served) → n < workers → n < length served
+there zero n served first under = absurd (omega (arith, under))
+there (suc workers) n [] first under = absurd first
+there (suc workers) zero (x ∷ served) first under = omega arith
+there (suc workers) (suc n) (x ∷ served) first under = (let h = there workers n served first.1 (omega (arith, under)) in omega (arith, h))
+
+-- ---- at a position
+
+untorn : (served : List Served) (n : ℕ) (s : Served) → list_any (λ s. s.torn) served ≡ false → slice_get served n ≡ Some s → s.torn ≡ false
+untorn [] n s none at = absurd (cc)
+untorn (x ∷ served) n s none at = by_case x.torn refl none (λ rest k there. untorn served k s rest there) n at where
+  both : (b others : Bool) → (b || others) ≡ false → (b ≡ false) × (others ≡ false)
+  both true others none = absurd (let e : true ≡ false = none in cc)
+  both false others none = (refl, none)
+
+  by_case : (b : Bool) → x.torn ≡ b → (b || list_any (λ s. s.torn) served) ≡ false → (list_any (λ s. s.torn) served ≡ false → (k : ℕ) → slice_get served k ≡ Some s → s.torn ≡ false)
+      → (n : ℕ) → slice_get (x ∷ served) n ≡ Some s → s.torn ≡ false
+  by_case b is none others zero at = (let same : x ≡ s = cc in ap (λ (y : Served). y.torn) (sym same) ∙ is ∙ (both b (list_any (λ s. s.torn) served) none).0)
+  by_case b is none others (suc n) at = others (both b (list_any (λ s. s.torn) served) none).1 n at
+
+heard_at : (served : List Served) (all : List (List (Entry Noted))) (n : ℕ) (s : Served) → GoOn (map (λ s. received s.receiver) served) all → slice_get served n ≡ Some s
+    → IsStartOf (received s.receiver) (slice_index_or all n [])
+heard_at [] all n s go at = absurd (cc)
+heard_at (x ∷ served) [] n s go at = absurd go
+heard_at (x ∷ served) (list ∷ all) zero s go at = (let same : x ≡ s = cc in subst (λ (y : Served). IsStartOf (received y.receiver) list) same go.0)
+heard_at (x ∷ served) (list ∷ all) (suc n) s go at = heard_at served all n s go.1 at
+
+-- ---- what a worker's connections came to
+
+-- more was heard since
+mail_later : (house : Premises) (seat : ℕ) (heard hears : List (Entry Noted)) (words : List (List (Entry Job))) → IsStartOf heard hears → HasServedMail house seat heard words
+    → HasServedMail house seat hears words
+mail_later house seat heard hears words grew has = record {
+  connections = has.connections;
+  sent = has.sent;
+  served = (
+    has.served.0,
+    has.served.1,
+    record {
+      noted = tt;
+      lanes = λ lane under. let b = has.served.2.lanes lane under in (b.0, were_put_later house.directory (room_at house.rooms lane) seat lane heard hears grew b.1, b.2);
+    },
+  );
+  ended = has.ended;
+}
+
+-- ---- the queues
+
+no_room : {T : Type 0} (producers room : ℕ) (got : List (Entry T)) → IsWhole producers room got → IsWhole producers 0 got
+no_room producers room got one = record { merge = record { each = one.merge.each; known = one.merge.known; within = omega arith; legal = one.merge.legal }; closed = one.closed }
+
+emptied : {qs : List (ShardQueue Job)} {rows : List (List (Ended Job))} {permits : List (ConsumerPermit Job)} {cs : List (Closed Job)} → AreClosed qs rows permits cs → WereEmptied qs cs
+emptied lane_closings.none = tt
+emptied (lane_closings.next q row permit c is others) = (no_room _ _ (history c) is.whole, emptied others)
+
+heard_out : {qs : List (ReplyChannel Noted)} {rows : List (List (SenderEnded Noted))} {permits : List (ReceiverPermit Noted)} {cs : List (ReplyClosed Noted)} → AreChannelsClosed qs rows permits cs
+    → WereHeardOut qs cs
+heard_out channel_closings.none = tt
+heard_out (channel_closings.next q row permit c is others) = (no_room _ _ (reply_history c) is.whole, heard_out others)
+
+-- ---- all of it
+
+services_of : (floor : Floor) (n : ℕ) (cs : List Consumed) → AllAt (IsService floor.office.lanes.items floor.depot) n cs → AllAt (IsServiceOf floor) n cs
+services_of floor n [] all = tt
+services_of floor n (c ∷ cs) all =
+    (record { each = λ lane at. ([], All-nil (λ (e : List (Entry Noted)). e ≡ []), all.0.each lane at) }, services_of floor (suc n) cs all.1)
+
+module _ (floor : Floor) (workers : ℕ) (served : List Served) (d : Dismissed) (closes : Closes) (all : AllAt (IsServed floor) 0 served)
+    (first : FirstTakeMail workers (map (λ s. s.mail) served)) (count : length d.consumed.items ≡ length floor.office.lanes.items)
+    (services : d.in_order ≡ true → AllAt (IsService floor.office.lanes.items floor.depot) 0 d.consumed.items) (was : WasClosed floor served d closes) where
+  mail_of : (n : ℕ) → n < workers → HasServedMail (premises_of floor.office) n (slice_index_or (answers closes) n []) (map (of n) (histories closes))
+  mail_of n under =
+      let s = some_at served n (there workers n served first under) in
+      let e : 0 + n ≡ n = omega arith in
+      let is : IsServed floor n s.0 = subst (λ (i : ℕ). IsServed floor i s.0) e (at_position (IsServed floor) 0 n served s.0 all s.1) in
+      let mail = is.mail (takes_mail workers n served s.0 first under s.1) (untorn served n s.0 was.producers s.1) in
+      let within = in_at (λ (x : Served). x.ended.items) served was.lanes.0 n s.0 was.lanes.1 s.1 in
+      let taken = said_is_taken floor.office.lanes.items n s.0.ended.items (histories closes) is.ended (are_heard was.lanes.2 s.0.ended.items within) in
+      mail_later (premises_of floor.office) n (received s.0.receiver) (slice_index_or (answers closes) n []) (map (of n) (histories closes)) (heard_at served (answers closes) n s.0 was.heard s.1)
+      (subst (λ (words : List (List (Entry Job))). HasServedMail (premises_of floor.office) n (received s.0.receiver) words) taken mail)
+
+  pub came_to : CameTo floor workers closes
+  came_to = record {
+    mail = mail_of;
+    answered = λ s p lane channel.
+        let a = answers_of floor d.consumed.items closes.lanes.items _ closes.channels.items _ (services_of floor 0 d.consumed.items (services was.in_order)) count was.lanes was.channels.2 s p lane channel in
+        record { told = a.0; each = a.1; ended = a.2 };
+    lanes = emptied was.lanes.2;
+    channels = heard_out was.channels.2.2;
+  }
