@@ -344,26 +344,29 @@ kept_by k entries t place printable is f =
     let a : Arrival = arrival_by_then place nobody (empty_scene k) entries in
     let c = f.client in
     let talked = c.reached.talked in
-    let short : HasShortTexts f.last = short_then k entries t place printable is f in record { is = refl; kept = record {
-      began = a.began;
-      let_in = refl;
-      events = c.events;
-      came = c.came;
-      sent = c.reached.sent;
-      told = talked.told;
-      now = f.visitor.standing;
-      last = f.last;
-      waits = f.visitor.waits;
-      lives = talked.lives;
-      ended = f.ended;
-      left = f.left;
-      leaves = f.leaves;
-      later = f.later;
-      moved = f.moved;
-      answered = c.reached.waits;
-      printed = ap (λ (x : List ℕ). greeting ++ x) talked.bytes ∙ c.printed ∙ ap (λ (x : List ℕ). shown_by_then place [] entries ++ x) f.silent ∙ append-nil (shown_by_then place [] entries);
-      right = (lives_known k.config place (first_standing k a.user) a.began printable.numbers (sound_always k.config c.events a.began printable.numbers c.came) (first_stands k a.user printable) talked.lives short).right;
-    } }
+    let short : HasShortTexts f.last = short_then k entries t place printable is f in record {
+      is = refl;
+      kept = record {
+        began = a.began;
+        let_in = refl;
+        events = c.events;
+        came = c.came;
+        sent = c.reached.sent;
+        told = talked.told;
+        now = f.visitor.standing;
+        last = f.last;
+        waits = f.visitor.waits;
+        lives = talked.lives;
+        ended = f.ended;
+        left = f.left;
+        leaves = f.leaves;
+        later = f.later;
+        moved = f.moved;
+        answered = c.reached.waits;
+        printed = ap (λ (x : List ℕ). greeting ++ x) talked.bytes ∙ c.printed ∙ ap (λ (x : List ℕ). shown_by_then place [] entries ++ x) f.silent ∙ append-nil (shown_by_then place [] entries);
+        right = (lives_known k.config place (first_standing k a.user) a.began printable.numbers (sound_always k.config c.events a.began printable.numbers c.came) (first_stands k a.user printable) talked.lives short).right;
+      };
+    }
 
 pub clients_kept_up : ClientsKeptUp
 clients_kept_up k entries t place printable is stays none = (kept_by k entries t place printable is (the_finished k entries t place printable is stays none)).kept

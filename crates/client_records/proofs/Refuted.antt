@@ -21,7 +21,7 @@ use Rattle.client_list.specs.Client.{Client, Known, Messages, fresh}
 use Rattle.client_list.specs.Talks.{LongLine, Turned}
 use Rattle.client_records.specs.Appends.{Author, EndsWith, IsAnswered, SaysVerdict, TellsKept, TellsOfAppends, as_it_is, copy_under}
 use Rattle.client_records.specs.Clients.{IsRightAbout, Told, bytes_in}
-use Rattle.client_records.specs.Cuts.{Cutter, IsOneAnswer, ends, opens}
+use Rattle.client_records.specs.Cuts.{Cutter, IsOneAnswer, ends, opens, CutsSo}
 use Rattle.client_records.proofs.LastLines.{Apart, IsWord, apart_tells_none, refusal_apart, words_of_tags}
 use Rattle.client_records.proofs.LastRests.{no_apart}
 use Rattle.client_records.proofs.LastWords.{uid_spares}
@@ -127,6 +127,10 @@ in_the_middle (ends h) = absurd (omega (arith, ap (λ (c : Cutter). length c.beg
 two_in_one : IsOneAnswer (codes "a OK NOOP completed\r\nb OK NOOP completed\r\n") → ⊥
 two_in_one (opens h) = absurd (omega (arith, ap (λ (c : Cutter). length c.answers) (h [] [])))
 two_in_one (ends h) = absurd (omega (arith, ap (λ (c : Cutter). length c.answers) (h [] [])))
+
+-- all that was printed, without the greeting
+never_greeted : CutsSo [] [] → ⊥
+never_greeted h = absurd (omega (arith, ap (λ (c : Cutter). length c.begun) h.cut))
 
 -- one that ends within a line
 within_a_line : IsOneAnswer (codes "* 2 EXI") → ⊥
