@@ -1,5 +1,5 @@
 -- What a session tells of the messages that its client appended, over a whole record.
-use Rattle.std.proofs.Common.{◌≡◌, inl, inr, ℕ, true, List, [], ◌∷◌, ◌++◌, Contains, refl, sym, ◌∙◌, subst, Option, Some, None}
+use Rattle.std.proofs.Common.{◌≡◌, inl, inr, ℕ, true, false, List, [], ◌∷◌, ◌++◌, Contains, refl, sym, ◌∙◌, subst, Option, Some, None}
 use Rattle.std.specs.Prelude.{filter_map}
 use Rattle.std.proofs.lemmas.Bool.{false≢true}
 use Rattle.delivery_token.specs.declared.CopyKey.{CopyKey}
@@ -7,26 +7,30 @@ use Rattle.delivery_token.specs.declared.Job.{Job}
 use Rattle.delivery_token.specs.declared.Verdict.{Verdict}
 use Rattle.delivery_token.specs.declared.Verdict.TheVariants as verdicts
 use Rattle.delivery_token.specs.declared.log.Noted.{Noted}
-use Rattle.world.specs.World.{Event, IsWorld, World}
+use Rattle.world.specs.World.{Config, Event, IsWorld, Steps, World}
 use Rattle.world.specs.Law.{StandsOnce, pairs}
 use Rattle.world.proofs.Always.{always}
 use Rattle.world.proofs.Base.{Every, Rising, rising_pair}
 use Rattle.imap_session.specs.Commands.{appended_words}
 use Rattle.imap_session.specs.Telling.{tells_uid}
+use Rattle.imap_session.specs.Exchange as calls
+use Rattle.imap_session.specs.Exchange.{Event as Happened, Sent}
+use Rattle.exactly_once.proofs.Grown.{heard_stays_heard}
+use Rattle.client_records.proofs.Talked.{met_hears}
 use Rattle.house_session.specs.Folders.{folders_of}
-use Rattle.house.specs.Scene.{empty_scene}
+use Rattle.house.specs.Scene.{LeavesMailbox, empty_scene}
 use Rattle.house.specs.Setup.{Setup, session_seat}
-use Rattle.client_records.specs.Appends.{AnswersNoted, AppendsAreTold, AreAnswered, Author, EndsWith, IsAnswered, SaysVerdict, TellsKept, TellsOfNone, as_it_is, author_at, copy_under}
+use Rattle.client_records.specs.Appends.{AppendsWereTold, TellsOfAppends, AnswersNoted, AppendsAreTold, AreAnswered, Author, EndsWith, IsAnswered, SaysVerdict, TellsKept, TellsOfNone, as_it_is, author_at, copy_under}
 use Rattle.client_records.specs.Clients.{Told, bytes_in}
-use Rattle.client_records.specs.Records.{sent_by_then}
-use Rattle.client_records.proofs.Answered.{AreNoted, InTurn, IsNoted, KnownAt, still_noted}
+use Rattle.client_records.specs.Records.{sent_by_then, shown_by_then}
+use Rattle.client_records.proofs.Answered.{Came, AreNoted, InTurn, IsNoted, KnownAt, still_noted}
 use Rattle.client_records.proofs.Entries.{the_client, the_serial}
-use Rattle.client_records.proofs.Keeping.{KeepsBy, all_known, arrival_by_then, keeps_by, nobody}
+use Rattle.client_records.proofs.Keeping.{KeptBy, kept_by, the_finished, KeepsBy, all_known, arrival_by_then, keeps_by, nobody}
 use Rattle.client_records.proofs.LastLines.{apart_tells_none, refusal_apart, tags_of_words, words_of_tags}
 use Rattle.client_records.proofs.LastRests.{no_apart}
 use Rattle.client_records.proofs.LastWords.{uid_spares}
-use Rattle.client_records.proofs.Out.{copy_of}
-use Rattle.client_records.proofs.Recording.{Arrival, came_as}
+use Rattle.client_records.proofs.Out.{copy_of, fate_met, fate_step}
+use Rattle.client_records.proofs.Recording.{Arrival, Finished, came_as}
 use Rattle.client_records.proofs.Stored.{stored_copy}
 
 -- ---- each answer
@@ -158,6 +162,29 @@ every_noted (x ∷ xs) = (tt, every_noted xs)
 
 -- ---- over a record
 
+-- all that was told, where its verdicts are known
+tells_so : (k : Setup) (events : List Event) (w : World) (place serial : ℕ) (a : Arrival) (sent : List ℕ) (told : List Told) (verdicts : List (Option Noted)) → IsWorld k.config events w → serial ≡ a.serial
+    → AreNoted k.config.uidvalidity (came_as k place a) sent (KnownAt k.config (came_as k place a) w) told verdicts → Rising InTurn (filter_map as_it_is verdicts) → TellsOfAppends k w (author_is k place serial a sent) told
+tells_so k events w place serial a sent told verdicts came own noted order =
+    let author : Author = author_is k place serial a sent in
+    let each : AreAnswered k w author told verdicts = all_answered k events w place serial a sent told verdicts came own noted in record {
+      verdicts = verdicts;
+      each = each;
+      in_order = rising_pair InTurn (filter_map as_it_is verdicts) order;
+      kept = λ before after one tag words e ends tells.
+          let s = said_at k w author before after one tag words verdicts (λ n. Unit {0}) (subst (λ (told : List Told). AreAnswered k w author told verdicts) e each) ends tells (every_noted (filter_map as_it_is verdicts)) in
+          (s.noted, s.kept);
+      apart = λ before mid after one two tag words other_tag other_words e ends tells other_ends other_tells.
+          let b = both_said k w author before mid after one two tag words other_tag other_words verdicts (subst (λ (told : List Told). AreAnswered k w author told verdicts) e each) ends tells other_ends other_tells order in
+          (b.first, b.second, b.one, b.two, b.order);
+    }
+
+-- what waits of all that its client sent
+all_sent : (u : ℕ) (first : Came) (sent waits all : List ℕ) (notes more : Noted → Sent → Type 0) → all ≡ sent ++ waits → ((n : Noted) (m : Sent) → notes n m → more n m) → (told : List Told) (verdicts : List (Option Noted))
+    → AreNoted u first sent notes told verdicts → AreNoted u first all more told verdicts
+all_sent u first sent waits all notes more e grows told verdicts each =
+    subst (λ (x : List ℕ). AreNoted u first x more told verdicts) (sym e) (still_noted u first sent waits notes more grows told verdicts each)
+
 pub appends_are_told : AppendsAreTold
 unfolding author_is
 appends_are_told k entries t place v printable is there read =
@@ -168,21 +195,37 @@ appends_are_told k entries t place v printable is there read =
     let notes = c.reached.talked.notes in
     let own : v.serial ≡ a.serial = (the_serial k (λ n. arrival_by_then n nobody (empty_scene k) entries) _ _ t place v K there).own in
     let sent : List ℕ = sent_by_then place [] entries in
-    let author : Author = author_at k entries place v in
-    let noted : AreNoted k.config.uidvalidity (came_as k place a) sent (KnownAt k.config (came_as k place a) t.world) c.reached.talked.told notes.verdicts =
-    subst (λ (x : List ℕ). AreNoted k.config.uidvalidity (came_as k place a) x (KnownAt k.config (came_as k place a) t.world) c.reached.talked.told notes.verdicts) (sym c.reached.waits)
-    (still_noted k.config.uidvalidity (came_as k place a) c.reached.sent v.session.waits (KnownAt k.config (came_as k place a) t.world) (KnownAt k.config (came_as k place a) t.world) (λ n m h. h) c.reached.talked.told notes.verdicts notes.each) in
-    let each : AreAnswered k t.world author kb.keeps.told notes.verdicts =
-    subst (λ (told : List Told). AreAnswered k t.world author told notes.verdicts) (sym kb.is) (all_answered k K.events t.world place v.serial a sent c.reached.talked.told notes.verdicts K.came own noted) in record {
-      keeps = kb.keeps;
-      verdicts = notes.verdicts;
-      each = each;
-      in_order = rising_pair InTurn (filter_map as_it_is notes.verdicts) notes.order;
-      kept = λ before after one tag words e ends tells.
-          let s = said_at k t.world author before after one tag words notes.verdicts (λ n. Unit {0}) (subst (λ (told : List Told). AreAnswered k t.world author told notes.verdicts) e each) ends tells
-          (every_noted (filter_map as_it_is notes.verdicts)) in
-          (s.noted, s.kept);
-      apart = λ before mid after one two tag words other_tag other_words e ends tells other_ends other_tells.
-          let b = both_said k t.world author before mid after one two tag words other_tag other_words notes.verdicts (subst (λ (told : List Told). AreAnswered k t.world author told notes.verdicts) e each) ends tells other_ends other_tells notes.order in
-          (b.first, b.second, b.one, b.two, b.order);
-    }
+    let known : Noted → Sent → Type 0 = KnownAt k.config (came_as k place a) t.world in
+    let so : TellsOfAppends k t.world (author_at k entries place v.serial) c.reached.talked.told =
+    tells_so k K.events t.world place v.serial a sent c.reached.talked.told notes.verdicts K.came own
+    (all_sent k.config.uidvalidity (came_as k place a) c.reached.sent v.session.waits sent known known c.reached.waits (λ n m h. h) c.reached.talked.told notes.verdicts notes.each) notes.order in
+    (kb.keeps, subst (TellsOfAppends k t.world (author_at k entries place v.serial)) (sym kb.is) so)
+
+-- ---- of one that has ended
+
+-- what is known stays so
+known_steps : (k : Config) (first : Came) (events : List Event) (w v : World) → Steps k w events v → (n : Noted) (m : Sent) → KnownAt k first w n m → KnownAt k first v n m
+known_steps k first [] w v e n m h = subst (λ (u : World). KnownAt k first u n m) (sym e) h
+known_steps k first (event ∷ events) w v (u, step, more) n m h =
+    known_steps k first events u v more n m (heard_stays_heard k w (event ∷ []) u first.seat n (u, step, refl) h.0, fate_step k w event u first.seat (copy_of first.seat first.serial m) step h.1)
+
+-- also behind the leave of its mailbox
+known_left : (k : Setup) (place : ℕ) (first : Came) (w v : World) → LeavesMailbox k place w v → (n : Noted) (m : Sent) → KnownAt k.config first w n m → KnownAt k.config first v n m
+known_left k place first w v leaves n m h =
+    let happened : Happened = record { call = calls.Leave false; answer = leaves.0 } in
+    (met_hears k.config place w (happened ∷ []) v first.seat n (v, leaves.1, refl) h.0, fate_met k.config place w (happened ∷ []) v first.seat (copy_of first.seat first.serial m) (v, leaves.1, refl) h.1)
+
+pub appends_were_told : AppendsWereTold
+unfolding author_is
+appends_were_told k entries t place printable is stays none =
+    let K = all_known k entries t printable.numbers is in
+    let a : Arrival = arrival_by_then place nobody (empty_scene k) entries in
+    let f : Finished k place a (sent_by_then place [] entries) (shown_by_then place [] entries) t.world = the_finished k entries t place printable is stays none in
+    let talked = f.client.reached.talked in
+    let kb : KeptBy k entries place t talked.told = kept_by k entries t place printable is f in
+    let first : Came = came_as k place a in
+    let so : TellsOfAppends k t.world (author_at k entries place a.serial) talked.told =
+    tells_so k K.events t.world place a.serial a (sent_by_then place [] entries) talked.told talked.notes.verdicts K.came refl
+    (all_sent k.config.uidvalidity first f.client.reached.sent f.visitor.waits (sent_by_then place [] entries) (KnownAt k.config first f.last) (KnownAt k.config first t.world) f.client.reached.waits
+    (λ n m h. known_steps k.config first f.later f.left t.world f.moved n m (known_left k place first f.last f.left f.leaves n m h)) talked.told talked.notes.verdicts talked.notes.each) talked.notes.order in
+    (kb.kept, subst (TellsOfAppends k t.world (author_at k entries place a.serial)) (sym kb.is) so)

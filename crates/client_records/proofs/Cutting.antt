@@ -2,17 +2,19 @@
 use Rattle.std.proofs.Common.{◌≡◌, inl, inr, ℕ, Bool, true, false, List, [], ◌∷◌, ◌++◌, refl, sym, ap, ◌∙◌, subst, Option, Some, None}
 use Rattle.std.specs.Prelude.{Ok, codes, flat_map, if◌then◌else◌}
 use Rattle.mailbox.specs.declared.clients.Row.{Row}
-use Rattle.world.specs.World.{Config, World}
+use Rattle.world.specs.World.{Config, Event as WorldEvent, IsWorld, World}
 use Rattle.imap_session.specs.Commands.{greeting}
 use Rattle.imap_session.specs.Exchange.{Alter, Call, Count, Enter, Event as Happened, Expunge, Feed, Found, Leave, Look, Read, Answer as StoreAnswer, Entered, Looked, Counted, Altered, Expunged, Fed, Left, Refused, Starved, Standing, Turn, kept_tag}
 use Rattle.imap_session.specs.Store.{Met}
 use Rattle.session_store.specs.Meets.{Meets}
+use Rattle.house.specs.Setup.{Setup}
+use Rattle.imap_session.specs.Exchange as calls
 use Rattle.client_list.specs.Turns.{IsRead, IsRowOf, Sees, SeesAll}
 use Rattle.client_list.proofs.IdleTags.{AreTagsOf}
 use Rattle.client_records.specs.Clients.{Answer, Told, Words, bytes_in}
-use Rattle.client_records.specs.Cuts.{AnswersAreCut, Cutter, EachIsOne, IsAnswered, IsOneAnswer, between, cut_between, cuts, ends, has_any, is_ended, leaves_open, opens}
+use Rattle.client_records.specs.Cuts.{AnswersAreCut, AnswersWereCut, CutsSo, Cutter, EachIsOne, IsAnswered, IsOneAnswer, between, cut_between, cuts, ends, has_any, is_ended, leaves_open, opens}
 use Rattle.client_records.specs.Lives.{Lives, comes, others, turns}
-use Rattle.client_records.specs.Records.{first_standing}
+use Rattle.client_records.specs.Records.{IsPrintable, first_standing, shown_by_then, user_by_then}
 use Rattle.client_records.specs.Sizes.{HasShortTexts, HasSmallNumbers}
 use Rattle.client_records.specs.Turns.{Stands, told_line, told_of}
 use Rattle.client_list.specs.Commands.{AreNames}
@@ -25,10 +27,10 @@ use Rattle.client_records.proofs.Boxes.{box_goes}
 use Rattle.client_records.proofs.CutBytes.{cuts-append}
 use Rattle.client_records.proofs.CutTexts.{star_passes}
 use Rattle.client_records.proofs.CutTurns.{AreShort, IsShort, IsShortAnswer, OneOf, command_one, ended, kept_open, turn_cut}
-use Rattle.client_records.proofs.Keeping.{clients_keep_up, first_stands, texts_stay_short}
+use Rattle.client_records.proofs.Keeping.{clients_keep_up, clients_kept_up, short_steps, first_stands, texts_stay_short}
 use Rattle.client_records.proofs.LastLines.{IsWord}
 use Rattle.client_records.proofs.Living.{lives_known}
-use Rattle.client_records.proofs.Moved.{Calls, sees_all, short_before, short_met}
+use Rattle.client_records.proofs.Moved.{Calls, moved, moved_extends, sees_all, short_before, short_met}
 use Rattle.client_records.proofs.Names.{goes_extends}
 use Rattle.client_records.proofs.WordsCurrent.{lives_words}
 use Rattle.client_records.proofs.Worlds.{Sound, sound_always}
@@ -149,15 +151,33 @@ cut_so begun answers (one ∷ told) h =
         ap (λ (c : Cutter). cuts c (flat_map bytes_in told)) (p begun answers) ∙ ended_rest
         ∙ sym (ap (λ (b : Bool). if b then cut_between [] (answers ++ (begun ++ bytes_in one) ∷ []) told else cut_between (begun ++ bytes_in one) answers told) yes)
 
+-- the greeting and all that was told
+cut_printed : (told : List Told) (printed : List ℕ) → EachIsOne told → greeting ++ flat_map bytes_in told ≡ printed → cuts (between [] []) printed ≡ cut_between greeting [] told
+cut_printed told printed each e =
+    ap (cuts (between [] [])) (sym e) ∙ cuts-append (between [] []) greeting (flat_map bytes_in told)
+    ∙ ap (λ (c : Cutter). cuts c (flat_map bytes_in told)) (star_passes (codes "PREAUTH IMAP4rev2 server ") (codes "ready") refl refl refl [] []) ∙ cut_so greeting [] told each
+
+-- a life from its start to wherever it has come
+cuts_so : (k : Setup) (place : ℕ) (user : List ℕ) (began : World) (events : List WorldEvent) {sent : List ℕ} {told : List Told} {now : Standing} {w : World} (printed : List ℕ) → IsPrintable k → IsWorld k.config events began
+    → Lives k.config place (first_standing k user) began sent told now w → HasShortTexts w → greeting ++ flat_map bytes_in told ≡ printed → CutsSo told printed
+cuts_so k place user began events {told = told} printed printable came lives short e =
+    let sound = sound_always k.config events began printable.numbers came in
+    let stands = first_stands k user printable in
+    let each : EachIsOne told = lives_cut k.config place (first_standing k user) began printable.numbers sound stands (tt, tt, tt) lives short in record {
+      each = each;
+      own = λ before after line tag bytes command same reads.
+          own_at before after (Answer line bytes) (subst AreOwn same (lives_own k.config place (first_standing k user) began printable.numbers sound stands lives short)) tag command reads;
+      cut = cut_printed told printed each e;
+    }
+
 pub answers_are_cut : AnswersAreCut
 answers_are_cut k entries t place v printable is there read =
     let keeps = clients_keep_up k entries t place v printable is there read in
-    let each : EachIsOne keeps.told = lives_cut k.config place (first_standing k _) keeps.began printable.numbers (sound_always k.config keeps.events keeps.began printable.numbers keeps.came) (first_stands k _ printable) (tt, tt, tt) keeps.lives
-    (texts_stay_short k entries t printable.texts is) in record {
-      keeps = keeps;
-      each = each;
-      own = λ before after line tag bytes command e reads. own_at before after (Answer line bytes) (subst AreOwn e (lives_own k.config place (first_standing k _) keeps.began printable.numbers (sound_always k.config keeps.events keeps.began printable.numbers keeps.came)
-          (first_stands k _ printable) keeps.lives (texts_stay_short k entries t printable.texts is))) tag command reads;
-      cut = ap (cuts (between [] [])) (sym keeps.printed) ∙ cuts-append (between [] []) greeting (flat_map bytes_in keeps.told)
-          ∙ ap (λ (c : Cutter). cuts c (flat_map bytes_in keeps.told)) (star_passes (codes "PREAUTH IMAP4rev2 server ") (codes "ready") refl refl refl [] []) ∙ cut_so greeting [] keeps.told each;
-    }
+    (keeps, cuts_so k place (user_by_then place [] entries) keeps.began keeps.events (shown_by_then place [] entries ++ v.session.unsaid) printable keeps.came keeps.lives (texts_stay_short k entries t printable.texts is) keeps.printed)
+
+pub answers_were_cut : AnswersWereCut
+answers_were_cut k entries t place printable is stays none =
+    let kept = clients_kept_up k entries t place printable is stays none in
+    let short : HasShortTexts kept.last = short_before kept.last kept.left (moved_extends k.config place kept.last kept.left (moved k.config place kept.last (calls.Leave false) kept.leaves.0 kept.left kept.leaves.1))
+    (short_steps k.config kept.later kept.left t.world kept.moved (texts_stay_short k entries t printable.texts is)) in
+    (kept, cuts_so k place (user_by_then place [] entries) kept.began kept.events (shown_by_then place [] entries) printable kept.came kept.lives short kept.printed)

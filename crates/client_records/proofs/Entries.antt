@@ -1,6 +1,6 @@
 -- Entry by entry: the client of each session that is there goes on to keep up.
 use Rattle.std.proofs.Common.{◌≡◌, ◌≢◌, ℕ, ◌+◌, ◌⊎◌, inl, inr, Bool, true, false, ◌==◌, eqb, List, [], ◌∷◌, ◌++◌, refl, sym, subst, ◌∙◌, arith, append-nil}
-use Rattle.std.specs.Prelude.{Option, Some, if◌then◌else◌}
+use Rattle.std.specs.Prelude.{Option, Some}
 use Rattle.std.proofs.lemmas.Bool.{eq-eqb}
 use Rattle.std.proofs.lemmas.Bool.Decides.{eqb_tells}
 use Rattle.std.specs.Borrow.{Bor}
@@ -24,7 +24,7 @@ use Rattle.house.specs.declared.event.Event as house
 use Rattle.house.specs.declared.event.Event.TheVariants.{Enter, Say, Idle, Leave}
 use Rattle.exactly_once.specs.Promise.{Lines, Piece, Silence}
 use Rattle.exactly_once.proofs.Whole.{IsWhole, greeting_whole, idles_whole, whole_append}
-use Rattle.client_records.specs.Records.{began_in, is_left, lets_in, sent_in, shown_in, stays_in, unless, user_in}
+use Rattle.client_records.specs.Records.{began_in, is_left, lets_in, sent_in, shown_in, stays_in, unless, user_in, serial_in}
 use Rattle.client_records.specs.Sizes.{HasSmallNumbers}
 use Rattle.client_records.specs.Views.{IsOfOthers}
 use Rattle.client_records.proofs.Recording.{Arrival, Client, Walk, Watched, client_more, client_others, came_as, client_said, goes, heard_small, lingers_watched, parted, stands, still_whole, talks_walk, talks_watched, walk_call, walk_met, walk_parts, walk_then, walk_world, watched_others, watched_walk}
@@ -45,10 +45,6 @@ pub record SceneKnown (k : Setup) (users : ℕ → Arrival) (sent shown : ℕ �
   pub events : List Event
   pub came : IsWorld k.config events s.world
   pub watched : (n : ℕ) → Watched k n (users n) (sent n) (shown n) s.world (s.visitor n)
-
--- under which serial, where it was that before
-abbrev pub serial_in : ℕ → Scene → house.Event → ℕ → ℕ
-serial_in n s event before = if lets_in n event then s.entered n else before
 
 -- who was let in there, behind an event
 abbrev pub arrival_in : ℕ → Scene → house.Event → Arrival → Arrival

@@ -17,11 +17,11 @@ use Rattle.imap_session.specs.Commands.{greeting}
 use Rattle.imap_session.specs.Exchange as calls
 use Rattle.exactly_once.specs.Promise.{Entry, HearsLines, IsOwn, IsRecord, Lines, Piece, PutsLines, Replies, Silence, text_of}
 use Rattle.exactly_once.proofs.Whole.{IsWhole, goes_whole, greeting_whole, idles_whole, whole_append}
-use Rattle.client_records.specs.Records.{TextsStayShort, ClientsKeepUp, ClientsKeptUp, ClientsOfHousesKeepUp, IsPrintable, KeepsUp, began_by_then, first_standing, is_left, lets_in, sent_by_then, sent_in, shown_by_then, stays_by_then, user_by_then}
+use Rattle.client_records.specs.Records.{serial_by_then, TextsStayShort, ClientsKeepUp, ClientsKeptUp, ClientsOfHousesKeepUp, IsPrintable, KeepsUp, KeptUp, began_by_then, first_standing, is_left, lets_in, sent_by_then, sent_in, shown_by_then, stays_by_then, user_by_then}
 use Rattle.client_records.specs.Sizes.{HasShortTexts, HasSmallNumbers}
 use Rattle.client_records.specs.Turns.{Stands}
 use Rattle.client_records.specs.Views.{IsOfOthers}
-use Rattle.client_records.proofs.Entries.{IsAside, IsAt, SceneKnown, Speech, aside_known, differs, idle_known, leave_known, let_known, lines_at, lingers, moved_known, moves_known, say_known, says, sent_then, serial_in, shown_then, users_then, silent_at, the_client}
+use Rattle.client_records.proofs.Entries.{IsAside, IsAt, SceneKnown, Speech, aside_known, differs, idle_known, leave_known, let_known, lines_at, lingers, moved_known, moves_known, say_known, says, sent_then, shown_then, users_then, silent_at, the_client}
 use Rattle.client_records.proofs.Folded.{folders_plain}
 use Rattle.client_records.proofs.Living.{lives_known}
 use Rattle.client_records.specs.Clients.{IsRightAbout, Told, hears_all}
@@ -252,10 +252,6 @@ entry_known k users sent shown s (Leave session) t (Lines n lines) h K p own = a
 -- ---- the whole record
 
 -- under which serial one was let in at a place
-abbrev pub serial_by_then : ℕ → ℕ → Scene → List Entry → ℕ
-serial_by_then n before s [] = before
-serial_by_then n before s (entry ∷ entries) = serial_by_then n (serial_in n s entry.event before) entry.after entries
-
 -- who was let in at a place, by these entries
 abbrev pub arrival_by_then : ℕ → Arrival → Scene → List Entry → Arrival
 arrival_by_then n a s entries = record { user = user_by_then n a.user entries; began = began_by_then n a.began s entries; stays = stays_by_then n a.stays entries; serial = serial_by_then n a.serial s entries }
@@ -318,40 +314,62 @@ clients_keep_up k entries t place v printable is there read =
     (the_client k (λ n. arrival_by_then n nobody (empty_scene k) entries) (λ n. sent_by_then n [] entries) (λ n. shown_by_then n [] entries) t place v (all_known k entries t printable.numbers is) there read)).keeps
 
 -- texts were short before, too
-short_steps : (k : Config) (events : List Event) (w v : World) → Steps k w events v → HasShortTexts v → HasShortTexts w
+pub short_steps : (k : Config) (events : List Event) (w v : World) → Steps k w events v → HasShortTexts v → HasShortTexts w
 short_steps k [] w v e short = subst (λ (u : World). HasShortTexts u) e short
 short_steps k (event ∷ events) w v (u, step, more) short =
     short_before w u (λ m. goes_extends k (w.box m) (u.box m) (box_goes k w event u m step)) (short_steps k events u v more short)
 
-pub clients_kept_up : ClientsKeptUp
-clients_kept_up k entries t place printable is stays none =
-    let K = all_known k entries t printable.numbers is in
+-- how it finished
+pub the_finished : (k : Setup) (entries : List Entry) (t : Scene) (place : ℕ) → IsPrintable k → IsRecord k entries (empty_scene k) t → stays_by_then place false entries ≡ true → t.visitor place ≡ None
+    → Finished k place (arrival_by_then place nobody (empty_scene k) entries) (sent_by_then place [] entries) (shown_by_then place [] entries) t.world
+the_finished k entries t place printable is stays none =
+    subst (λ (o : Option SeatedVisitor). Watched k place (arrival_by_then place nobody (empty_scene k) entries) (sent_by_then place [] entries) (shown_by_then place [] entries) t.world o) none
+    ((all_known k entries t printable.numbers is).watched place) stays
+
+-- texts were short when it had ended
+short_then : (k : Setup) (entries : List Entry) (t : Scene) (place : ℕ) → IsPrintable k → IsRecord k entries (empty_scene k) t
+    → (f : Finished k place (arrival_by_then place nobody (empty_scene k) entries) (sent_by_then place [] entries) (shown_by_then place [] entries) t.world) → HasShortTexts f.last
+short_then k entries t place printable is f =
+    short_before f.last f.left (moved_extends k.config place f.last f.left (moved k.config place f.last (calls.Leave false) f.leaves.0 f.left f.leaves.1))
+    (short_steps k.config f.later f.left t.world f.moved (texts_stay_short k entries t printable.texts is))
+
+-- one that kept up, and was told this
+pub record KeptBy (k : Setup) (entries : List Entry) (place : ℕ) (t : Scene) (told : List Told) : Type 0 where
+  pub kept : KeptUp k entries place t
+  pub is : kept.told ≡ told
+
+pub kept_by : (k : Setup) (entries : List Entry) (t : Scene) (place : ℕ) → IsPrintable k → IsRecord k entries (empty_scene k) t
+    → (f : Finished k place (arrival_by_then place nobody (empty_scene k) entries) (sent_by_then place [] entries) (shown_by_then place [] entries) t.world) → KeptBy k entries place t f.client.reached.talked.told
+kept_by k entries t place printable is f =
     let a : Arrival = arrival_by_then place nobody (empty_scene k) entries in
-    let f : Finished k place a (sent_by_then place [] entries) (shown_by_then place [] entries) t.world =
-    subst (λ (o : Option SeatedVisitor). Watched k place a (sent_by_then place [] entries) (shown_by_then place [] entries) t.world o) none (K.watched place) stays in
     let c = f.client in
     let talked = c.reached.talked in
-    let short : HasShortTexts f.last = short_before f.last f.left (moved_extends k.config place f.last f.left (moved k.config place f.last (calls.Leave false) f.leaves.0 f.left f.leaves.1))
-    (short_steps k.config f.later f.left t.world f.moved (texts_stay_short k entries t printable.texts is)) in record {
-      began = a.began;
-      let_in = refl;
-      events = c.events;
-      came = c.came;
-      sent = c.reached.sent;
-      told = talked.told;
-      now = f.visitor.standing;
-      last = f.last;
-      waits = f.visitor.waits;
-      lives = talked.lives;
-      ended = f.ended;
-      left = f.left;
-      leaves = f.leaves;
-      later = f.later;
-      moved = f.moved;
-      answered = c.reached.waits;
-      printed = ap (λ (x : List ℕ). greeting ++ x) talked.bytes ∙ c.printed ∙ ap (λ (x : List ℕ). shown_by_then place [] entries ++ x) f.silent ∙ append-nil (shown_by_then place [] entries);
-      right = (lives_known k.config place (first_standing k a.user) a.began printable.numbers (sound_always k.config c.events a.began printable.numbers c.came) (first_stands k a.user printable) talked.lives short).right;
+    let short : HasShortTexts f.last = short_then k entries t place printable is f in record {
+      is = refl;
+      kept = record {
+        began = a.began;
+        let_in = refl;
+        events = c.events;
+        came = c.came;
+        sent = c.reached.sent;
+        told = talked.told;
+        now = f.visitor.standing;
+        last = f.last;
+        waits = f.visitor.waits;
+        lives = talked.lives;
+        ended = f.ended;
+        left = f.left;
+        leaves = f.leaves;
+        later = f.later;
+        moved = f.moved;
+        answered = c.reached.waits;
+        printed = ap (λ (x : List ℕ). greeting ++ x) talked.bytes ∙ c.printed ∙ ap (λ (x : List ℕ). shown_by_then place [] entries ++ x) f.silent ∙ append-nil (shown_by_then place [] entries);
+        right = (lives_known k.config place (first_standing k a.user) a.began printable.numbers (sound_always k.config c.events a.began printable.numbers c.came) (first_stands k a.user printable) talked.lives short).right;
+      };
     }
+
+pub clients_kept_up : ClientsKeptUp
+clients_kept_up k entries t place printable is stays none = (kept_by k entries t place printable is (the_finished k entries t place printable is stays none)).kept
 
 pub clients_of_houses_keep_up : ClientsOfHousesKeepUp
 clients_of_houses_keep_up k events t printed once place v printable there read = clients_keep_up k once.entries t place v printable once.leads there read

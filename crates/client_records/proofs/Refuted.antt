@@ -20,8 +20,8 @@ use Rattle.client_list.specs.Beliefs.{IsRight}
 use Rattle.client_list.specs.Client.{Client, Known, Messages, fresh}
 use Rattle.client_list.specs.Talks.{LongLine, Turned}
 use Rattle.client_records.specs.Appends.{Author, EndsWith, IsAnswered, SaysVerdict, TellsKept, TellsOfAppends, as_it_is, copy_under}
-use Rattle.client_records.specs.Clients.{IsRightAbout, bytes_in}
-use Rattle.client_records.specs.Cuts.{Cutter, IsOneAnswer, ends, opens}
+use Rattle.client_records.specs.Clients.{IsRightAbout, Told, bytes_in}
+use Rattle.client_records.specs.Cuts.{Cutter, IsOneAnswer, ends, opens, CutsSo}
 use Rattle.client_records.proofs.LastLines.{Apart, IsWord, apart_tells_none, refusal_apart, words_of_tags}
 use Rattle.client_records.proofs.LastRests.{no_apart}
 use Rattle.client_records.proofs.LastWords.{uid_spares}
@@ -111,8 +111,8 @@ never_sent k w author tag said noted none kept =
     absurd (omega (arith, ap length (sym c.whole ∙ none), length-append (c.front ++ (c.line ++ crlf) ++ kept.message.append.text ++ crlf) c.behind, length-append (c.front ++ (c.line ++ crlf) ++ kept.message.append.text) crlf))
 
 -- and two such answers about one copy
-one_copy_twice : (k : Setup) (entries : List Entry) (place : ℕ) (v : SeatedVisitor) (t : Scene) (a b : Noted) → a.key ≡ b.key → (tells : TellsOfAppends k entries place v t) → filter_map as_it_is tells.verdicts ≡ a ∷ b ∷ [] → ⊥
-one_copy_twice k entries place v t a b same tells is =
+one_copy_twice : (k : Setup) (w : World) (author : Author) (told : List Told) (a b : Noted) → a.key ≡ b.key → (tells : TellsOfAppends k w author told) → filter_map as_it_is tells.verdicts ≡ a ∷ b ∷ [] → ⊥
+one_copy_twice k w author told a b same tells is =
     let apart : AllPairs (λ (x y : Noted). Below x.key y.key) (a ∷ b ∷ []) = subst (AllPairs (λ (x y : Noted). Below x.key y.key)) is tells.in_order in
     below_itself a.key b.key (apart 0 1 a (omega arith) (omega arith)) same
 
@@ -127,6 +127,10 @@ in_the_middle (ends h) = absurd (omega (arith, ap (λ (c : Cutter). length c.beg
 two_in_one : IsOneAnswer (codes "a OK NOOP completed\r\nb OK NOOP completed\r\n") → ⊥
 two_in_one (opens h) = absurd (omega (arith, ap (λ (c : Cutter). length c.answers) (h [] [])))
 two_in_one (ends h) = absurd (omega (arith, ap (λ (c : Cutter). length c.answers) (h [] [])))
+
+-- all that was printed, without the greeting
+never_greeted : CutsSo [] [] → ⊥
+never_greeted h = absurd (omega (arith, ap (λ (c : Cutter). length c.begun) h.cut))
 
 -- one that ends within a line
 within_a_line : IsOneAnswer (codes "* 2 EXI") → ⊥

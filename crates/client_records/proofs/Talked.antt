@@ -44,7 +44,7 @@ call_hears : (k : Config) (n : ℕ) (w v : World) (p : ℕ) (note : Noted) → M
 call_hears k n w v p note (rested e) c = rw e c
 call_hears k n w v p note (stepped event step own short) c = heard_stays_heard k w (event ∷ []) v p note (v, step, refl) c
 
-met_hears : (k : Config) (n : ℕ) (w : World) (events : List Happened) (v : World) (p : ℕ) (note : Noted) → Met (Calls k n) w events v → Contains (w.heard p) note → Contains (v.heard p) note
+pub met_hears : (k : Config) (n : ℕ) (w : World) (events : List Happened) (v : World) (p : ℕ) (note : Noted) → Met (Calls k n) w events v → Contains (w.heard p) note → Contains (v.heard p) note
 met_hears k n w [] v p note met c = rw met c
 met_hears k n w (e ∷ events) v p note (mid, one, more) c = met_hears k n mid events v p note more (call_hears k n w mid p note (moved k n w e.call e.answer mid one) c)
 

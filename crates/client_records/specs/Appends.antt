@@ -24,7 +24,7 @@ use Rattle.house.specs.Scene.{Scene, empty_scene}
 use Rattle.house.specs.Setup.{Setup, session_seat}
 use Rattle.exactly_once.specs.Promise.{Entry, IsRecord}
 use Rattle.client_records.specs.Clients.{Told, bytes_in}
-use Rattle.client_records.specs.Records.{IsPrintable, KeepsUp, sent_by_then, user_by_then}
+use Rattle.client_records.specs.Records.{IsPrintable, KeepsUp, KeptUp, sent_by_then, serial_by_then, stays_by_then, user_by_then}
 
 -- ---- how an answer ends
 
@@ -131,27 +131,32 @@ pub record TellsKept (k : Setup) (w : World) (author : Author) (tag said : List 
   pub mailbox : noted.mailbox ≡ message.append.mailbox
   pub copy : Contains (w.box noted.mailbox).accepted (copy_under noted.key message, uid)
 
--- a session that is there, behind a record
-abbrev pub author_at : Setup → List Entry → (place : ℕ) → SeatedVisitor → Author
-author_at k entries place v = record { place = place; serial = v.serial; folders = folders_of k.directory (user_by_then place [] entries); sent = sent_by_then place [] entries }
+-- the session with this serial at a place, behind a record
+abbrev pub author_at : Setup → List Entry → (place serial : ℕ) → Author
+author_at k entries place serial = record { place = place; serial = serial; folders = folders_of k.directory (user_by_then place [] entries); sent = sent_by_then place [] entries }
 
--- What a session told its client of the messages that it appended: it keeps up, and this is known of its answers.
-pub record TellsOfAppends (k : Setup) (entries : List Entry) (place : ℕ) (v : SeatedVisitor) (t : Scene) : Type 0 where
-  pub keeps : KeepsUp k entries place v t
-  -- the verdicts that they were said to, answer by answer
+-- What is known of all that a session told its client: of the messages that it appended.
+pub record TellsOfAppends (k : Setup) (w : World) (author : Author) (told : List Told) : Type 0 where
+  -- the verdicts that its answers were said to, answer by answer
   pub verdicts : List (Option Noted)
-  pub each : AreAnswered k t.world (author_at k entries place v) keeps.told verdicts
+  pub each : AreAnswered k w author told verdicts
   -- on messages in the order in which they were appended, so none is told twice
   pub in_order : AllPairs (λ a b. Below a.key b.key) (filter_map as_it_is verdicts)
   -- So where an answer ends with `OK [APPENDUID ` behind any tag, that is for one copy of this session, which stands so;
-  pub kept : (before after : List Told) (one : Told) (tag words : List ℕ) → keeps.told ≡ before ++ one ∷ after → EndsWith tag words (bytes_in one) → tells_uid words ≡ true
-      → (noted : Noted) × TellsKept k t.world (author_at k entries place v) tag words noted
+  pub kept : (before after : List Told) (one : Told) (tag words : List ℕ) → told ≡ before ++ one ∷ after → EndsWith tag words (bytes_in one) → tells_uid words ≡ true
+      → (noted : Noted) × TellsKept k w author tag words noted
   -- and two such answers are for two copies, of which the first was appended first.
-  pub apart : (before mid after : List Told) (one two : Told) (tag words other_tag other_words : List ℕ) → keeps.told ≡ before ++ one ∷ (mid ++ two ∷ after) → EndsWith tag words (bytes_in one) → tells_uid words ≡ true
+  pub apart : (before mid after : List Told) (one two : Told) (tag words other_tag other_words : List ℕ) → told ≡ before ++ one ∷ (mid ++ two ∷ after) → EndsWith tag words (bytes_in one) → tells_uid words ≡ true
       → EndsWith other_tag other_words (bytes_in two) → tells_uid other_words ≡ true
-      → (a : Noted) × (b : Noted) × TellsKept k t.world (author_at k entries place v) tag words a × TellsKept k t.world (author_at k entries place v) other_tag other_words b × Below a.key b.key
+      → (a : Noted) × (b : Noted) × TellsKept k w author tag words a × TellsKept k w author other_tag other_words b × Below a.key b.key
 
--- Over whatever record of a house that was new, of whoever is there
+-- Over whatever record of a house that was new, of whoever is there: it keeps up, and this is known of what it was told.
 abbrev pub AppendsAreTold : Type 0
 AppendsAreTold = (k : Setup) (entries : List Entry) (t : Scene) (place : ℕ) (v : SeatedVisitor) → IsPrintable k → IsRecord k entries (empty_scene k) t
-    → t.visitor place ≡ Some v → v.gone ≡ false → TellsOfAppends k entries place v t
+    → t.visitor place ≡ Some v → v.gone ≡ false → (keeps : KeepsUp k entries place v t) × TellsOfAppends k t.world (author_at k entries place v.serial) keeps.told
+
+-- And of a session that was let in there last, whose client isn't gone, and that has ended by itself, as by LOGOUT: behind all that happened since
+abbrev pub AppendsWereTold : Type 0
+AppendsWereTold = (k : Setup) (entries : List Entry) (t : Scene) (place : ℕ) → IsPrintable k → IsRecord k entries (empty_scene k) t
+    → stays_by_then place false entries ≡ true → t.visitor place ≡ None
+    → (kept : KeptUp k entries place t) × TellsOfAppends k t.world (author_at k entries place (serial_by_then place 0 (empty_scene k) entries)) kept.told

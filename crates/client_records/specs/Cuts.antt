@@ -11,7 +11,7 @@ use Rattle.house.specs.Setup.{Setup}
 use Rattle.exactly_once.specs.Promise.{Entry, IsRecord}
 use Rattle.client_list.specs.Client.{literal_of}
 use Rattle.client_records.specs.Clients.{Answer, Told, begins, bytes_in}
-use Rattle.client_records.specs.Records.{IsPrintable, KeepsUp, shown_by_then}
+use Rattle.client_records.specs.Records.{IsPrintable, KeepsUp, shown_by_then, KeptUp, stays_by_then}
 
 -- ---- a client that cuts
 
@@ -106,17 +106,21 @@ abbrev pub EachIsOne : List Told → Type 0
 EachIsOne [] = Unit {0}
 EachIsOne (one ∷ told) = IsOneAnswer (bytes_in one) × EachIsOne told
 
--- A session's answers are those that the bytes allow.
-pub record CutsSo (k : Setup) (entries : List Entry) (place : ℕ) (v : SeatedVisitor) (t : Scene) : Type 0 where
-  pub keeps : KeepsUp k entries place v t
+-- A session's answers are those that the bytes allow, of all that it printed.
+pub record CutsSo (told : List Told) (printed : List ℕ) : Type 0 where
   -- each answer has one tagged line at most, and it is its last
-  pub each : EachIsOne keeps.told
+  pub each : EachIsOne told
   -- that of the command which it answers
-  pub own : (before after : List Told) (line tag bytes : List ℕ) (command : Command) → keeps.told ≡ before ++ Answer line bytes ∷ after → read line ≡ Ok (tag, command) → IsAnswered tag command bytes
-  -- so a client that cuts behind each tagged line, in all that is printed to it and is still to be printed, cuts between these answers, and nowhere else
-  pub cut : cuts (between [] []) (shown_by_then place [] entries ++ v.session.unsaid) ≡ cut_between greeting [] keeps.told
+  pub own : (before after : List Told) (line tag bytes : List ℕ) (command : Command) → told ≡ before ++ Answer line bytes ∷ after → read line ≡ Ok (tag, command) → IsAnswered tag command bytes
+  -- so a client that cuts behind each tagged line cuts between these answers, and nowhere else
+  pub cut : cuts (between [] []) printed ≡ cut_between greeting [] told
 
--- Over whatever record of a house that was new, of whoever is there
+-- Over whatever record of a house that was new, of whoever is there: in all that was printed to it and is still to be printed
 abbrev pub AnswersAreCut : Type 0
 AnswersAreCut = (k : Setup) (entries : List Entry) (t : Scene) (place : ℕ) (v : SeatedVisitor) → IsPrintable k → IsRecord k entries (empty_scene k) t
-    → t.visitor place ≡ Some v → v.gone ≡ false → CutsSo k entries place v t
+    → t.visitor place ≡ Some v → v.gone ≡ false → (keeps : KeepsUp k entries place v t) × CutsSo keeps.told (shown_by_then place [] entries ++ v.session.unsaid)
+
+-- And of a session that was let in there last, whose client isn't gone, and that has ended by itself: in all that was printed to it
+abbrev pub AnswersWereCut : Type 0
+AnswersWereCut = (k : Setup) (entries : List Entry) (t : Scene) (place : ℕ) → IsPrintable k → IsRecord k entries (empty_scene k) t
+    → stays_by_then place false entries ≡ true → t.visitor place ≡ None → (kept : KeptUp k entries place t) × CutsSo kept.told (shown_by_then place [] entries)

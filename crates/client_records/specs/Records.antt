@@ -50,6 +50,10 @@ user_in place event before = before
 abbrev pub began_in : (place : ℕ) → Scene → house.Event → World → World
 began_in place s event before = if lets_in place event then s.world else before
 
+-- under which serial it was let in, where it was that before: its number among the sessions that came to its place
+abbrev pub serial_in : (place : ℕ) → Scene → house.Event → ℕ → ℕ
+serial_in place s event before = if lets_in place event then s.entered place else before
+
 -- its client is gone at this event
 abbrev pub is_left : (place : ℕ) → house.Event → Bool
 is_left place (Leave session) = place_of session == place
@@ -83,6 +87,11 @@ user_by_then place before (entry ∷ entries) = user_by_then place (user_in plac
 abbrev pub began_by_then : (place : ℕ) → World → Scene → List Entry → World
 began_by_then place before s [] = before
 began_by_then place before s (entry ∷ entries) = began_by_then place (began_in place s entry.event before) entry.after entries
+
+-- and its serial
+abbrev pub serial_by_then : (place : ℕ) → ℕ → Scene → List Entry → ℕ
+serial_by_then place before s [] = before
+serial_by_then place before s (entry ∷ entries) = serial_by_then place (serial_in place s entry.event before) entry.after entries
 
 -- and whether its client stays
 abbrev pub stays_by_then : (place : ℕ) → Bool → List Entry → Bool

@@ -2,11 +2,11 @@
 //! come to, its turns, and its whole life. Laws of what a client reads ask that the numbers can be printed (`HasSmallNumbers` of
 //! the settings) and that texts are short (`HasShortTexts` of the world): settings without a fault see to both (`clients_keep_up`).
 
-ghost use Rattle.client_records.specs.Appends.{AppendsAreTold};
+ghost use Rattle.client_records.specs.Appends.{AppendsAreTold, AppendsWereTold};
 ghost use Rattle.client_records.specs.AtEntries.{AnswersMakeCurrent, VerdictsMakeCurrent};
 ghost use Rattle.client_records.specs.Clients.{KnowsWhereItIs};
 ghost use Rattle.client_records.specs.Current.{DoneCommandsMakeCurrent, DoneMakesCurrent, FeedsMakeCurrent, ListsAreCurrent, NoopMakesCurrent};
-ghost use Rattle.client_records.specs.Cuts.{AnswersAreCut};
+ghost use Rattle.client_records.specs.Cuts.{AnswersAreCut, AnswersWereCut};
 ghost use Rattle.client_records.specs.Laws.{CallsAreSeen, CountedAreGiven, EntriesAreCounted, GoneStayGone, LeaversCountNothing, OthersLeaveViews, UidsStay, ViewsAreNumbered};
 ghost use Rattle.client_records.specs.Lives.{LivesAreKnown};
 ghost use Rattle.client_records.specs.One.{OneLifeIsLived};
@@ -139,7 +139,10 @@ pub fn clients_keep_up()
 /// message is stored the session answers that OK, unless the store refuses.
 pub fn appends_are_told()
     // Beside each answer of a session that is there stands the verdict that it was said to, or none; and it says what is said to that.
-    ensures { AppendsAreTold }
+    ensures there { AppendsAreTold }
+
+    // So it is of one that has ended by itself, as by LOGOUT, behind all that happened since.
+    ensures ended { AppendsWereTold }
 {}
 
 /// The answers into which a record cuts what was printed to a client are those that the bytes allow: each has one tagged line at
@@ -147,5 +150,8 @@ pub fn appends_are_told()
 /// line, and knows nothing else, cuts between these answers and nowhere else.
 pub fn answers_are_cut()
     // Whoever is there: what is printed to it, and is still to be printed, is cut so.
-    ensures { AnswersAreCut }
+    ensures there { AnswersAreCut }
+
+    // So is all that was printed to one that has ended by itself, as by LOGOUT.
+    ensures ended { AnswersWereCut }
 {}

@@ -1,10 +1,12 @@
 -- How answers end, which numbers their last lines tell, and how a client cuts what it reads.
-use Rattle.std.specs.Prelude.{◌≡◌, false, codes, [], ◌∷◌}
+use Rattle.std.specs.Prelude.{◌≡◌, ℕ, List, true, false, codes, [], ◌∷◌}
+use Rattle.imap_grammar.specs.Reading.{read}
+use Rattle.imap_session.specs.Exchange.{Sent}
 use Rattle.std.specs.Fmt.{digits}
 use Rattle.std.proofs.Common.{refl}
 use Rattle.imap_session.specs.Commands.{appended_words}
 use Rattle.imap_session.specs.Telling.{tells_uid}
-use Rattle.client_records.specs.Appends.{EndsWith, last_line}
+use Rattle.client_records.specs.Appends.{EndsWith, IsSentAs, last_line}
 use Rattle.client_records.specs.Clients.{Answer, Words}
 use Rattle.client_records.specs.Cuts.{amid, between, cut_between, cuts, is_ended}
 
@@ -30,6 +32,26 @@ not_within = refl
 
 not_of_a_fetch : tells_uid (codes "OK FETCH completed") ≡ false
 not_of_a_fetch = refl
+
+-- ---- which message was sent
+
+abbrev a_message : (mailbox : ℕ) → (text : List ℕ) → Sent
+a_message mailbox text = record { tag = codes "a1"; append = record { message = 0; mailbox = mailbox; flags = record { answered = false; flagged = false; deleted = false; seen = true; draft = false }; text = text } }
+
+-- a client that may first have said something else, and goes on behind
+sent_so : IsSentAs (record { name = codes "INBOX"; mailbox = 4 } ∷ []) (codes "a0 NOOP\r\na1 APPEND INBOX (\\Seen) {3}\r\nx\r\n\r\na2 LOGOUT\r\n") (a_message 4 (codes "x\r\n"))
+unfolding read
+sent_so = record {
+  front = codes "a0 NOOP\r\n";
+  line = codes "a1 APPEND INBOX (\\Seen) {3}";
+  behind = codes "a2 LOGOUT\r\n";
+  append = record { name = codes "INBOX"; flags = record { answered = false; flagged = false; deleted = false; seen = true; draft = false }; literal = record { size = 3; waits = true } };
+  reads = refl;
+  named = refl;
+  flags = refl;
+  size = refl;
+  whole = refl;
+}
 
 -- ---- cuts
 
