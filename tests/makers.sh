@@ -1,11 +1,25 @@
 #!/bin/sh
-# Whether only what lays a house out makes mailboxes. A consumer that made one of its own could deliver there and tell that the copy is
-# stored: no clause refuses that, since of a mailbox behind a lock nothing is known but its number. Crates of tests make some to try them.
+# Two things that no clause refuses. Only what lays a house out makes mailboxes: a consumer that made one of its own could deliver there and
+# tell that the copy is stored, since of a mailbox behind a lock nothing is known but its number. And a receipt is spent in two places alone,
+# each of which tells the verdict: one who spent a receipt elsewhere could deliver a copy twice and tell of it once. Crates of tests make
+# mailboxes and spend receipts to try them.
 set -eu
 cd "$(dirname -- "$0")/.."
-found=$(grep -rl 'Mailbox::new(' crates/*/src | cut -d/ -f2 | sort -u | grep -v '_tests$' | tr '\n' ' ')
-if [ "$found" != "delivery_core house_floor " ]; then
-    echo "makers: mailboxes are made in: $found"
-    exit 1
-fi
-echo "mailboxes are made in delivery_core and house_floor alone"
+failed=0
+
+# The files of src/, but for those of tests, that have these words in code.
+have() {
+    grep -rnE "$1" crates/*/src | grep -vE '^crates/[a-z_]*_tests/|:[0-9]+: *(//|ghost |ensures|requires|[(λ])' | cut -d: -f1 | sort | uniq -c | sed 's/^ *//' | tr '\n' ' '
+}
+
+expect() {
+    if [ "$2" != "$3" ]; then
+        echo "makers: $1: $2"
+        failed=1
+    fi
+}
+
+expect "mailboxes are made in" "$(have 'Mailbox::new\(')" "1 crates/delivery_core/src/make.rt 1 crates/house_floor/src/fittings.rt "
+expect "receipts are spent in" "$(have 'verdict_of\(')" "1 crates/delivery_core/src/steps.rt 1 crates/lane_work/src/answering.rt 1 crates/mailbox/src/answers.rt "
+[ $failed = 1 ] || echo "mailboxes are made in two places, and receipts spent in two"
+exit $failed
