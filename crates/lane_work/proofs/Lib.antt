@@ -10,3 +10,4 @@ pub mod ClosingLaws
 pub mod RoundLaws
 pub mod AwaitedLaws
 pub mod FullLaws
+pub mod CarryLaws

@@ -1,12 +1,14 @@
 //! A session's way to the lanes: its permit on each, and its end of a reply channel, as a worker has them.
 //! What a session is answered stands above.
 
-ghost use Rattle.std.specs.Prelude.{◌≡◌, IfOk, OnOk, false, length, map};
+ghost use Rattle.std.specs.Prelude.{◌≡◌, IfOk, List, OnOk, false, length, map};
+ghost use Rattle.courier.specs.Carried.{Carried};
 ghost use Rattle.shard_queue.specs.Reply.{IsReceiver, received};
 ghost use Rattle.shard_queue.specs.Shared.{IsStartOf};
 ghost use Rattle.lane_work.specs.Copies.{rooms_of};
 ghost use Rattle.lane_work.specs.Couriers.{HasCarried, IsReady, IsSameDesk};
 ghost use Rattle.lane_work.specs.inner.Copies.{WasJudged};
+ghost use Rattle.lane_work.specs.inner.Couriers.{CarriesOn};
 ghost use Rattle.lane_work.specs.Awaiting.{HearsItsOwn};
 ghost use Rattle.lane_work.specs.Ends.{CountsEnds};
 ghost use Rattle.lane_work.specs.Permits.{AreLive, ArePermits, put_by};
@@ -86,10 +88,11 @@ impl<'a, R: Wait, S: Summons, N: Notebook> Courier for LaneCourier<'a, R, S, N> 
     ghost carried = { λ c done. HasCarried c.office.now c.desk c.serial (N.tells c.book) done };
 
     // Office, channel, number, serial and the book's owner are the same, and no end was counted that wasn't heard. Unless it is torn, as
-    // many verdicts were heard as copies were put.
+    // many verdicts were heard as copies were put, and these were of some messages of its session, which it carried behind those before.
     ghost kept = { λ first now. IsSameDesk first.office.now now.office.now first.channel.now now.channel.now first.desk now.desk
         × (now.serial ≡ first.serial) × (N.owner now.book ≡ N.owner first.book)
-        × (now.is_torn ≡ false → (first.is_torn ≡ false) × HearsItsOwn first.desk now.desk) };
+        × (now.is_torn ≡ false → (first.is_torn ≡ false) × HearsItsOwn first.desk now.desk
+        × ((carried : List Carried) × CarriesOn first.office.now first.serial first.desk carried now.desk)) };
 
     fn carry<G: Gate>(
         &mut self,

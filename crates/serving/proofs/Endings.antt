@@ -1,5 +1,5 @@
 -- What a house came to, from what its producers and its clerks left and how it was closed.
-use Rattle.std.proofs.Common.{◌≡◌, ◌<◌, ◌+◌, ◌++◌, ◌∙◌, ◌||◌, ℕ, zero, suc, Bool, true, false, List, [], ◌∷◌, All, Some, length, map, slice_get, slice_index_or, ap, refl, sym, subst, arith}
+use Rattle.std.proofs.Common.{◌≡◌, ◌<◌, ◌≤◌, ◌+◌, ◌++◌, ◌∙◌, ◌||◌, ℕ, zero, suc, Bool, true, false, List, [], ◌∷◌, All, Some, length, map, slice_get, slice_index_or, ap, refl, sym, subst, arith}
 use Rattle.std.specs.List.{list_any}
 use Rattle.std.proofs.lemmas.List.{map-append}
 use Rattle.std.proofs.lemmas.List.Elements.{All-cons, All-head, All-nil, All-tail}
@@ -7,7 +7,7 @@ use Rattle.delivery_token.specs.declared.Job.{Job}
 use Rattle.delivery_token.specs.declared.log.Noted.{Noted}
 use Rattle.shard_queue.specs.Closing.{IsWhole}
 use Rattle.shard_queue.specs.Lane.{of}
-use Rattle.shard_queue.specs.Permits.{history}
+use Rattle.shard_queue.specs.Permits.{history, said}
 use Rattle.shard_queue.specs.Reply.{received, reply_history}
 use Rattle.shard_queue.specs.Shared.{IsStartOf}
 use Rattle.shard_queue.specs.declared.ends.ReplyChannel.{ReplyChannel}
@@ -39,7 +39,7 @@ use Rattle.reckoning.proofs.Accounts.{answers_of, at_position, in_at}
 use Rattle.reckoning.proofs.Parts.{some_at}
 use Rattle.reckoning.specs.declared.balancing.Closes.{Closes}
 use Rattle.serving_workers.specs.Closing.{GoOn, WasClosed}
-use Rattle.serving_workers.specs.Leaving.{HasServedMail, IsServed}
+use Rattle.serving_workers.specs.Leaving.{HasServedClients, HasServedMail, IsServed}
 use Rattle.serving_workers.specs.declared.accepting.Served.{Served}
 use Rattle.serving.specs.inner.Ending.{CameTo, FirstTakeMail, WereEmptied, WereHeardOut, answers, histories}
 
@@ -72,6 +72,15 @@ takes_mail zero n served s first under at = absurd (omega (arith, under))
 takes_mail (suc workers) n [] s first under at = absurd first
 takes_mail (suc workers) zero (x ∷ served) s first under at = (let same : x ≡ s = cc in ap (λ (y : Served). y.mail) (sym same) ∙ first.0)
 takes_mail (suc workers) (suc n) (x ∷ served) s first under at = takes_mail workers n served s first.1 (omega (arith, under)) at
+
+takes_none : (workers n : ℕ) (served : List Served) (s : Served) → FirstTakeMail workers (map (λ s. s.mail) served) → workers ≤ n → slice_get served n ≡ Some s → s.mail ≡ false
+takes_none zero n [] s first past at = absurd (cc)
+takes_none zero zero (x ∷ served) s first past at =
+    (let same : x ≡ s = cc in ap (λ (y : Served). y.mail) (sym same) ∙ All-head (λ (m : Bool). m ≡ false) x.mail (map (λ s. s.mail) served) first)
+takes_none zero (suc n) (x ∷ served) s first past at = takes_none zero n served s (All-tail (λ (m : Bool). m ≡ false) x.mail (map (λ s. s.mail) served) first) (omega arith) at
+takes_none (suc workers) n [] s first past at = absurd first
+takes_none (suc workers) zero (x ∷ served) s first past at = absurd (omega (arith, past))
+takes_none (suc workers) (suc n) (x ∷ served) s first past at = takes_none workers n served s first.1 (omega (arith, past)) at
 
 there : (workers n : ℕ) (served : List Served) → FirstTakeMail workers (map (λ s. s.mail) served) → n < workers → n < length served
 there zero n served first under = absurd (omega (arith, under))
@@ -119,6 +128,23 @@ mail_later house seat heard hears words grew has = record {
   ended = has.ended;
 }
 
+-- the same of a berth
+clients_later : (house : Premises) (seat : ℕ) (heard hears : List (Entry Noted)) (words : List (List (Entry Job))) → IsStartOf heard hears → HasServedClients house seat heard words
+    → HasServedClients house seat hears words
+clients_later house seat heard hears words grew has = record {
+  clients = has.clients;
+  sent = has.sent;
+  served = (
+    has.served.0,
+    has.served.1,
+    record {
+      noted = tt;
+      lanes = λ lane under. let b = has.served.2.lanes lane under in (b.0, were_put_later house.directory (room_at house.rooms lane) seat lane heard hears grew b.1, b.2);
+    },
+  );
+  ended = has.ended;
+}
+
 -- ---- the queues
 
 no_room : {T : Type 0} (producers room : ℕ) (got : List (Entry T)) → IsWhole producers room got → IsWhole producers 0 got
@@ -141,22 +167,35 @@ services_of floor n (c ∷ cs) all =
     (record { each = λ lane at. ([], All-nil (λ (e : List (Entry Noted)). e ≡ []), all.0.each lane at) }, services_of floor (suc n) cs all.1)
 
 module _ (floor : Floor) (workers : ℕ) (served : List Served) (d : Dismissed) (closes : Closes) (all : AllAt (IsServed floor) 0 served)
-    (first : FirstTakeMail workers (map (λ s. s.mail) served)) (count : length d.consumed.items ≡ length floor.office.lanes.items)
+    (each : length served ≡ length floor.depot.channels.items) (first : FirstTakeMail workers (map (λ s. s.mail) served)) (count : length d.consumed.items ≡ length floor.office.lanes.items)
     (services : d.in_order ≡ true → AllAt (IsService floor.office.lanes.items floor.depot) 0 d.consumed.items) (was : WasClosed floor served d closes) where
-  mail_of : (n : ℕ) → n < workers → HasServedMail (premises_of floor.office) n (slice_index_or (answers closes) n []) (map (of n) (histories closes))
-  mail_of n under =
-      let s = some_at served n (there workers n served first under) in
+  -- what producer n left, and that what it said is what was taken
+  left_by : (n : ℕ) → n < length served → (s : Served) × (slice_get served n ≡ Some s) × IsServed floor n s × (map said s.ended.items ≡ map (of n) (histories closes))
+  left_by n under =
+      let s = some_at served n under in
       let e : 0 + n ≡ n = omega arith in
       let is : IsServed floor n s.0 = subst (λ (i : ℕ). IsServed floor i s.0) e (at_position (IsServed floor) 0 n served s.0 all s.1) in
-      let mail = is.mail (takes_mail workers n served s.0 first under s.1) (untorn served n s.0 was.producers s.1) in
       let within = in_at (λ (x : Served). x.ended.items) served was.lanes.0 n s.0 was.lanes.1 s.1 in
-      let taken = said_is_taken floor.office.lanes.items n s.0.ended.items (histories closes) is.ended (are_heard was.lanes.2 s.0.ended.items within) in
+      (s.0, s.1, is, said_is_taken floor.office.lanes.items n s.0.ended.items (histories closes) is.ended (are_heard was.lanes.2 s.0.ended.items within))
+
+  clients_of : (n : ℕ) → workers ≤ n → n < length served → HasServedClients (premises_of floor.office) n (slice_index_or (answers closes) n []) (map (of n) (histories closes))
+  clients_of n past under =
+      let s = left_by n under in
+      let clients = s.2.clients (takes_none workers n served s.0 first past s.1) (untorn served n s.0 was.producers s.1) in
+      clients_later (premises_of floor.office) n (received s.0.receiver) (slice_index_or (answers closes) n []) (map (of n) (histories closes)) (heard_at served (answers closes) n s.0 was.heard s.1)
+      (subst (λ (words : List (List (Entry Job))). HasServedClients (premises_of floor.office) n (received s.0.receiver) words) s.3 clients)
+
+  mail_of : (n : ℕ) → n < workers → HasServedMail (premises_of floor.office) n (slice_index_or (answers closes) n []) (map (of n) (histories closes))
+  mail_of n under =
+      let s = left_by n (there workers n served first under) in
+      let mail = s.2.mail (takes_mail workers n served s.0 first under s.1) (untorn served n s.0 was.producers s.1) in
       mail_later (premises_of floor.office) n (received s.0.receiver) (slice_index_or (answers closes) n []) (map (of n) (histories closes)) (heard_at served (answers closes) n s.0 was.heard s.1)
-      (subst (λ (words : List (List (Entry Job))). HasServedMail (premises_of floor.office) n (received s.0.receiver) words) taken mail)
+      (subst (λ (words : List (List (Entry Job))). HasServedMail (premises_of floor.office) n (received s.0.receiver) words) s.3 mail)
 
   pub came_to : CameTo floor workers closes
   came_to = record {
     mail = mail_of;
+    clients = λ n past under. clients_of n past (omega (arith, under, each));
     answered = λ s p lane channel.
         let a = answers_of floor d.consumed.items closes.lanes.items _ closes.channels.items _ (services_of floor 0 d.consumed.items (services was.in_order)) count was.lanes was.channels.2 s p lane channel in
         record { told = a.0; each = a.1; ended = a.2 };

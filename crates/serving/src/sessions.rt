@@ -6,10 +6,14 @@ ghost use Rattle.std.specs.List.{list_all};
 ghost use Rattle.std.specs.Mem.{manually_drop_value};
 ghost use Rattle.house_floor.specs.Crew.{AllAt, IsHouse, IsPost};
 ghost use Rattle.lane_work.specs.Couriers.{IsReady, IsSameDesk};
-ghost use Rattle.lane_work.specs.Permits.{AreEnded, ArePermits};
+ghost use Rattle.shard_queue.specs.Permits.{said};
+ghost use Rattle.shard_queue.specs.Reply.{received};
+ghost use Rattle.lane_work.specs.Account.{HaveEnded};
+ghost use Rattle.lane_work.specs.Permits.{AreEnded, ArePermits, put_by};
+ghost use Rattle.lane_work.specs.Speaking.{premises_of};
 ghost use Rattle.serving.specs.inner.Ending.{FirstTakeMail};
 ghost use Rattle.serving.specs.inner.Visiting.{IsVisitOf};
-ghost use Rattle.serving_workers.specs.Leaving.{IsHired, IsServed, has_thread, serves_mail};
+ghost use Rattle.serving_workers.specs.Leaving.{AreAttended, IsHired, IsServed, has_thread, serves_mail};
 
 use crate::equipment::SharedBerth;
 use crate::site::Site;
@@ -193,8 +197,8 @@ fn receive<'a, R: Wait, C: Courier>(
     gateway.grip.clear(rt);
 }
 
-// One client after another, the first once all threads stand, until the house stops, or something came that wasn't the verdict on a
-// message: then nobody is served any more.
+// One client after another, each with the next serial from 0 on, the first once all threads stand, until the house stops, or something came
+// that wasn't the verdict on a message, or the serials are spent: then nobody is served any more.
 fn answer_clients<'a, R: Wait, S: Summons>(
     rt: &'a R,
     berth: &ClientBerth<'a, R>,
@@ -207,6 +211,10 @@ fn answer_clients<'a, R: Wait, S: Summons>(
     ensures ready { IsReady courier.new.office.now courier.new.channel.now courier.new.desk }
     ensures same { IsSameDesk courier.old.office.now courier.new.office.now courier.old.channel.now courier.new.channel.now
         courier.old.desk courier.new.desk }
+    ensures clients { courier.new.is_torn ≡ false
+        → AreAttended (premises_of courier.old.office.now) courier.old.desk.number 0 (received courier.old.desk.receiver) (map put_by courier.old.desk.permits.items)
+        → (clients : ℕ) × AreAttended (premises_of courier.old.office.now) courier.old.desk.number clients (received courier.new.desk.receiver)
+        (map put_by courier.new.desk.permits.items) }
 {
     let door = Door {
         listening: &gateway.sockets.imap[usize::from(gateway.user)],
@@ -214,16 +222,16 @@ fn answer_clients<'a, R: Wait, S: Summons>(
         pause: &gateway.sockets.pause,
     };
     door.mark.await_start(rt);
-    for _ in rt.forever() {
+    for serial in 0..u64::MAX {
         if courier.is_torn {
             return;
         }
         let Some(stream) = door.next(rt) else {
             return;
         };
+        courier.serial = serial;
         let buffer = buffer.as_mut_slice();
         receive(rt, berth, courier, gateway, &door, &stream, buffer);
-        courier.serial = courier.serial.saturating_add(1);
     }
 }
 
@@ -237,7 +245,9 @@ fn leave<R: Wait, S: Summons>(
     requires permits { ArePermits courier.office.now.lanes.items courier.desk.number courier.desk.permits.items }
     requires room { (room.items ≡ []) × (length courier.office.now.lanes.items ≤ vec_capacity room) }
     ensures ended { AreEnded courier.entry.office.now.lanes.items courier.entry.desk.number result.ended.items }
+    ensures said { HaveEnded courier.entry.desk.number (map put_by courier.entry.desk.permits.items) (map said result.ended.items) }
     ensures receiver { result.receiver ≡ courier.entry.desk.receiver }
+    ensures torn { result.torn ≡ courier.entry.is_torn }
     ensures mail { result.mail ≡ false }
 {
     let LaneCourier {

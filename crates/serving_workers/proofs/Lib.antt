@@ -1,3 +1,4 @@
+pub mod Clients
 pub mod Lives
 mod Heard
 mod Wholes

@@ -1,7 +1,9 @@
 -- What the producers of a server leave.
 use Rattle.std.specs.Prelude.{◌≡◌, ℕ, ◌+◌, ◌++◌, Bool, true, false, List, [], Some, map, slice_get}
 use Rattle.std.specs.Mem.{manually_drop_value}
+use Rattle.courier.specs.Carried.{Carried, judged_of}
 use Rattle.delivery_token.specs.declared.Job.{Job}
+use Rattle.delivery_token.specs.declared.Verdict.{Verdict}
 use Rattle.delivery_token.specs.declared.log.Noted.{Noted}
 use Rattle.lmtp_machine.specs.declared.reply.Reply.{Reply}
 use Rattle.lmtp_machine.specs.Conversation.{Conversation}
@@ -9,7 +11,7 @@ use Rattle.shard_queue.specs.declared.ends.ReplyChannel.{ReplyChannel}
 use Rattle.shard_queue.specs.declared.lane.Entry.{Entry}
 use Rattle.shard_queue.specs.Permits.{said}
 use Rattle.shard_queue.specs.Reply.{IsReceiver, received}
-use Rattle.lane_work.specs.Account.{AreBooks, HaveEnded, Premises, setting_at}
+use Rattle.lane_work.specs.Account.{AreBooks, AreBooksOf, HaveEnded, Premises, setting_at}
 use Rattle.lane_work.specs.Permits.{AreEnded}
 use Rattle.lane_work.specs.Speaking.{premises_of}
 use Rattle.lane_work.specs.Talk.{HasTaken, Judged}
@@ -40,13 +42,34 @@ pub record HasServedMail (house : Premises) (seat : ℕ) (heard : List (Entry No
   pub served : AreServed house seat connections heard sent
   pub ended : HaveEnded seat sent words
 
+-- ---- clients of a berth
+
+-- So many clients of the berth with this seat, one after another, each with the next serial from 0 on: of each these messages were carried, in their order, or none.
+-- These are the copies of all, with the verdicts on them.
+pub data HaveAppended (seat : ℕ) : (clients : ℕ) → List (Job × Verdict) → Type 0 where
+  nobody : HaveAppended seat 0 []
+  another : {n : ℕ} {copies : List (Job × Verdict)} (carried : List Carried) → HaveAppended seat n copies → HaveAppended seat (n + 1) (copies ++ map (judged_of seat n) carried)
+
+-- What was put on each lane is what these clients appended, and the verdict on each copy that was put was heard.
+abbrev pub AreAttended : Premises → (seat clients : ℕ) → (heard : List (Entry Noted)) → (sent : List (List (Entry Job))) → Type 0
+AreAttended house seat clients heard sent =
+    (copies : List (Job × Verdict)) × HaveAppended seat clients copies × AreBooksOf house.directory house.rooms seat copies (λ told. Unit {0}) heard sent
+
+-- Of a berth that wasn't torn: what it said on each lane is what its clients appended, and then its end.
+pub record HasServedClients (house : Premises) (seat : ℕ) (heard : List (Entry Noted)) (words : List (List (Entry Job))) : Type 0 where
+  pub clients : ℕ
+  pub sent : List (List (Entry Job))
+  pub served : AreAttended house seat clients heard sent
+  pub ended : HaveEnded seat sent words
+
 -- ---- all of them
 
--- What producer n leaves: its ended permits on all lanes, and its end of its own channel. A worker's words are its connections' own.
+-- What producer n leaves: its ended permits on all lanes, and its end of its own channel. A worker's words are its connections' own, and those of another its clients'.
 pub record IsServed (floor : Floor) (n : ℕ) (s : Served) : Type 0 where
   pub ended : AreEnded floor.office.lanes.items n s.ended.items
   pub receiver : (channel : ReplyChannel Noted) → slice_get floor.depot.channels.items n ≡ Some channel → IsReceiver channel s.receiver
   pub mail : s.mail ≡ true → s.torn ≡ false → HasServedMail (premises_of floor.office) n (received s.receiver) (map said s.ended.items)
+  pub clients : s.mail ≡ false → s.torn ≡ false → HasServedClients (premises_of floor.office) n (received s.receiver) (map said s.ended.items)
 
 -- its thread will leave that, or it is there
 abbrev pub IsHired : Floor → ℕ → Hired → Type 0

@@ -1,5 +1,5 @@
 -- What bodies and proofs say besides: what a house that served came to, by what was taken of its queues.
-use Rattle.std.specs.Prelude.{◌≡◌, ◌<◌, ◌++◌, ℕ, zero, suc, Bool, List, [], ◌∷◌, All, true, false, length, map, slice_index_or}
+use Rattle.std.specs.Prelude.{◌≡◌, ◌<◌, ◌≤◌, ◌++◌, ℕ, zero, suc, Bool, List, [], ◌∷◌, All, true, false, length, map, slice_index_or}
 use Rattle.delivery_token.specs.declared.Job.{Job}
 use Rattle.delivery_token.specs.declared.log.Noted.{Noted}
 use Rattle.shard_queue.specs.Closing.{IsWhole}
@@ -16,7 +16,7 @@ use Rattle.lane_work.specs.Answering.{WereAnswered}
 use Rattle.lane_work.specs.Speaking.{premises_of}
 use Rattle.house_floor.specs.declared.floor.Floor.{Floor}
 use Rattle.reckoning.specs.declared.balancing.Closes.{Closes}
-use Rattle.serving_workers.specs.Leaving.{HasServedMail}
+use Rattle.serving_workers.specs.Leaving.{HasServedClients, HasServedMail}
 
 -- of each shard, all that was taken from its lane
 abbrev pub histories : Closes → List (List (Entry Job))
@@ -52,6 +52,9 @@ pub record CameTo (floor : Floor) (workers : ℕ) (closes : Closes) : Type 0 whe
   -- What was taken of a worker from each lane is what its connections submitted, one after another with the serials from 0 on, and then its end; and the verdict on
   -- each of these copies came on its channel.
   pub mail : (n : ℕ) → n < workers → HasServedMail (premises_of floor.office) n (slice_index_or (answers closes) n []) (map (of n) (histories closes))
+  -- So it is of each berth: what was taken of it is what its clients appended, one client after another with the serials from 0 on.
+  pub clients : (n : ℕ) → workers ≤ n → n < length floor.depot.channels.items
+      → HasServedClients (premises_of floor.office) n (slice_index_or (answers closes) n []) (map (of n) (histories closes))
   -- Each copy that was taken of a producer, a worker or another, was answered once, by its shard's clerk and to that producer, in the order in which they were taken.
   pub answered : (s p : ℕ) → s < length floor.office.lanes.items → p < length floor.depot.channels.items
       → WasAnswered (length floor.depot.mailboxes.items) s p (slice_index_or (histories closes) s []) (slice_index_or (answers closes) p [])

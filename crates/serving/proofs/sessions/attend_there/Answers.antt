@@ -1,12 +1,16 @@
-use Rattle.std.proofs.Common.{rules, ◌≡◌, ◌≤◌, ◌∙◌, ℕ, true, false, length, sym, subst, vec_capacity}
+use Rattle.std.proofs.Common.{rules, ◌≡◌, ◌≤◌, ◌∙◌, ℕ, true, false, length, map, refl, sym, subst, vec_capacity}
 use Rattle.delivery_token.specs.declared.log.Noted.{Noted}
 use Rattle.shard_queue.specs.declared.ends.ReplyChannel.{ReplyChannel}
 use Rattle.shard_queue.specs.declared.reply.ReceiverPermit.{ReceiverPermit}
-use Rattle.shard_queue.specs.Reply.{IsReceiver}
-use Rattle.lane_work.specs.Permits.{AreEnded, ArePermits}
+use Rattle.shard_queue.specs.Permits.{said}
+use Rattle.shard_queue.specs.Reply.{IsReceiver, received}
+use Rattle.lane_work.specs.Permits.{AreEnded, ArePermits, put_by}
+use Rattle.lane_work.specs.Speaking.{premises_of}
 use Rattle.lane_work.specs.declared.desk.Office.{Office}
 use Rattle.lane_work.proofs.PermitLaws.{new_live}
 use Rattle.house_floor.specs.Crew.{IsPost}
+use Rattle.serving_workers.specs.Leaving.{AreAttended, HasServedClients}
+use Rattle.serving_workers.proofs.Clients.{clients_begin, clients_end}
 use Rattle.serving_workers.proofs.Lives.{here_at, served_by}
 use Rattle.serving.proofs.sessions.attend_there.Goals as goal
 
@@ -48,3 +52,9 @@ returns-clause-served g c =
     (subst (λ (x : ReplyChannel Noted). IsReceiver x left.receiver) (life.same.1 ∙ c.index.ensures)
     (subst (λ (r : ReceiverPermit Noted). IsReceiver now.channel.now r) (sym c.leave.ensures.receiver) life.ready.1))
     (λ mail whole. absurd (let e : true ≡ false = sym mail ∙ c.leave.ensures.mail in cc))
+    (λ none whole.
+    let fresh = clients_begin floor.office post.desk.number post.desk.receiver post.desk.permits.items is.fresh in
+    let served = life.clients (sym c.leave.ensures.torn ∙ whole) fresh in
+    let mine = subst (λ (n : ℕ). AreAttended (premises_of floor.office) n served.0 (received now.desk.receiver) (map put_by now.desk.permits.items)) (sym life.same.2) served.1 in
+    subst (λ (r : ReceiverPermit Noted). HasServedClients (premises_of floor.office) now.desk.number (received r) (map said left.ended.items)) (sym c.leave.ensures.receiver)
+    (clients_end (premises_of floor.office) now.desk.number now.desk.number served.0 (received now.desk.receiver) (map put_by now.desk.permits.items) (map said left.ended.items) refl mine c.leave.ensures.said))

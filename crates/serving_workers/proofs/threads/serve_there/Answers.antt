@@ -1,4 +1,4 @@
-use Rattle.std.proofs.Common.{rules, ◌≡◌, ℕ, sym, subst}
+use Rattle.std.proofs.Common.{rules, ◌≡◌, ◌∙◌, ℕ, false, true, sym, subst}
 use Rattle.delivery_token.specs.declared.log.Noted.{Noted}
 use Rattle.shard_queue.specs.declared.ends.ReplyChannel.{ReplyChannel}
 use Rattle.shard_queue.specs.Reply.{IsReceiver}
@@ -32,3 +32,4 @@ returns-clause-served g c =
     served_by floor c.from.result c.args.number c.into_inner-desk.result.desk.number c.index.result.now c.serve_until_stopped.result _ same is.number c.packed.ensures
     c.serve_until_stopped.ensures.ended (subst (λ (x : ReplyChannel Noted). IsReceiver x c.serve_until_stopped.result.receiver) c.index.ensures c.serve_until_stopped.ensures.receiver)
     (λ mail whole. c.serve_until_stopped.ensures.served is.fresh whole)
+    (λ none whole. absurd (let e : true ≡ false = sym c.serve_until_stopped.ensures.mail ∙ none in cc))

@@ -1,0 +1,39 @@
+-- What the clients of a berth appended.
+use Rattle.std.proofs.Common.{◌≡◌, ◌+◌, ℕ, List, [], All, map, refl, subst}
+use Rattle.courier.specs.Carried.{Carried}
+use Rattle.delivery_token.specs.declared.Job.{Job}
+use Rattle.delivery_token.specs.declared.log.Noted.{Noted}
+use Rattle.shard_queue.specs.Reply.{received}
+use Rattle.shard_queue.specs.declared.lane.Entry.{Entry}
+use Rattle.shard_queue.specs.declared.reply.ReceiverPermit.{ReceiverPermit}
+use Rattle.lane_work.specs.Account.{HaveEnded, Premises}
+use Rattle.lane_work.specs.Copies.{rooms_of}
+use Rattle.lane_work.specs.inner.Couriers.{CarriesOn}
+use Rattle.lane_work.specs.Permits.{IsNew, put_by}
+use Rattle.lane_work.specs.Speaking.{premises_of}
+use Rattle.lane_work.specs.declared.desk.Desk.{Desk}
+use Rattle.lane_work.specs.declared.desk.LanePermit.{LanePermit}
+use Rattle.lane_work.specs.declared.desk.Office.{Office}
+use Rattle.lane_work.proofs.ServedLaws.{books_begin}
+use Rattle.serving_workers.specs.Leaving.{AreAttended, HasServedClients, another, nobody}
+
+-- before the first
+pub clients_begin : (office : Office) (seat : ℕ) (receiver : ReceiverPermit Noted) (permits : List LanePermit) → All IsNew permits
+    → AreAttended (premises_of office) seat 0 (received receiver) (map put_by permits)
+clients_begin office seat receiver permits fresh =
+    let begun = books_begin office.directory (rooms_of office.lanes.items) seat [] (received receiver) permits refl fresh in
+    ([], nobody, record { noted = tt; lanes = begun.lanes })
+
+-- one client more, which had this serial
+pub one_attended : (office there : Office) (seat n : ℕ) (old new : Desk) (carried : List Carried) → there ≡ office → old.number ≡ seat → CarriesOn there n old carried new
+    → AreAttended (premises_of office) seat n (received old.receiver) (map put_by old.permits.items) → AreAttended (premises_of office) seat (n + 1) (received new.receiver) (map put_by new.permits.items)
+one_attended office there seat n old new carried place number on served =
+    let here = subst (λ (o : Office). CarriesOn o n old carried new) place on in
+    subst (λ (p : ℕ). AreAttended (premises_of office) p n (received old.receiver) (map put_by old.permits.items) → AreAttended (premises_of office) p (n + 1) (received new.receiver) (map put_by new.permits.items)) number
+    (λ before. (_, another carried before.1, here before.0 before.2)) served
+
+-- and where its permits have ended
+pub clients_end : (house : Premises) (seat number clients : ℕ) (heard : List (Entry Noted)) (sent words : List (List (Entry Job))) → number ≡ seat
+    → AreAttended house seat clients heard sent → HaveEnded number sent words → HasServedClients house seat heard words
+clients_end house seat number clients heard sent words same served ended =
+    record { clients = clients; sent = sent; served = served; ended = subst (λ (n : ℕ). HaveEnded n sent words) same ended }
