@@ -157,9 +157,9 @@ impl<H: Hall> Clerk<H> {
         ensures consumed { (lanes : List (ShardQueue Job)) → H.lanes ≡ Some lanes → (lane : ShardQueue Job) → slice_get lanes self.shard ≡ Some lane
             → IsConsumed lane depot.now self.shard [] result }
 
-        // Its permit has taken what the clerk had; no copy is kept, and there is what is left of a sender for each channel.
+        // Its permit has taken what the clerk had; nothing is kept of it, and there is what is left of a sender for each channel.
         ensures took { (got result.permit ≡ self.took) × (take_seen result.permit ≡ self.seen) }
-        ensures none { (result.copies.items ≡ []) × (result.kept ≡ false) }
+        ensures none { (result.taken.items ≡ []) × (result.kept ≡ false) }
         ensures count { vec_len result.senders ≡ length depot.now.channels.items }
     {
         let Clerk { stall, torn, of: _ } = self;
@@ -173,7 +173,7 @@ impl<H: Hall> Clerk<H> {
         Consumed {
             permit,
             senders,
-            copies: Vec::new(alloc),
+            taken: Vec::new(alloc),
             kept: false,
             torn,
         }

@@ -117,7 +117,7 @@ fn dismiss<H: Hall, R: Wait, G: Gate>(
     requires room { (room.items ≡ []) × (length floor.now.depot.channels.items ≤ vec_capacity room) }
     ensures service { IsService floor.now.office.lanes.items floor.now.depot result.0 result.1 }
     ensures count { vec_len result.1.senders ≡ length floor.now.depot.channels.items }
-    ensures none { (result.1.copies.items ≡ []) × (result.1.kept ≡ false) }
+    ensures none { (result.1.taken.items ≡ []) × (result.1.kept ≡ false) }
 {
     let mut clerk = clerk.into_inner();
     let shard = clerk.shard();
@@ -154,7 +154,7 @@ pub fn dismiss_all<H: Hall, R: Wait, G: Gate>(
 
     // In whatever order, each left what is left of a sender for each channel, and kept no copy.
     ensures senders { All (λ c. vec_len c.senders ≡ length floor.now.depot.channels.items) result.consumed.items }
-    ensures none { All (λ c. (c.copies.items ≡ []) × (c.kept ≡ false)) result.consumed.items }
+    ensures none { All (λ c. (c.taken.items ≡ []) × (c.kept ≡ false)) result.consumed.items }
 {
     let Staff {
         mut clerks,

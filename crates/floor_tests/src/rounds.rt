@@ -246,7 +246,7 @@ fn part(
         let Consumed {
             permit,
             senders,
-            copies: _,
+            taken: _,
             kept: _,
             torn: _,
         } = consumed.remove(0);
@@ -475,7 +475,7 @@ fn run_in<H: Hall + Send, T: Threads + Wait + Sync + Abort>(
         mut receivers,
         replies: _,
         logs: _,
-        copies: _,
+        taken: _,
         lanes,
         channels: _,
         spares,

@@ -49,7 +49,7 @@ pub record AreBaskets (producers shards : ℕ) (b : Baskets) : Type 0 where
   pub receivers : (b.receivers.items ≡ []) × (producers ≤ vec_capacity b.receivers)
   pub replies : (b.replies.items ≡ []) × (producers ≤ vec_capacity b.replies)
   pub logs : (b.logs.items ≡ []) × (producers ≤ vec_capacity b.logs)
-  pub copies : (b.copies.items ≡ []) × (shards ≤ vec_capacity b.copies)
+  pub taken : (b.taken.items ≡ []) × (shards ≤ vec_capacity b.taken)
   pub lanes : (b.lanes.items ≡ []) × (shards ≤ vec_capacity b.lanes)
   pub channels : (b.channels.items ≡ []) × (producers ≤ vec_capacity b.channels)
   pub spares : AreSpares (producers * shards) b.spares

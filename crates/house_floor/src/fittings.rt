@@ -13,7 +13,7 @@ use envelope::Directory;
 use lane_work::Closing;
 use mailbox::Mailbox;
 use session_bells::{SessionBell, Sleeper};
-use shard_queue::{Closed, ReplyClosed};
+use shard_queue::{Closed, Entry, ReplyClosed};
 use std::alloc::{AllocError, Global};
 use std::sync::Mutex;
 
@@ -25,8 +25,8 @@ pub(crate) struct Papers {
     pub(crate) replies: Vec<Vec<Vec<u8>>>,
     /// For each producer, the verdicts that it heard.
     pub(crate) logs: Vec<WorkerLog>,
-    /// For each consumer, the copies that it took.
-    pub(crate) copies: Vec<Vec<Job>>,
+    /// For each consumer, the entries that it took.
+    pub(crate) taken: Vec<Vec<Entry<Job>>>,
     /// For each lane, what was taken of it.
     pub(crate) lanes: Vec<Closed<Job>>,
     /// For each reply channel, the same.
@@ -100,7 +100,7 @@ fn make_papers(alloc: Global, producers: u8, shards: u8) -> Result<Papers, Alloc
     Ok(Papers {
         replies: Vec::with_capacity(alloc, producers)?,
         logs: Vec::with_capacity(alloc, producers)?,
-        copies: Vec::with_capacity(alloc, shards)?,
+        taken: Vec::with_capacity(alloc, shards)?,
         lanes: Vec::with_capacity(alloc, shards)?,
         channels: Vec::with_capacity(alloc, producers)?,
     })

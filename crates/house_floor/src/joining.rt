@@ -174,7 +174,7 @@ fn baskets_of(
     ensures producers { (result.hands ≡ producers.hands) × (result.lists ≡ producers.lists) }
     ensures consumers { (result.sender_hands ≡ consumers.hands) × (result.sender_lists ≡ consumers.lists) }
     ensures ends { (result.consumers ≡ ends.consumers) × (result.receivers ≡ ends.receivers) × (result.spares ≡ ends.spares) }
-    ensures papers { (result.replies ≡ papers.replies) × (result.logs ≡ papers.logs) × (result.copies ≡ papers.copies)
+    ensures papers { (result.replies ≡ papers.replies) × (result.logs ≡ papers.logs) × (result.taken ≡ papers.taken)
         × (result.lanes ≡ papers.lanes) × (result.channels ≡ papers.channels) }
 {
     let Leavings { hands, lists } = producers;
@@ -196,7 +196,7 @@ fn baskets_of(
         receivers,
         replies: papers.replies,
         logs: papers.logs,
-        copies: papers.copies,
+        taken: papers.taken,
         lanes: papers.lanes,
         channels: papers.channels,
         spares,

@@ -16,7 +16,9 @@ use envelope::Directory;
 use lane_work::Closing;
 use mailbox::{History, Limits};
 use session_bells::Sleeper;
-use shard_queue::{Closed, ConsumerPermit, Ended, ReceiverPermit, ReplyClosed, SenderEnded};
+use shard_queue::{
+    Closed, ConsumerPermit, Ended, Entry, ReceiverPermit, ReplyClosed, SenderEnded,
+};
 use std::alloc::{AllocError, Global};
 
 /// How large the parts of a house are.
@@ -66,8 +68,8 @@ pub struct Baskets {
     pub replies: Vec<Vec<Vec<u8>>>,
     /// For each producer, the verdicts that it heard.
     pub logs: Vec<WorkerLog>,
-    /// For each consumer, the copies that it took.
-    pub copies: Vec<Vec<Job>>,
+    /// For each consumer, the entries that it took.
+    pub taken: Vec<Vec<Entry<Job>>>,
     /// For each lane, what was taken of it.
     pub lanes: Vec<Closed<Job>>,
     /// For each reply channel, the same.

@@ -80,7 +80,7 @@ pub(crate) fn step_aside<R: Wait, G: Gate>(
     Consumed {
         permit,
         senders,
-        copies: Vec::new(alloc),
+        taken: Vec::new(alloc),
         kept: false,
         torn: false,
     }

@@ -18,7 +18,7 @@ use Rattle.lane_work.specs.Talk.{Judged}
 use Rattle.lane_work.specs.declared.hearing.Torn.{Torn}
 use Rattle.std.specs.Prelude.{Result, Ok, Err, IfOk}
 use Rattle.lane_work.specs.Account.{AreBooks, AreBooksOf}
-use Rattle.lane_work.specs.Copies.{FoundFull, IsAtOnce, IsHeard, Room, WerePut, none, put, elsewhere, refused, copies, copies_of, note_of, room_at, told}
+use Rattle.lane_work.specs.Copies.{FilledAlone, IsAtOnce, IsHeard, Room, WerePut, none, put, elsewhere, refused, copies, copies_of, note_of, room_at, told}
 use Rattle.courier.specs.Carried.{Carried, copy_of, judged_of}
 use Rattle.submission.specs.Verdicts.{Fills, FillsIn}
 use Rattle.submission.proofs.Fills.{fills_length}
@@ -161,12 +161,12 @@ tried_next d room p lane before (x ∷ cs) (None ∷ ss) c s same tried here =
 -- what is known of a copy at once, at each lane
 tried_here : (d : Directory) (rooms : List Room) (p lane : ℕ) (here : List (Entry Job)) (sents : List (List (Entry Job))) (c : Job) (verdict : Option Verdict) (A : Type 0) (B : Verdict → Type 0)
     → slice_index_or sents lane [] ≡ here
-    → MatchOption verdict A (λ v. B v × IsAtOnce (FoundFull (room_at rooms (shard_of d c.mailbox)) p (slice_index_or sents (shard_of d c.mailbox) [])) v)
+    → MatchOption verdict A (λ v. B v × IsAtOnce (FilledAlone (room_at rooms (shard_of d c.mailbox)) p (slice_index_or sents (shard_of d c.mailbox) [])) v)
     → AreTried d (room_at rooms lane) p lane here (c ∷ []) (verdict ∷ [])
 tried_here d rooms p lane here sents c None A B so h = tt
 tried_here d rooms p lane here sents c (Some v) A B so h = (
-  (λ shard. subst (λ (l : List (Entry Job)). IsAtOnce (FoundFull (room_at rooms lane) p l) v) so
-      (subst (λ (n : ℕ). IsAtOnce (FoundFull (room_at rooms n) p (slice_index_or sents n [])) v) shard h.1)),
+  (λ shard. subst (λ (l : List (Entry Job)). IsAtOnce (FilledAlone (room_at rooms lane) p l) v) so
+      (subst (λ (n : ℕ). IsAtOnce (FilledAlone (room_at rooms n) p (slice_index_or sents n [])) v) shard h.1)),
   tt,
 )
 
@@ -175,7 +175,7 @@ pub tries_next : (d : Directory) (rooms : List Room) (p q : ℕ) (keys : List Co
     (slots more : List (Option Verdict)) (A : Type 0) (B : Verdict → Type 0)
     → length mailboxes ≡ length keys → i < length keys → k ≡ slice_index_or keys i k → m ≡ slice_index_or mailboxes i m
     → length slots ≡ i → more ≡ slots ++ verdict ∷ [] → q ≡ p
-    → MatchOption verdict A (λ v. B v × IsAtOnce (FoundFull (room_at rooms (shard_of d m)) q (slice_index_or sents (shard_of d m) [])) v)
+    → MatchOption verdict A (λ v. B v × IsAtOnce (FilledAlone (room_at rooms (shard_of d m)) q (slice_index_or sents (shard_of d m) [])) v)
     → HavePut d p (copies (take i keys) (take i mailboxes) text) slots before sents
     → WereTried d rooms p (copies (take i keys) (take i mailboxes) text) slots before
     → WereTried d rooms p (copies (take (i + 1) keys) (take (i + 1) mailboxes) text) more before
@@ -189,7 +189,7 @@ tries_next d rooms p q keys mailboxes text i k m before sents verdict slots more
     ap (λ ks. copies ks (take (i + 1) mailboxes) text) (take_next keys i k under kis)
     ∙ ap (λ ms. copies (take i keys ++ k ∷ []) ms text) (take_next mailboxes i m (omega arith) mis)
     ∙ copies_next (take i keys) (take i mailboxes) text k m (lm ∙ sym lk) in
-    let was = subst (λ (n : ℕ). MatchOption verdict A (λ v. B v × IsAtOnce (FoundFull (room_at rooms (shard_of d m)) n (slice_index_or sents (shard_of d m) [])) v)) number h in
+    let was = subst (λ (n : ℕ). MatchOption verdict A (λ v. B v × IsAtOnce (FilledAlone (room_at rooms (shard_of d m)) n (slice_index_or sents (shard_of d m) [])) v)) number h in
     let begun = slice_index_or before lane [] in
     let here = tried_here d rooms p lane (begun ++ map (λ job. Item p job) (under_way d lane cs slots)) sents copy verdict A B (so lane within) was in
     let one = tried_next d (room_at rooms lane) p lane begun cs slots copy verdict (len ∙ sym lc) (tried lane within) here in
@@ -216,9 +216,9 @@ were_put d room p lane heard before (c ∷ cs) (s ∷ ss) [] same tried fills li
 were_put d room p lane heard before (c ∷ cs) (Some u ∷ ss) (v ∷ vs) same tried fills listened =
     let e : Some v ≡ Some u = fills.0 in
     let is : v ≡ u = cc in
-    go (were_put d room p lane heard before cs ss vs (omega arith) tried.1 fills.1 listened) (λ here. subst (IsAtOnce (FoundFull room p (map (λ job. Item p job) before))) (sym is) (tried.0 here))
+    go (were_put d room p lane heard before cs ss vs (omega arith) tried.1 fills.1 listened) (λ here. subst (IsAtOnce (FilledAlone room p (map (λ job. Item p job) before))) (sym is) (tried.0 here))
     (eqb_tells (shard_of d c.mailbox) lane) where
-      go : WerePut d room p lane heard before (zip cs vs) (under_way d lane cs ss) → (shard_of d c.mailbox ≡ lane → IsAtOnce (FoundFull room p (map (λ job. Item p job) before)) v)
+      go : WerePut d room p lane heard before (zip cs vs) (under_way d lane cs ss) → (shard_of d c.mailbox ≡ lane → IsAtOnce (FilledAlone room p (map (λ job. Item p job) before)) v)
           → ((eqb (shard_of d c.mailbox) lane ≡ true) × (shard_of d c.mailbox ≡ lane)) ⊎ ((eqb (shard_of d c.mailbox) lane ≡ false) × (shard_of d c.mailbox ≢ lane))
           → WerePut d room p lane heard before ((c, v) ∷ zip cs vs) (under_way d lane cs ss)
       go others why (inl (is, here)) = refused c v here (why here) others
@@ -303,7 +303,7 @@ books_more d rooms p judged keeps more heard hears m slots full vs before after 
 one_put : (d : Directory) (rooms : List Room) (p : ℕ) (heard : List (Entry Noted)) (lane : ℕ) (copy : Job) (slot : Option Verdict) (verdict : Verdict) (before after : List (List (Entry Job))) (jobs : List Job)
     → shard_of d copy.mailbox < length before → slice_index_or before lane [] ≡ map (λ job. Item p job) jobs
     → MatchOption slot (after ≡ slice_set before (shard_of d copy.mailbox) (slice_index_or before (shard_of d copy.mailbox) [] ++ Item p copy ∷ []))
-    (λ v. (after ≡ before) × IsAtOnce (FoundFull (room_at rooms (shard_of d copy.mailbox)) p (slice_index_or before (shard_of d copy.mailbox) [])) v)
+    (λ v. (after ≡ before) × IsAtOnce (FilledAlone (room_at rooms (shard_of d copy.mailbox)) p (slice_index_or before (shard_of d copy.mailbox) [])) v)
     → MatchOption slot (IsHeard heard (note_of (copy, verdict))) (λ v. verdict ≡ v)
     → ((eqb (shard_of d copy.mailbox) lane ≡ true) × (shard_of d copy.mailbox ≡ lane)) ⊎ ((eqb (shard_of d copy.mailbox) lane ≡ false) × (shard_of d copy.mailbox ≢ lane))
     → (more : List Job) × WerePut d (room_at rooms lane) p lane heard jobs ((copy, verdict) ∷ []) more × (slice_index_or after lane [] ≡ map (λ job. Item p job) (jobs ++ more))
@@ -328,9 +328,9 @@ one_put d rooms p heard lane copy None verdict before after jobs under so put_th
 one_put d rooms p heard lane copy (Some v) verdict before after jobs under so put_there told (inl (is, here)) = (
   [],
   refused copy verdict here
-      (subst (λ (l : List (Entry Job)). IsAtOnce (FoundFull (room_at rooms lane) p l) verdict) so
-      (subst (λ (n : ℕ). IsAtOnce (FoundFull (room_at rooms n) p (slice_index_or before n [])) verdict) here
-      (subst (IsAtOnce (FoundFull (room_at rooms (shard_of d copy.mailbox)) p (slice_index_or before (shard_of d copy.mailbox) []))) (sym told) put_there.1)))
+      (subst (λ (l : List (Entry Job)). IsAtOnce (FilledAlone (room_at rooms lane) p l) verdict) so
+      (subst (λ (n : ℕ). IsAtOnce (FilledAlone (room_at rooms n) p (slice_index_or before n [])) verdict) here
+      (subst (IsAtOnce (FilledAlone (room_at rooms (shard_of d copy.mailbox)) p (slice_index_or before (shard_of d copy.mailbox) []))) (sym told) put_there.1)))
       none,
   ap (λ (l : List (List (Entry Job))). slice_index_or l lane []) put_there.0 ∙ so ∙ ap (map (λ job. Item p job)) (sym (append-nil jobs)),
 )
@@ -371,21 +371,21 @@ carried_more d rooms p q serial done one keeps more heard hears before after sam
 pub judged_at_once : (d : Directory) (rooms : List Room) (p : ℕ) (copy : Job) (slot : Option Verdict) (verdict : Verdict) (heard : List (Entry Noted)) (before after : List (List (Entry Job)))
     → shard_of d copy.mailbox < length before → length after ≡ length before → slot ≡ Some verdict
     → MatchOption slot (after ≡ slice_set before (shard_of d copy.mailbox) (slice_index_or before (shard_of d copy.mailbox) [] ++ Item p copy ∷ []))
-    (λ v. (after ≡ before) × IsAtOnce (FoundFull (room_at rooms (shard_of d copy.mailbox)) p (slice_index_or before (shard_of d copy.mailbox) [])) v)
+    (λ v. (after ≡ before) × IsAtOnce (FilledAlone (room_at rooms (shard_of d copy.mailbox)) p (slice_index_or before (shard_of d copy.mailbox) [])) v)
     → WasJudged d rooms p copy verdict heard before after
 judged_at_once d rooms p copy slot verdict heard before after within len is put_or_full = record {
   at_once = Some verdict;
   within = within;
   lanes = len;
   put = subst (λ (o : Option Verdict). MatchOption o (after ≡ slice_set before (shard_of d copy.mailbox) (slice_index_or before (shard_of d copy.mailbox) [] ++ Item p copy ∷ []))
-      (λ v. (after ≡ before) × IsAtOnce (FoundFull (room_at rooms (shard_of d copy.mailbox)) p (slice_index_or before (shard_of d copy.mailbox) [])) v)) is put_or_full;
+      (λ v. (after ≡ before) × IsAtOnce (FilledAlone (room_at rooms (shard_of d copy.mailbox)) p (slice_index_or before (shard_of d copy.mailbox) [])) v)) is put_or_full;
   told = refl;
 }
 
 pub judged_later : (d : Directory) (rooms : List Room) (p : ℕ) (copy : Job) (slot : Option Verdict) (r : Result Verdict Torn) (heard : List (Entry Noted)) (before after : List (List (Entry Job)))
     → shard_of d copy.mailbox < length before → length after ≡ length before → slot ≡ None
     → MatchOption slot (after ≡ slice_set before (shard_of d copy.mailbox) (slice_index_or before (shard_of d copy.mailbox) [] ++ Item p copy ∷ []))
-    (λ v. (after ≡ before) × IsAtOnce (FoundFull (room_at rooms (shard_of d copy.mailbox)) p (slice_index_or before (shard_of d copy.mailbox) [])) v)
+    (λ v. (after ≡ before) × IsAtOnce (FilledAlone (room_at rooms (shard_of d copy.mailbox)) p (slice_index_or before (shard_of d copy.mailbox) [])) v)
     → IfOk r (λ v. IsHeard heard (note_of (copy, v)))
     → IfOk r (λ v. WasJudged d rooms p copy v heard before after)
 judged_later d rooms p copy slot (Ok verdict) heard before after within len is put_or_full told = record {
@@ -393,7 +393,7 @@ judged_later d rooms p copy slot (Ok verdict) heard before after within len is p
   within = within;
   lanes = len;
   put = subst (λ (o : Option Verdict). MatchOption o (after ≡ slice_set before (shard_of d copy.mailbox) (slice_index_or before (shard_of d copy.mailbox) [] ++ Item p copy ∷ []))
-      (λ v. (after ≡ before) × IsAtOnce (FoundFull (room_at rooms (shard_of d copy.mailbox)) p (slice_index_or before (shard_of d copy.mailbox) [])) v)) is put_or_full;
+      (λ v. (after ≡ before) × IsAtOnce (FilledAlone (room_at rooms (shard_of d copy.mailbox)) p (slice_index_or before (shard_of d copy.mailbox) [])) v)) is put_or_full;
   told = told;
 }
 judged_later d rooms p copy slot (Err e) heard before after within len is put_or_full told = tt

@@ -15,11 +15,10 @@ use Rattle.shard_queue.specs.declared.lane.Entry.{Entry}
 use Rattle.shard_queue.specs.Permits.{IsEnded, ended_number, said}
 use Rattle.shard_queue.specs.declared.reply.SenderEnded.{SenderEnded}
 use Rattle.shard_queue.specs.Reply.{IsSender, IsSenderEnded, said_on, sender_number, sender_ended_number, sent_on}
-use Rattle.lane_work.specs.Consuming.{item_of, items_of}
 use Rattle.lane_work.specs.Ends.{ends_in}
 use Rattle.lane_work.specs.Permits.{AreEnded, ArePermits, AreSenders, AreSendersEnded, AreLive, AreShutWhereOver, IsNew, IsPermit, is_over, overs, put_by, permit_number}
 use Rattle.envelope.specs.Directory.{Directory}
-use Rattle.lane_work.specs.Copies.{FoundFull, IsAtOnce, Room, room_at, room_of, rooms_of}
+use Rattle.lane_work.specs.Copies.{FilledAlone, IsAtOnce, Room, room_at, room_of, rooms_of}
 
 pub permits_length : (qs : List (ShardQueue Job)) (p : ℕ) (ss : List LanePermit) → ArePermits qs p ss → length ss ≡ length qs
 permits_length [] p [] h = refl
@@ -102,17 +101,17 @@ room_here (x ∷ qs) (suc i) q under = room_here qs i q (omega arith)
 -- what a put at one permit makes of all lists
 pub puts_at : (ss : List LanePermit) (i : ℕ) (p : ℕ) (d old new : LanePermit) (job : Job) (verdict : Option Verdict) (room same : Room) → same ≡ room
     → i < length ss → old ≡ slice_index_or ss i d → permit_number old ≡ p
-    → MatchOption verdict (put_by new ≡ put_by old ++ Item (permit_number old) job ∷ []) (λ v. (put_by new ≡ put_by old) × IsAtOnce (FoundFull room (permit_number old) (put_by old)) v)
+    → MatchOption verdict (put_by new ≡ put_by old ++ Item (permit_number old) job ∷ []) (λ v. (put_by new ≡ put_by old) × IsAtOnce (FilledAlone room (permit_number old) (put_by old)) v)
     → MatchOption verdict (map put_by (slice_set ss i new) ≡ slice_set (map put_by ss) i (slice_index_or (map put_by ss) i [] ++ Item p job ∷ []))
-    (λ v. (map put_by (slice_set ss i new) ≡ map put_by ss) × IsAtOnce (FoundFull same p (slice_index_or (map put_by ss) i [])) v)
+    (λ v. (map put_by (slice_set ss i new) ≡ map put_by ss) × IsAtOnce (FilledAlone same p (slice_index_or (map put_by ss) i [])) v)
 puts_at ss i p d old new job None room same rooms under is number put =
     sent_set ss i new ∙ ap (slice_set (map put_by ss) i) (put ∙ ap (λ n. put_by old ++ Item n job ∷ []) number ∙ ap (λ l. l ++ Item p job ∷ []) (ap put_by is ∙ sym (sent_at ss i d under)))
 puts_at ss i p d old new job (Some v) room same rooms under is number put =
     let here : put_by old ≡ slice_index_or (map put_by ss) i [] = ap put_by is ∙ sym (sent_at ss i d under) in
-    let one = subst (λ (n : ℕ). IsAtOnce (FoundFull room n (put_by old)) v) number put.1 in
-    let two = subst (λ (l : List (Entry Job)). IsAtOnce (FoundFull room p l) v) here one in (
+    let one = subst (λ (n : ℕ). IsAtOnce (FilledAlone room n (put_by old)) v) number put.1 in
+    let two = subst (λ (l : List (Entry Job)). IsAtOnce (FilledAlone room p l) v) here one in (
       sent_set ss i new ∙ ap (slice_set (map put_by ss) i) (put.0 ∙ here) ∙ set_same (map put_by ss) i [],
-      subst (λ (r : Room). IsAtOnce (FoundFull r p (slice_index_or (map put_by ss) i [])) v) (sym rooms) two,
+      subst (λ (r : Room). IsAtOnce (FilledAlone r p (slice_index_or (map put_by ss) i [])) v) (sym rooms) two,
     )
 
 -- the same, where the lane is named by its position
@@ -224,20 +223,14 @@ told_next p es more ss less e s all is first rest number says so =
     ∙ ap (λ l. map said_on es ++ map close (map sent_on l)) (sym first)
     ∙ so
 
-pub items_next : {A : Type 0} (es : List (Entry A)) (e : Entry A) → items_of (es ++ e ∷ []) ≡ items_of es ++ items_of (e ∷ [])
-items_next es e = filter_map-append item_of es (e ∷ [])
-
 pub ends_next : {A : Type 0} (es : List (Entry A)) (e : Entry A) → ends_in (es ++ e ∷ []) ≡ ends_in es + ends_in (e ∷ [])
 ends_next [] e = omega arith
 ends_next (Item p x ∷ es) e = ends_next es e
 ends_next (End p ∷ es) e = let h = ends_next es e in omega (arith, h)
 
--- the copies that are kept, after an item and after an end
-pub kept_item : (got got' : List (Entry Job)) (copies copies' : List Job) (p : ℕ) (job : Job) (was kept : Bool) → got' ≡ got ++ Item p job ∷ [] → (was ≡ true → copies ≡ items_of got)
-    → (kept ≡ true → (was ≡ true) × (copies' ≡ copies ++ job ∷ [])) → kept ≡ true → copies' ≡ items_of got'
-kept_item got got' copies copies' p job was kept new so keeps is =
+-- the entries that are kept, after one more
+pub kept_next : (got got' taken taken' : List (Entry Job)) (entry : Entry Job) (was kept : Bool) → got' ≡ got ++ entry ∷ [] → (was ≡ true → taken ≡ got)
+    → (kept ≡ true → (was ≡ true) × (taken' ≡ taken ++ entry ∷ [])) → kept ≡ true → taken' ≡ got'
+kept_next got got' taken taken' entry was kept new so keeps is =
     let k = keeps is in
-    k.1 ∙ ap (λ l. l ++ job ∷ []) (so k.0) ∙ sym (items_next got (Item p job)) ∙ ap items_of (sym new)
-
-pub kept_end : (got got' : List (Entry Job)) (copies : List Job) (p : ℕ) → got' ≡ got ++ End p ∷ [] → copies ≡ items_of got → copies ≡ items_of got'
-kept_end got got' copies p new so = so ∙ sym (append-nil (items_of got)) ∙ sym (items_next got (End p)) ∙ ap items_of (sym new)
+    k.1 ∙ ap (λ l. l ++ entry ∷ []) (so k.0) ∙ sym new

@@ -8,7 +8,7 @@ ghost use Rattle.shard_queue.specs.Reply.{sent_on};
 ghost use Rattle.lane_work.specs.Permits.{AreSenders};
 ghost use Rattle.lane_work.specs.Answering.{is_nobodys};
 ghost use Rattle.lane_work.specs.inner.Answering.{HaveAnswered};
-ghost use Rattle.lane_work.specs.Consuming.{IsConsumed, items_of};
+ghost use Rattle.lane_work.specs.Consuming.{IsConsumed};
 ghost use Rattle.lane_work.specs.Ends.{ends_in};
 
 use crate::answering::serve_copy;
@@ -19,7 +19,9 @@ use delivery_token::{Job, Noted};
 use mailbox::Mailbox;
 use pace::{Gate, Pace};
 use session_bells::SessionBell;
-use shard_queue::{ConsumerPermit, ReplyChannel, SenderEnded, SenderPermit, ShardQueue, Taken};
+use shard_queue::{
+    ConsumerPermit, Entry, ReplyChannel, SenderEnded, SenderPermit, ShardQueue, Taken,
+};
 use std::sync::{Mutex, Wait};
 
 /// What all consumers share.
@@ -51,8 +53,8 @@ pub struct Consumed {
     pub permit: ConsumerPermit<Job>,
     /// What is left of its permit on each reply channel.
     pub senders: Vec<SenderEnded<Noted>>,
-    /// The copies that it took, in order, up to the first that there was no memory for.
-    pub copies: Vec<Job>,
+    /// The entries that it took, copies and ends, in order, up to the first that there was no memory for.
+    pub taken: Vec<Entry<Job>>,
     /// Whether these are all that it took.
     pub kept: bool,
     /// Whether it took one that was nobody's: of a producer without a channel, or for a mailbox that
@@ -60,40 +62,40 @@ pub struct Consumed {
     pub torn: bool,
 }
 
-// Whether all copies were kept, and whether one was nobody's.
+// Whether all entries were kept, and whether one was nobody's copy.
 #[derive(Clone, Copy)]
 struct Tally {
     kept: bool,
     torn: bool,
 }
 
-// Adds a copy, where all before it were kept and there is memory.
-fn keep(copies: &mut Vec<Job>, kept: bool, job: Job) -> bool
-    ensures { result ≡ true → (kept ≡ true) × (copies.new.items ≡ copies.old.items ++ job ∷ []) }
+// Adds an entry, where all before it were kept and there is memory.
+fn keep(taken: &mut Vec<Entry<Job>>, kept: bool, entry: Entry<Job>) -> bool
+    ensures { result ≡ true → (kept ≡ true) × (taken.new.items ≡ taken.old.items ++ entry ∷ []) }
 {
     if !kept {
         return false;
     }
-    match copies.push(job) {
+    match taken.push(entry) {
         Ok(()) => true,
         Err(_) => false,
     }
 }
 
-// Takes until the end of each of so many producers came: each copy is delivered and answered, and kept
-// as long as there is memory.
+// Takes until the end of each of so many producers came: each copy is delivered and answered. What was
+// taken is kept as long as there is memory.
 fn serve_all<R: Wait, G: Gate>(
     rt: &R,
     pace: &mut Pace<'_, G>,
     depot: &Depot,
     lane: &ShardQueue<Job>,
     stall: &mut Stall,
-    copies: &mut Vec<Job>,
+    taken: &mut Vec<Entry<Job>>,
     producers: usize,
 ) -> Tally
     requires permit { IsConsumer lane.now stall.old.permit × (got stall.old.permit ≡ []) }
     requires senders { AreSenders depot.now.channels.items stall.old.shard stall.old.senders.items }
-    requires none { copies.old.items ≡ [] }
+    requires none { taken.old.items ≡ [] }
     ensures shard { stall.new.shard ≡ stall.old.shard }
     ensures permit { IsConsumer lane.now stall.new.permit }
     ensures senders { AreSenders depot.now.channels.items stall.old.shard stall.new.senders.items }
@@ -101,7 +103,7 @@ fn serve_all<R: Wait, G: Gate>(
         (got stall.new.permit) (map sent_on stall.old.senders.items) (map sent_on stall.new.senders.items) }
     ensures ends { producers ≤ ends_in (got stall.new.permit) }
     ensures torn { result.torn ≡ list_any (is_nobodys (length depot.now.mailboxes.items) (length depot.now.channels.items)) (got stall.new.permit) }
-    ensures kept { result.kept ≡ true → copies.new.items ≡ items_of (got stall.new.permit) }
+    ensures kept { result.kept ≡ true → taken.new.items ≡ got stall.new.permit }
 {
     let mut tally = Tally {
         kept: true,
@@ -120,10 +122,11 @@ fn serve_all<R: Wait, G: Gate>(
                 pauses = 0;
                 let known = serve_copy(rt, pace, depot, shard, &mut stall.senders, p, &job);
                 tally.torn |= !known;
-                tally.kept = keep(copies, tally.kept, job);
+                tally.kept = keep(taken, tally.kept, Entry::Item(p, job));
             }
-            Taken::End(_) => {
+            Taken::End(p) => {
                 pauses = 0;
+                tally.kept = keep(taken, tally.kept, Entry::End(p));
                 ends = ends.saturating_add(1);
             }
             Taken::Empty => pauses = wait_for(rt, &stall.bell, pauses),
@@ -133,11 +136,11 @@ fn serve_all<R: Wait, G: Gate>(
 }
 
 /// A consumer's whole life: it takes until the end of each of so many producers came, and then ends its
-/// permit on each reply channel. Each copy is delivered under its mailbox's lock, answered on its
-/// producer's channel and kept; where the list of those that are kept can't grow, it goes on without
-/// keeping.
+/// permit on each reply channel. Each copy is delivered under its mailbox's lock and answered on its
+/// producer's channel. Each entry is kept; where the list of those that are kept can't grow, it goes on
+/// without keeping.
 ///
-/// `ended` is empty and has room for all channels, and `copies` is empty. It sleeps where nothing waits, so whoever
+/// `ended` is empty and has room for all channels, and `taken` is empty. It sleeps where nothing waits, so whoever
 /// puts on the lane, or ends there, has to ring its bell.
 pub fn consume<R: Wait, G: Gate>(
     rt: &R,
@@ -146,22 +149,22 @@ pub fn consume<R: Wait, G: Gate>(
     lane: &ShardQueue<Job>,
     mut stall: Stall,
     ended: Vec<SenderEnded<Noted>>,
-    mut copies: Vec<Job>,
+    mut taken: Vec<Entry<Job>>,
     producers: usize,
 ) -> Consumed
     // The stall has its lane's consumer's permit, which took nothing yet, and on each channel a sender's of its shard's number.
     requires permit { IsConsumer lane.now stall.permit × (got stall.permit ≡ []) }
     requires senders { AreSenders depot.now.channels.items stall.shard stall.senders.items }
     requires room { (ended.items ≡ []) × (length depot.now.channels.items ≤ vec_capacity ended) }
-    requires none { copies.items ≡ [] }
+    requires none { taken.items ≡ [] }
 
-    // Each channel got one verdict on each copy taken of its producer, in order, then the end; where `kept`, `copies` is all that was taken.
+    // Each channel got one verdict on each copy taken of its producer, in order, then the end; where `kept`, `taken` is all that was taken.
     ensures consumed { IsConsumed lane.now depot.now stall.shard (map sent_on stall.senders.items) result }
 
     // As many producers' ends were taken as `producers` says, or more.
     ensures ends { producers ≤ ends_in (got result.permit) }
 {
-    let tally = serve_all(rt, pace, depot, lane, &mut stall, &mut copies, producers);
+    let tally = serve_all(rt, pace, depot, lane, &mut stall, &mut taken, producers);
     let Stall {
         shard,
         permit,
@@ -172,7 +175,7 @@ pub fn consume<R: Wait, G: Gate>(
     Consumed {
         permit,
         senders,
-        copies,
+        taken,
         kept: tally.kept,
         torn: tally.torn,
     }

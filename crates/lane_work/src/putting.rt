@@ -13,7 +13,7 @@ ghost use Rattle.lane_work.specs.inner.Permits.{AreOpenTo};
 ghost use Rattle.lane_work.specs.inner.Desk.{SameButPermits};
 ghost use Rattle.submission.specs.Verdicts.{unknown};
 ghost use Rattle.lane_work.specs.Awaiting.{copies_in};
-ghost use Rattle.lane_work.specs.Copies.{FoundFull, IsAtOnce, copies_of, room_at, room_of, rooms_of};
+ghost use Rattle.lane_work.specs.Copies.{FilledAlone, IsAtOnce, copies_of, room_at, room_of, rooms_of};
 ghost use Rattle.lane_work.specs.inner.Copies.{HavePut, WereTried};
 
 use crate::bells::Summons;
@@ -41,7 +41,7 @@ fn put_on<R: Wait>(
     ensures put { MatchOption result
         (sent permit.new ≡ sent permit.old ++ entries.Item (number_of permit.old)
         (record { key = key; mailbox = mailbox; text = text.now; flags = flags }) ∷ [])
-        (λ v. (sent permit.new ≡ sent permit.old) × IsAtOnce (FoundFull (room_of lane.now) (number_of permit.old) (sent permit.old)) v) }
+        (λ v. (sent permit.new ≡ sent permit.old) × IsAtOnce (FilledAlone (room_of lane.now) (number_of permit.old) (sent permit.old)) v) }
 {
     let Ok(text) = text.copy() else {
         return Some(Verdict::Refused(Refusal::NoMemory));
@@ -74,7 +74,7 @@ fn put_at<R: Wait>(
     ensures put { is_over permit.old ≡ false → MatchOption result
         (put_by permit.new ≡ put_by permit.old ++ entries.Item (permit_number permit.old)
         (record { key = key; mailbox = mailbox; text = text.now; flags = flags }) ∷ [])
-        (λ v. (put_by permit.new ≡ put_by permit.old) × IsAtOnce (FoundFull (room_of lane.now) (permit_number permit.old) (put_by permit.old)) v) }
+        (λ v. (put_by permit.new ≡ put_by permit.old) × IsAtOnce (FilledAlone (room_of lane.now) (permit_number permit.old) (put_by permit.old)) v) }
     ensures over { is_over permit.old ≡ true → (result ≡ Some (verdicts.Refused refusals.Shut)) × (permit.new ≡ permit.old) }
 {
     match permit {
@@ -107,7 +107,7 @@ pub(crate) fn put_copy<R: Wait, G: Gate, S: Summons>(
         (slice_index_or (map put_by desk.old.permits.items) (shard_of office.now.directory mailbox) []
         ++ entries.Item desk.old.number (record { key = key; mailbox = mailbox; text = text.now; flags = flags }) ∷ []))
         (λ v. (map put_by desk.new.permits.items ≡ map put_by desk.old.permits.items)
-        × IsAtOnce (FoundFull (room_at (rooms_of office.now.lanes.items) (shard_of office.now.directory mailbox)) desk.old.number
+        × IsAtOnce (FilledAlone (room_at (rooms_of office.now.lanes.items) (shard_of office.now.directory mailbox)) desk.old.number
         (slice_index_or (map put_by desk.old.permits.items) (shard_of office.now.directory mailbox) [])) v) }
 
     // Where it is over, the copy is refused as `Shut`, and nothing is put.

@@ -18,7 +18,6 @@ use Rattle.shard_queue.specs.Permits.{got, history, said}
 use Rattle.lane_work.specs.Account.{Account}
 use Rattle.lane_work.specs.Answering.{WereAnswered}
 use Rattle.lane_work.specs.Awaiting.{copies_in, verdicts_in}
-use Rattle.lane_work.specs.Consuming.{items_of}
 use Rattle.lane_work.specs.Speaking.{premises_of}
 use Rattle.lane_work.specs.declared.consumer.Consumed.{Consumed}
 use Rattle.lane_work.specs.declared.worker.Fate.{Fate}
@@ -35,7 +34,7 @@ use Rattle.house_floor.specs.declared.floor.Guest.{Guest}
 use Rattle.house_threads.specs.Crew.{IsProduceOf, IsServiceOf, Plans, SessionAccount}
 use Rattle.reckoning.specs.Closing.{AreChannelsClosedWith, AreClosedWith}
 use Rattle.reckoning.specs.Gathered.{fault_of_consumer, fault_of_fate}
-use Rattle.reckoning.proofs.Parts.{copies_of, some_at}
+use Rattle.reckoning.proofs.Parts.{some_at, taken_of}
 
 -- ---- by their positions
 
@@ -155,7 +154,7 @@ module _ (floor : Floor) (plans : Plans) (guests : List Guest) (ws : List Worked
       let l = left_by p under in
       ap verdicts_in (ap (λ xs. slice_index_or xs p []) answers_are ∙ mapped_at (λ (v : Worked). received v.receiver) ws p l.0 [] l.1) ∙ l.2.only l.3 ∙ ap copies_in l.4
 
--- ---- copies
+-- ---- what was taken
 
 pub kept_of : (cs : List Consumed) → All (λ c. fault_of_consumer c ≡ None) cs → All (λ c. c.kept ≡ true) cs
 kept_of [] all = All-nil (λ (c : Consumed). c.kept ≡ true)
@@ -169,16 +168,16 @@ kept_of (c ∷ cs) all =
         absurd (cc)
 
 -- what the consumers kept is what was taken
-pub copies_taken : (floor : Floor) (cs : List Consumed) (closed : List (Closed Job)) (hands : List (List (Ended Job)))
+pub all_taken : (floor : Floor) (cs : List Consumed) (closed : List (Closed Job)) (hands : List (List (Ended Job)))
     → AllAt (IsServiceOf floor) 0 cs → length cs ≡ length floor.office.lanes.items → All (λ c. fault_of_consumer c ≡ None) cs
     → AreClosedWith floor.office.lanes.items hands (map (λ c. c.permit) cs) closed
-    → map (λ c. c.copies.items) cs ≡ map items_of (map history closed)
-copies_taken floor cs closed hands all count services are =
-    copies_of floor 0 cs all (omega (arith, count)) (kept_of cs services) ∙ sym (ap (λ xs. map items_of xs) (lanes.histories_taken are.2) ∙ thrice cs)
+    → map (λ c. c.taken.items) cs ≡ map history closed
+all_taken floor cs closed hands all count services are =
+    taken_of floor 0 cs all (omega (arith, count)) (kept_of cs services) ∙ sym (lanes.histories_taken are.2 ∙ twice cs)
   where
-    thrice : (ds : List Consumed) → map items_of (map got (map (λ (c : Consumed). c.permit) ds)) ≡ map (λ (c : Consumed). items_of (got c.permit)) ds
-    thrice [] = refl
-    thrice (d ∷ ds) = ap (λ xs. items_of (got d.permit) ∷ xs) (thrice ds)
+    twice : (ds : List Consumed) → map got (map (λ (c : Consumed). c.permit) ds) ≡ map (λ (c : Consumed). got c.permit) ds
+    twice [] = refl
+    twice (d ∷ ds) = ap (λ xs. got d.permit ∷ xs) (twice ds)
 
 -- ---- answers
 

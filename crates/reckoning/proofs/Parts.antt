@@ -3,7 +3,6 @@ use Rattle.std.proofs.Common.{◌≡◌, ◌<◌, ◌+◌, ◌∙◌, ℕ, zero,
 use Rattle.std.proofs.lemmas.List.Elements.{All-head, All-tail}
 use Rattle.shard_queue.specs.Permits.{numbers}
 use Rattle.shard_queue.specs.Permits.{got}
-use Rattle.lane_work.specs.Consuming.{items_of}
 use Rattle.lane_work.specs.declared.consumer.Consumed.{Consumed}
 use Rattle.lane_work.specs.declared.worker.Worked.{Worked}
 use Rattle.lane_permits.specs.LanePermits.{AreEndedHands}
@@ -62,11 +61,11 @@ module _ (floor : Floor) where
       let lane = some_at floor.office.lanes.items n (omega (arith, count)) in
       ((all.0.each lane.0 lane.1).2.senders, sender_hands_of (suc n) cs all.1 (omega (arith, count)))
 
-  -- where each kept all that it took, the copies are those of what was taken
-  pub copies_of : (n : ℕ) (cs : List Consumed) → AllAt (IsServiceOf floor) n cs → n + length cs ≡ length floor.office.lanes.items → All (λ c. c.kept ≡ true) cs
-      → map (λ c. c.copies.items) cs ≡ map (λ c. items_of (got c.permit)) cs
-  copies_of n [] all count kept = refl
-  copies_of n (c ∷ cs) all count kept =
+  -- where each kept all that it took, that is what was taken
+  pub taken_of : (n : ℕ) (cs : List Consumed) → AllAt (IsServiceOf floor) n cs → n + length cs ≡ length floor.office.lanes.items → All (λ c. c.kept ≡ true) cs
+      → map (λ c. c.taken.items) cs ≡ map (λ c. got c.permit) cs
+  taken_of n [] all count kept = refl
+  taken_of n (c ∷ cs) all count kept =
       let lane = some_at floor.office.lanes.items n (omega (arith, count)) in
-      ap (λ xs. xs ∷ map (λ d. d.copies.items) cs) ((all.0.each lane.0 lane.1).2.kept (All-head (λ (d : Consumed). d.kept ≡ true) c cs kept))
-      ∙ ap (λ xss. items_of (got c.permit) ∷ xss) (copies_of (suc n) cs all.1 (omega (arith, count)) (All-tail (λ (d : Consumed). d.kept ≡ true) c cs kept))
+      ap (λ xs. xs ∷ map (λ d. d.taken.items) cs) ((all.0.each lane.0 lane.1).2.kept (All-head (λ (d : Consumed). d.kept ≡ true) c cs kept))
+      ∙ ap (λ xss. got c.permit ∷ xss) (taken_of (suc n) cs all.1 (omega (arith, count)) (All-tail (λ (d : Consumed). d.kept ≡ true) c cs kept))

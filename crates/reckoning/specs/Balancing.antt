@@ -39,7 +39,7 @@ pub record IsClosing (lanes : List (ShardQueue Job)) (channels : List (ReplyChan
       (λ closed. AreChannelsClosedWith channels (map (λ d. d.senders.items) consumers) (map (λ w. w.receiver) producers) closed.items)
   pub replies : c.replies.items ≡ map (λ w. w.replies) producers
   pub logs : c.logs.items ≡ map (λ w. w.log) producers
-  pub copies : c.copies.items ≡ map (λ d. d.copies) consumers
+  pub taken : c.taken.items ≡ map (λ d. d.taken) consumers
   pub worst : c.worst ≡ worst_of producers consumers
 
 -- ---- the books
@@ -50,7 +50,7 @@ pub record IsBalanced (lanes : List (ShardQueue Job)) (channels : List (ReplyCha
   pub services : All (λ c. fault_of_consumer c ≡ None) consumers
   pub replies : books.replies.items ≡ map (λ w. w.replies) producers
   pub logs : books.logs.items ≡ map (λ w. w.log) producers
-  pub copies : books.copies.items ≡ map (λ c. c.copies) consumers
+  pub taken : books.taken.items ≡ map (λ c. c.taken) consumers
   pub lanes_closed : AreClosedWith lanes (map (λ w. w.ended.items) producers) (map (λ c. c.permit) consumers) books.closed.lanes.items
   pub channels_closed : AreChannelsClosedWith channels (map (λ c. c.senders.items) consumers) (map (λ w. w.receiver) producers) books.closed.channels.items
 

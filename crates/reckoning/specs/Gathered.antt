@@ -49,7 +49,7 @@ pub record AreWorkers (producers : List Worked) (from : FromWorkers) : Type 0 wh
 pub record AreConsumers (consumers : List Consumed) (from : FromConsumers) : Type 0 where
   pub permits : from.permits.items ≡ map (λ c. c.permit) consumers
   pub hands : map (λ h. h.items) from.hands.items ≡ map (λ c. c.senders.items) consumers
-  pub copies : from.copies.items ≡ map (λ c. c.copies) consumers
+  pub taken : from.taken.items ≡ map (λ c. c.taken) consumers
 
 -- nothing is there yet, and there is room for so many
 pub record IsRoomForWorkers (n : ℕ) (from : FromWorkers) : Type 0 where
@@ -61,4 +61,4 @@ pub record IsRoomForWorkers (n : ℕ) (from : FromWorkers) : Type 0 where
 pub record IsRoomForConsumers (n : ℕ) (from : FromConsumers) : Type 0 where
   pub permits : (from.permits.items ≡ []) × (n ≤ vec_capacity from.permits)
   pub hands : (from.hands.items ≡ []) × (n ≤ vec_capacity from.hands)
-  pub copies : (from.copies.items ≡ []) × (n ≤ vec_capacity from.copies)
+  pub taken : (from.taken.items ≡ []) × (n ≤ vec_capacity from.taken)

@@ -187,7 +187,7 @@ fn clear_consumer(
     let Consumed {
         permit,
         senders,
-        copies: _,
+        taken: _,
         kept: _,
         torn: _,
     } = consumed;
@@ -276,7 +276,7 @@ fn ends_of(baskets: Baskets) -> Ends
         receivers,
         replies: _,
         logs: _,
-        copies: _,
+        taken: _,
         lanes: _,
         channels: _,
         spares,

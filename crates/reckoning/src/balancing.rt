@@ -12,7 +12,9 @@ use crate::gather::{Fault, FromConsumers, FromWorkers, gather_consumers, gather_
 use delivery_token::{Job, Noted, WorkerLog};
 use house_floor::Baskets;
 use lane_work::{Consumed, Worked};
-use shard_queue::{Closed, Ended, ReplyChannel, ReplyClosed, SenderEnded, ShardQueue};
+use shard_queue::{
+    Closed, Ended, Entry, ReplyChannel, ReplyClosed, SenderEnded, ShardQueue,
+};
 use std::alloc::Global;
 
 /// What was taken of each queue, to its end.
@@ -32,8 +34,8 @@ pub struct Books {
     pub replies: Vec<Vec<Vec<u8>>>,
     /// For each producer, the verdicts on its copies, in the order in which they were submitted.
     pub logs: Vec<WorkerLog>,
-    /// For each consumer, the copies that it took, in order.
-    pub copies: Vec<Vec<Job>>,
+    /// For each consumer, the entries that it took, in order.
+    pub taken: Vec<Vec<Entry<Job>>>,
     /// What was taken of each queue.
     pub closed: Closes,
 }
@@ -68,7 +70,7 @@ pub fn gather_all(worked: Vec<Worked>, consumed: Vec<Consumed>, baskets: Baskets
         receivers,
         replies,
         logs,
-        copies,
+        taken,
         lanes,
         channels,
         spares,
@@ -83,7 +85,7 @@ pub fn gather_all(worked: Vec<Worked>, consumed: Vec<Consumed>, baskets: Baskets
     let mut consumers = FromConsumers {
         permits,
         hands: sender_hands,
-        copies,
+        taken,
     };
     let of_workers = gather_workers(worked, &mut workers);
     let of_consumers = gather_consumers(consumed, &mut consumers);
@@ -109,8 +111,8 @@ pub struct Closings {
     pub replies: Vec<Vec<Vec<u8>>>,
     /// For each producer, the verdicts on its copies.
     pub logs: Vec<WorkerLog>,
-    /// For each consumer, the copies that it took, in order.
-    pub copies: Vec<Vec<Job>>,
+    /// For each consumer, the entries that it took, in order.
+    pub taken: Vec<Vec<Entry<Job>>>,
     /// The gravest fault of a producer or a consumer.
     pub worst: Option<Fault>,
 }
@@ -158,7 +160,7 @@ pub fn close_queues(
     let FromConsumers {
         permits,
         hands: sender_hands,
-        copies,
+        taken,
     } = consumers;
     let lanes = close_all_lanes(alloc, lanes, hands, permits, lists, closed.lanes);
     let channels = close_all_channels(
@@ -174,7 +176,7 @@ pub fn close_queues(
         channels,
         replies,
         logs,
-        copies,
+        taken,
         worst,
     }
 }
@@ -215,7 +217,7 @@ pub fn balance(
         channels,
         replies,
         logs,
-        copies,
+        taken,
         worst,
     } = close_queues(alloc, lanes, channels, worked, consumed, baskets);
     if let Some(fault) = worst {
@@ -230,7 +232,7 @@ pub fn balance(
     Ok(Books {
         replies,
         logs,
-        copies,
+        taken,
         closed: Closes { lanes, channels },
     })
 }

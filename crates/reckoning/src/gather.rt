@@ -6,7 +6,7 @@ ghost use Rattle.reckoning.specs.Gathered.{AreConsumers, AreWorkers, IsRoomForCo
 
 use delivery_token::{Job, Noted, WorkerLog};
 use lane_work::{Consumed, Fate, Worked};
-use shard_queue::{ConsumerPermit, Ended, ReceiverPermit, SenderEnded};
+use shard_queue::{ConsumerPermit, Ended, Entry, ReceiverPermit, SenderEnded};
 
 /// Why what the threads left is no report.
 #[derive(Clone, Copy, Debug, PartialEq, Eq)]
@@ -37,8 +37,8 @@ pub struct FromConsumers {
     pub permits: Vec<ConsumerPermit<Job>>,
     /// Of each, what is left of its permit on each reply channel.
     pub hands: Vec<Vec<SenderEnded<Noted>>>,
-    /// Of each, the copies that it took, in order.
-    pub copies: Vec<Vec<Job>>,
+    /// Of each, the entries that it took, in order.
+    pub taken: Vec<Vec<Entry<Job>>>,
 }
 
 // The fault of a fate, if it is one.
@@ -120,25 +120,25 @@ pub fn gather_workers(mut worked: Vec<Worked>, into: &mut FromWorkers) -> Option
 fn lay_consumer(consumed: Consumed, into: &mut FromConsumers) -> Option<Fault>
     requires permits { vec_len into.old.permits < vec_capacity into.old.permits }
     requires hands { vec_len into.old.hands < vec_capacity into.old.hands }
-    requires copies { vec_len into.old.copies < vec_capacity into.old.copies }
+    requires taken { vec_len into.old.taken < vec_capacity into.old.taken }
     ensures permits { (into.new.permits.items ≡ into.old.permits.items ++ consumed.permit ∷ []) ×
         (vec_capacity into.new.permits ≡ vec_capacity into.old.permits) }
     ensures hands { (into.new.hands.items ≡ into.old.hands.items ++ consumed.senders ∷ []) ×
         (vec_capacity into.new.hands ≡ vec_capacity into.old.hands) }
-    ensures copies { (into.new.copies.items ≡ into.old.copies.items ++ consumed.copies ∷ []) ×
-        (vec_capacity into.new.copies ≡ vec_capacity into.old.copies) }
+    ensures taken { (into.new.taken.items ≡ into.old.taken.items ++ consumed.taken ∷ []) ×
+        (vec_capacity into.new.taken ≡ vec_capacity into.old.taken) }
     ensures fault { result ≡ fault_of_consumer consumed }
 {
     let Consumed {
         permit,
         senders,
-        copies,
+        taken,
         kept,
         torn,
     } = consumed;
     into.permits.push_reserved(permit);
     into.hands.push_reserved(senders);
-    into.copies.push_reserved(copies);
+    into.taken.push_reserved(taken);
     if !kept {
         return Some(Fault::NoMemory);
     }

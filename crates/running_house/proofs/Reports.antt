@@ -29,7 +29,7 @@ use Rattle.house_floor.specs.declared.floor.Guest.{Guest}
 use Rattle.house_threads.specs.Crew.{IsProduceOf, IsServiceOf, SessionAccount}
 use Rattle.reckoning.specs.Balancing.{IsBalanced}
 use Rattle.reckoning.specs.declared.balancing.Books.{Books}
-use Rattle.reckoning.proofs.Accounts.{account_of, answers_of, only_of, copies_taken, mapped_at, session_account_of}
+use Rattle.reckoning.proofs.Accounts.{account_of, all_taken, answers_of, only_of, mapped_at, session_account_of}
 use Rattle.reckoning.proofs.Parts.{seats_of, some_at}
 use Rattle.running_house.specs.Agree as report
 use Rattle.running_house.specs.Agree.{Agrees}
@@ -122,9 +122,12 @@ module _ (plan : Plan) (floor : Floor) (is : IsFloorFor plan floor) (ws : List W
       (subst (λ x. SessionAccount (premises_of floor.office) (length (premises_for plan).directory.homes) x p guest (slice_index_or all_replies p []) notes heard taken) is.turns
       (subst (λ x. SessionAccount (premises_of floor.office) x floor.turns p guest (slice_index_or all_replies p []) notes heard taken) is.mailboxes account))
 
-  pub copies_same : map (λ c. c.items) books.copies.items ≡ report.copies_taken r
-  copies_same = ap (λ vs. map (λ v. v.items) vs) balanced.copies ∙ map_twice (λ v. v.items) (λ (c : Consumed). c.copies) cs
-      ∙ copies_taken floor cs books.closed.lanes.items _ services shards balanced.services balanced.lanes_closed ∙ ap (λ hs. map items_of hs) histories_same
+  pub taken_same : map (λ t. t.items) books.taken.items ≡ report.histories r
+  taken_same = ap (λ vs. map (λ v. v.items) vs) balanced.taken ∙ map_twice (λ v. v.items) (λ (c : Consumed). c.taken) cs
+      ∙ all_taken floor cs books.closed.lanes.items _ services shards balanced.services balanced.lanes_closed ∙ histories_same
+
+  pub copies_same : map (λ t. items_of t.items) books.taken.items ≡ report.copies_taken r
+  copies_same = sym (map_twice items_of (λ t. t.items) books.taken.items) ∙ ap (λ hs. map items_of hs) taken_same
 
   pub seats_are : map (λ l. l.seat) r.logs.items ≡ numbers 0 (producers_in plan)
   seats_are = ap (λ v. map (λ l. l.seat) v.items) logs_are ∙ ap (λ ls. map (λ l. l.seat) ls) balanced.logs ∙ map_twice (λ l. l.seat) (λ (w : Worked). w.log) ws
@@ -156,39 +159,38 @@ module _ (plan : Plan) (floor : Floor) (is : IsFloorFor plan floor) (ws : List W
       ∙ only_of floor plan.workers.items plan.sessions.items ws worked producers balanced.fates _ books.closed.lanes.items balanced.lanes_closed _ books.closed.channels.items balanced.channels_closed p under
       ∙ ap (λ (hs : List (List (Entry Job))). copies_in (map (of p) hs)) histories_same
 
-  pub in_order : (whole : Bool) → ListsMet floor.office.directory whole (report.notes_of r) (map (λ c. c.items) books.copies.items) (report.accepted_of r) (report.texts_of r)
+  pub in_order : (whole : Bool) → ListsMet floor.office.directory whole (report.notes_of r) (map (λ t. items_of t.items) books.taken.items) (report.accepted_of r) (report.texts_of r)
       → (m : ℕ) → m < length (premises_for plan).directory.homes
       → AreInLaneOrder m (slice_index_or (report.texts_of r) m []) (slice_index_or (report.accepted_of r) m []) (slice_index_or (report.copies_taken r) (shard_of (premises_for plan).directory m) [])
   in_order whole met m under =
       let same : floor.office.directory ≡ (premises_for plan).directory = ap (λ h. h.directory) is.premises in
-      let here = (subst (λ (d : Directory). ListsMet d whole (report.notes_of r) (map (λ c. c.items) books.copies.items) (report.accepted_of r) (report.texts_of r)) same met).mailbox m under in
+      let here = (subst (λ (d : Directory). ListsMet d whole (report.notes_of r) (map (λ t. items_of t.items) books.taken.items) (report.accepted_of r) (report.texts_of r)) same met).mailbox m under in
       subst (λ (copies : List (List Job)). AreInLaneOrder m (slice_index_or (report.texts_of r) m []) (slice_index_or (report.accepted_of r) m []) (slice_index_or copies (shard_of (premises_for plan).directory m) [])) copies_same
-      (in_lane_order m (slice_index_or (report.texts_of r) m []) (slice_index_or (report.accepted_of r) m []) (slice_index_or (map (λ c. c.items) books.copies.items) (shard_of (premises_for plan).directory m) []) here.met)
+      (in_lane_order m (slice_index_or (report.texts_of r) m []) (slice_index_or (report.accepted_of r) m []) (slice_index_or (map (λ t. items_of t.items) books.taken.items) (shard_of (premises_for plan).directory m) []) here.met)
 
   logs_count : length r.logs.items ≡ producers_in plan
   logs_count = ap (λ v. length v.items) logs_are ∙ ap length balanced.logs ∙ length-map ws (λ (w : Worked). w.log) ∙ producers
 
-  pub refusals : All (λ log. All (MayCome plan.config (length r.logs.items) floor.office.directory (report.accepted_of r) (map (λ c. c.items) books.copies.items)) log.notes) r.logs.items
+  pub refusals : All (λ log. All (MayCome plan.config floor.office.directory (report.accepted_of r) (map (λ t. t.items) books.taken.items)) log.notes) r.logs.items
       → (p : ℕ) → p < producers_in plan
-      → All (MayCome plan.config (producers_in plan) (premises_for plan).directory (report.accepted_of r) (report.copies_taken r)) (slice_index_or (report.notes_of r) p [])
+      → All (MayCome plan.config (premises_for plan).directory (report.accepted_of r) (report.histories r)) (slice_index_or (report.notes_of r) p [])
   refusals all p under =
       let same : floor.office.directory ≡ (premises_for plan).directory = ap (λ h. h.directory) is.premises in
-      let here = all_noted (λ l. l.notes) (MayCome plan.config (length r.logs.items) floor.office.directory (report.accepted_of r) (map (λ c. c.items) books.copies.items)) r.logs.items p all in
-      subst (λ (n : ℕ). All (MayCome plan.config n (premises_for plan).directory (report.accepted_of r) (report.copies_taken r)) (slice_index_or (report.notes_of r) p [])) logs_count
-      (subst (λ (d : Directory). All (MayCome plan.config (length r.logs.items) d (report.accepted_of r) (report.copies_taken r)) (slice_index_or (report.notes_of r) p [])) same
-      (subst (λ (copies : List (List Job)). All (MayCome plan.config (length r.logs.items) floor.office.directory (report.accepted_of r) copies) (slice_index_or (report.notes_of r) p [])) copies_same here))
+      let here = all_noted (λ l. l.notes) (MayCome plan.config floor.office.directory (report.accepted_of r) (map (λ t. t.items) books.taken.items)) r.logs.items p all in
+      subst (λ (d : Directory). All (MayCome plan.config d (report.accepted_of r) (report.histories r)) (slice_index_or (report.notes_of r) p [])) same
+      (subst (λ (taken : List (List (Entry Job))). All (MayCome plan.config floor.office.directory (report.accepted_of r) taken) (slice_index_or (report.notes_of r) p [])) taken_same here)
 
   pub agrees : (whole : Bool) → whole ≡ (length plan.sessions.items == 0)
-      → ListsAgree floor.office.directory whole (report.notes_of r) (map (λ c. c.items) books.copies.items) (report.accepted_of r) (report.texts_of r)
-      → ListsMet floor.office.directory whole (report.notes_of r) (map (λ c. c.items) books.copies.items) (report.accepted_of r) (report.texts_of r)
+      → ListsAgree floor.office.directory whole (report.notes_of r) (map (λ t. items_of t.items) books.taken.items) (report.accepted_of r) (report.texts_of r)
+      → ListsMet floor.office.directory whole (report.notes_of r) (map (λ t. items_of t.items) books.taken.items) (report.accepted_of r) (report.texts_of r)
       → IsNumbered plan.config.first_uid r
-      → All (λ log. All (MayCome plan.config (length r.logs.items) floor.office.directory (report.accepted_of r) (map (λ c. c.items) books.copies.items)) log.notes) r.logs.items → Agrees plan r
+      → All (λ log. All (MayCome plan.config floor.office.directory (report.accepted_of r) (map (λ t. t.items) books.taken.items)) log.notes) r.logs.items → Agrees plan r
   agrees whole all lists met numbered founded = record {
     accounts = accounts;
     sessions = sessions;
     lists = subst (λ x. ListsAgree x.directory (length plan.sessions.items == 0) (report.notes_of r) (report.copies_taken r) (report.accepted_of r) (report.texts_of r)) is.premises
         (subst (λ x. ListsAgree floor.office.directory (length plan.sessions.items == 0) (report.notes_of r) x (report.accepted_of r) (report.texts_of r)) copies_same
-        (subst (λ x. ListsAgree floor.office.directory x (report.notes_of r) (map (λ c. c.items) books.copies.items) (report.accepted_of r) (report.texts_of r)) all lists));
+        (subst (λ x. ListsAgree floor.office.directory x (report.notes_of r) (map (λ t. items_of t.items) books.taken.items) (report.accepted_of r) (report.texts_of r)) all lists));
     answered = answered;
     only = only;
     uids = λ m under. numbered_from plan.config.first_uid r.accepted.items numbered.accepted numbered.begins m;

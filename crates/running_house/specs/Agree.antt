@@ -100,7 +100,7 @@ pub record Agrees (plan : Plan) (r : Report) : Type 0 where
       → AreInLaneOrder m (slice_index_or (texts_of r) m []) (slice_index_or (accepted_of r) m []) (slice_index_or (copies_taken r) (shard_of (premises_for plan).directory m) [])
   -- A copy was refused for want of room on its lane, in its mailbox, or of UIDs, only where that can have been.
   pub refusals : (p : ℕ) → p < producers_in plan
-      → All (MayCome plan.config (producers_in plan) (premises_for plan).directory (accepted_of r) (copies_taken r)) (slice_index_or (notes_of r) p [])
+      → All (MayCome plan.config (premises_for plan).directory (accepted_of r) (histories r)) (slice_index_or (notes_of r) p [])
   -- There is one of each for each worker and session.
   pub seats : map (λ l. l.seat) r.logs.items ≡ numbers 0 (producers_in plan)
   pub replies : length (replies_of r) ≡ length (connections_of plan)

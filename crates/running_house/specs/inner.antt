@@ -1,2 +1,3 @@
 pub mod Agree
 pub mod Begun
+pub mod Refusals

@@ -4,6 +4,7 @@
 #![tactic(auto)]
 
 mod begun;
+mod copies;
 mod laws;
 mod plan;
 mod refusals;

@@ -7,6 +7,7 @@ ghost use Rattle.agreement.specs.Walk.{ListsMet};
 ghost use Rattle.house_floor.specs.Crew.{AllAt};
 ghost use Rattle.house_floor.specs.Opening.{AreBaskets};
 ghost use Rattle.house_threads.specs.Crew.{IsProduceOf, IsServiceOf, LeavesAll};
+ghost use Rattle.lane_work.specs.Consuming.{items_of};
 ghost use Rattle.running_house.specs.Agree.{Agrees, accepted_of, notes_of, texts_of};
 ghost use Rattle.reckoning.specs.Shelves.{AreNumbered, AreToldOnce};
 ghost use Rattle.running_house.specs.inner.Agree.{AreTexts, IsFloorFor, IsNumbered};
@@ -14,6 +15,7 @@ ghost use Rattle.running_house.specs.Plan.{of_reckoning, producers_in};
 ghost use Rattle.running_house.specs.Refusals.{MayCome};
 
 use crate::begun::begin_at;
+use crate::copies::all_copies;
 use crate::plan::{Plan, Report, WorkFault};
 use crate::refusals::{Evidence, all_may_come};
 use agreement::lists_agree;
@@ -66,26 +68,36 @@ fn compare(
     shelves: Shelves,
     sessions: Vec<Vec<u8>>,
 ) -> Result<Report, WorkFault>
-    requires shards { directory.now.shards ≤ vec_len books.copies }
+    requires shards { directory.now.shards ≤ vec_len books.taken }
     requires numbered { All (λ v. AreNumbered v.items) shelves.accepted.items }
     requires once { All (λ v. AreToldOnce v.items) shelves.texts.items }
-    ensures lists { IfOk result (λ r. ListsAgree directory.now whole (notes_of r) (map (λ c. c.items) books.copies.items) (accepted_of r)
+    ensures lists { IfOk result (λ r. ListsAgree directory.now whole (notes_of r) (map (λ t. items_of t.items) books.taken.items) (accepted_of r)
         (texts_of r)) }
-    ensures met { IfOk result (λ r. ListsMet directory.now whole (notes_of r) (map (λ c. c.items) books.copies.items) (accepted_of r)
+    ensures met { IfOk result (λ r. ListsMet directory.now whole (notes_of r) (map (λ t. items_of t.items) books.taken.items) (accepted_of r)
         (texts_of r)) }
     ensures numbered { IfOk result (IsNumbered config.now.first_uid) }
-    ensures refusals { IfOk result (λ r. All (λ log. All (MayCome config.now (length r.logs.items) directory.now (accepted_of r)
-        (map (λ c. c.items) books.copies.items)) log.notes) r.logs.items) }
+    ensures refusals { IfOk result (λ r. All (λ log. All (MayCome config.now directory.now (accepted_of r)
+        (map (λ t. t.items) books.taken.items)) log.notes) r.logs.items) }
     ensures same { IfOk result (λ r. (r.replies ≡ books.replies) × (r.logs ≡ books.logs) × (r.sessions ≡ sessions) × (r.closed ≡ books.closed)) }
     ensures fault { IfErr result (λ fault. (fault ≡ WorkFault.NoMemory) ⊎ (fault ≡ WorkFault.Torn)) }
 {
     let Books {
         replies,
         logs,
-        copies,
+        taken,
         closed,
     } = books;
     let Shelves { accepted, texts } = shelves;
+    let evidence = Evidence {
+        config,
+        directory,
+        accepted: accepted.as_slice(),
+        taken: taken.as_slice(),
+    };
+    if !all_may_come(&evidence, logs.as_slice()) {
+        return Err(WorkFault::Torn);
+    }
+    let copies = all_copies(alloc, taken)?;
     let agree = lists_agree(
         alloc,
         directory,
@@ -99,15 +111,6 @@ fn compare(
         return Err(WorkFault::Torn);
     }
     if !begin_at(accepted.as_slice(), config.first_uid) {
-        return Err(WorkFault::Torn);
-    }
-    let evidence = Evidence {
-        config,
-        directory,
-        accepted: accepted.as_slice(),
-        copies: copies.as_slice(),
-    };
-    if !all_may_come(&evidence, logs.as_slice()) {
         return Err(WorkFault::Torn);
     }
     Ok(Report {
@@ -128,15 +131,15 @@ fn report_on(
     mailboxes: Vec<Mutex<Mailbox>>,
     mut books: Books,
 ) -> Result<Report, WorkFault>
-    requires shards { directory.now.shards ≤ vec_len books.copies }
+    requires shards { directory.now.shards ≤ vec_len books.taken }
     requires workers { length plan.now.workers.items ≤ vec_len books.replies }
     ensures lists { IfOk result (λ r. ListsAgree directory.now (length plan.now.sessions.items == 0) (notes_of r)
-        (map (λ c. c.items) books.copies.items) (accepted_of r) (texts_of r)) }
+        (map (λ t. items_of t.items) books.taken.items) (accepted_of r) (texts_of r)) }
     ensures met { IfOk result (λ r. ListsMet directory.now (length plan.now.sessions.items == 0) (notes_of r)
-        (map (λ c. c.items) books.copies.items) (accepted_of r) (texts_of r)) }
+        (map (λ t. items_of t.items) books.taken.items) (accepted_of r) (texts_of r)) }
     ensures numbered { IfOk result (IsNumbered plan.now.config.first_uid) }
-    ensures refusals { IfOk result (λ r. All (λ log. All (MayCome plan.now.config (length r.logs.items) directory.now (accepted_of r)
-        (map (λ c. c.items) books.copies.items)) log.notes) r.logs.items) }
+    ensures refusals { IfOk result (λ r. All (λ log. All (MayCome plan.now.config directory.now (accepted_of r)
+        (map (λ t. t.items) books.taken.items)) log.notes) r.logs.items) }
     ensures parts { IfOk result (λ r. (r.replies.items ≡ take (length plan.now.workers.items) books.replies.items) × (r.logs ≡ books.logs) ×
         (r.closed ≡ books.closed) × AreTexts (drop (length plan.now.workers.items) books.replies.items) r.sessions.items ×
         (length plan.now.workers.items + vec_len r.sessions ≡ vec_len books.replies)) }

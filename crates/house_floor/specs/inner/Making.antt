@@ -33,7 +33,7 @@ pub record AreBells (directory : Directory) (b : Bells) : Type 0 where
 pub record ArePapers (producers shards : ℕ) (p : Papers) : Type 0 where
   pub replies : (p.replies.items ≡ []) × (producers ≤ vec_capacity p.replies)
   pub logs : (p.logs.items ≡ []) × (producers ≤ vec_capacity p.logs)
-  pub copies : (p.copies.items ≡ []) × (shards ≤ vec_capacity p.copies)
+  pub taken : (p.taken.items ≡ []) × (shards ≤ vec_capacity p.taken)
   pub lanes : (p.lanes.items ≡ []) × (shards ≤ vec_capacity p.lanes)
   pub channels : (p.channels.items ≡ []) × (producers ≤ vec_capacity p.channels)
 

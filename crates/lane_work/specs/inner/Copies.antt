@@ -6,7 +6,7 @@ use Rattle.delivery_token.specs.declared.log.Noted.{Noted}
 use Rattle.envelope.specs.Directory.{Directory, shard_of}
 use Rattle.shard_queue.specs.declared.lane.Entry.{Entry}
 use Rattle.shard_queue.specs.declared.lane.Entry.TheVariants.{Item}
-use Rattle.lane_work.specs.Copies.{Room, room_at, FoundFull, copies, note_of, IsAtOnce, IsHeard}
+use Rattle.lane_work.specs.Copies.{Room, room_at, FilledAlone, copies, note_of, IsAtOnce, IsHeard}
 
 -- ---- while the verdicts on a message come in
 
@@ -25,7 +25,7 @@ AreTried directory room seat lane before (copy ∷ copies) [] = Unit {0}
 AreTried directory room seat lane before (copy ∷ copies) (None ∷ slots) =
     AreTried directory room seat lane (if shard_of directory copy.mailbox == lane then before ++ Item seat copy ∷ [] else before) copies slots
 AreTried directory room seat lane before (copy ∷ copies) (Some verdict ∷ slots) =
-    (shard_of directory copy.mailbox ≡ lane → IsAtOnce (FoundFull room seat before) verdict) × AreTried directory room seat lane before copies slots
+    (shard_of directory copy.mailbox ≡ lane → IsAtOnce (FilledAlone room seat before) verdict) × AreTried directory room seat lane before copies slots
 
 -- the same of each lane
 abbrev pub WereTried : Directory → List Room → ℕ → List Job → List (Option Verdict) → (before : List (List (Entry Job))) → Type 0
@@ -54,5 +54,5 @@ pub record WasJudged (directory : Directory) (rooms : List Room) (seat : ℕ) (c
   pub within : shard_of directory copy.mailbox < length before
   pub lanes : length after ≡ length before
   pub put : MatchOption at_once (after ≡ slice_set before (shard_of directory copy.mailbox) (slice_index_or before (shard_of directory copy.mailbox) [] ++ Item seat copy ∷ []))
-      (λ v. (after ≡ before) × IsAtOnce (FoundFull (room_at rooms (shard_of directory copy.mailbox)) seat (slice_index_or before (shard_of directory copy.mailbox) [])) v)
+      (λ v. (after ≡ before) × IsAtOnce (FilledAlone (room_at rooms (shard_of directory copy.mailbox)) seat (slice_index_or before (shard_of directory copy.mailbox) [])) v)
   pub told : MatchOption at_once (IsHeard heard (note_of (copy, verdict))) (λ v. verdict ≡ v)

@@ -11,4 +11,4 @@ invariant-loop-position g l =
     × (vec_len l.consumed ≡ l.position) × (length l.floor.office.lanes.items ≤ vec_capacity l.consumed)
     × (l.in_order ≡ true → AllAt (IsService l.floor.office.lanes.items l.floor.depot) 0 l.consumed.items)
     × All (λ c. vec_len c.senders ≡ length l.floor.depot.channels.items) l.consumed.items
-    × All (λ c. (c.copies.items ≡ []) × (c.kept ≡ false)) l.consumed.items
+    × All (λ c. (c.taken.items ≡ []) × (c.kept ≡ false)) l.consumed.items

@@ -6,10 +6,9 @@ use Rattle.shard_queue.specs.Reply.{sent_on}
 use Rattle.shard_queue.specs.Permits.{got}
 use Rattle.lane_work.specs.Answering.{is_nobodys}
 use Rattle.lane_work.specs.inner.Answering.{HaveAnswered}
-use Rattle.lane_work.specs.Consuming.{items_of}
 use Rattle.lane_work.specs.Ends.{ends_in}
 use Rattle.lane_work.proofs.AnswerLaws.{answers_begin, answers_end, answers_item, torn_end, torn_next}
-use Rattle.lane_work.proofs.PermitLaws.{ends_next, kept_end, kept_item, senders_length}
+use Rattle.lane_work.proofs.PermitLaws.{ends_next, kept_next, senders_length}
 use Rattle.lane_work.proofs.consumer.serve_all.Goals as goal
 
 pub loop-preserved-in-Item : goal.loop-preserved-in-Item
@@ -24,7 +23,7 @@ loop-preserved-in-Item g c =
           (map sent_on c.serve_copy-known.new.senders.items) (search rules) (length-map c.loop.stall.senders.items sent_on ∙ senders_length c.args.depot.now.channels.items c.args.stall.now.shard c.loop.stall.senders.items v.2)
           c.serve_copy-known.ensures.served v.3,
       torn_next m n (got c.loop.stall.permit) (got c.take_as.new.permit) (Item c.in-Item.p c.in-Item.job) c.loop.tally.torn (not c.serve_copy-known.result) (search rules) (ap not c.serve_copy-known.ensures.known) v.4,
-      kept_item (got c.loop.stall.permit) (got c.take_as.new.permit) c.loop.copies.items c.keep.new.copies.items c.in-Item.p c.in-Item.job c.loop.tally.kept c.keep.result (search rules) v.5 c.keep.ensures,
+      kept_next (got c.loop.stall.permit) (got c.take_as.new.permit) c.loop.taken.items c.keep.new.taken.items (Item c.in-Item.p c.in-Item.job) c.loop.tally.kept c.keep.result (search rules) v.5 c.keep.ensures,
       (let grew : got c.take_as.new.permit ≡ got c.loop.stall.permit ++ Item c.in-Item.p c.in-Item.job ∷ [] = search rules in
           let e = ap ends_in grew ∙ ends_next (got c.loop.stall.permit) (Item c.in-Item.p c.in-Item.job) in omega (arith, e, v.6)),
     )
@@ -39,7 +38,7 @@ loop-init g c =
       c.requires.senders,
       answers_begin m n c.args.stall.now.shard (got c.args.stall.now.permit) (map sent_on c.args.stall.now.senders.items) none,
       ap (list_any (is_nobodys m n)) (sym none),
-      (λ kept. c.requires.none ∙ ap items_of (sym none)),
+      (λ kept. c.requires.none ∙ sym none),
       omega arith,
     )
 
@@ -53,11 +52,11 @@ loop-preserved-in-End g c =
       v.0,
       c.take_as.ensures.permit,
       v.2,
-      answers_end m n c.args.stall.now.shard c.in-End.field-0 old new (map sent_on c.args.stall.now.senders.items) (map sent_on c.loop.stall.senders.items) (search rules) v.3,
-      v.4 ∙ torn_end m n old new c.in-End.field-0 (search rules),
-      (λ kept. kept_end old new c.loop.copies.items c.in-End.field-0 (search rules) (v.5 kept)),
-      (let grew : new ≡ old ++ End c.in-End.field-0 ∷ [] = search rules in
-          let e = ap ends_in grew ∙ ends_next old (End c.in-End.field-0) in search rules),
+      answers_end m n c.args.stall.now.shard c.in-End.p old new (map sent_on c.args.stall.now.senders.items) (map sent_on c.loop.stall.senders.items) (search rules) v.3,
+      v.4 ∙ torn_end m n old new c.in-End.p (search rules),
+      kept_next old new c.loop.taken.items c.keep-1.new.taken.items (End c.in-End.p) c.loop.tally.kept c.keep-1.result (search rules) v.5 c.keep-1.ensures,
+      (let grew : new ≡ old ++ End c.in-End.p ∷ [] = search rules in
+          let e = ap ends_in grew ∙ ends_next old (End c.in-End.p) in search rules),
     )
 
 pub loop-preserved : goal.loop-preserved
@@ -73,6 +72,6 @@ loop-preserved g c =
       v.2,
       subst (λ l. HaveAnswered m n c.args.stall.now.shard l (map sent_on c.args.stall.now.senders.items) (map sent_on c.loop.stall.senders.items)) same v.3,
       v.4 ∙ ap (list_any (is_nobodys m n)) same,
-      (λ kept. v.5 kept ∙ ap items_of same),
+      (λ kept. v.5 kept ∙ same),
       (let e = ap ends_in same in omega (arith, e, v.6)),
     )

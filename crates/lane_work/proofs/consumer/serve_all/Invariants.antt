@@ -4,7 +4,6 @@ use Rattle.shard_queue.specs.Reply.{sent_on}
 use Rattle.shard_queue.specs.Permits.{IsConsumer, got}
 use Rattle.lane_work.specs.Answering.{is_nobodys}
 use Rattle.lane_work.specs.inner.Answering.{HaveAnswered}
-use Rattle.lane_work.specs.Consuming.{items_of}
 use Rattle.lane_work.specs.Ends.{ends_in}
 use Rattle.lane_work.specs.Permits.{AreSenders}
 use Rattle.lane_work.proofs.consumer.serve_all.Given as goal
@@ -16,5 +15,5 @@ invariant-loop g l =
     × AreSenders l.depot.channels.items l.fn.stall.shard l.stall.senders.items
     × HaveAnswered (length l.depot.mailboxes.items) (length l.depot.channels.items) l.fn.stall.shard (got l.stall.permit) (map sent_on l.fn.stall.senders.items) (map sent_on l.stall.senders.items)
     × (l.tally.torn ≡ list_any (is_nobodys (length l.depot.mailboxes.items) (length l.depot.channels.items)) (got l.stall.permit))
-    × (l.tally.kept ≡ true → l.copies.items ≡ items_of (got l.stall.permit))
+    × (l.tally.kept ≡ true → l.taken.items ≡ got l.stall.permit)
     × (l.ends ≤ ends_in (got l.stall.permit))

@@ -2,7 +2,7 @@ use Rattle.std.proofs.Common.{◌≡◌, ◌<◌, ◌∙◌, ap, refl, sym, subs
 use Rattle.delivery_token.specs.declared.Job.{Job}
 use Rattle.shard_queue.specs.declared.lane.Entry.TheVariants.{Item}
 use Rattle.lane_work.specs.Permits.{IsPermit, overs, put_by}
-use Rattle.lane_work.specs.Copies.{FoundFull, IsAtOnce, room_at, room_of, rooms_of}
+use Rattle.lane_work.specs.Copies.{FilledAlone, IsAtOnce, room_at, room_of, rooms_of}
 use Rattle.lane_work.proofs.PermitLaws.{over_at, overs_kept, permit_here, permits_length, permits_set, puts_at, room_here, sent_at, sent_set, set_same}
 use Rattle.lane_work.proofs.putting.put_copy.Goals as goal
 
@@ -67,7 +67,7 @@ returns-clause-put g c live =
     subst (λ lane. MatchOption c.put_at-verdict.result
     (map put_by (slice_set c.args.desk.now.permits.items c.shard_of-shard.result c.put_at-verdict.new.permit)
     ≡ slice_set (map put_by c.args.desk.now.permits.items) lane (slice_index_or (map put_by c.args.desk.now.permits.items) lane [] ++ Item c.args.desk.now.number job ∷ []))
-    (λ v. (map put_by (slice_set c.args.desk.now.permits.items c.shard_of-shard.result c.put_at-verdict.new.permit) ≡ map put_by c.args.desk.now.permits.items) × IsAtOnce (FoundFull (room_at (rooms_of c.args.office.now.lanes.items) lane) c.args.desk.now.number (slice_index_or (map put_by c.args.desk.now.permits.items) lane [])) v))
+    (λ v. (map put_by (slice_set c.args.desk.now.permits.items c.shard_of-shard.result c.put_at-verdict.new.permit) ≡ map put_by c.args.desk.now.permits.items) × IsAtOnce (FilledAlone (room_at (rooms_of c.args.office.now.lanes.items) lane) c.args.desk.now.number (slice_index_or (map put_by c.args.desk.now.permits.items) lane [])) v))
     c.shard_of-shard.ensures.value
     (puts_at c.args.desk.now.permits.items c.shard_of-shard.result c.args.desk.now.number c.index_mut.result.now c.index_mut.result.now c.put_at-verdict.new.permit job c.put_at-verdict.result
     (room_of c.index.result.now) (room_at (rooms_of c.args.office.now.lanes.items) c.shard_of-shard.result)

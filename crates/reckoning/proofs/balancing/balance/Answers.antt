@@ -13,7 +13,7 @@ returns-clause-balanced c =
       services = (gravest_none fault_of_consumer None c.args.consumed.items each.1).1;
       replies = is.replies;
       logs = is.logs;
-      copies = is.copies;
+      taken = is.taken;
       lanes_closed = at_some _ c.in-Some-lanes.lanes _ _ c.in-Some-lanes.is is.of_lanes;
       channels_closed = at_some _ c.in-Some-channels.channels _ _ c.in-Some-channels.is is.of_channels;
     }

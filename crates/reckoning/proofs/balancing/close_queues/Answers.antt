@@ -40,6 +40,6 @@ returns c =
           (λ cs. AreChannelsClosedWith channels (map (λ h. h.items) c.gather_all-workers.result.consumers.hands.items) rs cs.items)) receivers c.close_all_channels-channels.ensures);
       replies = c.gather_all-workers.ensures.of_workers.replies;
       logs = c.gather_all-workers.ensures.of_workers.logs;
-      copies = c.gather_all-workers.ensures.of_consumers.copies;
+      taken = c.gather_all-workers.ensures.of_consumers.taken;
       worst = c.gather_all-workers.ensures.worst;
     }

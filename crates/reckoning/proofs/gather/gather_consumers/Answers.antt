@@ -16,7 +16,7 @@ returns-clause-parts c =
     record {
       permits = all_laid (λ w. w.permit) c.loop.into.permits.items _ c.loop.consumed.items none v.0;
       hands = all_laid (λ w. w.senders.items) (map (λ h. h.items) c.loop.into.hands.items) _ c.loop.consumed.items none v.1;
-      copies = all_laid (λ w. w.copies) c.loop.into.copies.items _ c.loop.consumed.items none v.2;
+      taken = all_laid (λ w. w.taken) c.loop.into.taken.items _ c.loop.consumed.items none v.2;
     }
 
 pub returns-clause-fault : goal.returns-clause-fault

@@ -63,7 +63,7 @@ returns-clause-agrees c =
     r parts.0 parts.1 parts.2 parts.3
     (let counted = parts.4 in omega (arith, counted, laid, producers, r.sessions.ok.0, books.replies.ok.0))
     whole refl
-    (subst (λ d. ListsAgree d whole (notes_of r) (map (λ v. v.items) books.copies.items) (accepted_of r) (texts_of r)) c.remains_of-directory.ensures.directory lists.0)
-    (subst (λ d. ListsMet d whole (notes_of r) (map (λ v. v.items) books.copies.items) (accepted_of r) (texts_of r)) c.remains_of-directory.ensures.directory lists.1.0)
+    (subst (λ d. ListsAgree d whole (notes_of r) (map (λ t. items_of t.items) books.taken.items) (accepted_of r) (texts_of r)) c.remains_of-directory.ensures.directory lists.0)
+    (subst (λ d. ListsMet d whole (notes_of r) (map (λ t. items_of t.items) books.taken.items) (accepted_of r) (texts_of r)) c.remains_of-directory.ensures.directory lists.1.0)
     lists.1.1.0
-    (subst (λ d. All (λ log. All (MayCome c.args.plan.now.config (length r.logs.items) d (accepted_of r) (map (λ v. v.items) books.copies.items)) log.notes) r.logs.items) c.remains_of-directory.ensures.directory lists.1.1.1))
+    (subst (λ d. All (λ log. All (MayCome c.args.plan.now.config d (accepted_of r) (map (λ t. t.items) books.taken.items)) log.notes) r.logs.items) c.remains_of-directory.ensures.directory lists.1.1.1))

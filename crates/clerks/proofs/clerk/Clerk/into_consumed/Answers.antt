@@ -11,8 +11,8 @@ returns-clause-consumed g c lanes is lane here =
     let stall = c.self.inside.stall in
     let shard : stall.shard ≡ c.args.self.shard = ap (λ (s : Clerk). s.shard) c.self.view_is in
     let ended = c.end_senders-senders.result.items in
-    subst (λ n. IsConsumed lane c.args.depot.now n [] (record { permit = stall.permit; senders = c.end_senders-senders.result; copies = c.new.result; kept = false; torn = c.self.inside.torn })) shard
-    (leaves lane lanes c.args.depot.now stall c.self.inside.torn (record { permit = stall.permit; senders = c.end_senders-senders.result; copies = c.new.result; kept = false; torn = c.self.inside.torn })
+    subst (λ n. IsConsumed lane c.args.depot.now n [] (record { permit = stall.permit; senders = c.end_senders-senders.result; taken = c.new.result; kept = false; torn = c.self.inside.torn })) shard
+    (leaves lane lanes c.args.depot.now stall c.self.inside.torn (record { permit = stall.permit; senders = c.end_senders-senders.result; taken = c.new.result; kept = false; torn = c.self.inside.torn })
     (c.self.invariant.on_lane lanes is) (c.self.invariant.answering c.args.depot.now c.requires.depot)
     (subst (λ n. slice_get lanes n ≡ Some lane) (sym shard) here) refl refl refl
     (subst (λ cs. AreSendersEnded cs stall.shard ended) c.deref.ensures.value c.end_senders-senders.ensures.ended) c.end_senders-senders.ensures.said)
