@@ -2,7 +2,8 @@
 
 ghost use Rattle.std.specs.Prelude.{◌<◌, length};
 
-use house::{Config, ConfigFault, House};
+use house::House;
+use settings::{Config, ConfigFault};
 use line_io::Watched;
 use script::{RunFault, drive};
 use std::alloc::Global;

@@ -15,8 +15,8 @@ use Rattle.client_list.specs.Commands.{AreNames}
 use Rattle.client_list.specs.Turns.{is_inner, IsPlain}
 use Rattle.client_list.proofs.Bytes.{first_of, rest_of}
 use Rattle.client_list.proofs.Ends.{plain_words}
-use Rattle.house.specs.declared.config.ConfigFault.{ConfigFault}
-use Rattle.house.specs.Settings.{fault_of_numbers, names_first, words_of}
+use Rattle.settings.specs.declared.config.ConfigFault.{ConfigFault}
+use Rattle.settings.specs.Settings.{fault_of_numbers, names_first, words_of}
 use Rattle.client_records.specs.Records.{AreFolders, SettingsCanBePrinted}
 
 inner_byte : (b : ℕ) → is_folder_byte b ≡ true → is_inner b ≡ true

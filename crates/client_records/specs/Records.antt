@@ -11,8 +11,9 @@ use Rattle.house_session.specs.Visitor.{greeted}
 use Rattle.house_session.specs.SeatedVisitor.{SeatedVisitor}
 use Rattle.house.specs.Scene.{LeavesMailbox, Scene, empty_scene, place_of}
 use Rattle.house.specs.Setup.{Setup}
-use Rattle.house.specs.declared.config.Config.{Config}
-use Rattle.house.specs.Settings.{IsInRange, config_fault, setup_of}
+use Rattle.settings.specs.declared.config.Config.{Config}
+use Rattle.house.specs.Setup.{setup_of}
+use Rattle.settings.specs.Settings.{IsInRange, config_fault}
 use Rattle.house.specs.declared.event.Event as house
 use Rattle.house.specs.declared.event.Event.TheVariants.{Enter, Leave, Say}
 use Rattle.exactly_once.specs.Promise.{Entry, ExactlyOnce, IsRecord, Lines, Piece}

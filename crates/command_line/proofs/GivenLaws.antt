@@ -15,8 +15,8 @@ use Rattle.clap.specs.declared.parser.matches.ArgMatches.TheViews.{out-ArgMatche
 use Rattle.clap.specs.declared.parser.matches.Found.{Found}
 use Rattle.clap.specs.declared.parser.matches.SubCommand.{SubCommand}
 use Rattle.clap.proofs.WalkLemmas.{first_value-rows, raw_values-rows}
-use Rattle.house.specs.Settings.{IsDefault, words_of}
-use Rattle.house.specs.declared.config.Config.{Config}
+use Rattle.settings.specs.Settings.{IsDefault, words_of}
+use Rattle.settings.specs.declared.config.Config.{Config}
 use Rattle.serving.specs.declared.server.Uidvalidity.{Uidvalidity}
 use Rattle.serving.specs.declared.server.Uidvalidity.TheVariants.{Given, Default}
 use Rattle.command_line.specs.Asking.{AreHouseSettings, AsksForScript, AsksForServer, mailboxes_given, number_given, number_or, text_given, uidvalidity_given}

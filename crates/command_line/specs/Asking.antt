@@ -2,8 +2,8 @@
 use Rattle.std.specs.Prelude.{◌≡◌, ℕ, List, [], Option, Some, None, codes, if◌then◌else◌, is_some, unwrap_or}
 use Rattle.std.specs.Str.Parse.{digits_value}
 use Rattle.clap.specs.Words.{Row, Text, all_of, first_of, subcommand_of}
-use Rattle.house.specs.Settings.{IsInRange, words_of}
-use Rattle.house.specs.declared.config.Config.{Config}
+use Rattle.settings.specs.Settings.{IsInRange, words_of}
+use Rattle.settings.specs.declared.config.Config.{Config}
 use Rattle.serving.specs.declared.server.Uidvalidity.{Uidvalidity}
 use Rattle.serving.specs.declared.server.Uidvalidity.TheVariants.{Given, Default}
 use Rattle.command_line.specs.Words.{program}

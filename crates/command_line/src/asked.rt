@@ -4,7 +4,7 @@ ghost use Rattle.std.specs.Prelude.{◌≡◌, ◌<◌, [], codes, length, map, 
 ghost use Rattle.std.specs.Char.{is_ascii_digit};
 ghost use Rattle.std.specs.List.{list_all};
 ghost use Rattle.clap.specs.Words.{IsAmong, app_of, found_of, kind_of, rows_of, subcommand_rows_of};
-ghost use Rattle.house.specs.Settings.{IsDefault, IsFrom, IsInRange};
+ghost use Rattle.settings.specs.Settings.{IsDefault, IsFrom, IsInRange};
 ghost use Rattle.command_line.specs.Asking.{AsksBy, AsksFor, AsksForScript, IsAskedInRange};
 ghost use Rattle.command_line.specs.Asking.{mailboxes_given, number_given, text_given, uidvalidity_given};
 ghost use Rattle.command_line.specs.Words as words_taken;
@@ -15,7 +15,7 @@ use crate::options::{
 };
 use clap::error::ErrorKind;
 use clap::{ArgMatches, Command, Error};
-use house::Config;
+use settings::Config;
 use serving::Uidvalidity;
 use std::alloc::{AllocError, Global};
 use std::convert::AsStr;

@@ -8,8 +8,8 @@ ghost use Rattle.command_line.specs.inner.Words.{AreThere, HasMore, rule_for};
 
 use clap::builder::ValueParser;
 use clap::{Arg, ArgAction, Command};
-use house::numbers::{self, Number};
-use house::{DOMAIN, HOST};
+use settings::numbers::{self, Number};
+use settings::{DOMAIN, HOST};
 use std::alloc::{AllocError, Global};
 
 /// An option that sets a number. How far it may go, and its default, is the settings' to say.

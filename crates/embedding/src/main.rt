@@ -2,7 +2,8 @@
 //! example: what each side sends stands in a table, and what the house answers is printed, each line with the mark of its connection or session.
 #![tactic(auto)]
 
-use house::{Config, Event, House, HouseFault};
+use house::{Event, House, HouseFault};
+use settings::Config;
 use std::alloc::Global;
 use std::io::{self, Write};
 

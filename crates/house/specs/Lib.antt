@@ -2,7 +2,6 @@ pub mod Setup
 pub mod Printing
 pub mod House
 pub mod Scene
-pub mod Settings
 pub mod Stands
 pub mod Steps
 pub mod Effort

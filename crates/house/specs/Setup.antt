@@ -1,8 +1,10 @@
 -- What of a house is settled at the start.
-use Rattle.std.specs.Prelude.{ℕ, ◌+◌, Bool, List}
+use Rattle.std.specs.Prelude.{ℕ, ◌+◌, Bool, List, length, max}
 use Rattle.envelope.specs.Directory.{Directory, marked}
 use Rattle.world.specs.World.{Config}
 use Rattle.house_connection.specs.Caller.{Terms}
+use Rattle.settings.specs.Settings.{directory_for, words_of}
+use Rattle.settings.specs.declared.config.Config as given
 
 -- The seats of connections come first, and behind them those of sessions. The directory is as it was at the start: no shard is shut there.
 pub record Setup : Type 0 where
@@ -11,6 +13,35 @@ pub record Setup : Type 0 where
   pub directory : Directory
   pub host : List ℕ
   pub max_message : ℕ
+
+-- so many connections may stand at a time
+abbrev pub connection_seats : ℕ
+connection_seats = 8
+
+-- and so many sessions, each at its place
+abbrev pub places : ℕ
+places = 8
+
+-- what the settings settle
+abbrev pub setup_of : given.Config → Setup
+setup_of c = record {
+  config = record {
+    seats = connection_seats + places;
+    shards = c.shards;
+    mailboxes = length (words_of c);
+    sessions = places;
+    depth = c.depth;
+    messages = c.messages;
+    ring = c.ring;
+    ring_max = max c.ring c.ring_max;
+    first_uid = c.first_uid;
+    uidvalidity = c.uidvalidity;
+  };
+  connections = connection_seats;
+  directory = directory_for c;
+  host = c.host.items;
+  max_message = c.max_message;
+}
 
 -- the seat of the session at a place
 abbrev pub session_seat : Setup → (place : ℕ) → ℕ

@@ -3,7 +3,8 @@
 //! calls takes long to prove.
 
 use exactly_once::play;
-use house::{Config, ConfigFault, Event, House, HouseFault};
+use house::{Event, House, HouseFault};
+use settings::{Config, ConfigFault};
 use std::alloc::Global;
 
 // A step, and what is wanted of it.

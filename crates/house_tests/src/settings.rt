@@ -2,7 +2,8 @@
 
 ghost use Rattle.std.specs.Prelude.{◌≤◌};
 
-use house::{Config, ConfigFault, House};
+use house::House;
+use settings::{Config, ConfigFault};
 use std::alloc::{AllocError, Global};
 
 // Whether settings are those of one mailbox where nothing is given.

@@ -1,11 +1,11 @@
 -- From what a run promises to what the program does.
 use Rattle.std.proofs.Common.{lit<, ◌≡◌, ◌⊎◌, ◌∙◌, ap, ℕ, Bool, true, List, inl, inr, refl, sym, subst, Option, Some, None, Result, Ok, Err, arith}
 use Rattle.std.specs.Prelude.{IfSome}
-use Rattle.house.specs.Settings.{setup_of}
+use Rattle.house.specs.Setup.{setup_of}
 use Rattle.house.specs.House.{House}
-use Rattle.house.specs.declared.config.Config.{Config}
-use Rattle.house.specs.declared.config.ConfigFault.{ConfigFault}
-use Rattle.house.specs.declared.config.ConfigFault.TheVariants as config_faults
+use Rattle.settings.specs.declared.config.Config.{Config}
+use Rattle.settings.specs.declared.config.ConfigFault.{ConfigFault}
+use Rattle.settings.specs.declared.config.ConfigFault.TheVariants as config_faults
 use Rattle.script.specs.Leaving.{IsLeft, IsLeftWanting, WritesBeginning, WritesFirst}
 use Rattle.script.specs.Promise.{WroteOnce}
 use Rattle.script.specs.Script.{ScriptLine}

@@ -1,7 +1,7 @@
 -- The exit statuses of the program.
 use Rattle.std.specs.Prelude.{ℕ}
-use Rattle.house.specs.declared.config.ConfigFault.{ConfigFault}
-use Rattle.house.specs.declared.config.ConfigFault.TheVariants as config_faults
+use Rattle.settings.specs.declared.config.ConfigFault.{ConfigFault}
+use Rattle.settings.specs.declared.config.ConfigFault.TheVariants as config_faults
 use Rattle.post_house.specs.declared.failure.Failure.{Failure}
 use Rattle.post_house.specs.declared.failure.Failure.TheVariants.{Config, Device, NoMemory, Torn}
 use Rattle.script.specs.declared.run.RunFault.{RunFault}

@@ -3,7 +3,7 @@
 ghost use Rattle.std.specs.Prelude.{◌≡◌};
 ghost use Rattle.post_house.specs.Status.{config_failure, run_failure, serve_failure, status_of};
 
-use house::ConfigFault;
+use settings::ConfigFault;
 use script::RunFault;
 use serving::ServeFault;
 use thiserror::Error;

@@ -18,9 +18,9 @@ use Rattle.shard_queue.specs.declared.lane.Entry.TheVariants.{Item}
 use Rattle.shard_queue.specs.Lane.{of}
 use Rattle.account_laws.proofs.ListLaws.{unmapped}
 use Rattle.agreement.specs.Lists.{AreTold}
-use Rattle.house.specs.Settings.{config_fault, fault_named, fault_of_numbers, names_first, words_of}
-use Rattle.house.specs.declared.config.Config.{Config}
-use Rattle.house.specs.declared.config.ConfigFault.{ConfigFault}
+use Rattle.settings.specs.Settings.{config_fault, fault_named, fault_of_numbers, names_first, words_of}
+use Rattle.settings.specs.declared.config.Config.{Config}
+use Rattle.settings.specs.declared.config.ConfigFault.{ConfigFault}
 use Rattle.lane_work.specs.Copies.{room_at}
 use Rattle.lane_work.specs.Consuming.{items_of}
 use Rattle.reckoning.proofs.Parts.{some_at}

@@ -2,7 +2,7 @@
 use Rattle.std.specs.Prelude.{◌≡◌, ◌⊎◌, ◌+◌, ◌<◌, ℕ, None, [], length, Contains, slice_index_or}
 use Rattle.delivery_token.specs.declared.CopyKey.{CopyKey}
 use Rattle.agreement.specs.Lists.{IsEachThere}
-use Rattle.house.specs.Settings.{IsInRange}
+use Rattle.settings.specs.Settings.{IsInRange}
 use Rattle.running_house.specs.Agree.{Agrees, accepted_of, replies_of, texts_of}
 use Rattle.running_house.specs.Plan.{connections_of, plan_fault, premises_for}
 use Rattle.running_house.specs.declared.plan.Plan.{Plan}

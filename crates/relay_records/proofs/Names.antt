@@ -7,8 +7,8 @@ use Rattle.envelope.specs.Directory.{Home}
 use Rattle.envelope.specs.Names.{has_length, is_name, is_name_byte}
 use Rattle.envelope.specs.declared.directory.DirectoryFault.{DirectoryFault}
 use Rattle.envelope.specs.declared.directory.DirectoryFault.TheVariants.{TooMany, BadName}
-use Rattle.house.specs.Settings.{fault_of_numbers, names_first}
-use Rattle.house.specs.declared.config.ConfigFault.{ConfigFault}
+use Rattle.settings.specs.Settings.{fault_of_numbers, names_first}
+use Rattle.settings.specs.declared.config.ConfigFault.{ConfigFault}
 use Rattle.relay_replies.proofs.Cuts.{is_inner}
 use Rattle.relay_records.specs.Laws.{SettingsAreInLine}
 

@@ -2,9 +2,10 @@
 use Rattle.std.specs.Prelude.{◌≡◌, ◌==◌, ℕ, ◌<◌, List, [], ◌++◌, Contains, false, Option, None, Some, if◌then◌else◌}
 use Rattle.delivery_token.specs.declared.Job.{Job}
 use Rattle.house.specs.Scene.{Scene, empty_scene}
-use Rattle.house.specs.Settings.{config_fault, setup_of}
+use Rattle.house.specs.Setup.{setup_of}
+use Rattle.settings.specs.Settings.{config_fault}
 use Rattle.house.specs.Setup.{Setup}
-use Rattle.house.specs.declared.config.Config.{Config}
+use Rattle.settings.specs.declared.config.Config.{Config}
 use Rattle.house.specs.declared.event.Event.{Event}
 use Rattle.house_connection.specs.Caller.{Caller}
 use Rattle.relay_replies.specs.Laws.{IsInLine}

@@ -1,7 +1,8 @@
 //! The mail in the house on one thread: each message comes whole, and all settles before the next.
 
 use crate::mail::{config_of, opening, push_message};
-use house::{ConfigFault, Event, House, HouseFault};
+use house::{Event, House, HouseFault};
+use settings::ConfigFault;
 use std::alloc::{AllocError, Global};
 use std::io::{self, Error, ErrorKind};
 

@@ -1,9 +1,9 @@
 //! The mail that is delivered: as many messages as copies, each for one of four users, and the house that it comes to.
 
 ghost use Rattle.std.specs.Prelude.{IfOk};
-ghost use Rattle.house.specs.Settings.{IsFrom, IsInRange};
+ghost use Rattle.settings.specs.Settings.{IsFrom, IsInRange};
 
-use house::Config;
+use settings::Config;
 use std::alloc::{AllocError, Global};
 
 /// The bytes of a message's data.

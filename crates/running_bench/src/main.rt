@@ -9,7 +9,7 @@ mod small;
 mod threads;
 
 ghost use Rattle.std.specs.Prelude.{◌<◌};
-ghost use Rattle.house.specs.Settings.{IsFrom};
+ghost use Rattle.settings.specs.Settings.{IsFrom};
 
 use crate::alone::{deliver_alone, pieces};
 use crate::small::{run_and_print, small_plan};

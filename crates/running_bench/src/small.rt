@@ -2,11 +2,11 @@
 //! comes and goes. No time is taken here.
 
 ghost use Rattle.std.specs.Prelude.{◌<◌, IfOk, length};
-ghost use Rattle.house.specs.Settings.{IsInRange};
+ghost use Rattle.settings.specs.Settings.{IsInRange};
 
 use crate::threads::Open;
 use delivery_token::{CopyKey, Text};
-use house::Config;
+use settings::Config;
 use house_floor::Guest;
 use running_house::{Plan, Report, run_house};
 use session_thread::Step;

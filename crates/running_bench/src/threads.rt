@@ -1,7 +1,7 @@
 //! The mail in the running house: each worker has its part of it, in connections one after another.
 
 ghost use Rattle.std.specs.Prelude.{◌<◌, IfOk, length};
-ghost use Rattle.house.specs.Settings.{IsFrom, IsInRange};
+ghost use Rattle.settings.specs.Settings.{IsFrom, IsInRange};
 
 use crate::mail::{config_of, opening, push_message};
 use pace::{Actor, Gate};

@@ -1,6 +1,7 @@
 -- The floor of a plan's house.
 use Rattle.std.proofs.Common.{map, ◌≡◌, ◌+◌, ◌∙◌, ℕ, List, [], ◌∷◌, All, replicate, length, refl, sym, ap, ap₂, subst}
 use Rattle.std.proofs.lemmas.List.Elements.{All-head, All-tail, All-weaker}
+use Rattle.settings.specs.Settings.{directory_for}
 use Rattle.delivery_token.specs.declared.Job.{Job}
 use Rattle.envelope.specs.Directory.{Directory}
 use Rattle.shard_queue.specs.declared.ends.ReplyChannel.{ReplyChannel}
@@ -8,7 +9,6 @@ use Rattle.delivery_token.specs.declared.log.Noted.{Noted}
 use Rattle.shard_queue.specs.declared.queue.ShardQueue.{ShardQueue}
 use Rattle.shard_queue.specs.Reply.{room_of, senders_of}
 use Rattle.shard_queue.specs.Permits.{capacity_of, producers_of}
-use Rattle.house.specs.Settings.{setup_of}
 use Rattle.lane_work.specs.Account.{Premises}
 use Rattle.lane_work.specs.Copies.{Room, rooms_of}
 use Rattle.house_floor.specs.Crew.{IsHouse}
@@ -31,7 +31,7 @@ same_rooms depth producers (q ∷ qs) all =
     ap₂ (λ (room : Room) (rooms : List Room). room ∷ rooms)
     (ap (λ n. let r : Room = record { producers = n; capacity = capacity_of q } in r) here.1 ∙ ap (λ n. let r : Room = record { producers = producers; capacity = n } in r) here.0) rest
 
-pub floor_for : (plan : Plan) (directory : Directory) (sizes : Sizes) (floor : Floor) → directory ≡ (setup_of plan.config).directory → AreSizesFor plan sizes → IsFloor directory sizes floor → IsFloorFor plan floor
+pub floor_for : (plan : Plan) (directory : Directory) (sizes : Sizes) (floor : Floor) → directory ≡ directory_for plan.config → AreSizesFor plan sizes → IsFloor directory sizes floor → IsFloorFor plan floor
 floor_for plan directory sizes floor same are is =
     let as_large = All-weaker (λ (q : ShardQueue Job). (capacity_of q ≡ sizes.depth) × (producers_of q ≡ sizes.producers)) (λ q. (capacity_of q ≡ plan.config.depth) × (producers_of q ≡ producers_in plan))
     (λ q h. (h.0 ∙ are.depth, h.1 ∙ are.producers)) floor.office.lanes.items is.lanes in
@@ -45,10 +45,10 @@ floor_for plan directory sizes floor same are is =
       house = subst (IsHouse floor) are.producers is.house;
       premises =
           ap (λ d. let h : Premises = record { directory = d; rooms = rooms_of floor.office.lanes.items; host = floor.office.host.items; max_message = floor.office.max_message; closings = shut } in h) (is.is ∙ same)
-          ∙ ap (λ rs. let h : Premises = record { directory = (setup_of plan.config).directory; rooms = rs; host = floor.office.host.items; max_message = floor.office.max_message; closings = shut } in h) rooms
-          ∙ ap (λ bs. let h : Premises = record { directory = (setup_of plan.config).directory; rooms = (premises_for plan).rooms; host = bs; max_message = floor.office.max_message; closings = shut } in h) (is.host ∙ are.host)
-          ∙ ap (λ n. let h : Premises = record { directory = (setup_of plan.config).directory; rooms = (premises_for plan).rooms; host = plan.config.host.items; max_message = n; closings = shut } in h) (is.max_message ∙ are.max_message)
-          ∙ ap (λ cs. let h : Premises = record { directory = (setup_of plan.config).directory; rooms = (premises_for plan).rooms; host = plan.config.host.items; max_message = plan.config.max_message; closings = cs } in h) (is.closings ∙ are.closings);
+          ∙ ap (λ rs. let h : Premises = record { directory = directory_for plan.config; rooms = rs; host = floor.office.host.items; max_message = floor.office.max_message; closings = shut } in h) rooms
+          ∙ ap (λ bs. let h : Premises = record { directory = directory_for plan.config; rooms = (premises_for plan).rooms; host = bs; max_message = floor.office.max_message; closings = shut } in h) (is.host ∙ are.host)
+          ∙ ap (λ n. let h : Premises = record { directory = directory_for plan.config; rooms = (premises_for plan).rooms; host = plan.config.host.items; max_message = n; closings = shut } in h) (is.max_message ∙ are.max_message)
+          ∙ ap (λ cs. let h : Premises = record { directory = directory_for plan.config; rooms = (premises_for plan).rooms; host = plan.config.host.items; max_message = plan.config.max_message; closings = cs } in h) (is.closings ∙ are.closings);
       mailboxes = is.mailboxes ∙ ap (λ d. length d.homes) same;
       turns = is.turns ∙ are.turns;
       lanes = as_large;

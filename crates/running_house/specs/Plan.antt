@@ -3,9 +3,9 @@ use Rattle.std.specs.Prelude.{◌≡◌, ◌⊎◌, ◌==◌, ◌+◌, ℕ, Bool
 use Rattle.std.specs.Global.{Global}
 use Rattle.std.specs.List.{list_any}
 use Rattle.envelope.specs.Directory.{Home}
-use Rattle.house.specs.Settings.{config_fault, setup_of}
-use Rattle.house.specs.declared.config.ConfigFault.{ConfigFault}
-use Rattle.house.specs.declared.config.ConfigFault.TheVariants as settings
+use Rattle.settings.specs.Settings.{config_fault, directory_for}
+use Rattle.settings.specs.declared.config.ConfigFault.{ConfigFault}
+use Rattle.settings.specs.declared.config.ConfigFault.TheVariants as settings
 use Rattle.house_floor.specs.Users.{user_numbered}
 use Rattle.house_floor.specs.declared.floor.Guest.{Guest}
 use Rattle.lane_work.specs.declared.desk.Closing.{Closing}
@@ -23,12 +23,11 @@ producers_in plan = length plan.workers.items + length plan.sessions.items
 -- what the connections of the house are told of it, and how much room its lanes have
 abbrev pub premises_for : Plan → Premises
 premises_for plan =
-    let k = setup_of plan.config in
     record {
-      directory = k.directory;
+      directory = directory_for plan.config;
       rooms = replicate plan.config.shards (record { producers = producers_in plan; capacity = plan.config.depth });
-      host = k.host;
-      max_message = k.max_message;
+      host = plan.config.host.items;
+      max_message = plan.config.max_message;
       closings = map (λ c. c.items) plan.closings.items;
     }
 
@@ -69,7 +68,7 @@ after_settings plan None =
     else if nat_lt most_producers (producers_in plan) then Some settings.TooMany
     else if are_too_many plan.config.sessions plan.sessions.items then Some settings.TooMany
     else if is_shard_missing plan.config.shards plan.closings.items then Some settings.TooMany
-    else if is_someone_missing (setup_of plan.config).directory.homes plan.sessions.items then Some settings.BadName
+    else if is_someone_missing (directory_for plan.config).homes plan.sessions.items then Some settings.BadName
     else None
 
 -- what is wrong: with the settings; that there are too many workers, producers, or sessions of one user; that a shard that is to be closed, or a session's user,

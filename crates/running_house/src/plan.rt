@@ -2,13 +2,13 @@
 
 ghost use Rattle.std.specs.Prelude.{◌≡◌, ◌≢◌, ◌<◌, ◌≤◌, All, None, IfErr, IfOk, length, nat_le};
 ghost use Rattle.std.specs.List.{list_any};
-ghost use Rattle.house.specs.Settings.{IsInRange, setup_of};
+ghost use Rattle.settings.specs.Settings.{IsInRange, directory_for};
 ghost use Rattle.house_floor.specs.Users.{user_numbered};
 ghost use Rattle.running_house.specs.Plan.{IsFaultOf, after_settings, are_too_many, is_shard_missing, count_of, is_someone_missing, most_producers, most_workers, of_config, of_reckoning, plan_fault, producers_in};
 
 use delivery_token::{CopyKey, Text, WorkerLog};
 use envelope::Directory;
-use house::{Config, ConfigFault, directory_of};
+use settings::{Config, ConfigFault, directory_of};
 use house_floor::{Guest, MOST_PRODUCERS, is_nobody};
 use lane_work::Closing;
 use reckoning::{Closes, Fault};
@@ -144,7 +144,7 @@ fn is_shard_missing(closings: &[Vec<Closing>], shards: u8) -> bool
 
 // What is wrong with the actors of a plan whose settings are right.
 fn fault_of_actors(plan: &Plan, directory: &Directory) -> Option<ConfigFault>
-    requires { directory.now ≡ (setup_of plan.now.config).directory }
+    requires { directory.now ≡ directory_for plan.now.config }
     ensures is { result ≡ after_settings plan.now None }
     ensures few { result ≡ None → (length plan.now.workers.items ≤ most_workers) × (producers_in plan.now ≤ most_producers) }
     ensures guests { result ≡ None → All (λ v. user_numbered v.user directory.now.homes ≢ None) plan.now.sessions.items }
@@ -178,7 +178,7 @@ pub(crate) fn directory_for(alloc: Global, plan: &Plan) -> Result<Directory, Wor
     requires range { IsInRange plan.now.config }
 
     // Without an error nothing is wrong with the plan, and the directory is that of its settings.
-    ensures directory { IfOk result (λ d. d ≡ (setup_of plan.now.config).directory) }
+    ensures directory { IfOk result (λ d. d ≡ directory_for plan.now.config) }
     ensures host { IfOk result (λ d. length plan.now.config.host.items < 256) }
     ensures right { IfOk result (λ d. plan_fault plan.now ≡ None) }
     ensures few { IfOk result (λ d. (length plan.now.workers.items ≤ most_workers) × (producers_in plan.now ≤ most_producers)) }

@@ -8,7 +8,7 @@ ghost use Rattle.running_house.specs.inner.Refusals.{HasKey};
 
 use delivery_token::{CopyKey, Job, Noted, Refusal, Verdict, WorkerLog, precedes};
 use envelope::Directory;
-use house::Config;
+use settings::Config;
 use shard_queue::Entry;
 
 /// What the refusals of a run are compared with.

@@ -20,7 +20,7 @@ use crate::plan::{Plan, Report, WorkFault};
 use crate::refusals::{Evidence, all_may_come};
 use agreement::lists_agree;
 use envelope::Directory;
-use house::Config;
+use settings::Config;
 use house_floor::{Baskets, Floor};
 use house_threads::Ran;
 use mailbox::Mailbox;

@@ -1,7 +1,7 @@
 //! The whole run: made, run and compared, in this order.
 
 ghost use Rattle.std.specs.Prelude.{◌≡◌, ◌<◌, ◌≤◌, None, IfErr, IfOk, length};
-ghost use Rattle.house.specs.Settings.{IsInRange};
+ghost use Rattle.settings.specs.Settings.{IsInRange};
 ghost use Rattle.running_house.specs.Agree.{Agrees};
 ghost use Rattle.running_house.specs.inner.Agree.{AreSizesFor};
 ghost use Rattle.running_house.specs.Plan.{IsFault, most_producers, plan_fault, producers_in};

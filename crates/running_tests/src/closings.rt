@@ -6,7 +6,7 @@ use crate::plans::{add_worker, message_for, plan_of};
 use crate::reports::{REPLIES, TEXT, has_accepted, has_text};
 use crate::runs::{Stopped, run};
 use delivery_token::CopyKey;
-use house::ConfigFault;
+use settings::ConfigFault;
 use lane_work::Closing;
 use running_house::{Plan, Report, WorkFault};
 use std::alloc::{AllocError, Global};

@@ -3,7 +3,7 @@
 use crate::gates::Turnstile;
 use crate::plans::{add_idle_session, add_idle_workers, plan_of};
 use crate::runs::{Stopped, outcome};
-use house::ConfigFault;
+use settings::ConfigFault;
 use running_house::{Plan, WorkFault};
 use std::alloc::{AllocError, Global};
 use std::sync::Wait;

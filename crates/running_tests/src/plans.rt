@@ -1,6 +1,6 @@
 //! Plans that are run: what peers send, which mailboxes there are, and what sessions do.
 
-use house::Config;
+use settings::Config;
 use house_floor::Guest;
 use running_house::Plan;
 use session_thread::Step;

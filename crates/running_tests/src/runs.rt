@@ -1,7 +1,7 @@
 //! Runs of plans that may be run: a plan whose settings are out of their ranges, or that has no worker, is not.
 
 ghost use Rattle.std.specs.Prelude.{◌≡◌, ◌<◌, true, length};
-ghost use Rattle.house.specs.Settings.{IsInRange};
+ghost use Rattle.settings.specs.Settings.{IsInRange};
 
 use pace::Gate;
 use running_house::{Plan, Report, WorkFault, run_house};

@@ -1,6 +1,6 @@
 -- How faults of the settings are told by a server.
-use Rattle.house.specs.declared.config.ConfigFault.{ConfigFault}
-use Rattle.house.specs.declared.config.ConfigFault.TheVariants as settings
+use Rattle.settings.specs.declared.config.ConfigFault.{ConfigFault}
+use Rattle.settings.specs.declared.config.ConfigFault.TheVariants as settings
 use Rattle.serving.specs.declared.fault.ServeFault.{ServeFault}
 use Rattle.serving.specs.declared.fault.ServeFault.TheVariants.{Config, NoMemory}
 

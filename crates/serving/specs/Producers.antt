@@ -1,14 +1,14 @@
 -- Who brings mail to a server, and what may be wrong with its settings beside what a house has against them.
 use Rattle.std.specs.Prelude.{ℕ, ◌+◌, ◌*◌, length, nat_lt, Option, Some, None, if◌then◌else◌}
-use Rattle.house.specs.Settings.{config_fault, setup_of}
-use Rattle.house.specs.declared.config.Config.{Config}
-use Rattle.house.specs.declared.config.ConfigFault.{ConfigFault}
-use Rattle.house.specs.declared.config.ConfigFault.TheVariants as settings
+use Rattle.settings.specs.Settings.{config_fault, directory_for}
+use Rattle.settings.specs.declared.config.Config.{Config}
+use Rattle.settings.specs.declared.config.ConfigFault.{ConfigFault}
+use Rattle.settings.specs.declared.config.ConfigFault.TheVariants as settings
 use Rattle.serving.specs.Announcing.{users_of}
 
 -- the berths of sessions: for each user so many as may be open at a time
 abbrev pub berths_in : Config → ℕ
-berths_in c = c.sessions * length (users_of (setup_of c).directory.homes)
+berths_in c = c.sessions * length (users_of (directory_for c).homes)
 
 -- each worker, and each berth, whose clients may append messages
 abbrev pub producers_in : Config → ℕ

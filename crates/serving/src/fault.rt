@@ -4,7 +4,7 @@ ghost use Rattle.std.specs.Prelude.{◌≡◌};
 ghost use Rattle.serving.specs.Faults.{of_config};
 ghost use Rattle.serving.specs.inner.Faults.{IsOfSocket};
 
-use house::ConfigFault;
+use settings::ConfigFault;
 use std::alloc::AllocError;
 use std::io;
 use thiserror::Error;

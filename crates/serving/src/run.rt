@@ -4,7 +4,7 @@
 ghost use Rattle.std.specs.Prelude.{ℕ, ◌≡◌, ◌≢◌, ◌≤◌, ◌<◌, ◌+◌, All, Err, None, Ok, OnOk, Option, Some, IfOk, [], false, true, length, map, take, vec_len, vec_capacity};
 ghost use Rattle.std.specs.Io.KnownBytes.{Appends};
 ghost use Rattle.std.specs.List.{list_all};
-ghost use Rattle.house.specs.declared.config.ConfigFault.{ConfigFault};
+ghost use Rattle.settings.specs.declared.config.ConfigFault.{ConfigFault};
 ghost use Rattle.house_threads.specs.Crew.{IsPostLeft, IsStandLeft};
 ghost use Rattle.std.specs.Mem.{manually_drop_value};
 ghost use Rattle.std.specs.Thread.{IsSync};

@@ -2,10 +2,10 @@
 
 ghost use Rattle.std.specs.Prelude.{ℕ, ◌≡◌, ◌≢◌, ◌≤◌, ◌<◌, ◌+◌, ◌⊎◌, All, Err, IfErr, IfOk, None, OnOk, Some, false, length, take, vec_len};
 ghost use Rattle.std.specs.Io.KnownBytes.{Appends};
-ghost use Rattle.house.specs.Settings.{IsInRange, setup_of};
+ghost use Rattle.settings.specs.Settings.{IsInRange, directory_for};
 ghost use Rattle.serving.specs.Producers.{server_fault};
 ghost use Rattle.mailbox.specs.declared.history.History.{History};
-ghost use Rattle.house.specs.declared.config.ConfigFault.{ConfigFault};
+ghost use Rattle.settings.specs.declared.config.ConfigFault.{ConfigFault};
 ghost use Rattle.serving.specs.Announcing.{announcement, users_of};
 ghost use Rattle.serving.specs.inner.Faults.{IsOfSettings, IsOfSocket};
 ghost use Rattle.house_floor.specs.Users.{user_numbered};
@@ -16,7 +16,7 @@ use crate::fault::ServeFault;
 use crate::run::run_house_in;
 use crate::sockets::{Sockets, open_sockets};
 use envelope::Directory;
-use house::{Config, ConfigFault, directory_of};
+use settings::{Config, ConfigFault, directory_of};
 use house_floor::{Guest, MOST_PRODUCERS, Opened, Sizes, open};
 use line_io::Sink;
 use mailbox::{History, Limits};
@@ -74,7 +74,7 @@ struct Layout {
 // What these settings lay out. Errors: `Config` of their first fault, and `NoMemory`.
 fn lay_out(alloc: Global, config: &Config) -> Result<Layout, ServeFault>
     requires range { IsInRange config.now }
-    ensures directory { IfOk result (λ l. l.directory ≡ (setup_of config.now).directory) }
+    ensures directory { IfOk result (λ l. l.directory ≡ directory_for config.now) }
     ensures host { IfOk result (λ l. length config.now.host.items < 256) }
     ensures named { IfOk result (λ l. All (λ v. user_numbered v.user l.directory.homes ≢ None) l.guests.items) }
     ensures few { IfOk result (λ l. config.now.workers + vec_len l.guests ≤ 255) }
@@ -166,9 +166,9 @@ pub fn serve<
 
     // Nothing but a beginning of the lines was written, and all of them where it served.
     ensures told { (n : ℕ) × Appends (W.taken output.old) (W.taken output.new)
-        (take n (announcement config.now.lmtp_port config.now.imap_port (setup_of config.now).directory.homes uidvalidity)) }
+        (take n (announcement config.now.lmtp_port config.now.imap_port (directory_for config.now).homes uidvalidity)) }
     ensures all { OnOk result (Appends (W.taken output.old) (W.taken output.new)
-        (announcement config.now.lmtp_port config.now.imap_port (setup_of config.now).directory.homes uidvalidity)) }
+        (announcement config.now.lmtp_port config.now.imap_port (directory_for config.now).homes uidvalidity)) }
 {
     let Layout { directory, guests } = lay_out(alloc, config)?;
     let Listeners { sockets, lines } = listen(rt, alloc, config, &directory, uidvalidity)?;

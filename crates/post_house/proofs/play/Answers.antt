@@ -1,4 +1,5 @@
-use Rattle.house.specs.Settings.{config_fault, setup_of}
+use Rattle.house.specs.Setup.{setup_of}
+use Rattle.settings.specs.Settings.{config_fault}
 use Rattle.house.specs.declared.house.House.{House}
 use Rattle.script.specs.Script.{script_of}
 use Rattle.post_house.proofs.Playing.{failed_played, fault_named, unplayed}

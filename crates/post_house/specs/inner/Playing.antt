@@ -1,10 +1,11 @@
 -- What the program does with a script, and as a server, by how it went.
 use Rattle.std.specs.Prelude.{◌≡◌, ℕ, ◌⊎◌, Bool, true, List, [], Option, Some, None, Result, Ok, Err, OnOk, take}
 use Rattle.std.specs.Io.KnownBytes.{Appends}
-use Rattle.house.specs.Settings.{config_fault, setup_of}
+use Rattle.house.specs.Setup.{setup_of}
+use Rattle.settings.specs.Settings.{config_fault}
 use Rattle.house.specs.House.{House}
-use Rattle.house.specs.declared.config.Config.{Config}
-use Rattle.house.specs.declared.config.ConfigFault.{ConfigFault}
+use Rattle.settings.specs.declared.config.Config.{Config}
+use Rattle.settings.specs.declared.config.ConfigFault.{ConfigFault}
 use Rattle.clap.specs.Words.{Text}
 use Rattle.command_line.specs.Asking.{AsksFor, IsAskedInRange}
 use Rattle.command_line.specs.Words.{faults_at}

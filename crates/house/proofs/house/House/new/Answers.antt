@@ -2,7 +2,8 @@ use Rattle.std.proofs.Common.{◌≡◌, ℕ, length, map, replicate, ap, ◌∙
 use Rattle.std.proofs.lemmas.List.{length-map}
 use Rattle.envelope.specs.Directory.{Directory}
 use Rattle.envelope.specs.Names.{home_of}
-use Rattle.house.specs.Settings.{setup_of, words_of}
+use Rattle.house.specs.Setup.{setup_of}
+use Rattle.settings.specs.Settings.{words_of}
 use Rattle.house.proofs.NewHouse.{new_house}
 use Rattle.house.proofs.house.House.new.Goals as goal
 

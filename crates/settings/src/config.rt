@@ -2,7 +2,7 @@
 
 ghost use Rattle.std.specs.Prelude.{◌≡◌, ◌<◌, IfOk, length, map, true, false};
 ghost use Rattle.envelope.specs.Names.{texts};
-ghost use Rattle.house.specs.Settings.{IsDefault, IsFrom, IsInRange, fault_named};
+ghost use Rattle.settings.specs.Settings.{IsDefault, IsFrom, IsInRange, fault_named};
 
 use crate::numbers;
 use envelope::DirectoryFault;
@@ -69,7 +69,7 @@ pub enum ConfigFault {
 }
 
 impl From<AllocError> for ConfigFault {
-    ghost use Rattle.house.specs.declared.config.ConfigFault.{ConfigFault};
+    ghost use Rattle.settings.specs.declared.config.ConfigFault.{ConfigFault};
 
     ghost from_gives = { λ _ fault. fault ≡ ConfigFault.NoMemory };
 

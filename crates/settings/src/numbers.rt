@@ -2,7 +2,7 @@
 //! both from here. What the numbers are for is told in `config`.
 
 ghost use Rattle.std.specs.Prelude.{◌≡◌, true, false};
-ghost use Rattle.house.specs.Settings.{IsFrom};
+ghost use Rattle.settings.specs.Settings.{IsFrom};
 
 /// A number among the settings.
 #[derive(Clone, Copy, Debug, PartialEq, Eq)]

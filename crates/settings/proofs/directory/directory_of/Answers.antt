@@ -1,7 +1,7 @@
 use Rattle.std.proofs.Common.{◌∷◌, []}
-use Rattle.house.specs.Settings.{words_of}
-use Rattle.house.proofs.NewHouse.{read_homes, directory_is}
-use Rattle.house.proofs.make.directory_of.Goals as goal
+use Rattle.settings.specs.Settings.{words_of}
+use Rattle.settings.proofs.Directories.{read_homes, directory_is}
+use Rattle.settings.proofs.directory.directory_of.Goals as goal
 
 pub returns-in-None-clause-directory : goal.returns-in-None-clause-directory
 returns-in-None-clause-directory c =

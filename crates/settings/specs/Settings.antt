@@ -1,22 +1,13 @@
--- The settings of a house: those that stand where none are given, their ranges, what may be wrong with them, and what they settle.
-use Rattle.std.specs.Prelude.{◌≡◌, ℕ, ◌+◌, ◌*◌, ◌<◌, ◌≤◌, ◌==◌, ◌&&◌, ◌||◌, not, Bool, nat_lt, max, List, [], ◌∷◌, length, map, count_by, codes, Option, Some, None, Result, Ok, Err, if◌then◌else◌}
+-- The settings of a house: those that stand where none are given, their ranges, what may be wrong with them, and the directory of their mailboxes.
+use Rattle.std.specs.Prelude.{◌≡◌, ℕ, ◌+◌, ◌*◌, ◌<◌, ◌≤◌, ◌==◌, ◌&&◌, ◌||◌, not, Bool, nat_lt, List, [], ◌∷◌, length, map, count_by, codes, Option, Some, None, Result, Ok, Err, if◌then◌else◌}
 use Rattle.std.specs.List.{list_any}
-use Rattle.envelope.specs.Directory.{Home, none_shut}
+use Rattle.envelope.specs.Directory.{Directory, Home, none_shut}
 use Rattle.envelope.specs.Names.{home_of, words_read}
 use Rattle.envelope.specs.declared.directory.DirectoryFault.{DirectoryFault}
 use Rattle.envelope.specs.declared.directory.DirectoryFault.TheVariants as names
-use Rattle.house.specs.declared.config.Config.{Config}
-use Rattle.house.specs.declared.config.ConfigFault.{ConfigFault}
-use Rattle.house.specs.declared.config.ConfigFault.TheVariants.{TooMany, BadName, Twice, Ring, Ports, NoMemory}
-use Rattle.house.specs.Setup.{Setup}
-
--- so many connections may stand at a time
-abbrev pub connection_seats : ℕ
-connection_seats = 8
-
--- and so many sessions, each at its place
-abbrev pub places : ℕ
-places = 8
+use Rattle.settings.specs.declared.config.Config.{Config}
+use Rattle.settings.specs.declared.config.ConfigFault.{ConfigFault}
+use Rattle.settings.specs.declared.config.ConfigFault.TheVariants.{TooMany, BadName, Twice, Ring, Ports, NoMemory}
 
 -- the words of the mailboxes
 abbrev pub words_of : Config → List (List ℕ)
@@ -97,24 +88,8 @@ names_first (Ok homes) later = later
 abbrev pub config_fault : Config → Option ConfigFault
 config_fault c = names_first (words_read (c.host.items ∷ c.domain.items ∷ []) (words_of c)) (fault_of_numbers c)
 
--- ---- what the settings settle
+-- ---- the directory
 
-abbrev pub setup_of : Config → Setup
-setup_of c = record {
-  config = record {
-    seats = connection_seats + places;
-    shards = c.shards;
-    mailboxes = length (words_of c);
-    sessions = places;
-    depth = c.depth;
-    messages = c.messages;
-    ring = c.ring;
-    ring_max = max c.ring c.ring_max;
-    first_uid = c.first_uid;
-    uidvalidity = c.uidvalidity;
-  };
-  connections = connection_seats;
-  directory = record { domains = c.domain.items ∷ []; homes = map home_of (words_of c); shards = c.shards; shut = none_shut c.shards };
-  host = c.host.items;
-  max_message = c.max_message;
-}
+-- the directory that the settings settle: their domain, a mailbox for each word, and no shard shut
+abbrev pub directory_for : Config → Directory
+directory_for c = record { domains = c.domain.items ∷ []; homes = map home_of (words_of c); shards = c.shards; shut = none_shut c.shards }
