@@ -1,4 +1,5 @@
 pub mod Users
 pub mod Crew
 pub mod Opening
+pub mod Left
 pub mod inner

@@ -8,11 +8,13 @@ mod dealing;
 mod fittings;
 mod floor;
 mod joining;
+mod left;
 mod opening;
 mod stock;
 mod users;
 
 pub use floor::{Crew, Floor, Guest, Post, Stand};
+pub use left::{Ran, Started, most_of};
 pub use opening::{Baskets, MOST_PRODUCERS, Opened, Sizes, open};
 pub use stock::Spares;
 pub use users::{inbox_numbered, is_nobody};

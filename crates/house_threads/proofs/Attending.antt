@@ -21,7 +21,7 @@ use Rattle.shard_queue.specs.Reply.{received}
 use Rattle.lane_work.specs.Permits.{put_by}
 use Rattle.shard_queue.specs.Shared.{IsStartOf}
 use Rattle.shard_queue.specs.declared.lane.Entry.{Entry}
-use Rattle.house_threads.specs.Crew.{SessionAccount, most_of}
+use Rattle.house_floor.specs.Left.{SessionAccount, most_of}
 use Rattle.house_threads.specs.inner.Crew.{HasLived}
 
 -- books of the same desk, by its own number and serial

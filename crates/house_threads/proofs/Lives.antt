@@ -1,7 +1,6 @@
 -- A life that was led with what lies at one's own position.
 use Rattle.std.proofs.Common.{◌≡◌, ◌<◌, ◌∙◌, ℕ, arith, sym, ap, subst, List, [], All, Option, None, Some, IfSome, Vec, map, length, slice_get, slice_index_or}
 use Rattle.std.specs.Global.{Global}
-use Rattle.std.proofs.lemmas.Option.{get_or_from_slice_get, slice_get-get_or}
 use Rattle.delivery_token.specs.declared.Job.{Job}
 use Rattle.delivery_token.specs.declared.log.Noted.{Noted}
 use Rattle.shard_queue.specs.declared.lane.Entry.{Entry}
@@ -20,16 +19,9 @@ use Rattle.shard_queue.specs.Permits.{said}
 use Rattle.shard_queue.specs.declared.reply.ReceiverPermit.{ReceiverPermit}
 use Rattle.house_floor.specs.declared.floor.Guest.{Guest}
 use Rattle.lane_work.specs.Consuming.{IsConsumed}
-use Rattle.envelope.specs.Directory.{Home}
-use Rattle.house_floor.specs.Users.{user_numbered}
 use Rattle.house_floor.specs.declared.floor.Floor.{Floor}
-use Rattle.house_threads.specs.Crew.{IsProduceOf, IsServiceOf, Plans}
-
-pub here_at : {A : Type 0} (xs : List A) (i n : ℕ) (d : A) → i ≡ n → n < length xs → slice_get xs n ≡ Some (slice_index_or xs i d)
-here_at xs i n d same under = slice_get-get_or xs n d under ∙ ap (λ k. Some (slice_index_or xs k d)) (sym same)
-
-pub found_at : {A : Type 0} (xs : List A) (i n : ℕ) (d x : A) → i ≡ n → slice_get xs n ≡ Some x → slice_index_or xs i d ≡ x
-found_at xs i n d x same is = ap (λ k. slice_index_or xs k d) same ∙ get_or_from_slice_get xs n x d is
+use Rattle.house_floor.specs.Left.{IsProduceOf, IsServiceOf, Plans}
+use Rattle.house_floor.proofs.Finding.{found_at}
 
 -- what a worker at its position left
 pub work_of : (floor : Floor) (plans : Plans) (guests : List Guest) (i n number : ℕ) (c : ReplyChannel Noted) (p : Vec (Vec ℕ Global) Global) (bytes : List (Vec ℕ Global)) (w : Worked)
@@ -76,13 +68,3 @@ service_of floor i n shard q before c r same of is fresh consumed = record {
         (subst (λ (x : ℕ). IsConsumed (slice_index_or floor.office.lanes.items i q) floor.depot x before c) of consumed)),
   );
 }
-
--- the user of an INBOX is the user of that number
-pub user_named : (homes : List Home) (inbox n : ℕ) (name : List ℕ) → inbox < length homes
-    → IfSome (slice_get homes inbox) (λ home. user_numbered n homes ≡ Some home.user) → IfSome (slice_get homes inbox) (λ home. name ≡ home.user) → user_numbered n homes ≡ Some name
-user_named homes inbox n name under numbered named =
-    let nobody : Home = record { user = []; folder = None } in
-    let at = slice_get-get_or homes inbox nobody under in
-    let a = subst (λ (o : Option Home). IfSome o (λ home. user_numbered n homes ≡ Some home.user)) at numbered in
-    let b = subst (λ (o : Option Home). IfSome o (λ home. name ≡ home.user)) at named in
-    a ∙ ap (λ (u : List ℕ). Some u) (sym b)

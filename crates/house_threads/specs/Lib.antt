@@ -1,2 +1,1 @@
-pub mod Crew
 pub mod inner

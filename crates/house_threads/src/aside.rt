@@ -8,7 +8,7 @@ ghost use Rattle.shard_queue.specs.Reply.{sent_on};
 ghost use Rattle.shard_queue.specs.Permits.{IsConsumer, got};
 ghost use Rattle.lane_work.specs.Consuming.{IsConsumed};
 ghost use Rattle.lane_work.specs.Permits.{AreEnded, ArePermits, AreSenders};
-ghost use Rattle.house_threads.specs.Crew.{IsPostLeft};
+ghost use Rattle.house_floor.specs.Left.{IsPostLeft};
 
 use delivery_token::WorkerLog;
 use house_floor::{Post, Stand};

@@ -3,7 +3,7 @@
 ghost use Rattle.std.specs.Prelude.{ℕ, ◌≡◌, ◌≤◌, ◌<◌, [], length, vec_len, vec_capacity};
 ghost use Rattle.std.specs.Mem.{manually_drop_value};
 ghost use Rattle.house_floor.specs.Crew.{AllAt, IsStand};
-ghost use Rattle.house_threads.specs.Crew.{IsServiceOf};
+ghost use Rattle.house_floor.specs.Left.{IsServiceOf};
 ghost use Rattle.house_threads.specs.inner.Crew.{IsKept};
 
 use crate::aside::step_aside;
@@ -28,7 +28,7 @@ pub struct Serves<'a> {
 
 impl<'a> Promise<ManuallyDrop<Consumed>> for Serves<'a> {
     ghost use Rattle.std.specs.Mem.{manually_drop_value};
-    ghost use Rattle.house_threads.specs.Crew.{IsServiceOf};
+    ghost use Rattle.house_floor.specs.Left.{IsServiceOf};
 
     ghost kept_by = { λ p r. IsServiceOf p.floor.now p.shard (manually_drop_value r) };
 }

@@ -12,5 +12,4 @@ mod sessions;
 
 pub use consumers::Serves;
 pub use producers::Produces;
-pub use run::{Ran, Started, run_threads};
-pub use sessions::most_of;
+pub use run::run_threads;

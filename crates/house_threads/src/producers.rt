@@ -4,7 +4,7 @@
 ghost use Rattle.std.specs.Prelude.{ℕ, ◌≡◌, ◌≤◌, ◌<◌, ◌+◌, [], length, vec_len, vec_capacity};
 ghost use Rattle.std.specs.Mem.{manually_drop_value};
 ghost use Rattle.house_floor.specs.Crew.{AllAt, AreGuests, IsHouse, IsPost};
-ghost use Rattle.house_threads.specs.Crew.{IsProduceOf};
+ghost use Rattle.house_floor.specs.Left.{IsProduceOf};
 ghost use Rattle.house_threads.specs.inner.Crew.{IsHired};
 
 use crate::aside::stand_down;
@@ -35,7 +35,7 @@ pub struct Produces<'a> {
 
 impl<'a> Promise<ManuallyDrop<Worked>> for Produces<'a> {
     ghost use Rattle.std.specs.Mem.{manually_drop_value};
-    ghost use Rattle.house_threads.specs.Crew.{IsProduceOf};
+    ghost use Rattle.house_floor.specs.Left.{IsProduceOf};
 
     ghost kept_by = { λ p r. IsProduceOf p.floor.now p.plans.now p.guests.now p.number (manually_drop_value r) };
 }

@@ -6,13 +6,13 @@ ghost use Rattle.std.specs.Mem.{manually_drop_value};
 ghost use Rattle.std.specs.Thread.{IsSync};
 ghost use Rattle.house_floor.specs.Crew.{AllAt, AreGuests, IsCrew, IsHouse, IsPost};
 ghost use Rattle.house_floor.specs.declared.floor.Floor.{Floor};
-ghost use Rattle.house_threads.specs.Crew.{IsPostLeft, IsProduceOf, IsServiceOf, IsSpendable, LeavesAll};
+ghost use Rattle.house_floor.specs.Left.{IsPostLeft, IsProduceOf, IsServiceOf, IsSpendable, LeavesAll};
 
 use crate::aside::end_first;
 use crate::consumers::{Kept, join_consumers, start_consumers};
 use crate::parcels::{Manned, packed};
 use crate::producers::{Hired, actor_of, join_producers, start_producers};
-use house_floor::{Crew, Floor, Guest, Post, Stand};
+use house_floor::{Crew, Floor, Guest, Post, Ran, Stand, Started};
 use lane_work::{Consumed, Worked};
 use pace::{Gate, Pace};
 use std::alloc::{AllocError, Global};
@@ -21,28 +21,6 @@ use std::sync::Wait;
 use std::sync::atomic::AtomicU64;
 use std::thread;
 use std::thread::Threads;
-
-/// How the threads were started.
-#[derive(Clone, Copy, Debug, PartialEq, Eq)]
-pub enum Started {
-    /// Each has had its thread.
-    All,
-    /// A thread could not be made.
-    Spawn,
-    /// There was no memory to note the threads in: none was started.
-    NoMemory,
-}
-
-/// What the threads left, and what was never handed to one: consumers' stands, and producers' posts,
-/// which may have ended their permits on some lanes.
-pub struct Ran {
-    /// What the workers left, and behind them the sessions.
-    pub worked: Vec<Worked>,
-    pub consumed: Vec<Consumed>,
-    pub stands: Vec<Stand>,
-    pub posts: Vec<Post>,
-    pub started: Started,
-}
 
 // No producer is to begin: ends their permits on the lanes whose consumers run.
 fn end_posts<R: Wait, G: Gate>(

@@ -6,7 +6,6 @@ ghost use Rattle.courier.specs.Carried.{Carried};
 ghost use Rattle.shard_queue.specs.Reply.{IsReceiver};
 ghost use Rattle.house_floor.specs.Crew.{IsHouse, IsPost};
 ghost use Rattle.house_floor.specs.Users.{user_numbered};
-ghost use Rattle.house_threads.specs.Crew.{most_of};
 ghost use Rattle.lane_work.specs.Account.{notes_tell};
 ghost use Rattle.lane_work.specs.Awaiting.{HearsItsOwn};
 ghost use Rattle.lane_work.specs.Couriers.{HasCarried, IsReady, IsSameDesk};
@@ -15,25 +14,13 @@ ghost use Rattle.house_threads.specs.inner.Crew.{HasLived, IsAttended};
 use courier::Lost;
 use crossbeam_utils::sync::Unparker;
 use delivery_token::{Noted, WorkerLog};
-use house_floor::{Floor, Guest, Post, inbox_numbered};
+use house_floor::{Floor, Guest, Post, inbox_numbered, most_of};
 use house_session::folders_of;
 use lane_work::{Fate, LaneCourier, Worked, finish};
 use pace::Gate;
 use session_thread::{LockedStore, live};
 use shard_queue::ReplyChannel;
 use std::sync::Wait;
-
-/// The most bytes of a message that a session's client may append: as many as one that a worker takes may have, as far as a session
-/// counts.
-pub fn most_of(max_message: usize) -> u32
-    ensures { result ≡ most_of max_message }
-{
-    if max_message > u32::MAX as usize {
-        u32::MAX
-    } else {
-        max_message as u32
-    }
-}
 
 // The session of the user with this name makes its steps. What it said is laid into `replies`, which is empty, unless memory is
 // refused before it begins.

@@ -11,7 +11,7 @@ use Rattle.lane_permits.specs.ChannelPermits.{AreReceivers, AreSenderEndedHands}
 use Rattle.house_floor.specs.Crew.{AllAt}
 use Rattle.house_floor.specs.declared.floor.Floor.{Floor}
 use Rattle.house_floor.specs.declared.floor.Guest.{Guest}
-use Rattle.house_threads.specs.Crew.{IsProduceOf, IsServiceOf, Plans}
+use Rattle.house_floor.specs.Left.{IsProduceOf, IsServiceOf, Plans}
 
 -- an element at each position below the end
 pub some_at : {A : Type 0} (xs : List A) (n : ℕ) → n < length xs → (x : A) × (slice_get xs n ≡ Some x)

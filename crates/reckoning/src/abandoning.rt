@@ -3,13 +3,12 @@
 
 ghost use Rattle.std.specs.Prelude.{◌≡◌, ◌<◌, ◌≤◌, ◌+◌, [], All, length, sum_by, vec_len, vec_capacity};
 ghost use Rattle.house_floor.specs.Opening.{AreBaskets};
-ghost use Rattle.house_threads.specs.Crew.{IsSpendable};
+ghost use Rattle.house_floor.specs.Left.{IsSpendable};
 ghost use Rattle.reckoning.specs.inner.Spending.{HasGrown, HasGrownAtMost};
 
 use crate::remains::{Remains, remains_of};
 use delivery_token::{Job, Noted};
-use house_floor::{Baskets, Floor, Post, Spares, Stand};
-use house_threads::Ran;
+use house_floor::{Baskets, Floor, Post, Ran, Spares, Stand};
 use lane_permits::spend_lists;
 use lane_work::{Consumed, Desk, LanePermit, Stall, Worked};
 use shard_queue::{

@@ -16,7 +16,7 @@ use Rattle.house_floor.specs.Opening.{IsFloor, reply_room}
 use Rattle.house_floor.specs.declared.floor.Floor.{Floor}
 use Rattle.house_floor.specs.declared.floor.Guest.{Guest}
 use Rattle.house_floor.specs.declared.opening.Sizes.{Sizes}
-use Rattle.house_threads.specs.Crew.{Plans}
+use Rattle.house_floor.specs.Left.{Plans}
 use Rattle.running_house.specs.inner.Agree.{AreSizesFor, IsFloorFor}
 use Rattle.running_house.specs.Plan.{premises_for, producers_in}
 use Rattle.running_house.specs.declared.plan.Plan.{Plan}

@@ -26,7 +26,7 @@ use Rattle.house_floor.specs.Crew.{AllAt}
 use Rattle.house_floor.specs.Opening.{reply_room}
 use Rattle.house_floor.specs.declared.floor.Floor.{Floor}
 use Rattle.house_floor.specs.declared.floor.Guest.{Guest}
-use Rattle.house_threads.specs.Crew.{IsProduceOf, IsServiceOf, SessionAccount}
+use Rattle.house_floor.specs.Left.{IsProduceOf, IsServiceOf, SessionAccount}
 use Rattle.reckoning.specs.Balancing.{IsBalanced}
 use Rattle.reckoning.specs.declared.balancing.Books.{Books}
 use Rattle.reckoning.proofs.Accounts.{account_of, all_taken, answers_of, only_of, mapped_at, session_account_of}

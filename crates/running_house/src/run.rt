@@ -8,8 +8,8 @@ ghost use Rattle.running_house.specs.Plan.{IsFault, most_producers, plan_fault, 
 
 use crate::plan::{Plan, Report, WorkFault, directory_for};
 use crate::report::report_of;
-use house_floor::{Opened, Sizes, open};
-use house_threads::{Started, run_threads};
+use house_floor::{Opened, Sizes, Started, open};
+use house_threads::run_threads;
 use mailbox::{History, Limits};
 use pace::Gate;
 use reckoning::abandon;

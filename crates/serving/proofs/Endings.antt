@@ -34,7 +34,7 @@ use Rattle.clerks.specs.Staff.{IsService}
 use Rattle.clerks.specs.declared.staff.Dismissed.{Dismissed}
 use Rattle.house_floor.specs.Crew.{AllAt}
 use Rattle.house_floor.specs.declared.floor.Floor.{Floor}
-use Rattle.house_threads.specs.Crew.{IsServiceOf}
+use Rattle.house_floor.specs.Left.{IsServiceOf}
 use Rattle.reckoning.proofs.Accounts.{answers_of, at_position, in_at}
 use Rattle.reckoning.proofs.Parts.{some_at}
 use Rattle.reckoning.specs.declared.balancing.Closes.{Closes}

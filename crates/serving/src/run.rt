@@ -5,7 +5,7 @@ ghost use Rattle.std.specs.Prelude.{ℕ, ◌≡◌, ◌≢◌, ◌≤◌, ◌<�
 ghost use Rattle.std.specs.Io.KnownBytes.{Appends};
 ghost use Rattle.std.specs.List.{list_all};
 ghost use Rattle.settings.specs.declared.config.ConfigFault.{ConfigFault};
-ghost use Rattle.house_threads.specs.Crew.{IsPostLeft, IsStandLeft};
+ghost use Rattle.house_floor.specs.Left.{IsPostLeft, IsStandLeft};
 ghost use Rattle.std.specs.Mem.{manually_drop_value};
 ghost use Rattle.std.specs.Thread.{IsSync};
 ghost use Rattle.house_floor.specs.Crew.{AllAt, IsCrew, IsHouse, IsPost};
@@ -24,8 +24,7 @@ use crate::sockets::Sockets;
 use crate::stopping::{await_end, stop_all};
 use clerks::{Hall, Staff, Unhindered, dismiss_all, hire_all, stand_down};
 use delivery_token::Noted;
-use house_floor::{Baskets, Crew, Floor, Guest, Post, Stand};
-use house_threads::{Ran, Started};
+use house_floor::{Baskets, Crew, Floor, Guest, Post, Ran, Stand, Started};
 use lane_work::{Consumed, Worked};
 use line_io::Sink;
 use reckoning::{Closes, abandon};

@@ -10,7 +10,7 @@ use Rattle.serving_workers.specs.declared.accepting.Served.{Served}
 use Rattle.shard_queue.specs.Permits.{said}
 use Rattle.lane_work.specs.Speaking.{premises_of}
 use Rattle.serving_workers.specs.Leaving.{HasServedClients, HasServedMail, IsServed}
-use Rattle.house_threads.proofs.Lives.{found_at}
+use Rattle.house_floor.proofs.Finding.{found_at}
 
 pub here_at : {A : Type 0} (xs : List A) (i n : ℕ) (d : A) → i ≡ n → n < length xs → slice_get xs n ≡ Some (slice_index_or xs i d)
 here_at xs i n d same under = slice_get-get_or xs n d under ∙ ap (λ k. Some (slice_index_or xs k d)) (sym same)

@@ -23,7 +23,7 @@ use Rattle.lane_work.specs.Speaking.{premises_of}
 use Rattle.shard_queue.specs.declared.ends.ReplyChannel.{ReplyChannel}
 use Rattle.shard_queue.specs.Reply.{IsReceiver, received}
 use Rattle.shard_queue.specs.Permits.{said}
-use Rattle.house_threads.specs.Crew.{Plans, IsProduceOf, IsServiceOf, SessionAccount, most_of}
+use Rattle.house_floor.specs.Left.{Plans, IsProduceOf, IsServiceOf, SessionAccount, most_of}
 
 -- ---- promises
 

@@ -3,7 +3,7 @@ use Rattle.std.specs.Prelude.{◌≡◌, ℕ, List, None, Option, Some, length}
 use Rattle.house_floor.specs.Users.{user_numbered}
 use Rattle.house_floor.specs.declared.floor.Floor.{Floor}
 use Rattle.house_session.specs.Folders.{folders_of}
-use Rattle.house_threads.specs.Crew.{most_of}
+use Rattle.house_floor.specs.Left.{most_of}
 use Rattle.imap_stream.specs.Visits.{IsGreeted, Visit}
 
 -- The client of a visit in this house was greeted as the user of this number, and nothing else was done: it has that user's folders, over all mailboxes of the house, is in

@@ -1,7 +1,7 @@
 use Rattle.std.proofs.Common.{◌≡◌, ◌≤◌, ◌+◌, vec_len, vec_capacity}
 use Rattle.std.specs.Vec.Iter.{into_iter_items, into_iter_len}
 use Rattle.house_floor.specs.Crew.{AllAt}
-use Rattle.house_threads.specs.Crew.{IsServiceOf}
+use Rattle.house_floor.specs.Left.{IsServiceOf}
 use Rattle.house_threads.specs.inner.Crew.{IsKept}
 use Rattle.house_threads.proofs.consumers.join_consumers.Given as goal
 

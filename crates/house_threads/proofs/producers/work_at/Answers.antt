@@ -5,7 +5,8 @@ use Rattle.shard_queue.specs.declared.ends.ReplyChannel.{ReplyChannel}
 use Rattle.shard_queue.specs.Reply.{IsReceiver}
 use Rattle.lane_work.specs.Awaiting.{verdicts_in}
 use Rattle.lane_work.specs.Working.{IsWorked}
-use Rattle.house_threads.proofs.Lives.{here_at, work_of}
+use Rattle.house_floor.proofs.Finding.{here_at}
+use Rattle.house_threads.proofs.Lives.{work_of}
 use Rattle.house_threads.proofs.producers.work_at.Goals as goal
 
 pub work-requires-clause-receiver : goal.work-requires-clause-receiver

@@ -2,7 +2,7 @@ use Rattle.std.proofs.Common.{rules, ◌<◌, All, sym, subst, length, arith}
 use Rattle.std.proofs.lemmas.List.Elements.{All-push}
 use Rattle.house_floor.specs.Crew.{IsPost}
 use Rattle.house_floor.specs.declared.floor.Post.{Post}
-use Rattle.house_threads.specs.Crew.{IsPostLeft}
+use Rattle.house_floor.specs.Left.{IsPostLeft}
 use Rattle.house_floor.proofs.Positions.{first_at}
 use Rattle.house_threads.proofs.run.end_posts.Goals as goal
 

@@ -1,6 +1,6 @@
 use Rattle.std.proofs.Common.{◌≡◌, ◌≤◌, ◌+◌, All, length, vec_len, vec_capacity}
 use Rattle.house_floor.specs.Crew.{AllAt, IsPost}
-use Rattle.house_threads.specs.Crew.{IsPostLeft}
+use Rattle.house_floor.specs.Left.{IsPostLeft}
 use Rattle.house_threads.proofs.run.end_posts.Given as goal
 
 abbrev pub invariant-loop-done : goal.invariant-loop-done

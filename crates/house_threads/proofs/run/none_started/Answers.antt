@@ -1,5 +1,5 @@
 use Rattle.std.proofs.Common.{◌≡◌, ap, length, arith}
-use Rattle.house_threads.proofs.Leaving.{posts_left, stands_left}
+use Rattle.house_floor.proofs.Leaving.{posts_left, stands_left}
 use Rattle.house_threads.proofs.run.none_started.Goals as goal
 
 pub returns-clause-left : goal.returns-clause-left

@@ -9,7 +9,7 @@ use Rattle.lane_work.proofs.ServedLaws.{books_begin}
 use Rattle.shard_queue.specs.Reply.{received}
 use Rattle.shard_queue.specs.Permits.{said}
 use Rattle.house_threads.proofs.Attending.{session_account}
-use Rattle.house_threads.proofs.Lives.{user_named}
+use Rattle.house_floor.proofs.Finding.{user_named}
 use Rattle.house_threads.proofs.sessions.attend.Goals as goal
 
 pub returns : goal.returns

@@ -1,6 +1,6 @@
 use Rattle.std.proofs.Common.{◌≡◌, true, false, length, subst, Err, Option, arith}
 use Rattle.std.specs.Prelude.{IfOk, IfSome, OnOk}
-use Rattle.house_threads.proofs.Leaving.{posts_left}
+use Rattle.house_floor.proofs.Leaving.{posts_left}
 use Rattle.reckoning.specs.declared.balancing.Closes.{Closes}
 use Rattle.serving.specs.declared.fault.ServeFault.TheVariants as faults
 use Rattle.serving_workers.specs.Closing.{WasClosed}

@@ -1,5 +1,5 @@
 use Rattle.std.proofs.Common.{length, refl}
-use Rattle.house_threads.proofs.Leaving.{posts_left, stands_left}
+use Rattle.house_floor.proofs.Leaving.{posts_left, stands_left}
 use Rattle.serving.proofs.run.run_house_in.Goals as goal
 
 pub give_up-requires-clause-stands : goal.give_up-requires-clause-stands

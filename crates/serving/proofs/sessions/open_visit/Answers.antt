@@ -1,5 +1,5 @@
 use Rattle.std.proofs.Common.{rules}
-use Rattle.house_threads.proofs.Lives.{user_named}
+use Rattle.house_floor.proofs.Finding.{user_named}
 use Rattle.serving.proofs.Visits.{greeted_as}
 use Rattle.serving.proofs.sessions.open_visit.Goals as goal
 

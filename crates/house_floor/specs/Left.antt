@@ -25,7 +25,7 @@ use Rattle.house_floor.specs.declared.floor.Floor.{Floor}
 use Rattle.house_floor.specs.declared.floor.Guest.{Guest}
 use Rattle.house_floor.specs.declared.floor.Post.{Post}
 use Rattle.house_floor.specs.declared.floor.Stand.{Stand}
-use Rattle.house_threads.specs.declared.run.Ran.{Ran}
+use Rattle.house_floor.specs.declared.left.Ran.{Ran}
 
 -- what the workers are to serve: of each worker, of each connection, the bytes that come
 abbrev pub Plans : Type 0

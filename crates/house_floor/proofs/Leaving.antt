@@ -6,7 +6,7 @@ use Rattle.house_floor.specs.Crew.{AllAt, IsPost, IsStand}
 use Rattle.house_floor.specs.declared.floor.Floor.{Floor}
 use Rattle.house_floor.specs.declared.floor.Post.{Post}
 use Rattle.house_floor.specs.declared.floor.Stand.{Stand}
-use Rattle.house_threads.specs.Crew.{IsPostLeft, IsStandLeft}
+use Rattle.house_floor.specs.Left.{IsPostLeft, IsStandLeft}
 
 pub posts_left : (floor : Floor) (n : ℕ) (ps : List Post) → AllAt (IsPost floor) n ps → All (IsPostLeft (length floor.office.lanes.items)) ps
 posts_left floor n [] all = All-nil (IsPostLeft (length floor.office.lanes.items))
