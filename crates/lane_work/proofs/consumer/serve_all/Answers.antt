@@ -54,7 +54,7 @@ loop-preserved-in-End g c =
       v.2,
       answers_end m n c.args.stall.now.shard c.in-End.p old new (map sent_on c.args.stall.now.senders.items) (map sent_on c.loop.stall.senders.items) (search rules) v.3,
       v.4 ∙ torn_end m n old new c.in-End.p (search rules),
-      kept_next old new c.loop.taken.items c.keep-1.new.taken.items (End c.in-End.p) c.loop.tally.kept c.keep-1.result (search rules) v.5 c.keep-1.ensures,
+      kept_next old new c.loop.taken.items c.keep-in-End.new.taken.items (End c.in-End.p) c.loop.tally.kept c.keep-in-End.result (search rules) v.5 c.keep-in-End.ensures,
       (let grew : new ≡ old ++ End c.in-End.p ∷ [] = search rules in
           let e = ap ends_in grew ∙ ends_next old (End c.in-End.p) in search rules),
     )
