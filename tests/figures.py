@@ -25,6 +25,7 @@ LIMITS = {
     "most arguments of a product function": 14,
     "per mille of clauses that begin with a line over 100 columns": 225,
     "lines of proofs": 77000,
+    "lines of docs/PROVING.md": 300,
     "lines of code, definitions and proofs": 144000,
     "files that name an option (ring_max)": 47,
     "files that name a setting of serve (lmtp_port)": 30,
@@ -34,6 +35,9 @@ LIMITS = {
     "files that name an item of FETCH (RFC822.SIZE)": 35,
     "files that have a text of IMAP (No such mailbox)": 33,
 }
+
+# What isn't set anew: a page that is to be read.
+FIXED = ("lines of docs/PROVING.md",)
 
 FEW_LINES, MANY_ARGUMENTS, LONG_LINE = 150, 8, 100
 
@@ -184,6 +188,7 @@ def figures():
         "most arguments of a product function": max(counts),
         "per mille of clauses that begin with a line over 100 columns": round(1000 * sum(long) / len(long)),
         "lines of proofs": count_lines(path for path in texts if path.split(os.sep)[2] == "proofs"),
+        "lines of docs/PROVING.md": count_lines(["docs/PROVING.md"]),
         "lines of code, definitions and proofs": count_lines(texts),
         **count_touched(),
     }
@@ -191,11 +196,13 @@ def figures():
 
 def set_limits(now):
     """Writes these figures into this file, as limits."""
-    text = read(__file__)
+    path = os.path.abspath(__file__)
+    text = read(path)
     for name, value in now.items():
-        limit = -(-value // 1000) * 1000 if name.startswith("lines of") else value
-        text = re.sub(rf'^    "{re.escape(name)}": \d+,$', f'    "{name}": {limit},', text, flags=re.M)
-    with open(__file__, "w", encoding="utf-8") as file:
+        if name not in FIXED:
+            limit = -(-value // 1000) * 1000 if name.startswith("lines of") else value
+            text = re.sub(rf'^    "{re.escape(name)}": \d+,$', f'    "{name}": {limit},', text, flags=re.M)
+    with open(path, "w", encoding="utf-8") as file:
         file.write(text)
 
 

@@ -1,4 +1,5 @@
-"""A mail server for tests: it is started on free ports, takes mail, is read over IMAP, and is stopped in good order. It wants Python's standard library alone.
+"""A mail server for tests: it is started on free ports, takes mail, is read over IMAP, and is stopped in good order. It wants the standard library of Python 3.9
+or later, and nothing else.
 
     with Server(("alice", "bob")) as server:
         server.deliver(b"Subject: hello\\r\\n\\r\\nhi\\r\\n", ["alice@example.org"])
