@@ -4,8 +4,7 @@
     tests/packaged.py ROOT PROGRAM
 
 - The command takes mail for two users, who read it. It is told SIGTERM while a relay brings message after message. Each message that was answered 250 by then was
-  read just before; who idles is told BYE at last; the relay hears of each message that it brought whole, until it is told 421 or reads the end; the status is 0,
-  within six seconds.
+  read just before; who idles is told BYE at last; the relay is told 421 or reads the end, and nothing else but replies; the status is 0, within six seconds.
 - So it is where the signal goes to all processes of its group, and with SIGINT and SIGHUP. The program's own words (`--version`, a script) come out of the command.
 - The man page has each option that the program has, and each exit status. The unit runs what the package has.
 - Where systemd-analyze is there, it finds nothing wrong with the unit, and takes its exposure for less than 2.0.
