@@ -7,7 +7,7 @@
   read just before; who idles is told BYE at last; the relay is told 421 or reads the end, and nothing else but replies; the status is 0, within six seconds.
 - So it is where the signal goes to all processes of its group, and with SIGINT and SIGHUP. The program's own words (`--version`, a script) come out of the command.
 - The man page has each option that the program has, and each exit status. The unit runs what the package has.
-- Where systemd-analyze is there, it finds nothing wrong with the unit, and takes its exposure for less than 2.0.
+- Where systemd-analyze is there, it takes the unit's exposure for less than 2.0.
 """
 
 import gzip
@@ -138,7 +138,7 @@ def look_at_page(root, program):
 
 
 def look_at_unit(root):
-    """The unit runs what the package has, and systemd finds it in order."""
+    """The unit runs what the package has, and leaves little open."""
     unit = root / "usr/lib/systemd/system/post_house.service"
     paths = re.findall(r"/usr/[\w/.-]+", unit.read_text())
     expect("paths of the unit that aren't there", [path for path in paths if not (root / path[1:]).exists()], [])
