@@ -36,7 +36,7 @@ PARTS = ("args", "stdin", "stdout", "status")
 QUOTED = re.compile(r"`([^`]+)`")
 A_FILE = re.compile(r"[\w/-]+\.(?:rt|antt|edit)")
 A_CRATE = re.compile(r"crates/\w+")
-A_PATH = re.compile(r"(?:crates|docs|tests|examples|bench|\.ci)/[\w./*-]*|HANDLES|README\.md|crates\.txt")
+A_PATH = re.compile(r"(?:crates|docs|tests|examples|packaging|bench|\.ci)/[\w./*-]*|HANDLES|README\.md|crates\.txt")
 # A name that stands for any: there is no such path.
 PLACEHOLDER = re.compile(r"(^|/)[A-Z]+(/|$)")
 

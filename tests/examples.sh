@@ -35,7 +35,7 @@ fault_of() {
 }
 
 passed=0 failed=0
-for example in $(cd "$examples" && ls | grep -v '\.'); do
+for example in $(cd "$examples" && find . -maxdepth 1 -type f ! -name '*.*' | sed 's|^\./||' | sort); do
     fault=$(fault_of "$example" 2>&1)
     if [ -z "$fault" ]; then
         passed=$((passed + 1))

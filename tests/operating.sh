@@ -288,7 +288,8 @@ make_top
 echo 0 >"$room/number"
 check 'the program is installed' does install
 check 'the server starts by the line of its unit' starts
-check 'it says the listeners that the page shows' says_its_listeners
+# The lines come once all threads stand, which is behind the ports.
+check 'it says the listeners that the page shows' within 10 says_its_listeners
 check 'Postfix starts' start_postfix
 check 'Postfix takes the lines of the page' tells_postfix
 check 'Postfix refuses who has no mailbox' refuses_strangers

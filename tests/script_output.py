@@ -108,7 +108,7 @@ def look_at_messages(program):
 
 def main():
     program = os.path.abspath(sys.argv[1])
-    scripts = sorted(it for it in EXAMPLES.iterdir() if "." not in it.name)
+    scripts = sorted(it for it in EXAMPLES.iterdir() if it.is_file() and "." not in it.name)
     count = 0
     for script in scripts:
         words, lines = words_of(script), script.read_bytes().splitlines(keepends=True)
