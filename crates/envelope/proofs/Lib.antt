@@ -16,3 +16,4 @@ pub mod Cut
 pub mod Wanted
 pub mod Faults
 pub mod Numbers
+pub mod Tags

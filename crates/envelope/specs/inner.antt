@@ -1,1 +1,2 @@
 pub mod LocalPart
+pub mod Tag

@@ -11,10 +11,12 @@ ghost use Rattle.envelope.specs.Directory.{is_home, is_shut, marked, none_shut, 
 ghost use Rattle.envelope.specs.Names.{is_name, texts, home_of, is_exactly, words_read, number_of};
 ghost use Rattle.envelope.specs.LocalPart.{value_left};
 ghost use Rattle.envelope.specs.Word.{word_home};
+ghost use Rattle.envelope.specs.inner.Tag.{tag_of};
 
 use crate::command::ForwardPath;
 use crate::local_part::LocalValue;
 use crate::names::is_name;
+use crate::tag::tag_of;
 use crate::word::{Word, first_fault};
 use std::alloc::{AllocError, Global};
 use std::marker::Model;
@@ -90,19 +92,56 @@ impl StoredName {
     }
 }
 
+/// The mailbox that a value names, with the tag of its user.
+#[derive(Drop)]
+struct Sought<'a> {
+    value: LocalValue<'a>,
+    tag: u16,
+}
+
+impl<'a> Model for Sought<'a> {
+    ghost use Rattle.std.specs.Prelude.{◌≡◌};
+    ghost use Rattle.envelope.specs.Directory.{Home, wanted};
+    ghost use Rattle.envelope.specs.LocalPart.{value_left};
+    ghost use Rattle.envelope.specs.inner.Tag.{tag_of};
+
+    ghost Value = { Home };
+
+    ghost view = { λ s. wanted (value_left s.value) };
+
+    ghost invariant = { λ s. s.tag ≡ tag_of (wanted (value_left s.value)).user };
+}
+
+impl<'a> Sought<'a> {
+    fn new(value: LocalValue<'a>) -> Sought<'a>
+        ensures { result ≡ wanted (value_left value.entry) }
+    {
+        Sought {
+            value,
+            tag: value.user_tag(),
+        }
+    }
+}
+
 /// A mailbox: a user's folder, or with none the user's INBOX.
 #[derive(Drop)]
 struct StoredHome {
     user: StoredName,
+    // The tag of the user.
+    tag: u16,
     folder: Option<StoredName>,
 }
 
 impl Model for StoredHome {
+    ghost use Rattle.std.specs.Prelude.{◌≡◌};
     ghost use Rattle.envelope.specs.Directory.{Home};
+    ghost use Rattle.envelope.specs.inner.Tag.{tag_of};
 
     ghost Value = { Home };
 
     ghost view = { λ h. record { user = h.user; folder = h.folder } };
+
+    ghost invariant = { λ h. h.tag ≡ tag_of h.user };
 }
 
 impl StoredHome {
@@ -111,11 +150,12 @@ impl StoredHome {
     {
         let word = Word::cut(word);
         let user = StoredName::new(alloc, word.user)?;
+        let tag = tag_of(word.user);
         let folder = match word.folder {
             None => None,
             Some(folder) => Some(StoredName::new(alloc, folder)?),
         };
-        Ok(StoredHome { user, folder })
+        Ok(StoredHome { user, tag, folder })
     }
 
     fn copy(&self, alloc: Global) -> Result<StoredHome, AllocError>
@@ -126,7 +166,11 @@ impl StoredHome {
             None => None,
             Some(folder) => Some(folder.copy(alloc)?),
         };
-        Ok(StoredHome { user, folder })
+        Ok(StoredHome {
+            user,
+            tag: self.tag,
+            folder,
+        })
     }
 
     /// Whether a path with this local part names the mailbox.
@@ -146,6 +190,13 @@ impl StoredHome {
             },
             Some(_) => false,
         }
+    }
+
+    /// The same of what is sought: users that aren't the same mostly have other tags, so few are compared byte by byte.
+    fn is_sought(&self, sought: &Sought<'_>) -> bool
+        ensures { result ≡ is_home sought.now self.now }
+    {
+        self.tag == sought.tag && self.is_wanted(sought.value)
     }
 
     /// Whether the word names the mailbox, byte by byte.
@@ -221,11 +272,11 @@ fn copied_homes(alloc: Global, homes: &[StoredHome]) -> Result<Vec<StoredHome>, 
     Ok(copied)
 }
 
-fn position_of_wanted(homes: &[StoredHome], value: LocalValue<'_>) -> Option<usize>
-    ensures value { result ≡ position (is_home (wanted (value_left value.entry))) homes.now }
+fn position_of_sought(homes: &[StoredHome], sought: &Sought<'_>) -> Option<usize>
+    ensures value { result ≡ position (is_home sought.now) homes.now }
     ensures within { IfSome result (λ n. n < length homes.now) }
 {
-    homes.iter().position(|home| home.is_wanted(value))
+    homes.iter().position(|home| home.is_sought(sought))
 }
 
 fn position_of_word(homes: &[StoredHome], word: Word<'_>) -> Option<usize>
@@ -302,7 +353,7 @@ impl Directory {
         ensures value { result ≡ numbered self.now (wanted (value_left value.entry)) }
         ensures within { IfOk result (λ n. n < length self.now.homes) }
     {
-        match position_of_wanted(&self.homes, value) {
+        match position_of_sought(&self.homes, &Sought::new(value)) {
             Some(index) => Ok(index as u8),
             None => Err(NoSuch::User),
         }

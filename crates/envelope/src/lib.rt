@@ -11,6 +11,7 @@ mod local_part;
 mod names;
 mod reading;
 mod recipients;
+mod tag;
 mod word;
 
 pub use command::{CommandFault, ForwardPath, LmtpCommand, Mailbox, ReversePath, Verb};

@@ -3,9 +3,13 @@
 
 ghost use Rattle.std.specs.Prelude.{◌≡◌, ◌∷◌, [], MatchOption};
 ghost use Rattle.std.specs.Option.{option_map};
+ghost use Rattle.std.specs.List.{before_first};
 ghost use Rattle.std.specs.Str.{str_eq_ignore_ascii_case as is_same};
-ghost use Rattle.envelope.specs.Directory.{value_of};
+ghost use Rattle.envelope.specs.Directory.{value_of, is_plus};
 ghost use Rattle.envelope.specs.LocalPart.{value_left, past_user};
+ghost use Rattle.envelope.specs.inner.Tag.{tag_of};
+
+use crate::tag::next_tag;
 
 /// What is left of the value of a local part.
 #[derive(Clone, Copy)]
@@ -78,5 +82,20 @@ impl<'a> LocalValue<'a> {
             rest = more;
         }
         Some(rest)
+    }
+    /// The tag of the user, which ends before the value's first `+`.
+    pub fn user_tag(self) -> u16
+        ensures { result ≡ tag_of (before_first is_plus (value_left self.entry)) }
+    {
+        let mut rest = self;
+        let mut tag = 0;
+        while let Some((first, more)) = rest.split_first() {
+            if first == b'+' {
+                return tag;
+            }
+            tag = next_tag(tag, first);
+            rest = more;
+        }
+        tag
     }
 }

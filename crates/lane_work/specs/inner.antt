@@ -6,3 +6,4 @@ pub mod Couriers
 pub mod Desk
 pub mod Permits
 pub mod Speaking
+pub mod Summoning

@@ -1,7 +1,8 @@
 //! A message's copies are put, each into the lane of its mailbox's shard. What is heard of them does
 //! not belong here.
 
-ghost use Rattle.std.specs.Prelude.{◌≡◌, ◌≤◌, ◌<◌, ◌+◌, ◌++◌, ◌∷◌, [], length, map, Some, None, MatchOption, true, false, slice_index_or, slice_set, vec_len};
+ghost use Rattle.std.specs.Prelude.{◌≡◌, ◌≤◌, ◌<◌, ◌+◌, ◌++◌, ◌∷◌, [], length, map, Some, None, IfSome, MatchOption, true, false, not, ◌==◌, slice_get, slice_index_or, slice_set, vec_len};
+ghost use Rattle.std.specs.List.{list_all};
 ghost use Rattle.shard_queue.specs.declared.lane.Entry.TheVariants as entries;
 ghost use Rattle.delivery_token.specs.declared.Refusal.TheVariants as refusals;
 ghost use Rattle.delivery_token.specs.declared.Verdict.TheVariants as verdicts;
@@ -15,11 +16,13 @@ ghost use Rattle.submission.specs.Verdicts.{unknown};
 ghost use Rattle.lane_work.specs.Awaiting.{copies_in};
 ghost use Rattle.lane_work.specs.Copies.{FilledAlone, IsAtOnce, copies_of, room_at, room_of, rooms_of};
 ghost use Rattle.lane_work.specs.inner.Copies.{HavePut, WereTried};
+ghost use Rattle.lane_work.specs.inner.Summoning.{is_last_at, rest_of_eight};
 
 use crate::bells::Summons;
 use crate::desk::{Desk, LanePermit, Office};
 use change_ring::{Flags, NO_FLAGS};
 use delivery_token::{CopyKey, Job, Refusal, Text, Verdict};
+use envelope::Directory;
 use lmtp_machine::Submission;
 use pace::{Gate, Pace};
 use shard_queue::{Full, ProducerPermit, ShardQueue};
@@ -83,7 +86,90 @@ fn put_at<R: Wait>(
     }
 }
 
-/// The same, at the lane of the copy's mailbox, for which it is summoned.
+// The same, at the lane of the copy's mailbox.
+fn try_copy<R: Wait, G: Gate>(
+    rt: &R,
+    pace: &mut Pace<'_, G>,
+    office: &Office,
+    desk: &mut Desk,
+    key: CopyKey,
+    mailbox: u8,
+    text: &Text,
+    flags: Flags,
+) -> Option<Verdict>
+    requires permits { ArePermits office.now.lanes.items desk.old.number desk.old.permits.items }
+    requires lanes { office.now.directory.shards ≡ length office.now.lanes.items }
+    ensures permits { ArePermits office.now.lanes.items desk.old.number desk.new.permits.items }
+    ensures same { SameButPermits desk.old desk.new }
+    ensures within { shard_of office.now.directory mailbox < length office.now.lanes.items }
+
+    // Where the mailbox's permit isn't over: just the copy was put, on its lane; or it is refused, for want of room or memory, and nothing put.
+    ensures put { slice_index_or (overs desk.old.permits.items) (shard_of office.now.directory mailbox) false ≡ false → MatchOption result
+        (map put_by desk.new.permits.items ≡ slice_set (map put_by desk.old.permits.items) (shard_of office.now.directory mailbox)
+        (slice_index_or (map put_by desk.old.permits.items) (shard_of office.now.directory mailbox) []
+        ++ entries.Item desk.old.number (record { key = key; mailbox = mailbox; text = text.now; flags = flags }) ∷ []))
+        (λ v. (map put_by desk.new.permits.items ≡ map put_by desk.old.permits.items)
+        × IsAtOnce (FilledAlone (room_at (rooms_of office.now.lanes.items) (shard_of office.now.directory mailbox)) desk.old.number
+        (slice_index_or (map put_by desk.old.permits.items) (shard_of office.now.directory mailbox) [])) v) }
+
+    // Where it is over, the copy is refused as `Shut`, and nothing is put.
+    ensures over { slice_index_or (overs desk.old.permits.items) (shard_of office.now.directory mailbox) false ≡ true
+        → (result ≡ Some (verdicts.Refused refusals.Shut)) × (map put_by desk.new.permits.items ≡ map put_by desk.old.permits.items) }
+{
+    let shard = office.directory.shard_of(mailbox);
+    pace.pass();
+    put_at(
+        rt,
+        &office.lanes[shard],
+        &mut desk.permits[shard],
+        key,
+        mailbox,
+        text,
+        flags,
+    )
+}
+
+// The same; where there is no room the consumer is summoned, and the copy is tried once more.
+fn put_or_make_room<R: Wait, G: Gate, S: Summons>(
+    rt: &R,
+    pace: &mut Pace<'_, G>,
+    office: &Office,
+    summons: &S,
+    desk: &mut Desk,
+    key: CopyKey,
+    mailbox: u8,
+    text: &Text,
+    flags: Flags,
+) -> Option<Verdict>
+    requires permits { ArePermits office.now.lanes.items desk.old.number desk.old.permits.items }
+    requires lanes { office.now.directory.shards ≡ length office.now.lanes.items }
+    ensures permits { ArePermits office.now.lanes.items desk.old.number desk.new.permits.items }
+    ensures same { SameButPermits desk.old desk.new }
+    ensures within { shard_of office.now.directory mailbox < length office.now.lanes.items }
+
+    // Where the mailbox's permit isn't over: just the copy was put, on its lane; or it is refused, for want of room or memory, and nothing put.
+    ensures put { slice_index_or (overs desk.old.permits.items) (shard_of office.now.directory mailbox) false ≡ false → MatchOption result
+        (map put_by desk.new.permits.items ≡ slice_set (map put_by desk.old.permits.items) (shard_of office.now.directory mailbox)
+        (slice_index_or (map put_by desk.old.permits.items) (shard_of office.now.directory mailbox) []
+        ++ entries.Item desk.old.number (record { key = key; mailbox = mailbox; text = text.now; flags = flags }) ∷ []))
+        (λ v. (map put_by desk.new.permits.items ≡ map put_by desk.old.permits.items)
+        × IsAtOnce (FilledAlone (room_at (rooms_of office.now.lanes.items) (shard_of office.now.directory mailbox)) desk.old.number
+        (slice_index_or (map put_by desk.old.permits.items) (shard_of office.now.directory mailbox) [])) v) }
+
+    // Where it is over, the copy is refused as `Shut`, and nothing is put.
+    ensures over { slice_index_or (overs desk.old.permits.items) (shard_of office.now.directory mailbox) false ≡ true
+        → (result ≡ Some (verdicts.Refused refusals.Shut)) × (map put_by desk.new.permits.items ≡ map put_by desk.old.permits.items) }
+{
+    match try_copy(rt, pace, office, desk, key, mailbox, text, flags) {
+        Some(Verdict::Refused(Refusal::Full)) => {
+            summons.summon(rt, office.directory.shard_of(mailbox));
+            try_copy(rt, pace, office, desk, key, mailbox, text, flags)
+        }
+        known => known,
+    }
+}
+
+/// The same, and the consumer is summoned for it.
 pub(crate) fn put_copy<R: Wait, G: Gate, S: Summons>(
     rt: &R,
     pace: &mut Pace<'_, G>,
@@ -114,19 +200,54 @@ pub(crate) fn put_copy<R: Wait, G: Gate, S: Summons>(
     ensures over { slice_index_or (overs desk.old.permits.items) (shard_of office.now.directory mailbox) false ≡ true
         → (result ≡ Some (verdicts.Refused refusals.Shut)) × (map put_by desk.new.permits.items ≡ map put_by desk.old.permits.items) }
 {
-    let shard = office.directory.shard_of(mailbox);
-    pace.pass();
-    let verdict = put_at(
-        rt,
-        &office.lanes[shard],
-        &mut desk.permits[shard],
-        key,
-        mailbox,
-        text,
-        flags,
-    );
-    summons.summon(rt, shard);
+    let verdict = put_or_make_room(rt, pace, office, summons, desk, key, mailbox, text, flags);
+    summons.summon(rt, office.directory.shard_of(mailbox));
     verdict
+}
+
+// Behind so many copies of a message each shard is summoned that they were put for, so that a few messages don't fill a lane.
+const AT_ONCE: usize = 8;
+
+// Of the mailboxes behind this position those that are put for before anybody is summoned for all of them.
+fn rest_of_eight(mailboxes: &[u8], position: usize) -> &[u8]
+    requires { position < length mailboxes.now }
+    ensures { result.now ≡ rest_of_eight mailboxes.now position }
+{
+    let behind = &mailboxes[position + 1..];
+    &behind[..behind.len().min(AT_ONCE - 1 - position % AT_ONCE)]
+}
+
+// Whether none of these mailboxes is this shard's.
+fn has_none_at(directory: &Directory, shard: usize, mailboxes: &[u8]) -> bool
+    ensures { result ≡ list_all (λ mailbox. not (shard_of directory.now mailbox == shard)) mailboxes.now }
+{
+    mailboxes
+        .iter()
+        .all(|mailbox| directory.shard_of(*mailbox) != shard)
+}
+
+// Whether a summons is due behind the copy at this position: it is the last of its eight that is for its shard.
+fn is_due(directory: &Directory, mailboxes: &[u8], position: usize) -> bool
+    requires { position < length mailboxes.now }
+    ensures { IfSome (slice_get mailboxes.now position) (λ mailbox. result ≡ is_last_at directory.now mailbox (rest_of_eight mailboxes.now position)) }
+{
+    let shard = directory.shard_of(mailboxes[position]);
+    has_none_at(directory, shard, rest_of_eight(mailboxes, position))
+}
+
+// Summons whoever takes the copy at this position, where that is due.
+fn summon_where_due<R: Wait, S: Summons>(
+    rt: &R,
+    office: &Office,
+    summons: &S,
+    mailboxes: &[u8],
+    position: usize,
+)
+    requires { position < length mailboxes.now }
+{
+    if is_due(&office.directory, mailboxes, position) {
+        summons.summon(rt, office.directory.shard_of(mailboxes[position]));
+    }
 }
 
 /// Puts each copy of a message, in the order of its recipients; one for a lane on which the permit is over is refused as Shut. In `verdicts`, which
@@ -158,7 +279,7 @@ pub(crate) fn put_all<R: Wait, G: Gate, S: Summons>(
         (map put_by desk.new.permits.items) }
 {
     for i in 0..message.keys.len() {
-        let verdict = put_copy(
+        let verdict = put_or_make_room(
             rt,
             pace,
             office,
@@ -170,5 +291,6 @@ pub(crate) fn put_all<R: Wait, G: Gate, S: Summons>(
             NO_FLAGS,
         );
         verdicts.note_put(verdict);
+        summon_where_due(rt, office, summons, &message.mailboxes, i);
     }
 }
