@@ -1,6 +1,6 @@
 -- One life is lived, in which a client knows newer flags than those that its session was shown.
 use Rattle.std.proofs.Common.{[], ◌∷◌, refl, arith, inl}
-use Rattle.std.specs.Prelude.{codes, true, Some}
+use Rattle.std.specs.Prelude.{codes, false, true, Some}
 use Rattle.std.specs.Fmt.{digits}
 use Rattle.shard_queue.specs.declared.lane.Entry.TheVariants.{Item}
 use Rattle.change_ring.specs.Log.{no_flags}
@@ -8,6 +8,7 @@ use Rattle.change_ring.specs.declared.change.Change.TheVariants.{Add, Flags as S
 use Rattle.change_ring.specs.declared.change.Flags.{Flags}
 use Rattle.change_ring.specs.declared.flag_op.FlagOp.TheVariants.{Insert}
 use Rattle.imap_grammar.specs.Reading.{read}
+use Rattle.imap_grammar.specs.declared.set.SeqNumber.TheVariants.{Number}
 use Rattle.imap_session.specs.declared.standing.After.TheVariants.{Go}
 use Rattle.imap_session.specs.Exchange.{Alter, Altered, Entered, Fed, Look, Looked, Turn}
 use Rattle.world.specs.World.{Box, Put, Take, Deliver, Answer as AnswerEvent, Hear, put_joins, takes, delivers, answers, hears_one, enters, mails}
@@ -27,7 +28,7 @@ marked = record { log = Add 1 ∷ SetFlags 1 flagged ∷ []; base = 0; accepted 
 
 sets_it : Turn
 sets_it = record {
-  events = record { call = Look; answer = Looked (1 ∷ []) } ∷ record { call = Alter 1 (Insert flagged); answer = Altered (Some flagged) } ∷ [];
+  events = record { call = Look false (record { from = Number 1; to = Number 1 } ∷ []); answer = Looked (1 ∷ []) } ∷ record { call = Alter 1 (Insert flagged); answer = Altered (Some flagged) } ∷ [];
   bytes = codes "* 1 FETCH (FLAGS (\\Flagged))\r\na3 OK STORE completed\r\n";
   after = Go;
   standing = one_last;

@@ -41,7 +41,7 @@ SaysFlags tag p (Wait bytes waits) = LeavesFlags p bytes
 SaysFlags tag p (Write bytes x) = LeavesFlags p bytes × SaysFlags tag p x
 SaysFlags tag p (Put bytes x) = LeavesFlags p bytes × SaysFlags tag p x
 SaysFlags tag p (Enter selected next) = ⊥
-SaysFlags tag p (Look next) = (copied : List ℕ) (q : Point) → SeesFlags p (record { call = Look; answer = Looked copied }) q → SaysFlags tag q (next copied)
+SaysFlags tag p (Look by_uid set next) = (copied : List ℕ) (q : Point) → SeesFlags p (record { call = (Look by_uid set); answer = Looked copied }) q → SaysFlags tag q (next copied)
 SaysFlags tag p (Read uid mark next) = (row : Option Row) (q : Point) → SeesFlags p (record { call = Read uid mark; answer = Found row }) q → SaysFlags tag q (next row)
 SaysFlags tag p (Count mailbox next) = (status : Status) (q : Point) → SeesFlags p (record { call = Count mailbox; answer = Counted status }) q → SaysFlags tag q (next status)
 SaysFlags tag p (Alter uid change next) = (flags : Option Flags) (q : Point) → SeesFlags p (record { call = Alter uid change; answer = Altered flags }) q → SaysFlags tag q (next flags)

@@ -43,7 +43,7 @@ row_short uid (Some row) h = h.1
 
 found_short : (k : Config) (n : ℕ) (w : World) (call : Call) (row : Option Row) (v : World) → Meets k n w call (Found row) v → IsRead call row → IsShort row
 found_short k n w (Enter i) row v m h = absurd m
-found_short k n w Look row v m h = absurd m
+found_short k n w (Look by_uid set) row v m h = absurd m
 found_short k n w (Read uid mark) row v m h = row_short uid row h
 found_short k n w (Count i) row v m h = absurd m
 found_short k n w (Alter uid op) row v m h = absurd m

@@ -28,6 +28,7 @@ use Rattle.world.specs.Law.{IsShown}
 use Rattle.world.proofs.Base.{Every, every_of_all, all_of_every}
 use Rattle.world.proofs.Kept.{Kept, SessionOk}
 use Rattle.delivery_core.specs.Clients.{Done, IsStatus, row_with, rows_then, text_with}
+use Rattle.imap_grammar.specs.declared.set.SeqRange.{SeqRange}
 use Rattle.imap_session.specs.Exchange.{Call, Answer, Look, Read as ReadCall, Count, Alter, Expunge as ExpungeCall, Feed as FeedCall, Leave as LeaveCall, Enter as EnterCall, Entered, Looked, Found, Counted, Altered, Expunged, Fed, Left, Refused, Starved}
 use Rattle.session_store.specs.Meets.{Meets, IsRefused, IsTurnedAway}
 use Rattle.client_list.specs.Beliefs.{MayShow}
@@ -162,8 +163,8 @@ turned_away k n m w Lapped v t = absurd t
 turned_away k n m w Spent v t = t.1
 turned_away k n m w NoMemory v t = t.1
 
-look_seen : (k : Config) (w : World) (n : ℕ) (copied : List ℕ) (v : World) → Meets k n w Look (Looked copied) v → Sees (view_of w n) (record { call = Look; answer = Looked copied }) (view_of v n)
-look_seen k w n copied v (e, (s, is, counts)) = record { leads = (counts ∙ sym (the_view w n s is), ap (λ (u : World). view_of u n) e); fits = tt }
+look_seen : (k : Config) (w : World) (n : ℕ) (by_uid : Bool) (set : List SeqRange) (copied : List ℕ) (v : World) → Meets k n w (Look by_uid set) (Looked copied) v → Sees (view_of w n) (record { call = Look by_uid set; answer = Looked copied }) (view_of v n)
+look_seen k w n by_uid set copied v (e, (s, is, counts)) = record { leads = (counts ∙ sym (the_view w n s is), ap (λ (u : World). view_of u n) e); fits = tt }
 
 read_seen : (k : Config) (w : World) (n uid : ℕ) (mark : Bool) (row : Option read.Row) (v : World) → Sound k w → HasShortTexts w → Meets k n w (ReadCall uid mark) (Found row) v
     → Sees (view_of w n) (record { call = ReadCall uid mark; answer = Found row }) (view_of v n)
@@ -218,16 +219,16 @@ seen k w n (EnterCall i) (Fed met changes) v S h short m = absurd m
 seen k w n (EnterCall i) (Left gone) v S h short m = absurd m
 seen k w n (EnterCall i) (Refused fault) v S h short m = unmoved_seen w n (EnterCall i) fault v (turned_away k n i w fault v m)
 seen k w n (EnterCall i) (Starved j) v S h short m = absurd m
-seen k w n Look (Entered opening) v S h short m = absurd m
-seen k w n Look (Looked copied) v S h short m = look_seen k w n copied v m
-seen k w n Look (Found row) v S h short m = absurd m
-seen k w n Look (Counted status) v S h short m = absurd m
-seen k w n Look (Altered flags) v S h short m = absurd m
-seen k w n Look (Expunged met changes gone) v S h short m = absurd m
-seen k w n Look (Fed met changes) v S h short m = absurd m
-seen k w n Look (Left gone) v S h short m = absurd m
-seen k w n Look (Refused fault) v S h short m = unmoved_seen w n Look fault v (was_refused n w fault _ v m)
-seen k w n Look (Starved j) v S h short m = absurd m
+seen k w n (Look by_uid set) (Entered opening) v S h short m = absurd m
+seen k w n (Look by_uid set) (Looked copied) v S h short m = look_seen k w n by_uid set copied v m
+seen k w n (Look by_uid set) (Found row) v S h short m = absurd m
+seen k w n (Look by_uid set) (Counted status) v S h short m = absurd m
+seen k w n (Look by_uid set) (Altered flags) v S h short m = absurd m
+seen k w n (Look by_uid set) (Expunged met changes gone) v S h short m = absurd m
+seen k w n (Look by_uid set) (Fed met changes) v S h short m = absurd m
+seen k w n (Look by_uid set) (Left gone) v S h short m = absurd m
+seen k w n (Look by_uid set) (Refused fault) v S h short m = unmoved_seen w n (Look by_uid set) fault v (was_refused n w fault _ v m)
+seen k w n (Look by_uid set) (Starved j) v S h short m = absurd m
 seen k w n (ReadCall uid mark) (Entered opening) v S h short m = absurd m
 seen k w n (ReadCall uid mark) (Looked copied) v S h short m = absurd m
 seen k w n (ReadCall uid mark) (Found row) v S h short m = read_seen k w n uid mark row v S short m

@@ -12,7 +12,7 @@ use Rattle.imap_grammar.specs.Sets.{at_positions}
 use Rattle.imap_grammar.specs.inner.Choosing.{is_within, is_covered}
 use Rattle.imap_grammar.specs.declared.positions.PositionRange.{PositionRange}
 
-outside : (range : PositionRange) (p : ℕ) → (range.first ≤ p → p ≤ range.last → ⊥) → is_within range p ≡ false
+pub outside : (range : PositionRange) (p : ℕ) → (range.first ≤ p → p ≤ range.last → ⊥) → is_within range p ≡ false
 outside range p h = elim (leb_tells range.first p) [
   | inl above ↦ elim (leb_tells p range.last) [
     | inl below ↦ absurd (h above.1 below.1)
@@ -21,7 +21,7 @@ outside range p h = elim (leb_tells range.first p) [
   | inr before ↦ rw before.0 refl
 ]
 
-inside : (range : PositionRange) (p : ℕ) → range.first ≤ p → p ≤ range.last → is_within range p ≡ true
+pub inside : (range : PositionRange) (p : ℕ) → range.first ≤ p → p ≤ range.last → is_within range p ≡ true
 inside range p a b = elim (leb_tells range.first p) [
   | inl above ↦ elim (leb_tells p range.last) [
     | inl below ↦ rw (above.0, below.0) refl
@@ -37,14 +37,14 @@ uncovered ranges p h =
     (All-weaker (λ (other : PositionRange). p < other.first) (λ (other : PositionRange). is_within other p ≡ false) (λ other above. outside other p (λ a b. omega (arith, a, above))) ranges h)
 
 -- tests that agree on the positions of a list choose the same of it
-same_choice : (f g : ℕ → Bool) (n : ℕ) (xs : List ℕ) → ((p : ℕ) → n ≤ p → p < n + length xs → f p ≡ g p) → at_positions f n xs ≡ at_positions g n xs
+pub same_choice : (f g : ℕ → Bool) (n : ℕ) (xs : List ℕ) → ((p : ℕ) → n ≤ p → p < n + length xs → f p ≡ g p) → at_positions f n xs ≡ at_positions g n xs
 same_choice f g n [] h = refl
 same_choice f g n (x ∷ xs) h =
     let here : f n ≡ g n = h n (omega arith) (omega arith) in
     let behind : at_positions f (n + 1) xs ≡ at_positions g (n + 1) xs = same_choice f g (n + 1) xs (λ p a b. h p (omega arith) (omega arith)) in
     rw (here, behind) refl
 
-none_chosen : (f : ℕ → Bool) (n : ℕ) (xs : List ℕ) → ((p : ℕ) → n ≤ p → p < n + length xs → f p ≡ false) → at_positions f n xs ≡ []
+pub none_chosen : (f : ℕ → Bool) (n : ℕ) (xs : List ℕ) → ((p : ℕ) → n ≤ p → p < n + length xs → f p ≡ false) → at_positions f n xs ≡ []
 none_chosen f n [] h = refl
 none_chosen f n (x ∷ xs) h =
     let here : f n ≡ false = h n (omega arith) (omega arith) in

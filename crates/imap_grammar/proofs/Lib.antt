@@ -4,6 +4,7 @@ pub mod Classes
 pub mod Cuts
 pub mod SetParts
 pub mod ChosenAt
+pub mod OneNamed
 pub mod Rising
 pub mod Viewing
 pub mod WordLaws

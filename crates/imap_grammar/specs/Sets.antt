@@ -90,3 +90,13 @@ named_at view uid = record { position = position uid view; uid = uid }
 -- the same, each at its position
 abbrev pub messages_in : Bool → List SeqRange → List ℕ → Option (List Named)
 messages_in by_uid set view = option_map (map (named_at view)) (named_in by_uid set view)
+
+-- a message is named
+abbrev pub is_one_there : Option (List ℕ) → Bool
+is_one_there None = false
+is_one_there (Some []) = false
+is_one_there (Some (uid ∷ uids)) = true
+
+-- the set names a message of the view
+abbrev pub names_one : Bool → List SeqRange → List ℕ → Bool
+names_one by_uid set view = is_one_there (named_in by_uid set view)

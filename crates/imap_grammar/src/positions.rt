@@ -1,11 +1,11 @@
 //! Ranges of positions in a view, in the order in which they begin, and the UIDs that stand there: to choose them costs the ranges and what is
 //! chosen, whatever the view's length. The ranges that a line spells are told in `ranges`.
 
-ghost use Rattle.std.specs.Prelude.{◌≡◌, ℕ, ◌+◌, ◌-◌, ◌<◌, ◌≤◌, ◌++◌, ◌∷◌, List, IfOk, All, length, drop, slice_index};
+ghost use Rattle.std.specs.Prelude.{◌≡◌, ℕ, ◌+◌, ◌-◌, ◌<◌, ◌≤◌, ◌++◌, ◌∷◌, [], List, IfOk, All, Some, true, false, length, drop, max, min, nat_le, slice_index};
 ghost use Rattle.std.specs.List.Sorted.{IsNonDecreasing, IsNonDecreasingBy};
 ghost use Rattle.imap_grammar.specs.declared.positions.PositionRange.{PositionRange};
-ghost use Rattle.imap_grammar.specs.inner.Choosing.{positions_of, is_within, is_covered};
-ghost use Rattle.imap_grammar.specs.Sets.{numeric, is_between, is_named, at_positions};
+ghost use Rattle.imap_grammar.specs.inner.Choosing.{chosen_of, positions_of, is_within, is_covered};
+ghost use Rattle.imap_grammar.specs.Sets.{numeric, is_between, is_named, is_one_there, at_positions, last_uid};
 
 use crate::ranges::numeric_of;
 use crate::set::SeqRange;
@@ -43,6 +43,29 @@ fn positions_of_uids(range: &SeqRange, greatest: usize, view: &[u32]) -> Positio
         first: first + 1,
         last,
     }
+}
+
+// Whether a range covers one of so many positions.
+fn covers_one(range: PositionRange, count: usize) -> bool
+    ensures { result ≡ nat_le (max range.first 1) (min range.last count) }
+{
+    range.first.max(1) <= range.last.min(count)
+}
+
+/// Whether a range of positions names one of a view of this length. Takes no memory.
+pub(crate) fn names_a_position(range: &SeqRange, count: usize) -> bool
+    ensures { (view : List ℕ) → length view ≡ count → result ≡ is_one_there (Some (chosen_of false (range.now ∷ []) view)) }
+{
+    covers_one(positions_of(range, count), count)
+}
+
+/// Whether a range of UIDs names one of a view that rises. Takes no memory.
+pub(crate) fn names_a_uid(range: &SeqRange, greatest: usize, view: &[u32]) -> bool
+    requires rising { IsNonDecreasing view.now }
+    requires greatest { greatest ≡ last_uid view.now }
+    ensures { result ≡ is_one_there (Some (chosen_of true (range.now ∷ []) view.now)) }
+{
+    covers_one(positions_of_uids(range, greatest, view), view.len())
 }
 
 // Puts ranges into the order in which they begin.

@@ -1,12 +1,15 @@
 //! The ranges of a set, and which messages of a view they name. How a set is called and what it refuses is told in `set`, and how
 //! messages are chosen by their positions in `positions`.
 
-ghost use Rattle.std.specs.Prelude.{◌≡◌, ◌++◌, IfOk, OnOk, length, option_to_list};
+ghost use Rattle.std.specs.Prelude.{◌≡◌, ◌++◌, IfOk, OnOk, Some, length, option_to_list};
 ghost use Rattle.std.specs.List.Sorted.{IsNonDecreasing};
-ghost use Rattle.imap_grammar.specs.Sets.{range_of, ranges_of, numeric, is_named, is_above, is_too_high, by_uid, at_positions, last_uid};
+ghost use Rattle.imap_grammar.specs.Sets.{range_of, ranges_of, numeric, is_named, is_one_there, is_above, is_too_high, by_uid, at_positions, last_uid};
+ghost use Rattle.imap_grammar.specs.inner.Choosing.{chosen_of};
 
 use crate::cut::cut_at;
-use crate::positions::{chosen_at, named_positions, positions_of_named_uids};
+use crate::positions::{
+    chosen_at, named_positions, names_a_position, names_a_uid, positions_of_named_uids,
+};
 use crate::set::{SeqNumber, SeqRange, range_in};
 use std::alloc::{AllocError, Global};
 
@@ -53,6 +56,47 @@ pub(crate) fn is_one_too_high(text: &[u8], count: usize) -> bool
     names_one_above(rest, count)
 }
 
+// The greatest UID of a view, which is the last; 0 where there is none.
+fn last_uid(view: &[u32]) -> usize
+    ensures { result ≡ last_uid view.now }
+{
+    match view.last() {
+        Some(uid) => *uid as usize,
+        None => 0,
+    }
+}
+
+fn part_names_one(part: &[u8], by_uid: bool, view: &[u32]) -> bool
+    requires { IsNonDecreasing view.now }
+    ensures { result ≡ is_one_there (Some (chosen_of by_uid (option_to_list (range_of part.now)) view.now)) }
+{
+    match range_in(part) {
+        Some(range) => {
+            if by_uid {
+                names_a_uid(&range, last_uid(view), view)
+            } else {
+                names_a_position(&range, view.len())
+            }
+        }
+        None => false,
+    }
+}
+
+/// Whether a range of a set names a message of a view. Takes no memory.
+pub(crate) fn is_one_named(text: &[u8], by_uid: bool, view: &[u32]) -> bool
+    requires { IsNonDecreasing view.now }
+    ensures { result ≡ is_one_there (Some (chosen_of by_uid (ranges_of text.now) view.now)) }
+{
+    let mut rest = text;
+    while let Some((part, others)) = cut_at(b',', rest) {
+        if part_names_one(part, by_uid, view) {
+            return true;
+        }
+        rest = others;
+    }
+    part_names_one(rest, by_uid, view)
+}
+
 fn push_range(part: &[u8], ranges: &mut Vec<SeqRange>) -> Result<(), AllocError>
     ensures { OnOk result (ranges.new.items ≡ ranges.old.items ++ option_to_list (range_of part.now)) }
 {
@@ -75,16 +119,6 @@ pub(crate) fn ranges_in(alloc: Global, text: &[u8]) -> Result<Vec<SeqRange>, All
     }
     push_range(rest, &mut ranges)?;
     Ok(ranges)
-}
-
-// The greatest UID of a view, which is the last; 0 where there is none.
-fn last_uid(view: &[u32]) -> usize
-    ensures { result ≡ last_uid view.now }
-{
-    match view.last() {
-        Some(uid) => *uid as usize,
-        None => 0,
-    }
 }
 
 /// The UIDs of a view that ranges of UIDs name, found by halving.

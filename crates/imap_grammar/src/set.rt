@@ -9,7 +9,7 @@ ghost use Rattle.imap_grammar.specs.Sets.{seq_number_of, range_of, ranges_of};
 
 use crate::cut::cut_at;
 use crate::number::number_up_to;
-use crate::ranges::{is_one_too_high, positions_in, ranges_in, uids_in};
+use crate::ranges::{is_one_named, is_one_too_high, positions_in, ranges_in, uids_in};
 use crate::view::{Named, with_positions};
 use mailbox::View;
 use std::alloc::{AllocError, Global};
@@ -111,9 +111,9 @@ fn are_ranges(text: &[u8]) -> bool
 }
 
 impl<'a> SeqSet<'a> {
-    ghost use Rattle.std.specs.Prelude.{Some, None, IfOk, Err, map, ◌↔◌};
+    ghost use Rattle.std.specs.Prelude.{Some, None, IfOk, IfErr, OnErr, Err, [], true, map, ◌≢◌, ◌↔◌};
     ghost use Rattle.std.specs.List.Sorted.{IsStrictlyIncreasing};
-    ghost use Rattle.imap_grammar.specs.Sets.{messages_in, named_in};
+    ghost use Rattle.imap_grammar.specs.Sets.{messages_in, named_in, names_one};
     ghost use Rattle.imap_grammar.specs.declared.set.SetFault.{SetFault};
     ghost use Rattle.imap_grammar.specs.Reading.{set_at};
 
@@ -146,6 +146,31 @@ impl<'a> SeqSet<'a> {
         Ok(positions_in(alloc, &ranges, view)?)
     }
 
+    // The messages of a view that the set names, as `resolve` says; memory may be refused to it whatever the set names.
+    fn find(&self, alloc: Global, view: &[u32], by_uid: bool) -> Result<Vec<Named>, SetFault>
+        requires { IsNonDecreasing view.now }
+        ensures found { IfOk result (λ named. messages_in by_uid self.now view.now ≡ Some named.items) }
+        ensures too_high { (result ≡ Err SetFault.TooHigh) ↔ (named_in by_uid self.now view.now ≡ None) }
+        ensures rising { IsStrictlyIncreasing view.now → IfOk result (λ named. IsStrictlyIncreasing (map (λ m. m.uid) named.items)) }
+    {
+        let uids = self.uids(alloc, view, by_uid)?;
+        Ok(with_positions(alloc, &uids, view)?)
+    }
+
+    // What is answered where memory was refused: it was wanted only where the set names a message.
+    fn find_none(&self, alloc: Global, view: &[u32], by_uid: bool) -> Result<Vec<Named>, SetFault>
+        requires rising { IsNonDecreasing view.now }
+        requires there { named_in by_uid self.now view.now ≢ None }
+        ensures found { IfOk result (λ named. (messages_in by_uid self.now view.now ≡ Some named.items) × (named.items ≡ [])) }
+        ensures wanted { OnErr result (names_one by_uid self.now view.now ≡ true) }
+        ensures fault { IfErr result (λ f. f ≡ SetFault.NoMemory) }
+    {
+        if is_one_named(self.spelled, by_uid, view) {
+            return Err(SetFault::NoMemory);
+        }
+        Ok(Vec::new(alloc))
+    }
+
     /// The messages of a view that the set names, each once, in the view's order, with their positions. By
     /// position a number is a message's position in the view, counted from 1, and `*` the last position; by UID
     /// what isn't in the view is passed over, and `*` is the view's last UID (RFC 9051, 9: seq-number).
@@ -153,7 +178,8 @@ impl<'a> SeqSet<'a> {
     /// length for each of both.
     ///
     /// Errors, in this order: `TooHigh` exactly where a number by position is above the view's length, or
-    /// `*` is said of an empty view; `NoMemory` where memory was refused.
+    /// `*` is said of an empty view; `NoMemory` where memory was refused, which is wanted only where the
+    /// set names a message.
     pub fn resolve(
         &self,
         alloc: Global,
@@ -166,11 +192,17 @@ impl<'a> SeqSet<'a> {
         // TooHigh exactly where it says a position that isn't there, as `*` is in an empty view; by UID never.
         ensures too_high { (result ≡ Err SetFault.TooHigh) ↔ (named_in by_uid self.now view.now ≡ None) }
 
+        // NoMemory only where it names a message of the view.
+        ensures memory { (result ≡ Err SetFault.NoMemory) → names_one by_uid self.now view.now ≡ true }
+
         // Their UIDs rise.
         ensures rising { IfOk result (λ named. IsStrictlyIncreasing (map (λ m. m.uid) named.items)) }
     {
         let shown = view.uids();
-        let uids = self.uids(alloc, shown, by_uid)?;
-        Ok(with_positions(alloc, &uids, shown)?)
+        match self.find(alloc, shown, by_uid) {
+            Ok(named) => Ok(named),
+            Err(SetFault::TooHigh) => Err(SetFault::TooHigh),
+            Err(SetFault::NoMemory) => self.find_none(alloc, shown, by_uid),
+        }
     }
 }

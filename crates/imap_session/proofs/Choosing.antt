@@ -15,11 +15,11 @@ use Rattle.imap_session.proofs.Saying.{does_then}
 use Rattle.imap_session.proofs.Runs.{reaches_look}
 
 pub reaches_chosen : {S : Type 0} (step : S → Call → Answer → S → Type 0) (by_uid : Bool) (set : List SeqRange) (next : List ℕ → List ℕ → Exchange) (view uids : List ℕ) (s : S) (text : Response)
-    → step s ex.Look (Looked view) s → named_in by_uid set view ≡ Some uids
+    → step s (ex.Look by_uid set) (Looked view) s → named_in by_uid set view ≡ Some uids
     → (tag : List ℕ) (now : Standing) → Reaches step tag now now (on_set by_uid set next) (next view uids) s s text text
 reaches_chosen step by_uid set next view uids s text v h tag now =
     let P : Option (List ℕ) → Type 0 = λ o. Reaches step tag now now (on_set by_uid set next) (on_chosen o (next view)) s s text text in
-    subst P h (reaches_look step tag now (λ w. on_chosen (named_in by_uid set w) (next w)) view s text v)
+    subst P h (reaches_look step tag now by_uid set (λ w. on_chosen (named_in by_uid set w) (next w)) view s text v)
 
 -- ---- what a choice answers
 
@@ -35,11 +35,11 @@ chosen_none view None e = refl
 chosen_none view (Some uids) e = cc
 
 pub reaches_too_high : {S : Type 0} (step : S → Call → Answer → S → Type 0) (by_uid : Bool) (set : List SeqRange) (next : List ℕ → List ℕ → Exchange) (view : List ℕ) (s : S) (text : Response)
-    → step s ex.Look (Looked view) s → None ≡ option_map (map (named_at view)) (named_in by_uid set view)
+    → step s (ex.Look by_uid set) (Looked view) s → None ≡ option_map (map (named_at view)) (named_in by_uid set view)
     → (tag : List ℕ) (now : Standing) → Reaches step tag now now (on_set by_uid set next) (says (codes "BAD Sequence number too high")) s s text text
 reaches_too_high step by_uid set next view s text looked none tag now =
     let P : Option (List ℕ) → Type 0 = λ o. Reaches step tag now now (on_set by_uid set next) (on_chosen o (next view)) s s text text in
-    subst P (chosen_none view (named_in by_uid set view) none) (reaches_look step tag now (λ w. on_chosen (named_in by_uid set w) (next w)) view s text looked)
+    subst P (chosen_none view (named_in by_uid set view) none) (reaches_look step tag now by_uid set (λ w. on_chosen (named_in by_uid set w) (next w)) view s text looked)
 
 -- messages at their positions, by number
 pub message_there : (view uids : List ℕ) (i : ℕ) (d : Named) → i < length (map (named_at view) uids) → get_or (map (named_at view) uids) i d ≡ named_at view (get_or uids i 0)
@@ -60,7 +60,7 @@ uids_chosen view (uid ∷ uids) = ap (λ (l : List ℕ). uid ∷ l) (uids_chosen
 
 -- what is done with the messages that a set names, once they are found
 pub does_chosen : {S V : Type 0} (step : S → Call → Answer → S → Type 0) (by_uid : Bool) (set : List SeqRange) (next : List ℕ → List ℕ → Exchange) (z : V → Exchange) (view : List ℕ) (messages : List Named) (old new : S) (before after : Response) (r : Result V MailFault)
-    → step old ex.Look (Looked view) old → Some messages ≡ option_map (map (named_at view)) (named_in by_uid set view)
+    → step old (ex.Look by_uid set) (Looked view) old → Some messages ≡ option_map (map (named_at view)) (named_in by_uid set view)
     → ((uids : List ℕ) → messages ≡ map (named_at view) uids → Does step (next view uids) z old new before after r)
     → Does step (on_set by_uid set next) z old new before after r
 does_chosen step by_uid set next z view messages old new before after r looked told p =

@@ -11,6 +11,7 @@ use Rattle.change_ring.specs.declared.flag_op.FlagOp.{FlagOp}
 use Rattle.cursor_set.specs.Lines.{lines}
 use Rattle.mailbox.specs.declared.clients.Opening.{Opening}
 use Rattle.imap_session.specs.declared.standing.Selected.{Selected}
+use Rattle.imap_grammar.specs.declared.set.SeqRange.{SeqRange}
 use Rattle.imap_session.specs.Exchange as ex
 use Rattle.imap_session.specs.Exchange.{Call, Answer, Entered, Looked, Found, Counted, Altered, Expunged, Fed, Left, Refused, Starved, Event, Exchange, Standing, refused, saying, having}
 use Rattle.imap_session.specs.Store.{Met}
@@ -184,20 +185,20 @@ stops_feed step tag now limit x fault old new before after h e = record {
 
 -- ---- looks
 
-pub reaches_look : {S : Type 0} (step : S → Call → Answer → S → Type 0) (tag : List ℕ) (now : Standing) (next : List ℕ → Exchange) (view : List ℕ) (s : S) (text : Response)
-    → step s ex.Look (Looked view) s → Reaches step tag now now (ex.Look next) (next view) s s text text
-reaches_look step tag now next view s text h = record {
-  events = record { call = ex.Look; answer = Looked view } ∷ [];
+pub reaches_look : {S : Type 0} (step : S → Call → Answer → S → Type 0) (tag : List ℕ) (now : Standing) (by_uid : Bool) (set : List SeqRange) (next : List ℕ → Exchange) (view : List ℕ) (s : S) (text : Response)
+    → step s (ex.Look by_uid set) (Looked view) s → Reaches step tag now now (ex.Look by_uid set next) (next view) s s text text
+reaches_look step tag now by_uid set next view s text h = record {
+  events = record { call = ex.Look by_uid set; answer = Looked view } ∷ [];
   bytes = [];
-  leads = λ more turn p. (Looked view ∷ more, ap (option_map (having ex.Look (Looked view))) p);
+  leads = λ more turn p. (Looked view ∷ more, ap (option_map (having (ex.Look by_uid set) (Looked view))) p);
   met = (s, h, refl);
   wrote = nothing_added text;
 }
 
-pub stops_look : {S : Type 0} (step : S → Call → Answer → S → Type 0) (tag : List ℕ) (now : Standing) (next : List ℕ → Exchange) (fault : MailFault) (s : S) (text : Response)
-    → step s ex.Look (Refused fault) s → Stops step tag now now (ex.Look next) fault s s text text
-stops_look step tag now next fault s text h = record {
-  events = record { call = ex.Look; answer = Refused fault } ∷ [];
+pub stops_look : {S : Type 0} (step : S → Call → Answer → S → Type 0) (tag : List ℕ) (now : Standing) (by_uid : Bool) (set : List SeqRange) (next : List ℕ → Exchange) (fault : MailFault) (s : S) (text : Response)
+    → step s (ex.Look by_uid set) (Refused fault) s → Stops step tag now now (ex.Look by_uid set next) fault s s text text
+stops_look step tag now by_uid set next fault s text h = record {
+  events = record { call = ex.Look by_uid set; answer = Refused fault } ∷ [];
   bytes = [];
   leads = (Refused fault ∷ [], refl);
   met = (s, h, refl);

@@ -109,7 +109,7 @@ on_chosen None next = says (codes "BAD Sequence number too high")
 on_chosen (Some uids) next = next uids
 
 abbrev pub on_set : Bool → List SeqRange → (List ℕ → List ℕ → Exchange) → Exchange
-on_set by_uid set next = Look (λ view. on_chosen (named_in by_uid set view) (next view))
+on_set by_uid set next = Look by_uid set (λ view. on_chosen (named_in by_uid set view) (next view))
 
 -- after the last message of a FETCH or STORE: only the UID forms show changes, and they don't tell that messages are gone
 abbrev pub messages_done : Command → Bool → Bool → Exchange

@@ -10,6 +10,7 @@ use Rattle.mailbox.specs.declared.mailbox.Status.{Status}
 use Rattle.mailbox.specs.declared.clients.Row.{Row}
 use Rattle.change_ring.specs.declared.flag_op.FlagOp.{FlagOp}
 use Rattle.cursor_set.specs.Lines.{lines}
+use Rattle.imap_grammar.specs.declared.set.SeqRange.{SeqRange}
 use Rattle.imap_session.specs.declared.standing.After.{After}
 use Rattle.imap_session.specs.declared.standing.After.TheVariants.{Go, Bye}
 use Rattle.imap_session.specs.declared.standing.After.TheVariants as afters
@@ -21,8 +22,8 @@ use Rattle.imap_session.specs.declared.standing.Append.{Append}
 -- what a session asks of the store. All but Look are events of a mailbox
 pub data Call : Type 0 where
   Enter : (mailbox : ℕ) → Call
-  -- a copy of the view
-  Look : Call
+  -- which messages of the view a set names, by UID or by position
+  Look : (by_uid : Bool) (set : List SeqRange) → Call
   Read : (uid : ℕ) (mark_seen : Bool) → Call
   Count : (mailbox : ℕ) → Call
   Alter : (uid : ℕ) → FlagOp → Call
@@ -185,7 +186,7 @@ pub data Exchange : Type 0 where
   -- room for these was reserved before anything was done, as for the last line, so memory can't be refused to them
   Put : List ℕ → Exchange → Exchange
   Enter : Selected → (Opening → Exchange) → Exchange
-  Look : (List ℕ → Exchange) → Exchange
+  Look : (by_uid : Bool) (set : List SeqRange) → (List ℕ → Exchange) → Exchange
   Read : ℕ → Bool → (Option Row → Exchange) → Exchange
   Count : ℕ → (Status → Exchange) → Exchange
   Alter : ℕ → FlagOp → (Option Flags → Exchange) → Exchange
@@ -275,8 +276,8 @@ played tag now (Put bytes x) answers = option_map (saying bytes) (played tag now
 played tag now (Enter selected next) (Entered opening ∷ more) =
     option_map (having (Enter selected.mailbox) (Entered opening)) (played tag (record now { selected = Some selected }) (next opening) more)
 played tag now (Enter selected next) (Refused fault ∷ []) = Some (having (Enter selected.mailbox) (Refused fault) (refused tag now fault))
-played tag now (Look next) (Looked view ∷ more) = option_map (having Look (Looked view)) (played tag now (next view) more)
-played tag now (Look next) (Refused fault ∷ []) = Some (having Look (Refused fault) (refused tag now fault))
+played tag now (Look by_uid set next) (Looked view ∷ more) = option_map (having (Look by_uid set) (Looked view)) (played tag now (next view) more)
+played tag now (Look by_uid set next) (Refused fault ∷ []) = Some (having (Look by_uid set) (Refused fault) (refused tag now fault))
 played tag now (Read uid mark next) (Found row ∷ more) =
     option_map (having (Read uid mark) (Found row)) (played tag now (next row) more)
 played tag now (Read uid mark next) (Refused fault ∷ []) = Some (having (Read uid mark) (Refused fault) (refused tag now fault))

@@ -34,7 +34,7 @@ pub trait Store {
         by_uid: bool,
     ) -> Result<Option<Vec<Named>>, MailFault>
         // It looked at a view, and answers which messages the set names there, or None for a position that isn't there.
-        ensures event { Chooses (λ a. step self.now Look a self.now) by_uid set.now result }
+        ensures event { Chooses (λ a. step self.now (Look by_uid set.now) a self.now) by_uid set.now result }
         ensures faults { IfErr result (λ f. (f ≡ MailFault.Stranger) ⊎ (f ≡ MailFault.NoMemory)) };
 
     /// Reads the message of a UID; where `mark_seen`, it has \Seen from now on. None where it isn't there.

@@ -255,13 +255,13 @@ abbrev pub DoesDeliver : Mailbox → Job → Result Receipt Refusal → Mailbox 
 DoesDeliver found job (Ok receipt) left = Delivers found job receipt left
 DoesDeliver found job (Err refusal) left = IsKept found × (left ≡ found) × DeliversNot refusal job.flags found
 
--- The view was looked at, or memory was refused though there is one, or the handle is a stranger. It is no event.
+-- The view was looked at, or the handle is a stranger. It is no event, and takes no memory.
 abbrev pub DoesLook : Mailbox → CursorHandle → Result (List ℕ) MailFault → Type 0
 DoesLook found handle (Ok view) = IsKept found × HasCursor found handle view
 DoesLook found handle (Err Stranger) = IsKept found × IsStranger found handle
 DoesLook found handle (Err Lapped) = ⊥
 DoesLook found handle (Err Spent) = ⊥
-DoesLook found handle (Err NoMemory) = IsKept found × (view : List ℕ) × HasCursor found handle view
+DoesLook found handle (Err NoMemory) = ⊥
 
 -- The mailbox was counted (RFC 9051, 6.3.11). It is no event.
 pub record Counts (found : Mailbox) (status : Status) : Type 0 where

@@ -22,6 +22,8 @@ use Rattle.delivery_core.specs.DeliveryCore.{DeliveryCore, behind, client_of, pe
 use Rattle.delivery_core.specs.Stands.{StandsFor}
 use Rattle.delivery_core.proofs.Looks.{pending_seen, view_seen}
 use Rattle.delivery_core.proofs.Mailed.{session_at, there_at}
+use Rattle.imap_grammar.specs.Sets.{names_one}
+use Rattle.imap_grammar.specs.declared.set.SeqRange.{SeqRange}
 use Rattle.imap_session.specs.Exchange.{Enter, Look, Read, Count, Alter, Expunge, Feed, Leave, Entered, Looked, Found, Counted, Altered, Left, Refused}
 use Rattle.imap_session.specs.Store.{answer}
 use Rattle.imap_session.specs.Store as store
@@ -262,10 +264,10 @@ opens old new n m (Err fault) strange lapsed event entered validity rest counts 
 
 -- ---- Look, Count
 
-pub looked : (core : DeliveryCore) (n : ℕ) (view copied : List ℕ) → copied ≡ view → view ≡ view_of core n
+pub looked : (core : DeliveryCore) (n : ℕ) (by_uid : Bool) (set : List SeqRange) (view copied : List ℕ) → copied ≡ view → view ≡ view_of core n
     → ((k : Config) (w : World) → StandsFor k core w → Selected w n (λ s. view ≡ view_at (w.box s.mailbox).log s.cursor))
-    → Serves (serving core n) Look (Looked copied) (serving core n)
-looked core n view copied same is log = record {
+    → Serves (serving core n) (Look by_uid set) (Looked copied) (serving core n)
+looked core n by_uid set view copied same is log = record {
   same = refl;
   meets = λ k w S. let d = log k w S in (w, (refl, (d.0, d.1, same ∙ d.2)), S);
   rest = same_delivery core;
@@ -274,8 +276,8 @@ looked core n view copied same is log = record {
   behind = tt;
 }
 
-pub not_looked : (core : DeliveryCore) (n : ℕ) (fault : MailFault) → fault ≡ Stranger → client_of core n ≡ None → Serves (serving core n) Look (Refused fault) (serving core n)
-not_looked core n fault is gone = subst (λ (f : MailFault). Serves (serving core n) Look (Refused f) (serving core n)) (sym is) (record {
+pub not_looked : (core : DeliveryCore) (n : ℕ) (by_uid : Bool) (set : List SeqRange) (fault : MailFault) → fault ≡ Stranger → client_of core n ≡ None → Serves (serving core n) (Look by_uid set) (Refused fault) (serving core n)
+not_looked core n by_uid set fault is gone = subst (λ (f : MailFault). Serves (serving core n) (Look by_uid set) (Refused f) (serving core n)) (sym is) (record {
   same = refl;
   meets = λ k w S. (w, (refl, no_session k w core n S gone), S);
   rest = same_delivery core;
@@ -283,6 +285,19 @@ not_looked core n fault is gone = subst (λ (f : MailFault). Serves (serving cor
   view = refl;
   behind = tt;
 })
+
+-- memory was refused to a look whose set names a message of the view
+pub refused_memory : (core : DeliveryCore) (n : ℕ) (by_uid : Bool) (set : List SeqRange) (view : List ℕ) → names_one by_uid set view ≡ true → view ≡ view_of core n
+    → ((k : Config) (w : World) → StandsFor k core w → Selected w n (λ s. view ≡ view_at (w.box s.mailbox).log s.cursor))
+    → Serves (serving core n) (Look by_uid set) (Refused NoMemory) (serving core n)
+refused_memory core n by_uid set view named is log = record {
+  same = refl;
+  meets = λ k w S. let d = log k w S in (w, (refl, (refl, (d.0, d.1, subst (λ (v : List ℕ). names_one by_uid set v ≡ true) d.2 named))), S);
+  rest = same_delivery core;
+  counts = same_counts core;
+  view = refl;
+  behind = tt;
+}
 
 pub counted : (core : DeliveryCore) (n m : ℕ) (status : Status) → m < length core.boxes → ((k : Config) (w : World) → StandsFor k core w → IsStatus k (w.box m) status)
     → ((d : Mailbox) → status.uidvalidity ≡ (slice_index_or core.boxes m d).uidvalidity)

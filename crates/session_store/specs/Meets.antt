@@ -1,5 +1,5 @@
 -- What a session's call comes to in the world, with the answer that it gets.
-use Rattle.std.specs.Prelude.{◌≡◌, ℕ, ◌<◌, ◌≤◌, List, [], length, take, None, Ok, Err}
+use Rattle.std.specs.Prelude.{◌≡◌, ℕ, ◌<◌, ◌≤◌, true, List, [], length, take, None, Ok, Err}
 use Rattle.change_ring.specs.declared.change.Change.{Change}
 use Rattle.change_ring.specs.Log.{rows_of, view_at}
 use Rattle.change_ring.specs.Logged.{flags_logged, removals, seen_logged}
@@ -9,6 +9,7 @@ use Rattle.mailbox.specs.declared.clients.MailFault.TheVariants.{Stranger, Lappe
 use Rattle.world.specs.World as world
 use Rattle.world.specs.World.{Config, World, Box, Session, Event, Step, Allowed, Selected, most_entries, pending}
 use Rattle.delivery_core.specs.Clients.{Alters, Done, IsStatus, Leaves, Opens, Reads, Refuses}
+use Rattle.imap_grammar.specs.Sets.{names_one}
 use Rattle.imap_session.specs.Exchange.{Call, Answer, Enter, Look, Read, Count, Alter, Expunge, Feed, Leave, Entered, Looked, Found, Counted, Altered, Expunged, Fed, Left, Refused}
 
 -- The event leads from the one world to the other, and this holds of the mailbox that session n had selected and of the session, as they were.
@@ -45,8 +46,9 @@ pub record Shows (view : List ℕ) (changes shown : List Change) (b : Box) (s : 
 abbrev pub Meets : Config → ℕ → World → Call → Answer → World → Type 0
 Meets k n w (Enter m) (Entered opening) v = Step k w (world.Enter n m) v × Selected v n (λ s. s.mailbox ≡ m) × Opens k w m (Ok opening) × (opening.uidvalidity ≡ k.uidvalidity)
 Meets k n w (Enter m) (Refused fault) v = IsTurnedAway k n m w fault v
-Meets k n w Look (Looked view) v = (v ≡ w) × Selected w n (λ s. view ≡ view_at (w.box s.mailbox).log s.cursor)
-Meets k n w Look (Refused fault) v = IsRefused n w fault (fault ≡ NoMemory) v
+Meets k n w (Look by_uid set) (Looked view) v = (v ≡ w) × Selected w n (λ s. view ≡ view_at (w.box s.mailbox).log s.cursor)
+-- memory is wanted only where the set names a message of the view
+Meets k n w (Look by_uid set) (Refused fault) v = IsRefused n w fault ((fault ≡ NoMemory) × Selected w n (λ s. names_one by_uid set (view_at (w.box s.mailbox).log s.cursor) ≡ true)) v
 Meets k n w (Read uid mark) (Found row) v = IsDone k n w (world.Read n uid mark) (λ b s. []) (λ b. seen_logged mark (rows_of b.log) uid) (Reads mark uid (Ok row)) v
 Meets k n w (Read uid mark) (Refused fault) v = IsRefused n w fault (Mails k n w (world.Read n uid mark) (Reads mark uid (Err fault)) v) v
 Meets k n w (Count m) (Counted status) v = (v ≡ w) × (m < k.mailboxes) × IsStatus k (w.box m) status × (status.uidvalidity ≡ k.uidvalidity)

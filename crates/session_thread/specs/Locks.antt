@@ -1,17 +1,19 @@
 -- What a session does to mailboxes behind locks: each call takes the lock of one mailbox, does one thing to it, and lets go.
-use Rattle.std.specs.Prelude.{◌≡◌, ◌≢◌, ℕ, ◌-◌, ◌<◌, ◌≤◌, ◌⊎◌, List, length, drop, min, Option, Some, None, IsSome, Result, Ok, Err}
+use Rattle.std.specs.Prelude.{◌≡◌, ◌≢◌, ℕ, ◌-◌, ◌<◌, ◌≤◌, ◌⊎◌, Bool, true, List, length, drop, min, Option, Some, None, IsSome, Result, Ok, Err}
 use Rattle.change_ring.specs.declared.change.Change.{Change}
 use Rattle.change_ring.specs.Log.{view_at}
 use Rattle.change_ring.specs.Logged.{flags_logged, removals, removals_if, seen_logged}
 use Rattle.change_ring.specs.Window.{total}
 use Rattle.cursor_set.specs.Cursors.{CursorHandle}
-use Rattle.mailbox.specs.Events.{IsTooMany, in_set}
+use Rattle.imap_grammar.specs.Sets.{names_one}
+use Rattle.imap_grammar.specs.declared.set.SeqRange.{SeqRange}
+use Rattle.mailbox.specs.Events.{IsStranger, IsTooMany, in_set}
 use Rattle.mailbox.specs.Mailbox.{Mailbox, message_with, rows}
 use Rattle.mailbox.specs.Stands.{IsKept, Stands, next_of}
 use Rattle.mailbox.specs.declared.clients.MailFault.{MailFault}
-use Rattle.mailbox.specs.declared.clients.MailFault.TheVariants.{Stranger}
+use Rattle.mailbox.specs.declared.clients.MailFault.TheVariants.{Stranger, Lapped, Spent, NoMemory}
 use Rattle.mailbox.specs.declared.mailbox.Status.{Status}
-use Rattle.mailbox_holds.specs.Holds.{Alters, Counts, DoesLook, Enters, EntersNot, Expunges, Feeds, IsRefused, HasCursor, Leaves, LeavesNot, Reads, UnderLock}
+use Rattle.mailbox_holds.specs.Holds.{Alters, Counts, Enters, EntersNot, Expunges, Feeds, IsRefused, HasCursor, Leaves, LeavesNot, Reads, UnderLock}
 use Rattle.imap_session.specs.Exchange.{Call, Answer, Enter, Look, Read, Count, Alter, Expunge, Feed, Leave, Entered, Looked, Found, Counted, Altered, Expunged, Fed, Left, Refused}
 use Rattle.session_thread.specs.declared.locked_store.Entry.{Entry}
 
@@ -57,6 +59,14 @@ abbrev pub DoesCountAt : ℕ → Mailbox → Result Status MailFault → Mailbox
 DoesCountAt number found (Ok status) left = (found.number ≡ number) × (left ≡ found) × Counts found status
 DoesCountAt number found (Err fault) left = (found.number ≢ number) × (left ≡ found) × (fault ≡ Stranger)
 
+-- Why a look at a mailbox that was entered told of no messages: the handle is a stranger, or memory was refused. That is wanted only where the set names
+-- a message of the view.
+abbrev pub LooksNot : Bool → List SeqRange → MailFault → Mailbox → CursorHandle → Type 0
+LooksNot by_uid set Stranger found handle = IsKept found × IsStranger found handle
+LooksNot by_uid set Lapped found handle = ⊥
+LooksNot by_uid set Spent found handle = ⊥
+LooksNot by_uid set NoMemory found handle = IsKept found × (view : List ℕ) × HasCursor found handle view × (names_one by_uid set view ≡ true)
+
 -- One call of a session over locks, with its answer. Of the mailbox nothing is known but what the call finds, and its number: the one that was asked
 -- for, and in a mailbox that was entered the handle's, which is that one.
 abbrev pub Holds : LockedStore → Call → Answer → LockedStore → Type 0
@@ -64,10 +74,10 @@ Holds old (Enter m) (Entered opening) new =
     (old.entered ≡ None) × (m < old.mailboxes)
     × ((handle : CursorHandle) × UnderLock (λ found left. (found.number ≡ m) × Enters found opening left handle) × (new ≡ record { mailboxes = old.mailboxes; entered = Some (record { mailbox = m; start = handle.at; handle = handle }) }))
 Holds old (Enter m) (Refused fault) new = (new ≡ old) × StaysOut old m fault
--- a copy of the view, which is no event: nothing is changed
-Holds old Look (Looked view) new = (new ≡ old) × In old (λ here. UnderLock (λ found left. (left ≡ found) × IsKept found × HasCursor found here.handle view))
-Holds old Look (Refused fault) new =
-    (new ≡ old) × ((old.entered ≡ None) × (fault ≡ Stranger) ⊎ In old (λ here. UnderLock (λ found left. (left ≡ found) × DoesLook found here.handle (Err fault))))
+-- a look at the view, which is no event: nothing is changed
+Holds old (Look by_uid set) (Looked view) new = (new ≡ old) × In old (λ here. UnderLock (λ found left. (left ≡ found) × IsKept found × HasCursor found here.handle view))
+Holds old (Look by_uid set) (Refused fault) new =
+    (new ≡ old) × ((old.entered ≡ None) × (fault ≡ Stranger) ⊎ In old (λ here. UnderLock (λ found left. (left ≡ found) × LooksNot by_uid set fault found here.handle)))
 Holds old (Read uid mark) (Found row) new = (new ≡ old) × In old (λ here. UnderLock (λ found left. Reads found here.handle uid mark row left))
 Holds old (Read uid mark) (Refused fault) new =
     (new ≡ old) × TurnsAway old (λ found handle. IsTooMany found (seen_logged mark (rows found) uid)) (λ found handle. IsSome (message_with uid found.messages)) fault

@@ -6,7 +6,7 @@ ghost use Rattle.imap_grammar.specs.Sets.{messages_in};
 ghost use Rattle.std.specs.Option.{option_copied};
 ghost use Rattle.std.specs.Vec.{vec_capacity};
 ghost use Rattle.mailbox_holds.specs.Holds.{DoesAlter, DoesExpunge, DoesFeed, DoesLeave, DoesLook, DoesRead, UnderLock};
-ghost use Rattle.session_thread.specs.Locks.{DoesCountAt};
+ghost use Rattle.session_thread.specs.Locks.{DoesCountAt, LooksNot};
 ghost use Rattle.session_thread.specs.inner.Entering.{DoesEnterAt};
 
 use change_ring::{FlagOp, Flags};
@@ -44,7 +44,7 @@ pub(crate) fn enter<R: Wait>(
     )
 }
 
-// The messages that a set names, as the handle's client counts them.
+// The messages that a set names, as the handle's client counts them. Memory is wanted only where there is one.
 fn choose_in(
     alloc: Global,
     mailbox: &Mailbox,
@@ -54,7 +54,7 @@ fn choose_in(
 ) -> Result<Option<Vec<Named>>, MailFault>
     ensures chosen { IfOk result (λ chosen. (view : List ℕ) × DoesLook mailbox.now handle.now (Ok view)
         × (option_map (λ named. named.items) chosen ≡ messages_in by_uid set.now view)) }
-    ensures not { IfErr result (λ fault. DoesLook mailbox.now handle.now (Err fault)) }
+    ensures not { IfErr result (λ fault. LooksNot by_uid set.now fault mailbox.now handle.now) }
     ensures faults { IfErr result (λ f. (f ≡ MailFault.Stranger) ⊎ (f ≡ MailFault.NoMemory)) }
 {
     let view = holds::view(mailbox, handle)?;
@@ -75,7 +75,7 @@ pub(crate) fn choose<R: Wait>(
 ) -> Result<Option<Vec<Named>>, MailFault>
     ensures chosen { IfOk result (λ chosen. (view : List ℕ) × UnderLock (λ found left. (left ≡ found) × DoesLook found handle.now (Ok view))
         × (option_map (λ named. named.items) chosen ≡ messages_in by_uid set.now view)) }
-    ensures not { IfErr result (λ fault. UnderLock (λ found left. (left ≡ found) × DoesLook found handle.now (Err fault))) }
+    ensures not { IfErr result (λ fault. UnderLock (λ found left. (left ≡ found) × LooksNot by_uid set.now fault found handle.now)) }
     ensures faults { IfErr result (λ f. (f ≡ MailFault.Stranger) ⊎ (f ≡ MailFault.NoMemory)) }
 {
     // The set is lent, since a closure that captured it would lose its clauses.
@@ -88,7 +88,7 @@ pub(crate) fn choose<R: Wait>(
             ensures same { mailbox.new ≡ mailbox.old }
             ensures chosen { IfOk result (λ chosen. (view : List ℕ) × DoesLook mailbox.old handle.entry.now (Ok view)
                 × (option_map (λ named. named.items) chosen ≡ messages_in by_uid set.old.now view)) }
-            ensures not { IfErr result (λ fault. DoesLook mailbox.old handle.entry.now (Err fault)) }
+            ensures not { IfErr result (λ fault. LooksNot by_uid set.old.now fault mailbox.old handle.entry.now) }
             ensures faults { IfErr result (λ f. (f ≡ MailFault.Stranger) ⊎ (f ≡ MailFault.NoMemory)) }
         { choose_in(alloc, mailbox, handle, set, by_uid) },
     )

@@ -15,7 +15,7 @@ use Rattle.imap_session.proofs.expunge.expunge_set.Goals as goal
 pub returns-in_err-messages : goal.returns-in_err-messages
 returns-in_err-messages g c =
     let p = err_from_is_err_and c.from_residual.result c.from_residual.ensures.1 in
-    rw (p.1, p.2) (λ tag now. stops_look g.S.Store.step tag now _ _ _ _ c.in_err-messages.ensures.event)
+    rw (p.1, p.2) (λ tag now. stops_look g.S.Store.step tag now _ _ _ _ _ _ c.in_err-messages.ensures.event)
 
 removed : List SeqRange → List ℕ → Exchange
 removed set uids = Expunge (Some uids) (Feed unlimited (completed (commands.UidExpunge set)))

@@ -17,7 +17,7 @@ returns-in_err-items g c =
 pub returns-in_err-messages : goal.returns-in_err-messages
 returns-in_err-messages g c =
     let p = err_from_is_err_and c.from_residual-in_err-messages.result c.from_residual-in_err-messages.ensures.1 in
-    rw (p.1, p.2) (does_wanting {V = List ℕ} g.S.Store.step _ last _ _ _ _ (Err _) (λ tag now. stops_look g.S.Store.step tag now _ _ _ _ c.in_err-messages.ensures.event))
+    rw (p.1, p.2) (does_wanting {V = List ℕ} g.S.Store.step _ last _ _ _ _ (Err _) (λ tag now. stops_look g.S.Store.step tag now _ _ _ _ _ _ c.in_err-messages.ensures.event))
 
 pub returns-in_default : goal.returns-in_default
 returns-in_default g c tag now =

@@ -1,18 +1,8 @@
-use Rattle.std.proofs.Common.{rules, ◌≡◌, ◌∙◌, map, sym, ap, subst}
-use Rattle.std.specs.List.Sorted.{IsStrictlyIncreasing}
-use Rattle.imap_grammar.specs.Sets.{named_at}
-use Rattle.imap_grammar.specs.declared.view.Named.{Named}
-use Rattle.imap_grammar.proofs.Rising.{never_falls, uids_named}
+use Rattle.imap_grammar.proofs.Rising.{never_falls}
 use Rattle.imap_grammar.proofs.set.SeqSet.resolve.Goals as goal
 
-pub uids-requires : goal.uids-requires
-uids-requires c = never_falls c.uids-shown.result.now c.uids-shown.ensures.rising
+pub find-requires : goal.find-requires
+find-requires c = never_falls c.uids-shown.result.now c.uids-shown.ensures.rising
 
-pub with_positions-requires : goal.with_positions-requires
-with_positions-requires c = never_falls c.uids-shown.result.now c.uids-shown.ensures.rising
-
-pub returns-clause-rising : goal.returns-clause-rising
-returns-clause-rising c =
-    let shown = c.uids-shown.result.now in
-    let named : c.in_ok-with_positions.field-0.items ≡ map (named_at shown) c.in_ok-uids.uids.items = search rules in
-    subst IsStrictlyIncreasing (sym (ap (map (λ (m : Named). m.uid)) named ∙ uids_named shown c.in_ok-uids.uids.items)) (c.in_ok-uids.ensures.rising c.uids-shown.ensures.rising)
+pub find_none-requires-clause-rising : goal.find_none-requires-clause-rising
+find_none-requires-clause-rising c = never_falls c.uids-shown.result.now c.uids-shown.ensures.rising
