@@ -7,6 +7,7 @@ Words that are refused, settings that are wrong, help and version; names that ar
 peers one serves at a time. That each number reaches its own setting the worked cases show.
 """
 
+import os
 import select
 import socket
 import subprocess
@@ -129,6 +130,13 @@ def serves_crowd(program, options, count, wanted):
         failures.append(f"{words!r}: status {status}, and of {count} peers {found} were greeted, not {wanted}")
 
 
+def newest_version():
+    """The version that CHANGELOG.md tells of first."""
+    page = os.path.join(os.path.dirname(os.path.dirname(os.path.abspath(__file__))), "CHANGELOG.md")
+    with open(page, encoding="utf-8") as text:
+        return next(line.split()[1] for line in text if line.startswith("## "))
+
+
 def main():
     program = sys.argv[1]
     for words in REFUSED:
@@ -151,7 +159,7 @@ def main():
     )
     check("serve --help", (ended.returncode, ended.stderr) == (0, "") and all(help in ended.stdout for help in helps), ended)
     ended = run(program, "--version")
-    check("--version", (ended.returncode, ended.stderr) == (0, "") and ended.stdout.startswith("post_house 0.1.0, proved with logic "), ended)
+    check("--version", (ended.returncode, ended.stderr) == (0, "") and ended.stdout.startswith(f"post_house {newest_version()}, proved with logic "), ended)
     stops_at_once(program, "--depth=4", WARNING)
     stops_at_once(program, "--uidvalidity=9", "")
     ended = run(program, NAMES, NAMES_INPUT)

@@ -108,7 +108,7 @@ const HOUSE_OPTIONS: &[NumberOption] = &[
 const SERVER_OPTIONS: &[NumberOption] = &[LMTP_PORT, IMAP_PORT, WORKERS, SESSIONS];
 
 // The program's version, and the logic that its proofs were checked by, as `rt version` names it.
-const VERSION: &str = "0.1.0, proved with logic dac8208d650f15bf";
+const VERSION: &str = "0.2.0, proved with logic dac8208d650f15bf";
 
 // An option that sets a number. Its help says what it is for, how far it may go, and its default.
 fn option<'a>(alloc: Global, option: NumberOption, help: &'a str) -> Arg<'a>
