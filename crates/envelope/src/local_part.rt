@@ -89,11 +89,11 @@ impl<'a> LocalValue<'a> {
     {
         let mut rest = self;
         let mut tag = 0;
-        while let Some((first, more)) = rest.split_first() {
-            if first == b'+' {
+        while let Some((byte, more)) = rest.split_first() {
+            if byte == b'+' {
                 return tag;
             }
-            tag = next_tag(tag, first);
+            tag = next_tag(tag, byte);
             rest = more;
         }
         tag
