@@ -222,6 +222,7 @@ class Story:
 
 
 def lines_of(piece):
-    """What came, as lines; one that isn't whole ends in three dots."""
+    """What came, as lines; one that isn't whole ends in three dots. An LF that ends none is drawn as its sign."""
     *lines, rest = piece.decode(errors="replace").split("\r\n")
-    return lines + ([f"{rest}\N{HORIZONTAL ELLIPSIS}"] if rest else [])
+    lines += [f"{rest}\N{HORIZONTAL ELLIPSIS}"] if rest else []
+    return [line.replace("\n", "\N{SYMBOL FOR LINE FEED}") for line in lines]
