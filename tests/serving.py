@@ -330,6 +330,17 @@ def bring_at_once(program):
         select(sessions[0], (WORKERS + BERTHS) * CROWD)
 
 
+def bring_to_many(program):
+    """A message for many users goes over lanes with room for one copy: each is emptied where it is full, and behind the last copy for it."""
+    users = names(CROWD)
+    with serving(program, users, ("--shards", "3", "--depth", "1")) as house:
+        peer = mail(house)
+        expect("what was delivered", peer.deliver(users, data_of("many")), [DELIVERED] * len(users))
+        peer.quit()
+        for user in range(len(users)):
+            select(session(house, user), 1)
+
+
 def names(count):
     """So many users."""
     return ["a" * number for number in range(1, count + 1)]
@@ -415,6 +426,7 @@ def checks():
     yield "a server starts on ports that were just left", start_again
     yield "a connection waits for a worker", wait_for_a_worker
     yield "nothing is refused where each has room for a copy", bring_at_once
+    yield "nothing is refused of one message for many, whatever room there is", bring_to_many
     for users, berths, workers in SERVED:
         yield f"{users} users with {berths} berths, and {workers} workers", serve_many, users, berths, workers
     for users, berths, workers in REFUSED:

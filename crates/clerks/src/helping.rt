@@ -73,4 +73,9 @@ impl<'a, H: Hall, G: Gate> Summons for Clerks<'a, H, G> {
     fn summon<R: Wait>(&self, rt: &R, shard: usize) {
         self.help(rt, shard);
     }
+
+    // No clerk sleeps. So many put by each of eight workers fill no lane of the usual depth.
+    fn at_once(&self) -> usize {
+        8
+    }
 }

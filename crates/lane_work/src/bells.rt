@@ -1,6 +1,8 @@
 //! Bells wake who sleeps: a shard's consumer, and the sessions of a user. A ring is kept until it is
 //! heard, so none is lost, and one too many costs a look. Nothing is proved of them.
 
+ghost use Rattle.std.specs.Prelude.{◌<◌};
+
 use crossbeam_utils::sync::{Parker, Unparker};
 use session_bells::{SessionBell, ring_each};
 use std::hint;
@@ -14,6 +16,14 @@ pub trait Summons {
     /// Something may wait on this shard's lane. Nothing is proved of it: one call too many has to do
     /// no harm.
     fn summon<R: Wait>(&self, rt: &R, shard: usize);
+
+    /// How many copies of one message may be put before it is called for them. It is 1 where the
+    /// consumer may sleep until it is called, since a gate may make the producer wait for it then.
+    fn at_once(&self) -> usize
+        ensures { 0 < result }
+    {
+        1
+    }
 }
 
 /// A row of bells, that of each shard's consumer at its number. Where one is missing nothing is rung.

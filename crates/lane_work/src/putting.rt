@@ -16,7 +16,7 @@ ghost use Rattle.submission.specs.Verdicts.{unknown};
 ghost use Rattle.lane_work.specs.Awaiting.{copies_in};
 ghost use Rattle.lane_work.specs.Copies.{FilledAlone, IsAtOnce, copies_of, room_at, room_of, rooms_of};
 ghost use Rattle.lane_work.specs.inner.Copies.{HavePut, WereTried};
-ghost use Rattle.lane_work.specs.inner.Summoning.{is_last_at, rest_of_eight};
+ghost use Rattle.lane_work.specs.inner.Summoning.{is_last_at, rest_of_group};
 
 use crate::bells::Summons;
 use crate::desk::{Desk, LanePermit, Office};
@@ -87,9 +87,8 @@ fn put_at<R: Wait>(
 }
 
 // The same, at the lane of the copy's mailbox.
-fn try_copy<R: Wait, G: Gate>(
+fn try_copy<R: Wait>(
     rt: &R,
-    pace: &mut Pace<'_, G>,
     office: &Office,
     desk: &mut Desk,
     key: CopyKey,
@@ -117,7 +116,6 @@ fn try_copy<R: Wait, G: Gate>(
         → (result ≡ Some (verdicts.Refused refusals.Shut)) × (map put_by desk.new.permits.items ≡ map put_by desk.old.permits.items) }
 {
     let shard = office.directory.shard_of(mailbox);
-    pace.pass();
     put_at(
         rt,
         &office.lanes[shard],
@@ -129,7 +127,10 @@ fn try_copy<R: Wait, G: Gate>(
     )
 }
 
-// The same; where there is no room the consumer is summoned, and the copy is tried once more.
+// So often a copy is tried before it is refused for want of room: others may fill a short lane as soon as it was emptied.
+const TRIES: u32 = 16;
+
+// The same; where there is no room the consumer is summoned, and the copy is tried again.
 fn put_or_make_room<R: Wait, G: Gate, S: Summons>(
     rt: &R,
     pace: &mut Pace<'_, G>,
@@ -160,13 +161,16 @@ fn put_or_make_room<R: Wait, G: Gate, S: Summons>(
     ensures over { slice_index_or (overs desk.old.permits.items) (shard_of office.now.directory mailbox) false ≡ true
         → (result ≡ Some (verdicts.Refused refusals.Shut)) × (map put_by desk.new.permits.items ≡ map put_by desk.old.permits.items) }
 {
-    match try_copy(rt, pace, office, desk, key, mailbox, text, flags) {
-        Some(Verdict::Refused(Refusal::Full)) => {
-            summons.summon(rt, office.directory.shard_of(mailbox));
-            try_copy(rt, pace, office, desk, key, mailbox, text, flags)
+    pace.pass();
+    for _ in 1..TRIES {
+        match try_copy(rt, office, desk, key, mailbox, text, flags) {
+            Some(Verdict::Refused(Refusal::Full)) => {
+                summons.summon(rt, office.directory.shard_of(mailbox));
+            }
+            known => return known,
         }
-        known => known,
     }
+    try_copy(rt, office, desk, key, mailbox, text, flags)
 }
 
 /// The same, and the consumer is summoned for it.
@@ -205,16 +209,14 @@ pub(crate) fn put_copy<R: Wait, G: Gate, S: Summons>(
     verdict
 }
 
-// Behind so many copies of a message each shard is summoned that they were put for, so that a few messages don't fill a lane.
-const AT_ONCE: usize = 8;
-
-// Of the mailboxes behind this position those that are put for before anybody is summoned for all of them.
-fn rest_of_eight(mailboxes: &[u8], position: usize) -> &[u8]
-    requires { position < length mailboxes.now }
-    ensures { result.now ≡ rest_of_eight mailboxes.now position }
+// Of the mailboxes behind this position those that are in the same group, of so many at a time.
+fn rest_of_group(mailboxes: &[u8], at_once: usize, position: usize) -> &[u8]
+    requires within { position < length mailboxes.now }
+    requires some { 0 < at_once }
+    ensures { result.now ≡ rest_of_group at_once mailboxes.now position }
 {
     let behind = &mailboxes[position + 1..];
-    &behind[..behind.len().min(AT_ONCE - 1 - position % AT_ONCE)]
+    &behind[..behind.len().min(at_once - 1 - position % at_once)]
 }
 
 // Whether none of these mailboxes is this shard's.
@@ -226,13 +228,18 @@ fn has_none_at(directory: &Directory, shard: usize, mailboxes: &[u8]) -> bool
         .all(|mailbox| directory.shard_of(*mailbox) != shard)
 }
 
-// Whether a summons is due behind the copy at this position: it is the last of its eight that is for its shard.
-fn is_due(directory: &Directory, mailboxes: &[u8], position: usize) -> bool
-    requires { position < length mailboxes.now }
-    ensures { IfSome (slice_get mailboxes.now position) (λ mailbox. result ≡ is_last_at directory.now mailbox (rest_of_eight mailboxes.now position)) }
+// Whether a summons is due behind the copy at this position: it is the last of its group that is for its shard.
+fn is_due(directory: &Directory, at_once: usize, mailboxes: &[u8], position: usize) -> bool
+    requires within { position < length mailboxes.now }
+    requires some { 0 < at_once }
+    ensures { IfSome (slice_get mailboxes.now position) (λ mailbox. result ≡ is_last_at directory.now mailbox (rest_of_group at_once mailboxes.now position)) }
 {
     let shard = directory.shard_of(mailboxes[position]);
-    has_none_at(directory, shard, rest_of_eight(mailboxes, position))
+    has_none_at(
+        directory,
+        shard,
+        rest_of_group(mailboxes, at_once, position),
+    )
 }
 
 // Summons whoever takes the copy at this position, where that is due.
@@ -245,7 +252,7 @@ fn summon_where_due<R: Wait, S: Summons>(
 )
     requires { position < length mailboxes.now }
 {
-    if is_due(&office.directory, mailboxes, position) {
+    if is_due(&office.directory, summons.at_once(), mailboxes, position) {
         summons.summon(rt, office.directory.shard_of(mailboxes[position]));
     }
 }
