@@ -165,7 +165,7 @@ pub fn close_all<R: Wait>(
         channels,
         replies: _,
         logs: _,
-        copies: _,
+        taken: _,
         worst: _,
     } = close_queues(alloc, lanes, channels, worked, consumed, baskets);
     if is_producer_torn {
