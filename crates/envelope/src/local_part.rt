@@ -84,7 +84,7 @@ impl<'a> LocalValue<'a> {
         Some(rest)
     }
     /// The tag of the user, which ends before the value's first `+`.
-    pub fn user_tag(self) -> u16
+    pub(crate) fn user_tag(self) -> u16
         ensures { result ≡ tag_of (before_first is_plus (value_left self.entry)) }
     {
         let mut rest = self;
