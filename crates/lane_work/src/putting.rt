@@ -235,11 +235,8 @@ fn is_due(directory: &Directory, at_once: usize, mailboxes: &[u8], position: usi
     ensures { IfSome (slice_get mailboxes.now position) (λ mailbox. result ≡ is_last_at directory.now mailbox (rest_of_group at_once mailboxes.now position)) }
 {
     let shard = directory.shard_of(mailboxes[position]);
-    has_none_at(
-        directory,
-        shard,
-        rest_of_group(mailboxes, at_once, position),
-    )
+    let rest = rest_of_group(mailboxes, at_once, position);
+    has_none_at(directory, shard, rest)
 }
 
 // Summons whoever takes the copy at this position, where that is due.
