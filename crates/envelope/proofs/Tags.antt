@@ -1,5 +1,5 @@
 -- Users that differ in case at most have one tag.
-use Rattle.std.proofs.Common.{◌≡◌, ℕ, suc, ◌+◌, Bool, true, false, List, [], ◌∷◌, refl, ap, ap₂, sym, ◌∙◌, arith}
+use Rattle.std.proofs.Common.{◌≡◌, ℕ, suc, ◌+◌, Bool, true, false, cond, List, [], ◌∷◌, take, refl, ap, ap₂, sym, ◌∙◌, arith}
 use Rattle.std.specs.Prelude.{◌==◌, nat_eq, ◌*◌, ◌%◌, ◌&&◌, not, if◌then◌else◌, fold, map}
 use Rattle.std.specs.List.{before_first, prefix_len}
 use Rattle.std.specs.Char.{to_ascii_lowercase}
