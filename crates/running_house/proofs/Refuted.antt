@@ -1,5 +1,6 @@
 -- Refusals that no report can have: what the definitions refuse.
-use Rattle.std.proofs.Common.{◌≡◌, ◌==◌, ◌≤◌, ◌<◌, ◌+◌, ◌++◌, ◌∷◌, ℕ, suc, List, [], filter, length, ap, ◌∙◌, arith}
+use Rattle.std.proofs.Common.{◌≡◌, ◌==◌, ◌≤◌, ◌<◌, ◌+◌, ◌++◌, ◌∷◌, ℕ, suc, List, [], filter, length, ap, ◌∙◌, arith, subst, sym, All}
+use Rattle.std.proofs.lemmas.List.Elements.{All-head, All-tail}
 use Rattle.std.proofs.lemmas.List.{length-append}
 use Rattle.delivery_token.specs.declared.CopyKey.{CopyKey}
 use Rattle.delivery_token.specs.declared.Job.{Job}
@@ -25,7 +26,8 @@ never_full_before key other own rest later had = go had.first had.split had.own 
   go [] split all many = absurd (omega (arith, many))
   go (x ∷ []) split all many = absurd (omega (arith, many))
   go (x ∷ y ∷ first) split all many =
-      later (subst (IsNotLater key) (sym (cons_head (cons_tail split))) (All-head (IsNotLater key) y first (All-tail (IsNotLater key) x (y ∷ first) all)))
+      let same : own ≡ y = cc in
+      later (subst (IsNotLater key) (sym same) (All-head (IsNotLater key) y first (All-tail (IsNotLater key) x (y ∷ first) all)))
 
 -- a mailbox that accepted no copy was never full
 pub never_full_mailbox : (config : Config) (directory : Directory) (taken : List (List (Entry Job))) (key : CopyKey) (mailbox : ℕ) → 0 < config.messages

@@ -34,16 +34,23 @@ fn is_not_later(entry: &Entry<Job>, key: &CopyKey) -> bool
     }
 }
 
+// Whether so many entries leave no room for one more on a lane of this depth.
+fn leaves_no_room(depth: usize, ahead: usize) -> bool
+    ensures { IsTrue result → depth ≤ ahead }
+{
+    depth <= ahead
+}
+
 // Whether a lane of this depth, from which these entries were taken, can have had no room for the copy with this key.
 fn had_no_room(depth: usize, key: &CopyKey, taken: &[Entry<Job>]) -> bool
     ensures { IsTrue result → HadNoRoom depth key.now taken.now }
 {
     for index in 0..taken.len() {
         if !is_not_later(&taken[index], key) {
-            return depth <= index;
+            return leaves_no_room(depth, index);
         }
     }
-    depth <= taken.len()
+    leaves_no_room(depth, taken.len())
 }
 
 // Whether the entry is the copy with this key.

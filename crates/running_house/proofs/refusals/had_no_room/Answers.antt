@@ -10,7 +10,7 @@ loop-index-init c = (omega arith, All-nil (IsNotLater c.args.key.now))
 pub returns-then-not-is_not_later : goal.returns-then-not-is_not_later
 returns-then-not-is_not_later c told =
     let so = c.loop-index.invariant in
-    no_room c.args.depth c.args.key.now c.args.taken.now c.loop-index.index so.0 so.1 told
+    no_room c.args.depth c.args.key.now c.args.taken.now c.loop-index.index so.0 so.1 (c.leaves_no_room.ensures told)
 
 pub loop-index-preserved : goal.loop-index-preserved
 loop-index-preserved c =
@@ -25,4 +25,5 @@ returns c told =
     let so = c.loop-index.invariant in
     let within = so.0 in
     let beyond = c.loop-index-test.false in
-    no_room c.args.depth c.args.key.now c.args.taken.now c.loop-index.index so.0 so.1 (omega (arith, told, within, beyond))
+    let many = c.leaves_no_room-2.ensures told in
+    no_room c.args.depth c.args.key.now c.args.taken.now c.loop-index.index so.0 so.1 (omega (arith, many, within, beyond))
