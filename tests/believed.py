@@ -23,7 +23,7 @@ TOP = os.path.dirname(os.path.dirname(os.path.abspath(__file__)))
 ROOTS = ["exactly_once::exactly_once_delivery", "script::drive", "running_house::run_house"]
 
 # What the tables of worked examples begin with stands with the other words of its file.
-WITH_ITS_FILE = {("crates/client_list/specs/Client.antt", "fresh")}
+WITH_ITS_FILE = {("crates/laws_client/specs/Client.antt", "fresh")}
 
 # Words of a notation, which are no definitions.
 NOTATION = {"infixr", "infixl", "use"}

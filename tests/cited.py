@@ -154,7 +154,7 @@ class Crates:
 
     def lacks(self, crate, text):
         """Why this crate's README.md says something else than crates.txt, or None."""
-        if crate.endswith(("_tests", "bench")):
+        if crate.startswith("tests_") or crate.endswith("bench"):
             return None
         sentence = STANDS_ON.search(text)
         if not sentence:

@@ -4,8 +4,8 @@ use Rattle.std.proofs.lemmas.Bool.Decides.{eqb_tells}
 use Rattle.std.proofs.lemmas.List.Elements.{All-append}
 use Rattle.delivery_token.specs.declared.Job.{Job}
 use Rattle.shard_queue.specs.declared.queue.ShardQueue.{ShardQueue}
-use Rattle.lane_permits.specs.LanePermits.{AreConsumers}
-use Rattle.lane_permits.specs.ChannelPermits.{AreSenderEndedHands}
+use Rattle.lane_work.specs.LanePermits.{AreConsumers}
+use Rattle.lane_work.specs.ChannelPermits.{AreSenderEndedHands}
 use Rattle.lane_work.specs.declared.consumer.Consumed.{Consumed}
 use Rattle.lane_work.specs.declared.consumer.Depot.{Depot}
 use Rattle.house_floor.specs.Crew.{AllAt}

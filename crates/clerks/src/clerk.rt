@@ -15,11 +15,11 @@ ghost use Rattle.clerks.specs.Keeping.{IsOnLane};
 use crate::turn::{Turn, take_turn};
 use delivery_token::{Job, Noted};
 use lane_work::{Consumed, Depot, Stall, end_senders};
-use pace::{Gate, Pace};
 use shard_queue::{SenderEnded, ShardQueue};
 use std::alloc::Global;
 use std::marker::{Brand, Model, PhantomData};
 use std::sync::Wait;
+use workers_sync::{Gate, Pace};
 
 /// Which lanes and which depot the permits of clerks are of. Whoever calls a function over a hall picks
 /// them, by the name `Brand`.

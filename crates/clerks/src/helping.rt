@@ -9,9 +9,9 @@ ghost use Rattle.lane_work.specs.declared.consumer.Depot.{Depot};
 use crate::clerk::{Clerk, Hall};
 use delivery_token::Job;
 use lane_work::{Depot, Summons};
-use pace::{Actor, Gate, Pace};
 use shard_queue::ShardQueue;
 use std::sync::{Mutex, Wait};
+use workers_sync::{Actor, Gate, Pace};
 
 /// A gate that lets each actor pass at once.
 #[derive(Clone, Copy, Debug, PartialEq, Eq)]

@@ -3,9 +3,9 @@
 
 ghost use Rattle.std.specs.Prelude.{◌≡◌, ◌≤◌, ◌<◌, [], All, IfOk, Some, true, false, length, map, vec_len, vec_capacity};
 ghost use Rattle.lane_work.specs.declared.consumer.Depot.{Depot};
-ghost use Rattle.lane_permits.specs.Rooms.{AreRooms};
-ghost use Rattle.lane_permits.specs.LanePermits.{AreConsumers};
-ghost use Rattle.lane_permits.specs.ChannelPermits.{AreSenderEndedHands};
+ghost use Rattle.lane_work.specs.Rooms.{AreRooms};
+ghost use Rattle.lane_work.specs.LanePermits.{AreConsumers};
+ghost use Rattle.lane_work.specs.ChannelPermits.{AreSenderEndedHands};
 ghost use Rattle.house_floor.specs.Crew.{AllAt, IsStand};
 ghost use Rattle.clerks.specs.Staff.{IsService};
 
@@ -13,10 +13,10 @@ use crate::clerk::{Clerk, Hall};
 use delivery_token::Noted;
 use house_floor::{Floor, Stand};
 use lane_work::Consumed;
-use pace::{Actor, Gate, Pace};
 use shard_queue::SenderEnded;
 use std::alloc::{AllocError, Global};
 use std::sync::{Mutex, Wait};
+use workers_sync::{Actor, Gate, Pace};
 
 /// The clerks of all shards.
 pub struct Staff<H: Hall> {

@@ -10,9 +10,9 @@ ghost use Rattle.clerks.specs.inner.Turns.{Turned};
 
 use delivery_token::Job;
 use lane_work::{Depot, Stall, serve_copy};
-use pace::{Gate, Pace};
 use shard_queue::{ShardQueue, Taken};
 use std::sync::Wait;
+use workers_sync::{Gate, Pace};
 
 /// What one turn met.
 #[derive(Clone, Copy)]

@@ -1,18 +1,22 @@
 //! What passes between the connections and the mailboxes: a copy with its key, the verdict on it,
-//! and the log in which a worker notes the verdicts that it heard. Plain data alone: no lane, no
-//! mailbox and no connection.
+//! the log in which a worker notes the verdicts that it heard, and the copies of one message that was
+//! submitted, with what was heard of each. No lane, no mailbox and no connection.
 #![tactic(auto)]
 
+mod laws;
 mod log;
+mod verdicts;
 
 ghost use Rattle.std.specs.Prelude.{◌≡◌, ◌↔◌, IfOk, IsTrue};
 ghost use Rattle.delivery_token.specs.Keys.{Precedes};
 
 use change_ring::Flags;
+pub use laws::what_was_heard_is_kept;
 pub use log::{Noted, WorkerLog};
 use std::alloc::AllocError;
 use std::marker::Model;
 use std::sync::Arc;
+pub use verdicts::{NextCopy, Submitted, Verdicts};
 
 /// So many verdicts have room on a producer's way back: more than a message has copies.
 pub const REPLY_ROOM: usize = 128;

@@ -9,18 +9,18 @@ use Rattle.delivery_token.specs.declared.CopyKey.{CopyKey}
 use Rattle.delivery_token.specs.declared.Job.{Job}
 use Rattle.delivery_token.specs.declared.Verdict.{Verdict}
 use Rattle.delivery_token.specs.declared.log.Noted.{Noted}
-use Rattle.submission.specs.Heard.{HeardFor}
+use Rattle.delivery_token.specs.Heard.{HeardFor}
 use Rattle.imap_session.specs.Exchange.{Mailing, Sent}
-use Rattle.session_store.specs.Meets.{Meets}
+use Rattle.house.specs.Meets.{Meets}
 use Rattle.world.specs.World as world
 use Rattle.world.specs.World.{Config, MayPut, World, put_full, put_joins, put_no_memory, put_shut}
 use Rattle.world.proofs.Always.{always}
 use Rattle.world.proofs.Base.{Every, Rising, all_of_every, every_append, every_weaker, rising_pair, rising_push}
-use Rattle.house_session.specs.Folders.{folders_of}
-use Rattle.house_session.specs.Visitor.{more_waits}
-use Rattle.house_session.specs.SeatedVisitor as seated
-use Rattle.house_session.specs.SeatedVisitor.{GoesOn, SeatedVisitor, Works, answers, copies_of, keys_of, rests, seated_greeted, sent_by, stalls, told, unread, works}
-use Rattle.house_session.proofs.Rising.{idles_keep}
+use Rattle.house_peers.specs.Folders.{folders_of}
+use Rattle.house_peers.specs.Visitor.{more_waits}
+use Rattle.house_peers.specs.SeatedVisitor as seated
+use Rattle.house_peers.specs.SeatedVisitor.{GoesOn, SeatedVisitor, Works, answers, copies_of, keys_of, rests, seated_greeted, sent_by, stalls, told, unread, works}
+use Rattle.house_peers.proofs.Rising.{idles_keep}
 use Rattle.house.specs.Setup.{Setup, session_seat}
 use Rattle.house.specs.Printing.{still_unsaid, with_session}
 use Rattle.house.specs.Scene as scene

@@ -17,17 +17,17 @@ use Rattle.world.specs.World.{Config, World}
 use Rattle.world.specs.Law.{Headline}
 use Rattle.world.proofs.Always.{always}
 use Rattle.world.proofs.Base.{all_of_every, every_weaker, rising_pair}
-use Rattle.house_connection.specs.Caller.{Caller, more_waits, greeted}
+use Rattle.house_peers.specs.Caller.{Caller, more_waits, greeted}
 use Rattle.house.specs.Setup.{Setup, session_seat, terms_of}
 use Rattle.house.specs.Printing.{Speaks, Prints, prints_all, prints_none}
 use Rattle.house.specs.Printing.{marked_session, of_session, with_session}
-use Rattle.house_session.specs.Visitor.{more_waits as visitor_more_waits}
-use Rattle.house_session.specs.SeatedVisitor.{SeatedVisitor, seated_greeted}
-use Rattle.house_session.specs.Folders.{folders_of}
+use Rattle.house_peers.specs.Visitor.{more_waits as visitor_more_waits}
+use Rattle.house_peers.specs.SeatedVisitor.{SeatedVisitor, seated_greeted}
+use Rattle.house_peers.specs.Folders.{folders_of}
 use Rattle.house.proofs.Carried.{speaks_carried}
 use Rattle.imap_session.specs.Exchange as calls
 use Rattle.imap_session.specs.Store.{Met}
-use Rattle.session_store.specs.Meets.{Meets}
+use Rattle.house.specs.Meets.{Meets}
 use Rattle.house.specs.declared.event.Event.{Event}
 use Rattle.house.specs.declared.event.Event.TheVariants.{Bytes, Vanish, Put, Take, Deliver, Answer, Hear, End, Close, Enter, Say, Idle, Leave}
 use Rattle.house.specs.Scene as scene

@@ -12,7 +12,7 @@ use Rattle.world.proofs.Heard.{heard_stays}
 use Rattle.world.proofs.Always.{steps_join}
 use Rattle.imap_session.specs.Exchange as calls
 use Rattle.imap_session.specs.Exchange.{Call, Look, Read as ReadCall, Count, Alter, Expunge as ExpungeCall, Feed as FeedCall, Leave as LeaveCall, Enter as EnterCall, Entered, Looked, Found, Counted, Altered, Expunged, Fed, Left, Refused, Starved}
-use Rattle.session_store.specs.Meets.{Meets, IsRefused, IsTurnedAway}
+use Rattle.house.specs.Meets.{Meets, IsRefused, IsTurnedAway}
 
 -- ---- what was heard
 

@@ -14,7 +14,7 @@ use Rattle.lmtp_machine.specs.Conversation.{Conversation, Leads}
 use Rattle.lmtp_machine.specs.Kept.{AreMessages, Kept}
 use Rattle.lmtp_machine.proofs.Kept.{event_keeps, fresh_kept, leads_keeps}
 use Rattle.envelope.specs.Directory.{marked}
-use Rattle.house_connection.specs.Caller.{Caller, Terms, GoesOn, Proceeds, IsAnswered, Works, with_unsaid, works, waits, answers, stalls, talks, lingers, fades, greeted, keys_of, meets, setting_of, unread}
+use Rattle.house_peers.specs.Caller.{Caller, Terms, GoesOn, Proceeds, IsAnswered, Works, with_unsaid, works, waits, answers, stalls, talks, lingers, fades, greeted, keys_of, meets, setting_of, unread}
 use Rattle.house.specs.Printing.{ConnectionGoes, Leaves, Prints, goes, marked_connection, of_connection as mark_of_connection, prints_all, prints_none, stays}
 use Rattle.house.proofs.Callers.{does_serial}
 use Rattle.house.specs.Setup.{Setup, terms_of}

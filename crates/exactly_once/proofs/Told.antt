@@ -6,8 +6,8 @@ use Rattle.delivery_token.specs.declared.Verdict.{Verdict}
 use Rattle.delivery_token.specs.declared.log.Noted.{Noted}
 use Rattle.lmtp_machine.specs.Dialogue.{Setting, Submission, keys_from}
 use Rattle.lmtp_machine.specs.Kept.{AreMessages}
-use Rattle.house_connection.specs.Caller.{keys_of}
-use Rattle.submission.specs.Heard.{HeardFor}
+use Rattle.house_peers.specs.Caller.{keys_of}
+use Rattle.delivery_token.specs.Heard.{HeardFor}
 use Rattle.world.proofs.Base.{Every, Rising, every_append, every_weaker}
 use Rattle.world.proofs.Always.{every_front}
 

@@ -38,10 +38,10 @@ use Rattle.imap_session.specs.Store.{AnswersVerdict, IdleTurns}
 use Rattle.delivery_token.specs.declared.Verdict.{Verdict}
 use Rattle.delivery_token.specs.declared.Verdict.TheVariants as verdicts
 use Rattle.delivery_token.specs.declared.log.Noted.{Noted}
-use Rattle.house_session.specs.SeatedVisitor as seated
-use Rattle.house_session.specs.SeatedVisitor.{GoesOn, SeatedVisitor}
-use Rattle.imap_connection.specs.Dialogue as dialogue
-use Rattle.imap_connection.specs.Dialogue.{AnswersLine, AnswersOne, Converses, Sends, goes_on, parts, reads, silent, too_long}
+use Rattle.house_peers.specs.SeatedVisitor as seated
+use Rattle.house_peers.specs.SeatedVisitor.{GoesOn, SeatedVisitor}
+use Rattle.imap_session.specs.Dialogue as dialogue
+use Rattle.imap_session.specs.Dialogue.{AnswersLine, AnswersOne, Converses, Sends, goes_on, parts, reads, silent, too_long}
 
 -- nothing, or lines of which the last one has ended
 abbrev pub IsWhole : List ℕ → Type 0

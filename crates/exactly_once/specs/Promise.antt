@@ -11,7 +11,7 @@ use Rattle.line_io.specs.Wire.{IsCut, joined}
 use Rattle.imap_session.specs.Commands.{greeting}
 use Rattle.world.specs.World.{World, Event, IsWorld}
 use Rattle.world.specs.Law.{Headline, StandsOnce, pairs}
-use Rattle.house_connection.specs.Caller.{Caller}
+use Rattle.house_peers.specs.Caller.{Caller}
 use Rattle.house.specs.Setup.{Setup, session_seat}
 use Rattle.house.specs.Printing.{marked_connection, marked_session}
 use Rattle.house.specs.Scene.{EnterPlay, HasNothing, IdlePlay, Plays, SayPlay, Scene, SessionHears, SessionPuts, SessionTalks, empty_scene, place_of, seat_of}

@@ -12,13 +12,13 @@ use Rattle.delivery_core.specs.Stands as core
 use Rattle.delivery_core.proofs.Follow.{get_or-any}
 use Rattle.lmtp_machine.specs.declared.connection.What.{What}
 use Rattle.lmtp_machine.specs.Dialogue.{Answered}
-use Rattle.house_connection.specs.HouseConnection.{HouseConnection}
+use Rattle.house_peers.specs.HouseConnection.{HouseConnection}
 use Rattle.house.specs.House.{House}
-use Rattle.house_connection.specs.Caller.{Caller, GoesOn, Proceeds, Terms, Works, answers, fades, lingers, meets, stalls, talks, waits, with_unsaid, works}
+use Rattle.house_peers.specs.Caller.{Caller, GoesOn, Proceeds, Terms, Works, answers, fades, lingers, meets, stalls, talks, waits, with_unsaid, works}
 use Rattle.house.specs.Printing.{ConnectionGoes, Leaves, goes, stays}
 use Rattle.house.specs.Setup.{Setup, terms_of}
 use Rattle.house.specs.Scene.{Scene}
-use Rattle.house_connection.specs.ConnectionStands.{StandsForConnection}
+use Rattle.house_peers.specs.ConnectionStands.{StandsForConnection}
 use Rattle.house.specs.Stands.{StandsFor, StandsForOne, StandsForSeat}
 use Rattle.house.specs.inner.Steps.{CallerWentOn, StandsForMaybe}
 use Rattle.house.specs.Setup.{session_seat}

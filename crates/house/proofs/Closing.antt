@@ -14,9 +14,9 @@ use Rattle.house.proofs.Settlement.{All-one, DidStint, did_as, first_made, first
 use Rattle.delivery_token.specs.declared.CopyKey.{CopyKey}
 use Rattle.delivery_token.specs.declared.log.Noted.{Noted}
 use Rattle.envelope.specs.Directory.{Directory, is_shut, marked}
-use Rattle.house_connection.specs.Caller.{Caller}
-use Rattle.house_connection.specs.HouseConnection.{HouseConnection}
-use Rattle.house_connection.proofs.Connections.{stands_marked}
+use Rattle.house_peers.specs.Caller.{Caller}
+use Rattle.house_peers.specs.HouseConnection.{HouseConnection}
+use Rattle.house_peers.proofs.Connections.{stands_marked}
 use Rattle.house.specs.Setup.{Setup, terms_of}
 use Rattle.house.specs.Scene.{ClosePlay, HasNothing, Scene, with_shut}
 use Rattle.house.specs.Stands.{StandsFor, StandsForOne}

@@ -9,15 +9,15 @@ use Rattle.delivery_core.specs.Stands as core
 use Rattle.std.proofs.lemmas.List.{append-nil}
 use Rattle.delivery_token.specs.declared.CopyKey.{CopyKey}
 use Rattle.world.specs.World as world
-use Rattle.house_connection.specs.HouseConnection.{HouseConnection}
+use Rattle.house_peers.specs.HouseConnection.{HouseConnection}
 use Rattle.house.specs.House.{House}
-use Rattle.house_connection.specs.Caller.{Caller}
+use Rattle.house_peers.specs.Caller.{Caller}
 use Rattle.house.specs.Setup.{Setup, session_seat, terms_of}
-use Rattle.house_session.specs.SeatedVisitor.{SeatedVisitor}
-use Rattle.house_session.specs.SeatedSession.{SeatedSession}
+use Rattle.house_peers.specs.SeatedVisitor.{SeatedVisitor}
+use Rattle.house_peers.specs.SeatedSession.{SeatedSession}
 use Rattle.house.specs.Scene.{Moves, Scene, with_world}
 use Rattle.house.specs.Stands.{StandsFor, StandsForOne, StandsForVisit}
-use Rattle.house_connection.specs.Taking.{due}
+use Rattle.house_peers.specs.Taking.{due}
 use Rattle.house.specs.Steps.{due_at, due_by, due_of, is_taken}
 use Rattle.house.proofs.Worldly.{moves}
 

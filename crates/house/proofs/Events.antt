@@ -8,19 +8,19 @@ use Rattle.delivery_token.specs.declared.CopyKey.{CopyKey}
 use Rattle.delivery_token.specs.declared.log.Noted.{Noted}
 use Rattle.envelope.specs.Directory.{Directory}
 use Rattle.delivery_core.specs.New.{first_key}
-use Rattle.house_connection.specs.HouseConnection.{HouseConnection}
+use Rattle.house_peers.specs.HouseConnection.{HouseConnection}
 use Rattle.house.specs.House.{House}
-use Rattle.house_connection.specs.Caller.{Caller, Terms, greeted, more_waits, unread}
+use Rattle.house_peers.specs.Caller.{Caller, Terms, greeted, more_waits, unread}
 use Rattle.house.specs.Setup.{Setup, terms_of}
 use Rattle.house.specs.Scene.{BytesPlay, Scene, VanishPlay, goes_on, most_serials, opens, with_caller}
-use Rattle.house_connection.specs.Taking.{with_more, with_nobody_there}
-use Rattle.house_connection.specs.ConnectionStands.{StandsForConnection}
+use Rattle.house_peers.specs.Taking.{with_more, with_nobody_there}
+use Rattle.house_peers.specs.ConnectionStands.{StandsForConnection}
 use Rattle.house.specs.inner.Steps.{IsOf}
 use Rattle.house.specs.Stands.{StandsFor, StandsForOne}
 use Rattle.house.specs.Steps.{is_unread}
 use Rattle.house.specs.inner.Steps.{CallerWentOn, StandsForMaybe}
-use Rattle.house_connection.proofs.Arrivals.{more_stands}
-use Rattle.house_connection.proofs.Connections.{unread_stands}
+use Rattle.house_peers.proofs.Arrivals.{more_stands}
+use Rattle.house_peers.proofs.Connections.{unread_stands}
 use Rattle.house.proofs.Callers.{after_going, at_there}
 
 -- where a line stands at a seat, so does a caller of the scene

@@ -15,18 +15,18 @@ use Rattle.imap_session.specs.Exchange.{Answer, Entered, Looked, Found, Counted,
 use Rattle.imap_session.specs.Exchange as calls
 use Rattle.imap_session.specs.Commands.{count_shown, idle_turn, idle_turn_in, most_changes}
 use Rattle.imap_session.specs.Store.{IdleTurns, Met, Starves}
-use Rattle.session_store.specs.declared.core_store.CoreStore.{CoreStore}
-use Rattle.session_store.specs.CoreStore.{CatchesUp, Serves}
-use Rattle.session_store.specs.Meets.{Meets}
-use Rattle.session_store.proofs.Served.{IsServing, carries, met_delivery}
-use Rattle.session_store.proofs.Serving.{same_delivery}
+use Rattle.house.specs.declared.core_store.CoreStore.{CoreStore}
+use Rattle.house.specs.CoreStore.{CatchesUp, Serves}
+use Rattle.house.specs.Meets.{Meets}
+use Rattle.house.proofs.Served.{IsServing, carries, met_delivery}
+use Rattle.house.proofs.Serving.{same_delivery}
 use Rattle.delivery_token.specs.declared.CopyKey.{CopyKey}
 use Rattle.delivery_token.specs.declared.log.Noted.{Noted}
 use Rattle.delivery_core.specs.New.{first_key}
 use Rattle.house.specs.inner.Printing.{Idled, IdledInPart, Missed}
-use Rattle.house_session.specs.Visitor.{Visitor}
-use Rattle.house_session.specs.SeatedVisitor.{SeatedVisitor}
-use Rattle.house_session.specs.SeatedSession.{SeatedSession, StandsForSeated}
+use Rattle.house_peers.specs.Visitor.{Visitor}
+use Rattle.house_peers.specs.SeatedVisitor.{SeatedVisitor}
+use Rattle.house_peers.specs.SeatedSession.{SeatedSession, StandsForSeated}
 use Rattle.house.specs.Setup.{session_seat}
 use Rattle.shard_queue.specs.At.{set_at}
 use Rattle.shard_queue.proofs.AtLaws.{at_cases}

@@ -4,18 +4,18 @@ use Rattle.lmtp_machine.specs.declared.connection.What.{What}
 use Rattle.delivery_token.specs.declared.log.Noted.{Noted}
 use Rattle.house.specs.declared.event.Event.{Event}
 use Rattle.house.specs.declared.event.Event.TheVariants.{Bytes, Vanish, Put, Take, Deliver, Answer, Hear, End, Close, Enter, Say, Idle, Leave}
-use Rattle.house_connection.specs.Caller.{Caller, Terms, unread, with_unsaid}
+use Rattle.house_peers.specs.Caller.{Caller, Terms, unread, with_unsaid}
 use Rattle.house.specs.Printing.{ConnectionGoes, Leaves, Speaks, goes, stays, with_session}
 use Rattle.house.proofs.Printed.{proceeds_part, said_in_part}
 use Rattle.house.specs.Setup.{Setup, session_seat, terms_of}
 use Rattle.house.specs.Scene as scene
 use Rattle.house.specs.Scene.{BytesPlay, ConnectionHears, ConnectionPuts, HearPlay, Parts, Plays, PutPlay, Scene, SessionGoes, SessionHears, SessionIdles, SessionPuts, SessionTalks, VanishPlay, connection_hears, connection_puts, goes_on, opens, parts, place_of, remains, session_hears, session_puts}
 use Rattle.imap_session.specs.Exchange.{Call, Answer as Told}
-use Rattle.session_store.specs.Meets.{Meets}
-use Rattle.house_session.specs.Folders.{folders_of}
+use Rattle.house.specs.Meets.{Meets}
+use Rattle.house_peers.specs.Folders.{folders_of}
 use Rattle.world.specs.World.{World}
-use Rattle.house_session.specs.Visitor.{more_waits as visitor_more_waits}
-use Rattle.house_session.specs.SeatedVisitor.{SeatedVisitor, seated_greeted}
+use Rattle.house_peers.specs.Visitor.{more_waits as visitor_more_waits}
+use Rattle.house_peers.specs.SeatedVisitor.{SeatedVisitor, seated_greeted}
 
 leaves_part : (what : What) (after : Caller) (o : Option Caller) → Leaves true what after o → Leaves false what after o
 leaves_part what after o (goes q n e) = goes q n e

@@ -1,3 +1,6 @@
+pub mod Places
+pub mod Serving
+pub mod Served
 pub mod Seats
 pub mod Worldly
 pub mod Callers

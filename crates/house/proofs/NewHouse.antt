@@ -11,14 +11,14 @@ use Rattle.envelope.specs.Names.{is_name, home_of, words_read, first_fault, home
 use Rattle.envelope.specs.declared.directory.DirectoryFault.{DirectoryFault}
 use Rattle.envelope.specs.declared.directory.DirectoryFault.TheVariants.{TooMany, BadName}
 use Rattle.settings.specs.declared.config.Config.{Config}
-use Rattle.house_connection.specs.HouseConnection.{HouseConnection}
+use Rattle.house_peers.specs.HouseConnection.{HouseConnection}
 use Rattle.house.specs.House.{House}
 use Rattle.house.specs.Scene.{empty_scene}
 use Rattle.house.specs.Setup.{connection_seats, places as all_places, setup_of}
 use Rattle.settings.specs.Settings.{words_of}
 use Rattle.house.specs.Setup.{session_seat, terms_of}
 use Rattle.house.specs.Stands.{StandsFor, StandsForOne, StandsForVisit}
-use Rattle.house_session.specs.SeatedSession.{SeatedSession}
+use Rattle.house_peers.specs.SeatedSession.{SeatedSession}
 
 pub new_house : (c : Config) (h : House) → core.StandsFor (setup_of c).config h.core (empty_scene (setup_of c)).world
     → ((p : ℕ) (d : CopyKey) → p < connection_seats + all_places → get_or h.core.next p d ≡ first_key p)

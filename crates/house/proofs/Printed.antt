@@ -7,15 +7,15 @@ use Rattle.line_io.specs.Marks.{marked}
 use Rattle.lmtp_machine.specs.declared.connection.What.{What}
 use Rattle.lmtp_machine.specs.declared.connection.What.TheVariants.{More, Submit, Quit}
 use Rattle.imap_session.specs.Exchange.{Call, Answer}
-use Rattle.house_connection.specs.HouseConnection.{HouseConnection}
-use Rattle.house_connection.specs.Caller.{Caller, GoesOn, Proceeds, Terms, Works, answers, fades, lingers, stalls, talks, waits, with_unsaid, works}
-use Rattle.house_connection.specs.ConnectionStands.{Proceeded}
-use Rattle.house_connection.specs.Taking.{with_all_said}
-use Rattle.house_connection.proofs.Connections.{printed_stands}
-use Rattle.house_session.specs.HouseSession.{with_all_said as with_all_said_at}
-use Rattle.house_session.specs.SeatedSession.{Proceeded as SessionProceeded, SeatedSession, SeatedTurned, StandsForSeated, with_place}
-use Rattle.house_session.specs.SeatedVisitor as seated
-use Rattle.house_session.specs.SeatedVisitor.{SeatedVisitor}
+use Rattle.house_peers.specs.HouseConnection.{HouseConnection}
+use Rattle.house_peers.specs.Caller.{Caller, GoesOn, Proceeds, Terms, Works, answers, fades, lingers, stalls, talks, waits, with_unsaid, works}
+use Rattle.house_peers.specs.ConnectionStands.{Proceeded}
+use Rattle.house_peers.specs.Taking.{with_all_said}
+use Rattle.house_peers.proofs.Connections.{printed_stands}
+use Rattle.house_peers.specs.HouseSession.{with_all_said as with_all_said_at}
+use Rattle.house_peers.specs.SeatedSession.{Proceeded as SessionProceeded, SeatedSession, SeatedTurned, StandsForSeated, with_place}
+use Rattle.house_peers.specs.SeatedVisitor as seated
+use Rattle.house_peers.specs.SeatedVisitor.{SeatedVisitor}
 use Rattle.house.specs.Printing.{goes, of_connection, of_session, prints_all, prints_none, stays, still_unsaid, with_session}
 use Rattle.house.specs.inner.Printing.{Idled, WentOn}
 use Rattle.house.specs.inner.Steps.{ConnectionWent}

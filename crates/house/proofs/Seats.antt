@@ -8,11 +8,11 @@ use Rattle.world.specs.World.{Config, World, Step, Steps}
 use Rattle.world.specs.World as world
 use Rattle.delivery_core.specs.DeliveryCore.{DeliveryCore, notes_of}
 use Rattle.delivery_core.specs.Stands as core
-use Rattle.house_connection.specs.HouseConnection.{HouseConnection}
+use Rattle.house_peers.specs.HouseConnection.{HouseConnection}
 use Rattle.house.specs.House.{House}
-use Rattle.house_connection.specs.Caller.{Caller}
-use Rattle.house_session.specs.SeatedVisitor.{SeatedVisitor}
-use Rattle.house_session.specs.SeatedSession.{SeatedSession}
+use Rattle.house_peers.specs.Caller.{Caller}
+use Rattle.house_peers.specs.SeatedVisitor.{SeatedVisitor}
+use Rattle.house_peers.specs.SeatedSession.{SeatedSession}
 use Rattle.house.specs.Setup.{Setup, session_seat, terms_of}
 use Rattle.house.specs.Scene.{Scene, with_world}
 use Rattle.house.specs.Stands.{StandsFor, StandsForOne, StandsForPlace, StandsForSeat, StandsForVisit}

@@ -9,8 +9,8 @@ use Rattle.delivery_token.specs.declared.Refusal.{Refusal}
 use Rattle.delivery_token.specs.declared.log.Noted.{Noted}
 use Rattle.shard_queue.specs.At.{set_at}
 use Rattle.shard_queue.proofs.AtLaws.{set_at-same}
-use Rattle.submission.specs.Copies as submission
-use Rattle.submission.specs.inner.Verdicts.{heard_verdict}
+use Rattle.delivery_token.specs.Copies as submission
+use Rattle.delivery_token.specs.inner.Verdicts.{heard_verdict}
 use Rattle.envelope.specs.Directory.{Directory}
 use Rattle.world.specs.World.{Config, World}
 use Rattle.world.specs.World as world
@@ -20,15 +20,15 @@ use Rattle.delivery_core.specs.New.{first_key}
 use Rattle.delivery_core.specs.Stands as core
 use Rattle.imap_session.specs.Exchange.{Answer}
 use Rattle.imap_session.specs.Exchange as calls
-use Rattle.session_store.specs.declared.core_store.CoreStore.{CoreStore}
-use Rattle.session_store.specs.CoreStore.{Serves}
-use Rattle.session_store.proofs.Served.{carries}
-use Rattle.house_session.specs.Folders.{folders_of, has_user}
-use Rattle.house_session.specs.Visitor.{more_waits}
-use Rattle.house_session.specs.SeatedVisitor.{SeatedVisitor, copies_of, seated_greeted, sent_by, unread}
-use Rattle.house_session.specs.SeatedSession.{HearsVerdict, SeatedSession, StandsForSeated, due, noted_put, submitted_at, with_nobody_there}
-use Rattle.house_session.proofs.Putting.{may_be_used, next_copy, put_stands}
-use Rattle.house_session.proofs.Seating.{heard_stands, vanished}
+use Rattle.house.specs.declared.core_store.CoreStore.{CoreStore}
+use Rattle.house.specs.CoreStore.{Serves}
+use Rattle.house.proofs.Served.{carries}
+use Rattle.house_peers.specs.Folders.{folders_of, has_user}
+use Rattle.house_peers.specs.Visitor.{more_waits}
+use Rattle.house_peers.specs.SeatedVisitor.{SeatedVisitor, copies_of, seated_greeted, sent_by, unread}
+use Rattle.house_peers.specs.SeatedSession.{HearsVerdict, SeatedSession, StandsForSeated, due, noted_put, submitted_at, with_nobody_there}
+use Rattle.house_peers.proofs.SessionPutting.{may_be_used, next_copy, put_stands}
+use Rattle.house_peers.proofs.Seating.{heard_stands, vanished}
 use Rattle.house.specs.Setup.{Setup, session_seat}
 use Rattle.house.specs.House.{House}
 use Rattle.house.specs.Printing.{with_session}

@@ -16,22 +16,22 @@ use Rattle.delivery_token.specs.Log.{heard_at_once}
 use Rattle.delivery_core.specs.New.{first_key}
 use Rattle.delivery_core.specs.Puts.{IsNextKey}
 use Rattle.delivery_core.specs.Stands as core
-use Rattle.house_connection.specs.HouseConnection.{HouseConnection}
+use Rattle.house_peers.specs.HouseConnection.{HouseConnection}
 use Rattle.house.specs.House.{House}
 use Rattle.lmtp_machine.specs.Dialogue.{Submission}
-use Rattle.house_connection.specs.Caller.{Caller, Terms, copies_of}
+use Rattle.house_peers.specs.Caller.{Caller, Terms, copies_of}
 use Rattle.house.specs.Setup.{Setup, terms_of}
 use Rattle.house.specs.Scene.{ConnectionHears, ConnectionPuts, HearPlay, PutPlay, Scene, connection_hears, connection_puts, session_hears, session_puts, with_caller, with_world}
-use Rattle.house_connection.specs.Taking.{HearsVerdict, due, noted_put}
-use Rattle.submission.specs.inner.Verdicts.{heard_verdict}
-use Rattle.house_connection.specs.ConnectionStands.{StandsForConnection}
+use Rattle.house_peers.specs.Taking.{HearsVerdict, due, noted_put}
+use Rattle.delivery_token.specs.inner.Verdicts.{heard_verdict}
+use Rattle.house_peers.specs.ConnectionStands.{StandsForConnection}
 use Rattle.house.specs.inner.Steps.{IsOf}
 use Rattle.house.specs.Stands.{StandsFor}
 use Rattle.house.specs.Steps.{PutsNext}
 use Rattle.house.specs.inner.Steps.{CallerWentOn, MayNotPut, StandsForMaybe}
 use Rattle.house.proofs.Events.{IsAt, at_seat}
 use Rattle.house.proofs.Callers.{after_going}
-use Rattle.house_connection.proofs.Putting.{heard_stands, next_copy, put_stands}
+use Rattle.house_peers.proofs.ConnectionPutting.{heard_stands, next_copy, put_stands}
 use Rattle.house.proofs.Seats.{heard_is, one_step, seat_behind}
 
 -- what may be put

@@ -14,15 +14,15 @@ use Rattle.delivery_core.proofs.Follow.{get_or-any}
 use Rattle.house.specs.Setup.{Setup, session_seat}
 use Rattle.imap_session.specs.Exchange.{Answer, Sent, Standing}
 use Rattle.imap_session.specs.Exchange as calls
-use Rattle.session_store.specs.declared.core_store.CoreStore.{CoreStore}
-use Rattle.session_store.specs.CoreStore.{Serves}
-use Rattle.session_store.specs.Meets.{Meets}
-use Rattle.session_store.proofs.Served.{IsServing, carries}
+use Rattle.house.specs.declared.core_store.CoreStore.{CoreStore}
+use Rattle.house.specs.CoreStore.{Serves}
+use Rattle.house.specs.Meets.{Meets}
+use Rattle.house.proofs.Served.{IsServing, carries}
 use Rattle.shard_queue.specs.At.{set_at}
 use Rattle.shard_queue.proofs.AtLaws.{set_at-same}
-use Rattle.house_session.specs.SeatedVisitor as seated
-use Rattle.house_session.specs.SeatedVisitor.{GoesOn, SeatedVisitor, sent_by}
-use Rattle.house_session.specs.SeatedSession.{SeatedSession, StandsForSeated, key_with}
+use Rattle.house_peers.specs.SeatedVisitor as seated
+use Rattle.house_peers.specs.SeatedVisitor.{GoesOn, SeatedVisitor, sent_by}
+use Rattle.house_peers.specs.SeatedSession.{SeatedSession, StandsForSeated, key_with}
 use Rattle.house.specs.inner.Printing.{WentOn}
 use Rattle.house.specs.Printing.{Speaks}
 use Rattle.house.proofs.Carried.{speaks_carried}

@@ -1,11 +1,11 @@
 -- When bytes that came may want memory, from who stands there once they were appended.
 use Rattle.std.proofs.Common.{◌≡◌, ℕ, ◌<◌, ◌⊎◌, inl, inr, List, [], ◌∷◌, length, refl, sym, ◌∙◌, subst, arith, append-nil, Option, Some, None, get_or, set, get_or-set_same}
 use Rattle.std.specs.Option.{option_map}
-use Rattle.house_connection.specs.HouseConnection.{HouseConnection}
-use Rattle.house_connection.specs.Taking as connection
-use Rattle.house_connection.specs.Taking.{with_more}
-use Rattle.house_session.specs.SeatedSession as session
-use Rattle.house_session.specs.SeatedSession.{SeatedSession}
+use Rattle.house_peers.specs.HouseConnection.{HouseConnection}
+use Rattle.house_peers.specs.Taking as connection
+use Rattle.house_peers.specs.Taking.{with_more}
+use Rattle.house_peers.specs.SeatedSession as session
+use Rattle.house_peers.specs.SeatedSession.{SeatedSession}
 use Rattle.house.specs.Steps.{CallerWants, VisitorWants, caller_unprinted, caller_works, visitor_unprinted, visitor_works}
 use Rattle.house.specs.inner.Steps.{with_more_came}
 

@@ -6,11 +6,11 @@ use Rattle.delivery_core.specs.DeliveryCore.{behind}
 use Rattle.delivery_core.specs.Load.{load}
 use Rattle.house.specs.declared.event.Event.{Event}
 use Rattle.house.specs.declared.event.Event.TheVariants.{Bytes, Vanish, Put, Take, Deliver, Answer, Hear, End, Close, Enter, Say, Idle, Leave}
-use Rattle.house_connection.specs.HouseConnection.{HouseConnection}
+use Rattle.house_peers.specs.HouseConnection.{HouseConnection}
 use Rattle.house.specs.House.{House}
-use Rattle.house_connection.specs.Taking.{line_effort}
+use Rattle.house_peers.specs.Taking.{line_effort}
 use Rattle.house.specs.Scene.{place_of}
-use Rattle.house_session.specs.SeatedSession.{SeatedSession, seat_effort}
+use Rattle.house_peers.specs.SeatedSession.{SeatedSession, seat_effort}
 
 abbrev pub caller_effort : Option HouseConnection → ℕ
 caller_effort None = 0

@@ -2,8 +2,8 @@
 use Rattle.std.specs.Prelude.{ℕ, List, Option}
 use Rattle.envelope.specs.Directory.{Directory}
 use Rattle.delivery_core.specs.DeliveryCore.{DeliveryCore}
-use Rattle.house_connection.specs.HouseConnection.{HouseConnection}
-use Rattle.house_session.specs.SeatedSession.{SeatedSession}
+use Rattle.house_peers.specs.HouseConnection.{HouseConnection}
+use Rattle.house_peers.specs.SeatedSession.{SeatedSession}
 
 -- The delivery core; which connection stands at each of the first seats, and the serial of the next one there; which session is at each place, and the serial
 -- of the next one there; and what is settled.

@@ -1,3 +1,5 @@
+pub mod Meets
+pub mod CoreStore
 pub mod Setup
 pub mod Printing
 pub mod House

@@ -6,9 +6,9 @@ use Rattle.lmtp_machine.specs.declared.connection.What.{What}
 use Rattle.lmtp_machine.specs.declared.connection.What.TheVariants.{Quit}
 use Rattle.imap_session.specs.Exchange.{Call, Answer}
 use Rattle.imap_session.specs.Store.{IdleTurns}
-use Rattle.house_connection.specs.Caller.{Caller, Proceeds, Terms, with_unsaid}
-use Rattle.house_session.specs.Visitor.{HasAnswered, Visitor}
-use Rattle.house_session.specs.SeatedVisitor.{GoesOn, SeatedVisitor}
+use Rattle.house_peers.specs.Caller.{Caller, Proceeds, Terms, with_unsaid}
+use Rattle.house_peers.specs.Visitor.{HasAnswered, Visitor}
+use Rattle.house_peers.specs.SeatedVisitor.{GoesOn, SeatedVisitor}
 
 -- an L marks what connections say, an I what sessions say
 abbrev pub of_connection : ℕ

@@ -7,13 +7,13 @@ use Rattle.world.specs.World as world
 use Rattle.world.specs.World.{World, Step}
 use Rattle.imap_session.specs.Exchange as calls
 use Rattle.imap_session.specs.Exchange.{is_idling}
-use Rattle.session_store.specs.Meets.{Meets}
-use Rattle.house_connection.specs.Caller.{Caller, greeted, more_waits, unread}
-use Rattle.house_session.specs.Folders.{folders_of, has_user}
-use Rattle.house_session.specs.Visitor.{Visitor}
-use Rattle.house_session.specs.SeatedVisitor.{Awaits, IsSettled, SeatedVisitor, seated_greeted}
-use Rattle.house_session.specs.SeatedVisitor.{unread as unread_session}
-use Rattle.house_session.specs.Visitor.{more_waits as session_more_waits}
+use Rattle.house.specs.Meets.{Meets}
+use Rattle.house_peers.specs.Caller.{Caller, greeted, more_waits, unread}
+use Rattle.house_peers.specs.Folders.{folders_of, has_user}
+use Rattle.house_peers.specs.Visitor.{Visitor}
+use Rattle.house_peers.specs.SeatedVisitor.{Awaits, IsSettled, SeatedVisitor, seated_greeted}
+use Rattle.house_peers.specs.SeatedVisitor.{unread as unread_session}
+use Rattle.house_peers.specs.Visitor.{more_waits as session_more_waits}
 use Rattle.house.specs.Printing.{ConnectionGoes, Idles, IsWhole, Speaks, with_session}
 use Rattle.house.specs.Setup.{Setup, session_seat, terms_of}
 use Rattle.house.specs.declared.event.Event.{Event}

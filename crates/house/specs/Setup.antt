@@ -2,7 +2,7 @@
 use Rattle.std.specs.Prelude.{ℕ, ◌+◌, Bool, List, length, max}
 use Rattle.envelope.specs.Directory.{Directory, marked}
 use Rattle.world.specs.World.{Config}
-use Rattle.house_connection.specs.Caller.{Terms}
+use Rattle.house_peers.specs.Caller.{Terms}
 use Rattle.settings.specs.Settings.{directory_for, words_of}
 use Rattle.settings.specs.declared.config.Config as given
 

@@ -15,16 +15,16 @@ use Rattle.delivery_core.specs.Changes.{Hears, SameCounts, SameDelivery}
 use Rattle.delivery_token.specs.Log.{heard_at_once}
 use Rattle.delivery_token.specs.Keys.{past}
 use Rattle.delivery_core.specs.Stands as core
-use Rattle.house_connection.specs.HouseConnection.{HouseConnection}
-use Rattle.house_connection.specs.Taking.{HasWork, due}
+use Rattle.house_peers.specs.HouseConnection.{HouseConnection}
+use Rattle.house_peers.specs.Taking.{HasWork, due}
 use Rattle.house.specs.House.{House}
 use Rattle.house.specs.Setup.{Setup}
 use Rattle.house.specs.Scene.{Scene, HasNothing, Plays, most_serials, place_of, seat_of}
 use Rattle.imap_session.specs.Exchange.{is_idling}
-use Rattle.house_session.specs.Folders.{has_user}
+use Rattle.house_peers.specs.Folders.{has_user}
 use Rattle.house.specs.Stands.{StandsFor}
-use Rattle.house_session.specs.SeatedSession.{SeatedSession}
-use Rattle.house_session.specs.SeatedSession as seat
+use Rattle.house_peers.specs.SeatedSession.{SeatedSession}
+use Rattle.house_peers.specs.SeatedSession as seat
 
 -- ---- who is there
 

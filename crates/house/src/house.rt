@@ -3,16 +3,16 @@
 
 ghost use Rattle.std.specs.Prelude.{true, false, IsTrue, ◌≡◌, ◌≢◌, ◌≤◌, ◌<◌, ◌+◌, ◌-◌, ◌⊎◌, ◌↔◌, ℕ, List, length, None, Some, Err, OnOk, OnErr, IfOk, IfErr, IfSome, IsSomeAnd, MatchOption, option_map};
 ghost use Rattle.delivery_token.specs.Keys.{AtLeast};
-ghost use Rattle.house_connection.specs.HouseConnection.{HouseConnection};
-ghost use Rattle.house_connection.specs.Taking.{HearsVerdict, due, noted_put, with_more, with_nobody_there};
-ghost use Rattle.submission.specs.inner.Verdicts.{heard_verdict};
+ghost use Rattle.house_peers.specs.HouseConnection.{HouseConnection};
+ghost use Rattle.house_peers.specs.Taking.{HearsVerdict, due, noted_put, with_more, with_nobody_there};
+ghost use Rattle.delivery_token.specs.inner.Verdicts.{heard_verdict};
 ghost use Rattle.delivery_token.specs.declared.CopyKey.{CopyKey};
 ghost use Rattle.delivery_token.specs.declared.log.Noted.{Noted};
-ghost use Rattle.house_connection.specs.ConnectionStands.{StandsForConnection};
+ghost use Rattle.house_peers.specs.ConnectionStands.{StandsForConnection};
 ghost use Rattle.house.specs.inner.Steps.{IsOf};
-ghost use Rattle.house_connection.specs.Caller as spec;
+ghost use Rattle.house_peers.specs.Caller as spec;
 ghost use Rattle.house.specs.Scene as scene;
-ghost use Rattle.house_connection.specs.Caller.{Terms, greeted, more_waits};
+ghost use Rattle.house_peers.specs.Caller.{Terms, greeted, more_waits};
 ghost use Rattle.house.specs.Setup.{Setup};
 ghost use Rattle.house.specs.Stands.{StandsFor};
 ghost use Rattle.house.specs.Effort.{MakesLess, caller_effort};
@@ -21,18 +21,16 @@ ghost use Rattle.house.specs.Steps.{CallerWants, CannotNote, CorePuts, Follows, 
 ghost use Rattle.house.specs.inner.Steps.{CallerWentOn, HasSeat, IsNoNext, IsOpen, IsRead, MayNotPut, StandsForMaybe, fault_of, job_of};
 ghost use Rattle.house.specs.declared.event.Event.TheVariants as events;
 
+use crate::core_store::CoreStore;
 use crate::event::{Event, HouseFault};
 use crate::printing::proceed;
 use delivery_core::{DeliveryCore, Fault, HearFault};
-use delivery_token::{Noted, Refusal, Verdict};
+use delivery_token::{NextCopy, Noted, Refusal, Verdict};
 use envelope::Directory;
-use house_connection::HouseConnection;
-use house_session::SeatedSession;
+use house_peers::{HouseConnection, SeatedSession};
 use lmtp_machine::{Limits, What};
-use session_store::CoreStore;
 use std::alloc::{AllocError, Global};
 use std::marker::Model;
-use submission::NextCopy;
 
 /// A house on one thread.
 #[derive(Drop)]

@@ -12,18 +12,18 @@ ghost use Rattle.house.specs.Steps.{Follows, FollowsInPart, IsBusy, ChangesNothi
 ghost use Rattle.house.specs.inner.Steps.{HasNoTurn, PlaceIdled, PlaceIdledInPart, StandsForSomebody};
 ghost use Rattle.house.specs.inner.Trying.{Goes, IsAmong, Wants};
 ghost use Rattle.house.specs.declared.event.Event.TheVariants as events;
-ghost use Rattle.house_session.specs.SeatedVisitor as spec;
+ghost use Rattle.house_peers.specs.SeatedVisitor as spec;
 ghost use Rattle.delivery_token.specs.declared.CopyKey.{CopyKey};
 ghost use Rattle.delivery_token.specs.declared.log.Noted.{Noted};
 ghost use Rattle.world.specs.World.{World};
 
+use crate::core_store::CoreStore;
 use crate::event::{Event, HouseFault};
 use crate::house::{House, index_of};
 use crate::printing::take_turn;
 use delivery_core::DeliveryCore;
-use house_session::SeatedSession;
+use house_peers::SeatedSession;
 use imap_session::Store;
-use session_store::CoreStore;
 use std::alloc::AllocError;
 
 // Whether the session at a place, counted from 0, has something to do in a turn: its client is there, it idles in a mailbox and wasn't shown all of

@@ -9,12 +9,11 @@ ghost use Rattle.house.specs.Setup.{setup_of};
 ghost use Rattle.settings.specs.Settings.{IsInRange, config_fault};
 ghost use Rattle.house.specs.Stands.{StandsFor};
 
+use crate::core_store::CoreStore;
 use crate::house::House;
 use delivery_core::{DeliveryCore, Settings};
-use house_connection::HouseConnection;
-use house_session::SeatedSession;
+use house_peers::{HouseConnection, SeatedSession};
 use mailbox::Limits;
-use session_store::CoreStore;
 use settings::{Config, ConfigFault, directory_of};
 use std::alloc::{AllocError, Global};
 

@@ -15,19 +15,19 @@ ghost use Rattle.house.specs.Stands.{StandsFor, first_of};
 ghost use Rattle.house.specs.Steps.{CannotNote, Follows, FollowsInPart, IsBusy, ChangesNothing, IsNobody, IsNoPlace, IsVacant, Led, MayWant, PutsNext, VisitorWants, is_left};
 ghost use Rattle.house.specs.inner.Steps.{CanEnter, HasLingered, IsSession, IsTalking, MayNotPut, PlaceTalked, PlaceVisited, StandsForSomebody, with_more_came};
 ghost use Rattle.house.specs.declared.event.Event.TheVariants as events;
-ghost use Rattle.house_session.specs.SeatedVisitor as spec;
-ghost use Rattle.house_session.specs.SeatedSession.{HearsVerdict, SeatedSession, StandsForSeated, due, noted_put, with_nobody_there};
-ghost use Rattle.submission.specs.inner.Verdicts.{heard_verdict};
+ghost use Rattle.house_peers.specs.SeatedVisitor as spec;
+ghost use Rattle.house_peers.specs.SeatedSession.{HearsVerdict, SeatedSession, StandsForSeated, due, noted_put, with_nobody_there};
+ghost use Rattle.delivery_token.specs.inner.Verdicts.{heard_verdict};
 ghost use Rattle.world.specs.World.{World};
 
+use crate::core_store::CoreStore;
 use crate::event::HouseFault;
 use crate::house::{House, index_of, put_copy};
 use crate::printing::go_on;
 use delivery_core::{DeliveryCore, HearFault};
 use delivery_token::{Noted, Refusal, Verdict};
-use house_session::{SeatedSession, folders_of, has_user};
+use house_peers::{SeatedSession, folders_of, has_user};
 use imap_session::{Folder, Store};
-use session_store::CoreStore;
 use std::alloc::{AllocError, Global};
 
 // Whether a session is at a place whose client is gone.

@@ -11,8 +11,8 @@ use Rattle.shard_queue.specs.declared.reply.ReceiverPermit.{ReceiverPermit}
 use Rattle.shard_queue.specs.Reply.{IsReceiver, sent_on}
 use Rattle.shard_queue.specs.Permits.{IsConsumer}
 use Rattle.lane_work.specs.Permits.{ArePermits, AreSenders, IsNew}
-use Rattle.lane_permits.specs.LanePermits.{AreConsumers, AreHands}
-use Rattle.lane_permits.specs.ChannelPermits.{AreReceivers, AreSenderHands}
+use Rattle.lane_work.specs.LanePermits.{AreConsumers, AreHands}
+use Rattle.lane_work.specs.ChannelPermits.{AreReceivers, AreSenderHands}
 use Rattle.house_floor.specs.Crew.{AllAt}
 
 -- a producer's permits on all lanes, which have put nothing

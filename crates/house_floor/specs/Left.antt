@@ -1,10 +1,10 @@
 -- What each thread of a house leaves.
 use Rattle.std.specs.Prelude.{◌≡◌, ◌≤◌, ◌+◌, ℕ, List, [], ◌∷◌, All, Some, None, length, map, min, slice_get, Vec, vec_len}
 use Rattle.std.specs.Global.{Global}
-use Rattle.courier.specs.Carried.{Carried, judged_of}
+use Rattle.workers_sync.specs.Carried.{Carried, judged_of}
 use Rattle.delivery_token.specs.declared.Job.{Job}
 use Rattle.delivery_token.specs.declared.log.Noted.{Noted}
-use Rattle.house_session.specs.Folders.{folders_of}
+use Rattle.house_peers.specs.Folders.{folders_of}
 use Rattle.shard_queue.specs.declared.lane.Entry.{Entry}
 use Rattle.shard_queue.specs.declared.queue.ShardQueue.{ShardQueue}
 use Rattle.shard_queue.specs.declared.ends.ReplyChannel.{ReplyChannel}

@@ -1,7 +1,7 @@
 -- What is made before the first thread runs: the floor that all share, and room for what the threads will leave.
 use Rattle.std.specs.Prelude.{◌≡◌, ◌≤◌, ◌*◌, ℕ, [], All, length, map, vec_capacity}
 use Rattle.envelope.specs.Directory.{Directory}
-use Rattle.lane_permits.specs.Rooms.{AreRooms}
+use Rattle.lane_work.specs.Rooms.{AreRooms}
 use Rattle.shard_queue.specs.Reply.{room_of, senders_of}
 use Rattle.shard_queue.specs.Permits.{capacity_of, producers_of}
 use Rattle.house_floor.specs.Crew.{IsHouse}

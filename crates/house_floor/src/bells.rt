@@ -8,8 +8,8 @@ use crate::floor::Guest;
 use crate::users::inbox_numbered;
 use crossbeam_utils::sync::{Parker, Unparker};
 use envelope::Directory;
-use session_bells::{SessionBell, Sleeper};
 use std::alloc::{AllocError, Global};
+use workers_sync::{SessionBell, Sleeper};
 
 /// All bells of a house.
 #[derive(Drop)]

@@ -4,17 +4,16 @@
 ghost use Rattle.std.specs.Prelude.{◌≡◌, ◌≤◌, [], All, length, map, vec_len, vec_capacity};
 ghost use Rattle.house_floor.specs.Crew.{AllAt, IsPost, IsStand};
 ghost use Rattle.house_floor.specs.inner.Making.{AreUndealt};
-ghost use Rattle.lane_permits.specs.Rooms.{AreRooms};
-ghost use Rattle.lane_permits.specs.LanePermits.{AreConsumers, AreHands};
-ghost use Rattle.lane_permits.specs.ChannelPermits.{AreReceivers, AreSenderHands};
+ghost use Rattle.lane_work.specs.Rooms.{AreRooms};
+ghost use Rattle.lane_work.specs.LanePermits.{AreConsumers, AreHands};
+ghost use Rattle.lane_work.specs.ChannelPermits.{AreReceivers, AreSenderHands};
 ghost use Rattle.shard_queue.specs.Reply.{received, senders_of};
 ghost use Rattle.shard_queue.specs.Permits.{got, producers_of};
 
 use crate::floor::{Floor, Post, Stand};
 use crossbeam_utils::sync::Parker;
 use delivery_token::{Job, Noted};
-use lane_permits::{Hands, deal_all, deal_all_senders};
-use lane_work::{Desk, LanePermit, Stall};
+use lane_work::{Desk, Hands, LanePermit, Stall, deal_all, deal_all_senders};
 use shard_queue::{
     ConsumerPermit, Ended, ProducerPermit, ReceiverPermit, SenderEnded, SenderPermit,
 };

@@ -12,10 +12,10 @@ use delivery_token::{Job, Noted, WorkerLog};
 use envelope::Directory;
 use lane_work::Closing;
 use mailbox::Mailbox;
-use session_bells::{SessionBell, Sleeper};
 use shard_queue::{Closed, Entry, ReplyClosed};
 use std::alloc::{AllocError, Global};
 use std::sync::Mutex;
+use workers_sync::{SessionBell, Sleeper};
 
 /// Room for what the threads leave, of what may be let go.
 #[derive(Drop)]

@@ -15,8 +15,7 @@ use crate::stock::{CrewLists, EndLists, Lists, Stock};
 use crossbeam_utils::sync::Parker;
 use delivery_token::{Job, Noted};
 use envelope::Directory;
-use lane_permits::{Channels, Hands, Lanes, PermitRooms, Rooms};
-use lane_work::{Depot, Office};
+use lane_work::{Channels, Depot, Hands, Lanes, Office, PermitRooms, Rooms};
 use shard_queue::{Ended, ReplyChannel, SenderEnded, ShardQueue};
 use std::alloc::Global;
 

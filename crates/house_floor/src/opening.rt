@@ -15,11 +15,9 @@ use delivery_token::{Job, Noted, WorkerLog};
 use envelope::Directory;
 use lane_work::Closing;
 use mailbox::{History, Limits};
-use session_bells::Sleeper;
-use shard_queue::{
-    Closed, ConsumerPermit, Ended, Entry, ReceiverPermit, ReplyClosed, SenderEnded,
-};
+use shard_queue::{Closed, ConsumerPermit, Ended, Entry, ReceiverPermit, ReplyClosed, SenderEnded};
 use std::alloc::{AllocError, Global};
+use workers_sync::Sleeper;
 
 /// How large the parts of a house are.
 #[derive(Clone, Copy)]

@@ -8,10 +8,10 @@ ghost use Rattle.house_floor.specs.Opening.{AreNoSpares, AreSpares};
 
 use crate::floor::{Post, Stand};
 use delivery_token::{Job, Noted, REPLY_ROOM};
-use lane_permits::{
-    Channels, Lanes, Rooms, abandon_lanes, make_channels, make_lanes, make_rooms, spend_rooms,
+use lane_work::{
+    Channels, Consumed, Lanes, Rooms, Worked, abandon_lanes, make_channels, make_lanes, make_rooms,
+    spend_rooms,
 };
-use lane_work::{Consumed, Worked};
 use shard_queue::{
     ConsumerPermit, Ended, ProducerPermit, ReceiverPermit, SenderEnded, SenderPermit,
 };

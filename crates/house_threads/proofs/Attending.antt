@@ -1,12 +1,12 @@
 -- A session's account, of what its life and the end of its permits tell.
 use Rattle.std.proofs.Common.{◌≡◌, ◌∷◌, ℕ, List, [], Some, None, length, map, sym, subst}
-use Rattle.courier.specs.Carried.{Carried, judged_of}
+use Rattle.workers_sync.specs.Carried.{Carried, judged_of}
 use Rattle.delivery_token.specs.declared.Job.{Job}
 use Rattle.delivery_token.specs.declared.log.Noted.{Noted}
 use Rattle.house_floor.specs.Users.{user_numbered}
 use Rattle.house_floor.specs.declared.floor.Floor.{Floor}
 use Rattle.house_floor.specs.declared.floor.Guest.{Guest}
-use Rattle.house_session.specs.Folders.{folders_of}
+use Rattle.house_peers.specs.Folders.{folders_of}
 use Rattle.imap_session.specs.Commands.{greeting}
 use Rattle.lane_work.specs.Account.{AreAccountedFor, AreBooksOf, HaveEnded, notes_tell}
 use Rattle.lane_work.specs.Copies.{rooms_of}

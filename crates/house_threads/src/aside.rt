@@ -15,9 +15,9 @@ use house_floor::{Post, Stand};
 use lane_work::{
     Consumed, Depot, Desk, Fate, Office, Stall, Summons, Worked, end_all, end_permit, end_senders,
 };
-use pace::{Gate, Pace};
 use std::alloc::Global;
 use std::sync::Wait;
+use workers_sync::{Gate, Pace};
 
 /// A producer that has no thread: it ends its permit on each lane, and hears nothing. To wait for the ends
 /// of its channel would be to wait for ever: they come when each producer's permits have ended, and this

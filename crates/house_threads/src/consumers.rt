@@ -10,12 +10,12 @@ use crate::aside::step_aside;
 use crate::parcels::{Manned, mark, packed};
 use house_floor::{Floor, Stand};
 use lane_work::{Consumed, consume};
-use pace::{Actor, Gate, Pace};
 use std::mem::ManuallyDrop;
 use std::sync::Wait;
 use std::sync::atomic::Ordering;
 use std::thread;
 use std::thread::{Promise, Threads};
+use workers_sync::{Actor, Gate, Pace};
 
 /// What the thread of this shard's consumer is to return: what a consumer's life there leaves.
 #[derive(Clone, Copy)]

@@ -12,12 +12,12 @@ use crate::parcels::{Manned, mark, packed};
 use crate::sessions::attend;
 use house_floor::{Floor, Guest, Post};
 use lane_work::{Worked, work};
-use pace::{Actor, Gate, Pace};
 use std::mem::ManuallyDrop;
 use std::sync::Wait;
 use std::sync::atomic::Ordering;
 use std::thread;
 use std::thread::{Promise, Threads};
+use workers_sync::{Actor, Gate, Pace};
 
 /// What the thread of this producer is to return: what a worker's life with its connections leaves, or, behind the workers, what a
 /// session's life with its steps does.

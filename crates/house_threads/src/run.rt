@@ -14,13 +14,13 @@ use crate::parcels::{Manned, packed};
 use crate::producers::{Hired, actor_of, join_producers, start_producers};
 use house_floor::{Crew, Floor, Guest, Post, Ran, Stand, Started};
 use lane_work::{Consumed, Worked};
-use pace::{Gate, Pace};
 use std::alloc::{AllocError, Global};
 use std::mem::ManuallyDrop;
 use std::sync::Wait;
 use std::sync::atomic::AtomicU64;
 use std::thread;
 use std::thread::Threads;
+use workers_sync::{Gate, Pace};
 
 // No producer is to begin: ends their permits on the lanes whose consumers run.
 fn end_posts<R: Wait, G: Gate>(

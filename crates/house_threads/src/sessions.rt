@@ -2,7 +2,7 @@
 //! the end of its permits. What it is answered stands in `session_thread`, who starts its thread in `producers`.
 
 ghost use Rattle.std.specs.Prelude.{ℕ, ◌≡◌, ◌≢◌, ◌∷◌, ◌++◌, ◌≤◌, [], List, None, false, length, map};
-ghost use Rattle.courier.specs.Carried.{Carried};
+ghost use Rattle.workers_sync.specs.Carried.{Carried};
 ghost use Rattle.shard_queue.specs.Reply.{IsReceiver};
 ghost use Rattle.house_floor.specs.Crew.{IsHouse, IsPost};
 ghost use Rattle.house_floor.specs.Users.{user_numbered};
@@ -11,16 +11,15 @@ ghost use Rattle.lane_work.specs.Awaiting.{HearsItsOwn};
 ghost use Rattle.lane_work.specs.Couriers.{HasCarried, IsReady, IsSameDesk};
 ghost use Rattle.house_threads.specs.inner.Crew.{HasLived, IsAttended};
 
-use courier::Lost;
 use crossbeam_utils::sync::Unparker;
 use delivery_token::{Noted, WorkerLog};
 use house_floor::{Floor, Guest, Post, inbox_numbered, most_of};
-use house_session::folders_of;
+use house_peers::folders_of;
 use lane_work::{Fate, LaneCourier, Worked, finish};
-use pace::Gate;
 use session_thread::{LockedStore, live};
 use shard_queue::ReplyChannel;
 use std::sync::Wait;
+use workers_sync::{Gate, Lost};
 
 // The session of the user with this name makes its steps. What it said is laid into `replies`, which is empty, unless memory is
 // refused before it begins.

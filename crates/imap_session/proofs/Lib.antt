@@ -14,3 +14,7 @@ pub mod Turns
 pub mod Verdicts
 pub mod Telling
 pub mod Unkept
+pub mod Feeding
+pub mod Conversing
+pub mod Carried
+pub mod Asking

@@ -4,5 +4,6 @@ pub mod Response
 pub mod Store
 pub mod Shows
 pub mod Telling
-pub mod rows
+pub mod Dialogue
 pub mod inner
+pub mod rows

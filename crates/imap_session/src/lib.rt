@@ -1,9 +1,11 @@
 //! One IMAP session over any store of mailboxes: what is answered to each line, and what is asked of the store for it, in which order
 //! (RFC 9051, 6 and 7). How lines are spelled is told in `imap_grammar`; the store's mailboxes stand elsewhere.
+//! The connection that cuts one client's bytes into lines and literals is here too.
 #![tactic(auto)]
 
 mod appended;
 mod appending;
+mod connection;
 mod count;
 mod expunge;
 mod fetch;
@@ -21,6 +23,7 @@ mod store;
 mod tag;
 mod turn;
 
+pub use connection::{ImapConnection, Progress};
 pub use laws::{
     changes_are_shown_in_order, done_shows_in_order, literals_may_be_cut,
     only_a_stored_verdict_tells_a_uid, rest_shows_none, verdicts_show_in_order,

@@ -1,10 +1,10 @@
 -- What was said is sent: from the parts of a visit to the visit.
 use Rattle.std.proofs.Common.{◌≡◌, ◌≢◌, ℕ, ◌<◌, ◌⊎◌, inl, inr, true, false, List, [], ◌++◌, length, take, refl, sym, subst}
 use Rattle.std.specs.Prelude.{IfErr, OnErr, OnOk, Result, Ok, Err}
-use Rattle.courier.specs.Carried.{Carried}
-use Rattle.courier.specs.declared.Lost.{Lost}
+use Rattle.workers_sync.specs.Carried.{Carried}
+use Rattle.workers_sync.specs.declared.courier.Lost.{Lost}
 use Rattle.std.specs.Io.KnownBytes.{Appends}
-use Rattle.imap_connection.specs.Dialogue.{Dialogue, StandsFor}
+use Rattle.imap_session.specs.Dialogue.{Dialogue, StandsFor}
 use Rattle.session_thread.specs.Life.{Moment, moment}
 use Rattle.imap_session.specs.declared.standing.After.{After}
 use Rattle.imap_stream.specs.declared.visit.VisitFault.{VisitFault}

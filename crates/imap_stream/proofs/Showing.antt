@@ -1,12 +1,12 @@
 -- Turns of a session that idles, and what stands behind them.
 use Rattle.std.proofs.Common.{◌≡◌, ℕ, true, List, refl, sym, subst}
 use Rattle.imap_session.specs.Exchange.{is_idling}
-use Rattle.imap_connection.specs.Dialogue.{Dialogue, ImapConnection, StandsFor}
+use Rattle.imap_session.specs.Dialogue.{Dialogue, ImapConnection, StandsFor}
 use Rattle.session_thread.specs.Locks.{LockedStore}
 use Rattle.session_thread.specs.Life.{HasShown, IsShortInTurn, Moment, moment}
 use Rattle.session_thread.proofs.Living.{idle_of}
-use Rattle.courier.specs.Carried.{Carried}
-use Rattle.courier.specs.declared.Lost.TheVariants as lost
+use Rattle.workers_sync.specs.Carried.{Carried}
+use Rattle.workers_sync.specs.declared.courier.Lost.TheVariants as lost
 use Rattle.session_thread.specs.Life.{Says}
 use Rattle.imap_stream.specs.Visits.{GoesOnShowing, Hears, HearsInPart, ShowsAll, ShowsInPart, nothing_left, within_turns}
 

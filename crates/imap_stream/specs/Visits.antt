@@ -5,12 +5,12 @@ use Rattle.imap_session.specs.declared.standing.After.{After}
 use Rattle.imap_session.specs.declared.standing.After.TheVariants.{Bye}
 use Rattle.imap_session.specs.Exchange.{Folder, bye, is_idling, may_send, nothing_sent}
 use Rattle.imap_session.specs.Commands.{greeting}
-use Rattle.imap_connection.specs.Dialogue.{Dialogue, ImapConnection, StandsFor, may_follow}
+use Rattle.imap_session.specs.Dialogue.{Dialogue, ImapConnection, StandsFor, may_follow}
 use Rattle.session_thread.specs.Locks.{LockedStore}
 use Rattle.session_thread.specs.Life.{HasShown, IsShortInTurn, Moment, Says, SaysInPart, moment}
-use Rattle.courier.specs.Carried.{Carried}
-use Rattle.courier.specs.declared.Lost.{Lost}
-use Rattle.courier.specs.declared.Lost.TheVariants as lost
+use Rattle.workers_sync.specs.Carried.{Carried}
+use Rattle.workers_sync.specs.declared.courier.Lost.{Lost}
+use Rattle.workers_sync.specs.declared.courier.Lost.TheVariants as lost
 
 -- What is known of a visit. Between two calls nothing that was said is left unsent.
 pub record Visit : Type 0 where

@@ -7,15 +7,13 @@ ghost use Rattle.imap_stream.specs.Visits.{is_over};
 ghost use Rattle.imap_stream.specs.inner.Visits.{Looks};
 
 use crate::visit::Visit;
-use courier::Courier;
 use imap_session::After;
 use line_io::Sink;
-use pace::Gate;
-use session_bells::Sleeper;
 use std::alloc::Global;
 use std::io::{ErrorKind, Read};
 use std::sync::atomic::{AtomicBool, Ordering};
 use std::sync::{Arc, Mutex, Wait};
+use workers_sync::{Courier, Gate, Sleeper};
 
 /// What ends the read of the thread that serves a berth's client.
 pub trait Hush {

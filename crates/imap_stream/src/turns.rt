@@ -3,18 +3,17 @@
 
 ghost use Rattle.std.specs.Prelude.{◌≡◌, ◌++◌, List, None, false, true, OnErr, OnOk, IfErr};
 ghost use Rattle.std.specs.Vec.{vec_capacity};
-ghost use Rattle.imap_connection.specs.Dialogue.{Dialogue, StandsFor};
-ghost use Rattle.courier.specs.Carried.{Carried};
+ghost use Rattle.imap_session.specs.Dialogue.{Dialogue, StandsFor};
+ghost use Rattle.workers_sync.specs.Carried.{Carried};
 ghost use Rattle.session_thread.specs.Life.{moment};
 ghost use Rattle.imap_stream.specs.Visits.{Hears, HearsInPart, ShowsAll, ShowsInPart};
 
-use courier::{Courier, Lost};
-use imap_connection::ImapConnection;
-use pace::Gate;
+use imap_session::ImapConnection;
 use session_thread::{LockedStore, answer, idle_turn};
 use std::alloc::{AllocError, Global};
 use std::sync::Wait;
 use std::sync::atomic::{AtomicBool, Ordering};
+use workers_sync::{Courier, Gate, Lost};
 
 /// The session has turns while it idles, until one shows nothing.
 ///

@@ -4,25 +4,23 @@
 ghost use Rattle.std.specs.Prelude.{◌≡◌, ◌≢◌, ◌⊎◌, ℕ, ◌<◌, ◌≤◌, ◌++◌, [], List, None, Ok, Err, false, true, length, take, IfOk, IfErr, OnErr, OnOk};
 ghost use Rattle.std.specs.Io.KnownBytes.{Appends};
 ghost use Rattle.std.specs.Vec.{vec_capacity};
-ghost use Rattle.courier.specs.Carried.{Carried};
-ghost use Rattle.courier.specs.declared.Lost.{Lost};
+ghost use Rattle.workers_sync.specs.Carried.{Carried};
+ghost use Rattle.workers_sync.specs.declared.courier.Lost.{Lost};
 ghost use Rattle.session_thread.specs.Life.{Departs, IsForgotten};
-ghost use Rattle.imap_connection.specs.Dialogue.{StandsFor};
+ghost use Rattle.imap_session.specs.Dialogue.{StandsFor};
 ghost use Rattle.imap_session.specs.Commands.{greeting};
 ghost use Rattle.imap_session.specs.Exchange.{nothing_sent};
 ghost use Rattle.imap_stream.specs.Visits.{Hears, HearsInPart, IsGreeted, SendsAll, SendsFirst, ShowsAll, ShowsInPart, Tells, Visit, awaited, farewell, is_over, takes_bytes};
 
 use crate::turns::{answer_and_show, show_all};
-use courier::{Courier, Lost};
-use imap_connection::ImapConnection;
-use imap_session::{After, Folder, Store};
+use imap_session::{After, Folder, ImapConnection, Store};
 use line_io::{Sink, send};
-use pace::Gate;
 use session_thread::{LockedStore, depart, takes_more};
 use std::alloc::{AllocError, Global};
 use std::marker::Model;
 use std::sync::Wait;
 use std::sync::atomic::AtomicBool;
+use workers_sync::{Courier, Gate, Lost};
 
 /// What a client is told that is dismissed.
 const FAREWELL: &[u8] = b"* BYE Shutting down\r\n";

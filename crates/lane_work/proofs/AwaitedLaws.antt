@@ -7,7 +7,7 @@ use Rattle.delivery_token.specs.declared.Verdict.{Verdict}
 use Rattle.delivery_token.specs.declared.log.Noted.{Noted}
 use Rattle.shard_queue.specs.declared.lane.Entry.{Entry}
 use Rattle.shard_queue.specs.declared.lane.Entry.TheVariants.{Item, End}
-use Rattle.submission.specs.Verdicts.{unknown}
+use Rattle.delivery_token.specs.Verdicts.{unknown}
 use Rattle.lane_work.specs.declared.desk.LanePermit.{LanePermit}
 use Rattle.lane_work.specs.Account.{HaveEnded}
 use Rattle.lane_work.specs.Awaiting.{copies_in, verdicts_in}

@@ -1,7 +1,7 @@
 -- What a courier carried, message by message.
 use Rattle.std.proofs.Common.{◌≡◌, ◌++◌, ◌∙◌, ℕ, List, [], ◌∷◌, append-nil, append_assoc, ap, map, subst, sym}
 use Rattle.std.proofs.lemmas.List.{map-append}
-use Rattle.courier.specs.Carried.{Carried, copy_of, judged_of}
+use Rattle.workers_sync.specs.Carried.{Carried, copy_of, judged_of}
 use Rattle.delivery_token.specs.declared.Job.{Job}
 use Rattle.delivery_token.specs.declared.Verdict.{Verdict}
 use Rattle.shard_queue.specs.Reply.{received}

@@ -19,9 +19,9 @@ use Rattle.lane_work.specs.declared.hearing.Torn.{Torn}
 use Rattle.std.specs.Prelude.{Result, Ok, Err, IfOk}
 use Rattle.lane_work.specs.Account.{AreBooks, AreBooksOf}
 use Rattle.lane_work.specs.Copies.{FilledAlone, IsAtOnce, IsHeard, Room, WerePut, none, put, elsewhere, refused, copies, copies_of, note_of, room_at, told}
-use Rattle.courier.specs.Carried.{Carried, copy_of, judged_of}
-use Rattle.submission.specs.Verdicts.{Fills, FillsIn}
-use Rattle.submission.proofs.Fills.{fills_length}
+use Rattle.workers_sync.specs.Carried.{Carried, copy_of, judged_of}
+use Rattle.delivery_token.specs.Verdicts.{Fills, FillsIn}
+use Rattle.delivery_token.proofs.Fills.{fills_length}
 use Rattle.lane_work.specs.inner.Copies.{WasJudged, AreTried, HavePut, WereHeard, WereTried, under_way}
 use Rattle.lane_work.proofs.SlotLaws.{heard_later, were_heard_later, were_heard_set}
 

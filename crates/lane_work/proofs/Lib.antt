@@ -11,3 +11,11 @@ pub mod RoundLaws
 pub mod AwaitedLaws
 pub mod FullLaws
 pub mod CarryLaws
+pub mod StepLaws
+pub mod RowLaws
+pub mod CloseLaws
+pub mod SenderRowLaws
+pub mod ChannelCloseLaws
+pub mod LastWords
+pub mod Taking
+pub mod Going

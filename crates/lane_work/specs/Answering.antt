@@ -9,7 +9,7 @@ use Rattle.delivery_token.specs.declared.log.Noted.{Noted}
 use Rattle.mailbox.specs.Answers.{verdict_of}
 use Rattle.mailbox.specs.Mailbox.{Mailbox}
 use Rattle.mailbox.specs.declared.mailbox.Receipt.{Receipt}
-use Rattle.mailbox_holds.specs.Holds.{DoesDeliver, UnderLock}
+use Rattle.workers_sync.specs.Holds.{DoesDeliver, UnderLock}
 use Rattle.shard_queue.specs.declared.lane.Entry.{Entry}
 use Rattle.shard_queue.specs.declared.lane.Entry.TheVariants.{Item, End}
 

@@ -10,4 +10,11 @@ pub mod Ends
 pub mod Speaking
 pub mod Working
 pub mod Histories
+pub mod Rooms
+pub mod Closings
+pub mod Telling
+pub mod ChannelClosings
+pub mod LanePermits
+pub mod ChannelPermits
+pub mod Streaming
 pub mod inner

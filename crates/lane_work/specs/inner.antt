@@ -7,3 +7,4 @@ pub mod Desk
 pub mod Permits
 pub mod Speaking
 pub mod Summoning
+pub mod Pieces

@@ -6,17 +6,16 @@ ghost use Rattle.mailbox.specs.Answers.{verdict_of};
 ghost use Rattle.shard_queue.specs.Reply.{IsSender, sender_number, sent_on};
 ghost use Rattle.lane_work.specs.Permits.{AreSenders};
 ghost use Rattle.lane_work.specs.Answering.{IsDelivered, IsJudged, Serves, is_ours, telling, verdict_on};
-ghost use Rattle.mailbox_holds.specs.Holds.{UnderLock};
+ghost use Rattle.workers_sync.specs.Holds.{UnderLock};
 
 use crate::bells::ring_sessions;
 use crate::consumer::Depot;
 use delivery_token::{Job, Noted, Refusal};
 use mailbox::{Mailbox, Receipt, verdict_of};
-use mailbox_holds::{deliver, under};
-use pace::{Gate, Pace};
 use shard_queue::{ReplyChannel, SenderPermit};
 use std::sync::{Mutex, Wait};
 use std::thread;
+use workers_sync::{Gate, Pace, deliver, under};
 
 // Delivers a copy to the mailbox that is held: one event. None, and nothing is done, where that is another's.
 fn deliver_to(mailbox: &mut Mailbox, job: &Job) -> Option<Result<Receipt, Refusal>>

@@ -4,9 +4,9 @@
 ghost use Rattle.std.specs.Prelude.{◌<◌};
 
 use crossbeam_utils::sync::{Parker, Unparker};
-use session_bells::{SessionBell, ring_each};
 use std::hint;
 use std::sync::Wait;
+use workers_sync::{SessionBell, ring_each};
 
 /// So often a consumer pauses before it sleeps.
 const PAUSES: u32 = 64;

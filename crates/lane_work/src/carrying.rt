@@ -2,7 +2,7 @@
 //! What a session is answered stands above.
 
 ghost use Rattle.std.specs.Prelude.{◌≡◌, IfOk, List, OnOk, false, length, map};
-ghost use Rattle.courier.specs.Carried.{Carried};
+ghost use Rattle.workers_sync.specs.Carried.{Carried};
 ghost use Rattle.shard_queue.specs.Reply.{IsReceiver, received};
 ghost use Rattle.shard_queue.specs.Shared.{IsStartOf};
 ghost use Rattle.lane_work.specs.Copies.{rooms_of};
@@ -19,11 +19,10 @@ use crate::hearing::{Torn, hear_one};
 use crate::notebook::Notebook;
 use crate::putting::put_copy;
 use change_ring::Flags;
-use courier::{Courier, Lost};
 use delivery_token::{CopyKey, Noted, Text, Verdict};
-use pace::{Gate, Pace};
 use shard_queue::ReplyChannel;
 use std::sync::Wait;
+use workers_sync::{Courier, Gate, Lost, Pace};
 
 /// Carries the messages of one seat's sessions: each goes into the lane of its mailbox's shard, for which
 /// is summoned, and the verdict on it is awaited and noted.

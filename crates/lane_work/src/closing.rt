@@ -11,9 +11,9 @@ use crate::desk::{Closing, Desk, LanePermit, Office};
 use crate::ending::end_one;
 use delivery_token::Job;
 use envelope::Directory;
-use pace::{Gate, Pace};
 use shard_queue::ShardQueue;
 use std::sync::Wait;
+use workers_sync::{Gate, Pace};
 
 // What the worker of this number closes.
 fn closings_of(office: &Office, number: u8) -> &[Closing]

@@ -17,12 +17,11 @@ use crate::ending::end_senders;
 use crossbeam_utils::sync::Parker;
 use delivery_token::{Job, Noted};
 use mailbox::Mailbox;
-use pace::{Gate, Pace};
-use session_bells::SessionBell;
 use shard_queue::{
     ConsumerPermit, Entry, ReplyChannel, SenderEnded, SenderPermit, ShardQueue, Taken,
 };
 use std::sync::{Mutex, Wait};
+use workers_sync::{Gate, Pace, SessionBell};
 
 /// What all consumers share.
 pub struct Depot {

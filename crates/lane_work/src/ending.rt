@@ -14,13 +14,13 @@ ghost use Rattle.lane_work.specs.Ends.{ends_in};
 use crate::bells::Summons;
 use crate::desk::{LanePermit, Office};
 use delivery_token::{Job, Noted};
-use pace::{Gate, Pace};
 use shard_queue::{
     Ended, Entry, ProducerPermit, ReceiverPermit, ReplyChannel, SenderEnded, SenderPermit,
     ShardQueue,
 };
 use std::sync::Wait;
 use std::thread;
+use workers_sync::{Gate, Pace};
 
 /// Ends a producer's permit: its end goes behind all that it has put. Where the lane is full it tries
 /// again until there is room.

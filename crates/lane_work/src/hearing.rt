@@ -7,7 +7,7 @@ ghost use Rattle.std.specs.Option.{is_some};
 ghost use Rattle.shard_queue.specs.Reply.{IsReceiver, received};
 ghost use Rattle.shard_queue.specs.Shared.{IsStartOf};
 ghost use Rattle.lmtp_machine.specs.Calls.{submission_of};
-ghost use Rattle.submission.specs.Verdicts.{Fills, unknown};
+ghost use Rattle.delivery_token.specs.Verdicts.{Fills, unknown};
 ghost use Rattle.lane_work.specs.Copies.{IsHeard, copies_of};
 ghost use Rattle.lane_work.specs.inner.Copies.{WereHeard};
 ghost use Rattle.lane_work.specs.inner.Desk.{SameButReceiver};
@@ -16,12 +16,11 @@ ghost use Rattle.lane_work.specs.Ends.{CountsEnds, ends_in};
 ghost use Rattle.lane_work.specs.Permits.{AreLive, overs};
 
 use crate::desk::{Desk, LanePermit};
-use delivery_token::{CopyKey, Noted, Verdict};
+use delivery_token::{CopyKey, Noted, Verdict, Verdicts};
 use lmtp_machine::Submission;
-use pace::{Gate, Pace};
 use shard_queue::{Entry, ReplyChannel};
 use std::sync::Wait;
-use submission::Verdicts;
+use workers_sync::{Gate, Pace};
 
 /// Something came that wasn't awaited, or not what was.
 #[derive(Clone, Copy)]

@@ -1,27 +1,51 @@
 //! What one worker and one consumer of a running house do with their permits: a worker's connections,
 //! from the greeting to the end of its permit on each lane, the shards that it closes before them, and a
 //! consumer's lane, from the first copy to the last end. Nothing is known here of how threads begin and are joined.
+//! The permits are made, dealt, collected and closed here too, lane by lane, and one LMTP connection of a worker is served over a reader and a sink.
 #![tactic(auto)]
 
 mod answering;
 mod bells;
 mod carrying;
+mod channels;
 mod closing;
 mod consumer;
 mod desk;
 mod ending;
 mod hearing;
+mod lanes;
 mod laws;
 mod notebook;
+mod outcome;
+mod permit_laws;
+mod piece;
 mod putting;
+mod reading;
+mod rooms;
+mod shutting;
+mod talk;
 mod worker;
 
 pub use answering::serve_copy;
 pub use bells::Summons;
 pub use carrying::LaneCourier;
+pub use channels::{
+    Channels, abandon_channels, close_channels, collect_all_senders, collect_senders,
+    deal_all_senders, deal_senders, make_channels,
+};
 pub use consumer::{Consumed, Depot, Stall, consume};
 pub use desk::{Closing, Desk, LanePermit, Office};
 pub use ending::{end_all, end_one, end_permit, end_sender, end_senders, hear_ends};
+pub use lanes::{
+    Lanes, abandon_lanes, close_lanes, collect, collect_all, deal, deal_all, make_lanes,
+};
 pub use laws::accounts_meet_histories;
 pub use notebook::{Notebook, Unkept};
+pub use outcome::{Ending, TalkFault};
+pub use permit_laws::{closed_channels_tell, closed_lanes_tell};
+pub use rooms::{
+    Hands, PermitRooms, Rooms, make_hands, make_lists, make_permit_rooms, make_rooms, spend_hands,
+    spend_lists, spend_permit_rooms, spend_rooms,
+};
+pub use talk::converse;
 pub use worker::{Fate, Stop, Worked, finish, turn, work};

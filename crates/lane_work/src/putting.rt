@@ -12,7 +12,7 @@ ghost use Rattle.lmtp_machine.specs.Calls.{submission_of};
 ghost use Rattle.lane_work.specs.Permits.{ArePermits, IsPermit, is_over, overs, permit_number, put_by};
 ghost use Rattle.lane_work.specs.inner.Permits.{AreOpenTo};
 ghost use Rattle.lane_work.specs.inner.Desk.{SameButPermits};
-ghost use Rattle.submission.specs.Verdicts.{unknown};
+ghost use Rattle.delivery_token.specs.Verdicts.{unknown};
 ghost use Rattle.lane_work.specs.Awaiting.{copies_in};
 ghost use Rattle.lane_work.specs.Copies.{FilledAlone, IsAtOnce, copies_of, room_at, room_of, rooms_of};
 ghost use Rattle.lane_work.specs.inner.Copies.{HavePut, WereTried};
@@ -21,13 +21,12 @@ ghost use Rattle.lane_work.specs.inner.Summoning.{is_last_at, rest_of_group};
 use crate::bells::Summons;
 use crate::desk::{Desk, LanePermit, Office};
 use change_ring::{Flags, NO_FLAGS};
-use delivery_token::{CopyKey, Job, Refusal, Text, Verdict};
+use delivery_token::{CopyKey, Job, Refusal, Text, Verdict, Verdicts};
 use envelope::Directory;
 use lmtp_machine::Submission;
-use pace::{Gate, Pace};
 use shard_queue::{Full, ProducerPermit, ShardQueue};
 use std::sync::Wait;
-use submission::Verdicts;
+use workers_sync::{Gate, Pace};
 
 // Puts a copy on a lane: None where it is under way, else what is known of it at once.
 fn put_on<R: Wait>(

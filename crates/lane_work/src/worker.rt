@@ -29,14 +29,13 @@ use crate::ending::{end_all, hear_ends};
 use crate::hearing::hear_all;
 use crate::notebook::Notebook;
 use crate::putting::put_all;
-use delivery_token::{Job, Noted, Verdict, WorkerLog};
+use delivery_token::{Job, Noted, Verdict, Verdicts, WorkerLog};
 use envelope::Directory;
 use lmtp_machine::{ANSWER_ROOM, Fed, Limits, LmtpMachine, Submission, What};
-use pace::{Gate, Pace};
 use shard_queue::{Ended, ReceiverPermit, ReplyChannel};
 use std::alloc::{AllocError, Global};
 use std::sync::Wait;
-use submission::Verdicts;
+use workers_sync::{Gate, Pace};
 
 /// Why a worker submits no more.
 #[derive(Clone, Copy, Debug, PartialEq, Eq)]

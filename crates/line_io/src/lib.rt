@@ -1,14 +1,16 @@
-//! Lines of a byte stream, and bytes that are sent: a cutter for what comes in, a sink for what goes
-//! out, and the laws of wire lines. What a line says, and what is sent, is for the crates above.
+//! Bytes as they come and go: lines of a stream, and a cutter for them; bytes that came and wait to be taken; a sink for what is sent; and the
+//! laws of lines. What a line says, where data begins, and what becomes of a text, is for the crates above.
 #![tactic(auto)]
 
 mod cutter;
+mod incoming;
 mod laws;
 mod marks;
 mod parts;
 mod sink;
 
 pub use cutter::LineCutter;
+pub use incoming::Incoming;
 pub use laws::{each_stream_is_cut_in_one_way, whole_lines_may_be_taken_by_others};
 pub use marks::append_marked;
 pub use parts::{append_parts, drop_front, put};

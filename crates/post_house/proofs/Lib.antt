@@ -1,2 +1,5 @@
+mod AskLaws
+mod GivenLaws
+mod WordLaws
 mod Playing
 mod Telling

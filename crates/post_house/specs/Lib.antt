@@ -1,2 +1,4 @@
+pub mod Asking
+pub mod Words
 pub mod Status
 pub mod inner

@@ -1,3 +1,4 @@
+pub mod Words
 pub mod Playing
 pub mod Status
 pub mod Telling

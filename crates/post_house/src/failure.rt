@@ -3,9 +3,9 @@
 ghost use Rattle.std.specs.Prelude.{◌≡◌};
 ghost use Rattle.post_house.specs.Status.{config_failure, run_failure, serve_failure, status_of};
 
-use settings::ConfigFault;
 use script::RunFault;
 use serving::ServeFault;
+use settings::ConfigFault;
 use thiserror::Error;
 
 /// Why the program fails.

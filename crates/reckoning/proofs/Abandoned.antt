@@ -1,8 +1,8 @@
 -- What `open` and `run_threads` promise is what a run that came to nothing is abandoned by.
 use Rattle.std.proofs.Common.{◌≡◌, ◌≤◌, ◌+◌, ℕ, suc, List, [], ◌∷◌, All, length, vec_len, arith}
 use Rattle.std.proofs.lemmas.List.Elements.{All-cons, All-nil}
-use Rattle.lane_permits.proofs.RowLaws as lanes
-use Rattle.lane_permits.proofs.SenderRowLaws as channels
+use Rattle.lane_work.proofs.RowLaws as lanes
+use Rattle.lane_work.proofs.SenderRowLaws as channels
 use Rattle.lane_work.specs.declared.consumer.Consumed.{Consumed}
 use Rattle.lane_work.specs.declared.worker.Worked.{Worked}
 use Rattle.house_floor.specs.Crew.{AllAt, IsHouse}

@@ -24,10 +24,10 @@ use Rattle.lane_work.specs.declared.worker.Fate.{Fate}
 use Rattle.lane_work.specs.declared.worker.Fate.TheVariants as fates
 use Rattle.lane_work.specs.declared.worker.Worked.{Worked}
 use Rattle.lane_work.proofs.HistoryLaws.{said_is_taken}
-use Rattle.lane_permits.specs.LanePermits.{AllIn, AreIn}
-use Rattle.lane_permits.specs.ChannelPermits.{AllSendersIn, AreSendersIn}
-use Rattle.lane_permits.proofs.CloseLaws as lanes
-use Rattle.lane_permits.proofs.ChannelCloseLaws as channels
+use Rattle.lane_work.specs.LanePermits.{AllIn, AreIn}
+use Rattle.lane_work.specs.ChannelPermits.{AllSendersIn, AreSendersIn}
+use Rattle.lane_work.proofs.CloseLaws as lanes
+use Rattle.lane_work.proofs.ChannelCloseLaws as channels
 use Rattle.house_floor.specs.Crew.{AllAt}
 use Rattle.house_floor.specs.declared.floor.Floor.{Floor}
 use Rattle.house_floor.specs.declared.floor.Guest.{Guest}

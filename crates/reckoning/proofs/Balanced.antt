@@ -3,7 +3,7 @@ use Rattle.std.proofs.Common.{◌≡◌, ◌∙◌, ℕ, List, [], ◌∷◌, Al
 use Rattle.std.specs.Global.{Global}
 use Rattle.std.specs.Prelude.{MatchOption}
 use Rattle.std.proofs.lemmas.List.{length-map}
-use Rattle.lane_permits.specs.Rooms.{AreRooms}
+use Rattle.lane_work.specs.Rooms.{AreRooms}
 use Rattle.std.proofs.lemmas.List.Elements.{All-cons, All-nil}
 use Rattle.reckoning.specs.Gathered.{graver, gravest}
 use Rattle.reckoning.specs.declared.gather.Fault.{Fault}

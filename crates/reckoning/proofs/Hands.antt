@@ -8,11 +8,11 @@ use Rattle.shard_queue.specs.declared.ends.ReplyChannel.{ReplyChannel}
 use Rattle.shard_queue.specs.declared.queue.Ended.{Ended}
 use Rattle.shard_queue.specs.declared.queue.ShardQueue.{ShardQueue}
 use Rattle.shard_queue.specs.declared.reply.SenderEnded.{SenderEnded}
-use Rattle.lane_permits.specs.Rooms.{AreRooms}
-use Rattle.lane_permits.specs.LanePermits.{AreEndedHands}
-use Rattle.lane_permits.specs.ChannelPermits.{AreSenderEndedHands}
-use Rattle.lane_permits.proofs.RowLaws as lanes
-use Rattle.lane_permits.proofs.SenderRowLaws as channels
+use Rattle.lane_work.specs.Rooms.{AreRooms}
+use Rattle.lane_work.specs.LanePermits.{AreEndedHands}
+use Rattle.lane_work.specs.ChannelPermits.{AreSenderEndedHands}
+use Rattle.lane_work.proofs.RowLaws as lanes
+use Rattle.lane_work.proofs.SenderRowLaws as channels
 
 pub hands_length : (qs : List (ShardQueue Job)) (n : ℕ) → length qs ≡ n → (p : ℕ) (hs : List (Vec (Ended Job) Global)) → AreEndedHands qs p (map (λ h. h.items) hs) → All (λ v. vec_len v ≡ n) hs
 hands_length qs n same p [] are = All-nil (λ (v : Vec (Ended Job) Global). vec_len v ≡ n)

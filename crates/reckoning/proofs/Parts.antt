@@ -5,9 +5,9 @@ use Rattle.shard_queue.specs.Permits.{numbers}
 use Rattle.shard_queue.specs.Permits.{got}
 use Rattle.lane_work.specs.declared.consumer.Consumed.{Consumed}
 use Rattle.lane_work.specs.declared.worker.Worked.{Worked}
-use Rattle.lane_permits.specs.LanePermits.{AreEndedHands}
-use Rattle.lane_permits.specs.LanePermits as rows
-use Rattle.lane_permits.specs.ChannelPermits.{AreReceivers, AreSenderEndedHands}
+use Rattle.lane_work.specs.LanePermits.{AreEndedHands}
+use Rattle.lane_work.specs.LanePermits as rows
+use Rattle.lane_work.specs.ChannelPermits.{AreReceivers, AreSenderEndedHands}
 use Rattle.house_floor.specs.Crew.{AllAt}
 use Rattle.house_floor.specs.declared.floor.Floor.{Floor}
 use Rattle.house_floor.specs.declared.floor.Guest.{Guest}

@@ -6,7 +6,7 @@ use Rattle.shard_queue.specs.declared.ends.ReplyChannel.{ReplyChannel}
 use Rattle.shard_queue.specs.declared.queue.ShardQueue.{ShardQueue}
 use Rattle.lane_work.specs.declared.consumer.Consumed.{Consumed}
 use Rattle.lane_work.specs.declared.worker.Worked.{Worked}
-use Rattle.lane_permits.specs.Rooms.{AreRooms}
+use Rattle.lane_work.specs.Rooms.{AreRooms}
 use Rattle.reckoning.specs.Closing.{AreChannelsClosedWith, AreChannelsTornWith, AreClosedWith, AreTornWith}
 use Rattle.reckoning.specs.Gathered.{AreConsumers, AreWorkers, fault_of_consumer, fault_of_fate, graver, gravest}
 use Rattle.reckoning.specs.declared.gather.Fault.{Fault}

@@ -10,10 +10,10 @@ use Rattle.shard_queue.specs.declared.queue.ShardQueue.{ShardQueue}
 use Rattle.shard_queue.specs.declared.reply.ReceiverPermit.{ReceiverPermit}
 use Rattle.shard_queue.specs.declared.reply.ReplyClosed.{ReplyClosed}
 use Rattle.shard_queue.specs.declared.reply.SenderEnded.{SenderEnded}
-use Rattle.lane_permits.specs.ChannelClosings.{AreChannelsClosed, AreChannelsTorn}
-use Rattle.lane_permits.specs.Closings.{AreClosed, IsTorn}
-use Rattle.lane_permits.specs.LanePermits.{AllIn}
-use Rattle.lane_permits.specs.ChannelPermits.{AllSendersIn}
+use Rattle.lane_work.specs.ChannelClosings.{AreChannelsClosed, AreChannelsTorn}
+use Rattle.lane_work.specs.Closings.{AreClosed, IsTorn}
+use Rattle.lane_work.specs.LanePermits.{AllIn}
+use Rattle.lane_work.specs.ChannelPermits.{AllSendersIn}
 
 -- Each lane was closed, with what is left of all producers' permits there.
 abbrev pub AreClosedWith : List (ShardQueue Job) → List (List (Ended Job)) → List (ConsumerPermit Job) → List (Closed Job) → Type 0

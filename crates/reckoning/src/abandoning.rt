@@ -9,8 +9,7 @@ ghost use Rattle.reckoning.specs.inner.Spending.{HasGrown, HasGrownAtMost};
 use crate::remains::{Remains, remains_of};
 use delivery_token::{Job, Noted};
 use house_floor::{Baskets, Floor, Post, Ran, Spares, Stand};
-use lane_permits::spend_lists;
-use lane_work::{Consumed, Desk, LanePermit, Stall, Worked};
+use lane_work::{Consumed, Desk, LanePermit, Stall, Worked, spend_lists};
 use shard_queue::{
     ConsumerPermit, Ended, ProducerPermit, ReceiverPermit, ReplyChannel, SenderEnded, SenderPermit,
     ShardQueue,

@@ -3,8 +3,8 @@
 
 ghost use Rattle.std.specs.Prelude.{◌≡◌, IfErr, IfOk, map, vec_len};
 ghost use Rattle.house_floor.specs.Opening.{AreBaskets};
-ghost use Rattle.lane_permits.specs.LanePermits.{AreConsumers, AreEndedHands};
-ghost use Rattle.lane_permits.specs.ChannelPermits.{AreReceivers, AreSenderEndedHands};
+ghost use Rattle.lane_work.specs.LanePermits.{AreConsumers, AreEndedHands};
+ghost use Rattle.lane_work.specs.ChannelPermits.{AreReceivers, AreSenderEndedHands};
 ghost use Rattle.reckoning.specs.Balancing.{IsClosing, IsGathered, IsBalanced, IsWhyNot};
 
 use crate::close::{close_all_channels, close_all_lanes};
@@ -12,9 +12,7 @@ use crate::gather::{Fault, FromConsumers, FromWorkers, gather_consumers, gather_
 use delivery_token::{Job, Noted, WorkerLog};
 use house_floor::Baskets;
 use lane_work::{Consumed, Worked};
-use shard_queue::{
-    Closed, Ended, Entry, ReplyChannel, ReplyClosed, SenderEnded, ShardQueue,
-};
+use shard_queue::{Closed, Ended, Entry, ReplyChannel, ReplyClosed, SenderEnded, ShardQueue};
 use std::alloc::Global;
 
 /// What was taken of each queue, to its end.

@@ -2,13 +2,13 @@
 //! closed. What the permits' holders did does not belong here.
 
 ghost use Rattle.std.specs.Prelude.{◌≡◌, ◌≤◌, [], MatchOption, map, vec_len, vec_capacity};
-ghost use Rattle.lane_permits.specs.Rooms.{AreRooms};
-ghost use Rattle.lane_permits.specs.LanePermits.{AreConsumers, AreEndedHands};
-ghost use Rattle.lane_permits.specs.ChannelPermits.{AreReceivers, AreSenderEndedHands};
+ghost use Rattle.lane_work.specs.Rooms.{AreRooms};
+ghost use Rattle.lane_work.specs.LanePermits.{AreConsumers, AreEndedHands};
+ghost use Rattle.lane_work.specs.ChannelPermits.{AreReceivers, AreSenderEndedHands};
 ghost use Rattle.reckoning.specs.Closing.{AreChannelsClosedWith, AreChannelsTornWith, AreClosedWith, AreTornWith};
 
 use delivery_token::{Job, Noted};
-use lane_permits::{close_channels, close_lanes, collect_all, collect_all_senders};
+use lane_work::{close_channels, close_lanes, collect_all, collect_all_senders};
 use shard_queue::{
     Closed, ConsumerPermit, Ended, ReceiverPermit, ReplyChannel, ReplyClosed, SenderEnded,
     ShardQueue,

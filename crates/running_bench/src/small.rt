@@ -6,10 +6,10 @@ ghost use Rattle.settings.specs.Settings.{IsInRange};
 
 use crate::threads::Open;
 use delivery_token::{CopyKey, Text};
-use settings::Config;
 use house_floor::Guest;
 use running_house::{Plan, Report, run_house};
 use session_thread::Step;
+use settings::Config;
 use std::alloc::{AllocError, Global};
 use std::io::{self, Error, ErrorKind};
 use std::sync::Wait;

@@ -4,12 +4,12 @@ ghost use Rattle.std.specs.Prelude.{◌<◌, IfOk, length};
 ghost use Rattle.settings.specs.Settings.{IsFrom, IsInRange};
 
 use crate::mail::{config_of, opening, push_message};
-use pace::{Actor, Gate};
 use running_house::{Plan, Report, WorkFault, run_house};
 use std::alloc::{AllocError, Global};
 use std::io::{self, Error, ErrorKind};
 use std::sync::Wait;
 use std::thread::Threads;
+use workers_sync::{Actor, Gate};
 
 /// How many messages come in a connection.
 const EACH: usize = 100;

@@ -1,3 +1,19 @@
+pub mod ListLaws
+mod WaitLaws
+mod WovenLaws
+mod TalkLines
+mod BackLaws
+mod ToldLaws
+mod AccountRefuted
+mod Connections
+mod FullLaws
+mod KeyLaws
+pub mod LogLaws
+pub mod ClosedLaws
+pub mod RiseLaws
+pub mod WalkLaws
+pub mod MetLaws
+pub mod OrderLaws
 pub mod Moves
 pub mod Reports
 pub mod Floors

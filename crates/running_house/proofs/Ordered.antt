@@ -9,7 +9,7 @@ use Rattle.std.proofs.lemmas.List.Elements.{All-head, All-tail}
 use Rattle.std.proofs.lemmas.Slice.Eq.{bytes_eq-Decides}
 use Rattle.delivery_token.specs.declared.CopyKey.{CopyKey}
 use Rattle.delivery_token.specs.declared.Job.{Job}
-use Rattle.agreement.specs.Walk.{are_met, copy_with, is_key, pair_with, with_copy, with_text}
+use Rattle.running_house.specs.Walk.{are_met, copy_with, is_key, pair_with, with_copy, with_text}
 use Rattle.reckoning.specs.Shelves.{AreNumbered, AreToldOnce}
 use Rattle.running_house.specs.inner.Begun.{begins_at}
 use Rattle.running_house.specs.Order.{AreInLaneOrder, none, next}

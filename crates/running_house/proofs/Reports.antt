@@ -2,8 +2,8 @@
 use Rattle.std.proofs.Common.{◌≡◌, ◌<◌, ◌+◌, ◌==◌, ◌∙◌, ℕ, zero, suc, Bool, List, [], ◌∷◌, All, Some, Vec, take, drop, length, map, slice_get, slice_index_or, sym, ap, subst, arith}
 use Rattle.std.specs.Global.{Global}
 use Rattle.std.proofs.lemmas.List.{length-map, length-take-le}
-use Rattle.agreement.specs.Lists.{ListsAgree}
-use Rattle.agreement.specs.Walk.{ListsMet}
+use Rattle.running_house.specs.Lists.{ListsAgree}
+use Rattle.running_house.specs.Walk.{ListsMet}
 use Rattle.envelope.specs.Directory.{Directory, shard_of}
 use Rattle.lane_work.specs.Answering.{WereAnswered}
 use Rattle.shard_queue.specs.declared.lane.Entry.TheVariants.{End}
@@ -20,8 +20,8 @@ use Rattle.lane_work.specs.Consuming.{items_of}
 use Rattle.lane_work.specs.Speaking.{premises_of}
 use Rattle.lane_work.specs.declared.consumer.Consumed.{Consumed}
 use Rattle.lane_work.specs.declared.worker.Worked.{Worked}
-use Rattle.lane_permits.proofs.CloseLaws as lanes
-use Rattle.lane_permits.proofs.ChannelCloseLaws as channels
+use Rattle.lane_work.proofs.CloseLaws as lanes
+use Rattle.lane_work.proofs.ChannelCloseLaws as channels
 use Rattle.house_floor.specs.Crew.{AllAt}
 use Rattle.house_floor.specs.Opening.{reply_room}
 use Rattle.house_floor.specs.declared.floor.Floor.{Floor}

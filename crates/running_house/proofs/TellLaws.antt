@@ -17,9 +17,9 @@ use Rattle.shard_queue.specs.declared.lane.Entry.TheVariants.{Item}
 use Rattle.shard_queue.specs.Closing.{IsWhole}
 use Rattle.shard_queue.specs.Lane.{of, producer}
 use Rattle.shard_queue.specs.Permits.{history, numbers}
-use Rattle.account_laws.proofs.ListLaws.{contains_cases, contains_none, first_of, later_of}
-use Rattle.account_laws.proofs.LogLaws.{account_is_of_lines, stored_is_there}
-use Rattle.courier.specs.Carried.{judged_of}
+use Rattle.running_house.proofs.ListLaws.{contains_cases, contains_none, first_of, later_of}
+use Rattle.running_house.proofs.LogLaws.{account_is_of_lines, stored_is_there}
+use Rattle.workers_sync.specs.Carried.{judged_of}
 use Rattle.lane_work.specs.Account.{AreAccountedFor}
 use Rattle.lane_work.specs.Copies.{told}
 use Rattle.reckoning.proofs.Parts.{some_at}

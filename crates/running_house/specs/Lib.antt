@@ -1,6 +1,15 @@
+pub mod Woven
+pub mod Conversing
+pub mod Storing
+pub mod Accounting
+pub mod Laws
+pub mod Lists
+pub mod Walk
+pub mod ListOrder
 pub mod Plan
 pub mod Order
 pub mod Refusals
 pub mod Agree
 pub mod Tells
 pub mod inner
+pub mod rows

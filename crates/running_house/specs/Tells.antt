@@ -6,7 +6,7 @@ use Rattle.delivery_token.specs.declared.log.Noted.{Noted}
 use Rattle.envelope.specs.Directory.{shard_of}
 use Rattle.shard_queue.specs.declared.lane.Entry.TheVariants.{Item}
 use Rattle.shard_queue.specs.Lane.{of}
-use Rattle.account_laws.specs.Accounting.{AccountOfLines}
+use Rattle.running_house.specs.Accounting.{AccountOfLines}
 use Rattle.running_house.specs.Agree.{Agrees, accepted_of, answers, histories, notes_of, replies_of}
 use Rattle.running_house.specs.Plan.{connections_of, premises_for, producers_in}
 use Rattle.running_house.specs.declared.plan.Plan.{Plan}

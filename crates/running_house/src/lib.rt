@@ -1,8 +1,11 @@
 //! The running house: a plan is run by threads, one for each worker, each shard's consumer and each
 //! session, and what they leave is compared and reported. What an actor does in its thread stands
 //! below, sockets and command lines elsewhere.
+//! Here too: whether the lists that a run leaves agree, and the laws of a worker's account.
 #![tactic(auto)]
 
+mod account_laws;
+mod agree;
 mod begun;
 mod copies;
 mod laws;
@@ -10,7 +13,11 @@ mod plan;
 mod refusals;
 mod report;
 mod run;
+mod there;
+mod told;
 
+pub use account_laws::{connections_are_of_lines, lines_are_told, logs_meet_lanes};
+pub use agree::lists_agree;
 pub use laws::reports_tell_of_each_copy;
 pub use plan::{Plan, Report, WorkFault};
 pub use run::run_house;

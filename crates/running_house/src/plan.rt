@@ -8,10 +8,10 @@ ghost use Rattle.running_house.specs.Plan.{IsFaultOf, after_settings, are_too_ma
 
 use delivery_token::{CopyKey, Text, WorkerLog};
 use envelope::Directory;
-use settings::{Config, ConfigFault, directory_of};
 use house_floor::{Guest, MOST_PRODUCERS, is_nobody};
 use lane_work::Closing;
 use reckoning::{Closes, Fault};
+use settings::{Config, ConfigFault, directory_of};
 use std::alloc::{AllocError, Global};
 use thiserror::Error;
 

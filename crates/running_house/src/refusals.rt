@@ -147,9 +147,7 @@ fn each_may_come(evidence: &Evidence<'_>, log: &WorkerLog) -> bool
     ensures { IsTrue result → All (MayCome evidence.now.config.now evidence.now.directory.now
         (map (λ own. own.items) evidence.now.accepted.now) (map (λ own. own.items) evidence.now.taken.now)) log.now.notes }
 {
-    log.notes()
-        .iter()
-        .all(|noted| may_come(evidence, noted))
+    log.notes().iter().all(|noted| may_come(evidence, noted))
 }
 
 /// Whether each verdict that the producers noted can have come: one log is of one producer.
@@ -157,6 +155,5 @@ pub(crate) fn all_may_come(evidence: &Evidence<'_>, logs: &[WorkerLog]) -> bool
     ensures { IsTrue result → All (λ log. All (MayCome evidence.now.config.now evidence.now.directory.now
         (map (λ own. own.items) evidence.now.accepted.now) (map (λ own. own.items) evidence.now.taken.now)) log.notes) logs.now }
 {
-    logs.iter()
-        .all(|log| each_may_come(evidence, log))
+    logs.iter().all(|log| each_may_come(evidence, log))
 }

@@ -2,8 +2,8 @@
 
 ghost use Rattle.std.specs.Global.{Global};
 ghost use Rattle.std.specs.Prelude.{◌≡◌, ◌==◌, ◌⊎◌, ◌≤◌, ◌+◌, ◌∷◌, ℕ, [], All, IfErr, IfOk, OnOk, Vec, drop, length, map, take, vec_len};
-ghost use Rattle.agreement.specs.Lists.{ListsAgree};
-ghost use Rattle.agreement.specs.Walk.{ListsMet};
+ghost use Rattle.running_house.specs.Lists.{ListsAgree};
+ghost use Rattle.running_house.specs.Walk.{ListsMet};
 ghost use Rattle.house_floor.specs.Crew.{AllAt};
 ghost use Rattle.house_floor.specs.Opening.{AreBaskets};
 ghost use Rattle.house_floor.specs.Left.{IsProduceOf, IsServiceOf, LeavesAll};
@@ -14,16 +14,16 @@ ghost use Rattle.running_house.specs.inner.Agree.{AreTexts, IsFloorFor, IsNumber
 ghost use Rattle.running_house.specs.Plan.{of_reckoning, producers_in};
 ghost use Rattle.running_house.specs.Refusals.{MayCome};
 
+use crate::agree::lists_agree;
 use crate::begun::begin_at;
 use crate::copies::all_copies;
 use crate::plan::{Plan, Report, WorkFault};
 use crate::refusals::{Evidence, all_may_come};
-use agreement::lists_agree;
 use envelope::Directory;
-use settings::Config;
 use house_floor::{Baskets, Floor, Ran};
 use mailbox::Mailbox;
 use reckoning::{Books, Fault, Remains, Shelves, balance, remains_of, take_out};
+use settings::Config;
 use std::alloc::{AllocError, Global};
 use std::sync::Mutex;
 

@@ -11,11 +11,11 @@ use crate::report::report_of;
 use house_floor::{Opened, Sizes, Started, open};
 use house_threads::run_threads;
 use mailbox::{History, Limits};
-use pace::Gate;
 use reckoning::abandon;
 use std::alloc::Global;
 use std::sync::Wait;
 use std::thread::Threads;
+use workers_sync::Gate;
 
 // How large the parts of this plan's house are.
 fn sizes_of(plan: &Plan) -> Sizes<'_>

@@ -2,9 +2,9 @@
 use Rattle.std.proofs.Common.{◌≡◌, ◌∙◌, ℕ, zero, suc, ◌<◌, ◌⊎◌, inl, inr, List, length, refl, sym, ap, arith, Option, Some, None, false, true}
 use Rattle.std.specs.Prelude.{IsSome}
 use Rattle.envelope.specs.Directory.{Directory}
-use Rattle.house_session.specs.Folders.{has_user}
-use Rattle.house_session.specs.SeatedVisitor.{SeatedVisitor}
-use Rattle.house_session.specs.SeatedSession.{SeatedSession}
+use Rattle.house_peers.specs.Folders.{has_user}
+use Rattle.house_peers.specs.SeatedVisitor.{SeatedVisitor}
+use Rattle.house_peers.specs.SeatedSession.{SeatedSession}
 use Rattle.delivery_token.specs.declared.CopyKey.{CopyKey}
 use Rattle.delivery_token.specs.declared.log.Noted.{Noted}
 use Rattle.house.specs.Setup.{Setup}

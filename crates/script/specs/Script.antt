@@ -7,14 +7,14 @@ use Rattle.hex.specs.Hex.{decode_of}
 use Rattle.hex.specs.declared.error.FromHexError.{FromHexError}
 use Rattle.envelope.specs.Names.{number_of}
 use Rattle.line_io.specs.Wire.{crlf}
-use Rattle.house_connection.specs.Caller.{Caller}
+use Rattle.house_peers.specs.Caller.{Caller}
 use Rattle.house.specs.Setup.{Setup}
 use Rattle.house.specs.Scene.{BytesPlay, ClosePlay, EnterPlay, LeavePlay, SayPlay, Scene, VanishPlay, is_shut_in, most_serials, place_of, seat_of}
 use Rattle.house.specs.Settled.{is_held}
 use Rattle.house.specs.Settling.{Settles}
 use Rattle.house.specs.Window.{window_text}
-use Rattle.house_session.specs.Folders.{has_user}
-use Rattle.house_session.specs.SeatedVisitor.{SeatedVisitor}
+use Rattle.house_peers.specs.Folders.{has_user}
+use Rattle.house_peers.specs.SeatedVisitor.{SeatedVisitor}
 use Rattle.script.specs.declared.line.ScriptLine as read
 use Rattle.script.specs.declared.line.ScriptLine.TheVariants as reads
 

@@ -25,11 +25,11 @@ use Rattle.lane_work.specs.Speaking.{premises_of}
 use Rattle.lane_work.specs.declared.consumer.Consumed.{Consumed}
 use Rattle.lane_work.proofs.CopyLaws.{were_put_later}
 use Rattle.lane_work.proofs.HistoryLaws.{said_is_taken}
-use Rattle.lane_permits.specs.ChannelClosings.{AreChannelsClosed}
-use Rattle.lane_permits.specs.ChannelClosings as channel_closings
-use Rattle.lane_permits.specs.Closings.{AreClosed}
-use Rattle.lane_permits.specs.Closings as lane_closings
-use Rattle.lane_permits.proofs.CloseLaws.{are_heard}
+use Rattle.lane_work.specs.ChannelClosings.{AreChannelsClosed}
+use Rattle.lane_work.specs.ChannelClosings as channel_closings
+use Rattle.lane_work.specs.Closings.{AreClosed}
+use Rattle.lane_work.specs.Closings as lane_closings
+use Rattle.lane_work.proofs.CloseLaws.{are_heard}
 use Rattle.clerks.specs.Staff.{IsService}
 use Rattle.clerks.specs.declared.staff.Dismissed.{Dismissed}
 use Rattle.house_floor.specs.Crew.{AllAt}

@@ -3,11 +3,10 @@
 ghost use Rattle.std.specs.Prelude.{◌≡◌, ◌≤◌, ◌<◌, [], All, IfOk, length, vec_len, vec_capacity};
 
 use crate::sessions::ClientBerth;
-use loopback::Grip;
 use serving_workers::{Buffers, Hired};
-use session_bells::Sleeper;
 use std::alloc::{AllocError, Global};
 use std::sync::{Arc, Wait};
+use workers_sync::{Grip, Sleeper};
 
 /// So many bytes of a mail connection are read at once.
 const MAIL_BUFFER: usize = 65_536;

@@ -1,5 +1,5 @@
 //! A house that serves over sockets of the loopback address: mail on one port, each user's sessions on a port of their own, until it is
-//! stopped. How a connection is talked to stands in `lmtp_stream` and `imap_stream`, what workers leave in `serving_workers`; here
+//! stopped. How a connection is talked to stands in `lane_work` and `imap_stream`, what workers leave in `serving_workers`; here
 //! threads are started, stopped and joined.
 #![tactic(auto)]
 

@@ -10,7 +10,7 @@ ghost use Rattle.std.specs.Mem.{manually_drop_value};
 ghost use Rattle.std.specs.Thread.{IsSync};
 ghost use Rattle.house_floor.specs.Crew.{AllAt, IsCrew, IsHouse, IsPost};
 ghost use Rattle.house_floor.specs.Opening.{AreBaskets};
-ghost use Rattle.lane_permits.specs.Rooms.{AreRooms};
+ghost use Rattle.lane_work.specs.Rooms.{AreRooms};
 ghost use Rattle.serving_workers.specs.Leaving.{IsHired, IsServed, has_thread, serves_mail};
 ghost use Rattle.serving.specs.inner.Dealing.{IsDealt};
 ghost use Rattle.serving.specs.inner.Ending.{CameTo, FirstTakeMail};
@@ -31,7 +31,6 @@ use reckoning::{Closes, abandon};
 use serving_workers::{
     Begun, Buffers, Hired, Mark, Served, close_all, join_producers, packed, start_workers,
 };
-use session_bells::Sleeper;
 use shard_queue::SenderEnded;
 use std::alloc::AllocError;
 use std::io::Read;
@@ -39,6 +38,7 @@ use std::mem::ManuallyDrop;
 use std::sync::Wait;
 use std::thread;
 use std::thread::Threads;
+use workers_sync::Sleeper;
 
 // What the threads of the producers leave; or their posts, where there was no memory to note the threads in and none was started.
 struct Over {

@@ -19,17 +19,13 @@ use crate::equipment::SharedBerth;
 use crate::site::Site;
 use crate::sockets::Sockets;
 use clerks::{Clerks, Hall, Unhindered};
-use courier::Courier;
 use delivery_token::Job;
 use house_floor::{Floor, Post, inbox_numbered, most_of};
-use house_session::folders_of;
+use house_peers::folders_of;
 use imap_stream::{Berth, Hush, Visit};
 use lane_work::{Desk, LaneCourier, Summons, Unkept, end_all};
 use line_io::{Sink, Watched};
-use loopback::{Grip, Patience, Timely, prepare};
-use pace::{Actor, Pace};
 use serving_workers::{Door, Hired, Mark, Served, Serves, have_threads, packed};
-use session_bells::Sleeper;
 use session_thread::LockedStore;
 use shard_queue::Ended;
 use std::mem::ManuallyDrop;
@@ -37,6 +33,7 @@ use std::net::TcpStream;
 use std::sync::{Arc, Wait};
 use std::thread;
 use std::thread::Threads;
+use workers_sync::{Actor, Courier, Grip, Pace, Patience, Sleeper, Timely, prepare};
 
 /// Where a client's answers go.
 type ClientOutput = Watched<Timely<TcpStream>>;

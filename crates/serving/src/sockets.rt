@@ -4,9 +4,9 @@ ghost use Rattle.std.specs.Prelude.{◌≡◌, ◌≤◌, ◌+◌, IfErr, IfOk, 
 ghost use Rattle.serving.specs.inner.Faults.{IsOfSocket};
 
 use crate::fault::{ServeFault, device_or_memory};
-use loopback::{Listening, Pause};
 use std::alloc::Global;
 use std::net::{Net, TcpListener, TcpStream};
+use workers_sync::{Listening, Pause};
 
 /// Where connections come in, and a pause for threads that can't accept one.
 #[derive(Drop)]

@@ -4,10 +4,9 @@
 use crate::site::Site;
 use crate::sockets::Sockets;
 use clerks::Hall;
-use loopback::{Grip, Pause};
-use session_bells::SessionBell;
 use std::io::{ErrorKind, Read};
 use std::sync::Wait;
+use workers_sync::{Grip, Pause, SessionBell};
 
 /// So many pauses, of a tenth of a second each, all connections together have for their last words. What is done before and behind them
 /// is to fit into six seconds with them.

@@ -1,6 +1,6 @@
 -- What the clients of a berth appended.
 use Rattle.std.proofs.Common.{◌≡◌, ◌+◌, ℕ, List, [], All, map, refl, subst}
-use Rattle.courier.specs.Carried.{Carried}
+use Rattle.workers_sync.specs.Carried.{Carried}
 use Rattle.delivery_token.specs.declared.Job.{Job}
 use Rattle.delivery_token.specs.declared.log.Noted.{Noted}
 use Rattle.shard_queue.specs.Reply.{received}

@@ -13,8 +13,8 @@ use Rattle.shard_queue.specs.declared.lane.Entry.{Entry}
 use Rattle.lane_work.proofs.SlotLaws.{start_on, start_same}
 use Rattle.lane_work.specs.Permits.{AreEnded}
 use Rattle.lane_work.specs.declared.worker.Worked.{Worked}
-use Rattle.lane_permits.specs.LanePermits.{AreEndedHands}
-use Rattle.lane_permits.specs.ChannelPermits.{AreReceivers}
+use Rattle.lane_work.specs.LanePermits.{AreEndedHands}
+use Rattle.lane_work.specs.ChannelPermits.{AreReceivers}
 use Rattle.house_floor.specs.Crew.{AllAt}
 use Rattle.house_floor.specs.declared.floor.Floor.{Floor}
 use Rattle.reckoning.proofs.Laying.{laid_items}

@@ -10,10 +10,10 @@ use Rattle.shard_queue.specs.declared.lane.Entry.{Entry}
 use Rattle.shard_queue.specs.declared.queue.ShardQueue.{ShardQueue}
 use Rattle.lane_work.specs.declared.consumer.Consumed.{Consumed}
 use Rattle.lane_work.specs.declared.worker.Worked.{Worked}
-use Rattle.lane_permits.specs.ChannelPermits.{AreReceivers}
+use Rattle.lane_work.specs.ChannelPermits.{AreReceivers}
 use Rattle.clerks.specs.declared.staff.Dismissed.{Dismissed}
 use Rattle.house_floor.specs.declared.floor.Floor.{Floor}
-use Rattle.lane_permits.proofs.ChannelCloseLaws.{histories_taken}
+use Rattle.lane_work.proofs.ChannelCloseLaws.{histories_taken}
 use Rattle.reckoning.specs.Closing.{AreChannelsClosedWith, AreClosedWith}
 use Rattle.reckoning.specs.declared.balancing.Closes.{Closes}
 use Rattle.serving_workers.specs.Closing.{GoOn, WasClosed}

@@ -6,7 +6,7 @@ use Rattle.shard_queue.specs.Reply.{received, reply_history}
 use Rattle.shard_queue.specs.Shared.{IsStartOf}
 use Rattle.shard_queue.specs.declared.lane.Entry.{Entry}
 use Rattle.shard_queue.specs.declared.reply.ReceiverPermit.{ReceiverPermit}
-use Rattle.lane_permits.specs.ChannelPermits.{AreReceivers}
+use Rattle.lane_work.specs.ChannelPermits.{AreReceivers}
 use Rattle.clerks.specs.declared.staff.Dismissed.{Dismissed}
 use Rattle.house_floor.specs.declared.floor.Floor.{Floor}
 use Rattle.reckoning.specs.Closing.{AreChannelsClosedWith, AreClosedWith}

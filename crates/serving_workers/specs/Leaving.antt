@@ -1,7 +1,7 @@
 -- What the producers of a server leave.
 use Rattle.std.specs.Prelude.{◌≡◌, ℕ, ◌+◌, ◌++◌, Bool, true, false, List, [], Some, map, slice_get}
 use Rattle.std.specs.Mem.{manually_drop_value}
-use Rattle.courier.specs.Carried.{Carried, judged_of}
+use Rattle.workers_sync.specs.Carried.{Carried, judged_of}
 use Rattle.delivery_token.specs.declared.Job.{Job}
 use Rattle.delivery_token.specs.declared.Verdict.{Verdict}
 use Rattle.delivery_token.specs.declared.log.Noted.{Noted}

@@ -1,5 +1,5 @@
 //! A worker's life in a server: one connection after another, until the house stops, and then the end of its permit on each lane. What is
-//! said on a connection stands in `lmtp_stream`.
+//! said on a connection stands in `lane_work`.
 
 ghost use Rattle.std.specs.Prelude.{◌≡◌, ◌≢◌, Err, ◌≤◌, ◌<◌, ◌+◌, ℕ, [], true, false, All, length, map, vec_capacity};
 ghost use Rattle.shard_queue.specs.Permits.{said};
@@ -10,15 +10,13 @@ ghost use Rattle.serving_workers.specs.Leaving.{AreServed, HasServedMail};
 
 use crate::door::Door;
 use delivery_token::{Job, Noted};
-use lane_work::{Desk, Office, Summons, Unkept, end_all};
+use lane_work::{Desk, Ending, Office, Summons, TalkFault, Unkept, converse, end_all};
 use line_io::Watched;
-use lmtp_stream::{Ending, TalkFault, converse};
-use loopback::{Grip, Patience, Timely, prepare};
-use pace::{Gate, Pace};
 use shard_queue::{Ended, ReceiverPermit, ReplyChannel};
 use std::alloc::Global;
 use std::net::TcpStream;
 use std::sync::Wait;
+use workers_sync::{Gate, Grip, Pace, Patience, Timely, prepare};
 
 /// What a producer of a server leaves: a worker, or whoever else has a post.
 pub struct Served {

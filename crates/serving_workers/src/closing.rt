@@ -5,8 +5,8 @@ ghost use Rattle.std.specs.Prelude.{◌≡◌, ◌<◌, ◌≤◌, [], All, IfSo
 ghost use Rattle.std.specs.List.{list_any};
 ghost use Rattle.shard_queue.specs.Reply.{received};
 ghost use Rattle.shard_queue.specs.Shared.{IsStartOf};
-ghost use Rattle.lane_permits.specs.LanePermits.{AreConsumers};
-ghost use Rattle.lane_permits.specs.ChannelPermits.{AreSenderEndedHands};
+ghost use Rattle.lane_work.specs.LanePermits.{AreConsumers};
+ghost use Rattle.lane_work.specs.ChannelPermits.{AreSenderEndedHands};
 ghost use Rattle.house_floor.specs.Crew.{AllAt, IsHouse};
 ghost use Rattle.house_floor.specs.Opening.{AreBaskets};
 ghost use Rattle.serving_workers.specs.Closing.{GoOn, WasClosed};
@@ -18,9 +18,9 @@ use clerks::{Dismissed, Unhindered};
 use delivery_token::WorkerLog;
 use house_floor::{Baskets, Floor, Ran, Started};
 use lane_work::{Consumed, Fate, Worked, hear_ends};
-use pace::{Actor, Pace};
 use reckoning::{Closes, Closings, Remains, abandon, close_queues, remains_of};
 use std::sync::Wait;
+use workers_sync::{Actor, Pace};
 
 // How it went for a producer that heard the shards' ends.
 fn fate_of(quiet: bool) -> Fate {

@@ -2,9 +2,9 @@
 //! done with a connection stands elsewhere.
 
 use crate::mark::Mark;
-use loopback::{Listening, Pause, farewell};
 use std::net::TcpStream;
 use std::sync::Wait;
+use workers_sync::{Listening, Pause, farewell};
 
 /// Where connections come in.
 #[derive(Clone, Copy)]

@@ -13,12 +13,11 @@ use crate::mark::Mark;
 use crate::parcels::packed;
 use clerks::{Clerk, Clerks, Hall, Unhindered};
 use house_floor::{Floor, Post};
-use loopback::{Grip, Listening, Pause};
-use pace::{Actor, Pace};
 use std::mem::ManuallyDrop;
 use std::sync::{Mutex, Wait};
 use std::thread;
 use std::thread::{Promise, Threads};
+use workers_sync::{Actor, Grip, Listening, Pace, Pause};
 
 /// What the thread of this producer is to return: what is left of its permits.
 #[derive(Clone, Copy)]

@@ -11,16 +11,16 @@ use Rattle.imap_session.specs.declared.standing.SessionFault.TheVariants as faul
 use Rattle.imap_session.specs.declared.standing.SessionFault.TheVariants.{Ended}
 use Rattle.imap_session.specs.Exchange.{Feed, Folder, Refused, Standing, is_idling, nothing_sent}
 use Rattle.mailbox.specs.declared.clients.MailFault.TheVariants.{NoMemory}
-use Rattle.imap_connection.specs.Dialogue as dialogue
+use Rattle.imap_session.specs.Dialogue as dialogue
 use Rattle.imap_session.specs.Store.{IdleTurns}
-use Rattle.imap_connection.specs.Dialogue.{Dialogue, ImapConnection, StandsFor}
+use Rattle.imap_session.specs.Dialogue.{Dialogue, ImapConnection, StandsFor}
 use Rattle.session_thread.specs.declared.life.Step.{Step}
 use Rattle.session_thread.specs.declared.life.Step.TheVariants.{Say, Await}
 use Rattle.session_thread.specs.Locks.{Holds, LockedStore, shown_in}
 use Rattle.session_thread.specs.Life.{Awaits, Departs, Does, HasShown, HasTurn, IsForgotten, IsOver, IsShortInTurn, Lives, LivesInPart, Moment, Says, SaysInPart, Steps, StopsIn, Turns, another, goes_on, greeted_at, moment, takes_more}
-use Rattle.courier.specs.Carried.{Carried}
-use Rattle.courier.specs.declared.Lost.{Lost}
-use Rattle.courier.specs.declared.Lost.TheVariants as lost
+use Rattle.workers_sync.specs.Carried.{Carried}
+use Rattle.workers_sync.specs.declared.courier.Lost.{Lost}
+use Rattle.workers_sync.specs.declared.courier.Lost.TheVariants as lost
 
 -- ---- errors that are handed on
 

@@ -12,7 +12,7 @@ use Rattle.mailbox.specs.declared.clients.MailFault.{MailFault}
 use Rattle.mailbox.specs.declared.clients.Row.{Row}
 use Rattle.mailbox.specs.Mailbox.{Mailbox}
 use Rattle.mailbox.specs.Stands.{Stands, next_of}
-use Rattle.mailbox_holds.specs.Holds.{DoesAlter, DoesExpunge, DoesFeed, DoesRead, Expunges as DidExpunge, Feeds as DidFeed, HasCursor, UnderLock}
+use Rattle.workers_sync.specs.Holds.{DoesAlter, DoesExpunge, DoesFeed, DoesRead, Expunges as DidExpunge, Feeds as DidFeed, HasCursor, UnderLock}
 use Rattle.imap_session.specs.Exchange.{Alter, Altered, Answer, Feed, Expunge, Found, Read}
 use Rattle.imap_session.specs.Store.{Feeds, Expunges, answer}
 use Rattle.session_thread.specs.declared.locked_store.Entry.{Entry}

@@ -4,17 +4,17 @@ use Rattle.std.specs.Prelude.{IfSome}
 use Rattle.std.specs.Option.{option_map}
 use Rattle.std.proofs.lemmas.List.{take_rest}
 use Rattle.delivery_token.specs.declared.Verdict.{Verdict}
-use Rattle.courier.specs.Carried.{Carried}
-use Rattle.courier.specs.declared.Lost.{Lost}
-use Rattle.courier.specs.declared.Lost.TheVariants as lost
+use Rattle.workers_sync.specs.Carried.{Carried}
+use Rattle.workers_sync.specs.declared.courier.Lost.{Lost}
+use Rattle.workers_sync.specs.declared.courier.Lost.TheVariants as lost
 use Rattle.imap_session.specs.declared.standing.After.{After}
 use Rattle.imap_session.specs.declared.standing.After.TheVariants.{Bye, Submit}
 use Rattle.imap_session.specs.declared.standing.Append.{Append}
 use Rattle.imap_session.specs.Exchange.{Appending, Sent, Standing, kept_tag, may_send, waits_begun, waits_idling, waits_sent}
 use Rattle.imap_session.specs.Store.{AnswersVerdict}
-use Rattle.imap_connection.specs.declared.connection.Progress.{Progress}
-use Rattle.imap_connection.specs.Dialogue as dialogue
-use Rattle.imap_connection.specs.Dialogue.{Dialogue, ImapConnection, StandsFor, Took, answer_room, may_follow, tag_len}
+use Rattle.imap_session.specs.declared.connection.Progress.{Progress}
+use Rattle.imap_session.specs.Dialogue as dialogue
+use Rattle.imap_session.specs.Dialogue.{Dialogue, ImapConnection, StandsFor, Took, answer_room, may_follow, tag_len}
 use Rattle.session_thread.specs.Locks.{Holds, LockedStore}
 use Rattle.session_thread.specs.Life.{Says, SaysInPart, Speaks, TellsVerdict, carried_of, hears, moment, short, takes, takes_more, unheard}
 

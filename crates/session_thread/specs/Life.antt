@@ -1,20 +1,20 @@
 -- The life of a session's thread: its steps, one after another, over mailboxes behind locks.
 use Rattle.std.specs.Prelude.{◌≡◌, ℕ, suc, ◌+◌, ◌<◌, ◌≤◌, ◌⊎◌, Bool, true, false, List, [], ◌∷◌, ◌++◌, length, take, drop, Option, None, Some}
 use Rattle.delivery_token.specs.declared.Verdict.{Verdict}
-use Rattle.courier.specs.Carried.{Carried}
-use Rattle.courier.specs.declared.Lost.{Lost}
-use Rattle.courier.specs.declared.Lost.TheVariants as lost
+use Rattle.workers_sync.specs.Carried.{Carried}
+use Rattle.workers_sync.specs.declared.courier.Lost.{Lost}
+use Rattle.workers_sync.specs.declared.courier.Lost.TheVariants as lost
 use Rattle.mailbox.specs.declared.clients.MailFault.TheVariants.{NoMemory}
 use Rattle.mailbox.specs.Events.{IsStranger}
 use Rattle.mailbox.specs.Stands.{IsKept}
-use Rattle.mailbox_holds.specs.Holds.{UnderLock}
+use Rattle.workers_sync.specs.Holds.{UnderLock}
 use Rattle.imap_session.specs.declared.standing.After.{After}
 use Rattle.imap_session.specs.declared.standing.After.TheVariants.{Submit}
 use Rattle.imap_session.specs.declared.standing.Append.{Append}
 use Rattle.imap_session.specs.Exchange.{Feed, Folder, Leave, Left, Refused, Sent, Standing, is_idling, kept_tag, may_send, nothing_sent}
 use Rattle.imap_session.specs.Commands.{most_changes}
 use Rattle.imap_session.specs.Store.{AnswersVerdict, IdleTurns}
-use Rattle.imap_connection.specs.Dialogue.{Answered, Dialogue, answer_room, may_follow, tag_len}
+use Rattle.imap_session.specs.Dialogue.{Answered, Dialogue, answer_room, may_follow, tag_len}
 use Rattle.session_thread.specs.declared.life.Step.{Step}
 use Rattle.session_thread.specs.declared.life.Step.TheVariants.{Say, Await}
 use Rattle.session_thread.specs.Locks.{Holds, In, LockedStore, shown_in}

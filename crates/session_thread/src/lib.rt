@@ -1,5 +1,5 @@
 //! A session of the running house: its thread's life, over mailboxes behind locks, which consumers and
-//! other sessions share. What a call does to a mailbox that is held stands in `mailbox_holds`, what a
+//! other sessions share. What a call does to a mailbox that is held stands in `workers_sync`, what a
 //! client is answered in `imap_session`; who starts the threads stands above.
 #![tactic(auto)]
 

@@ -4,20 +4,18 @@
 ghost use Rattle.std.specs.Prelude.{◌≡◌, ◌++◌, ◌<◌, ◌⊎◌, ℕ, List, None, false, true, IfErr, OnErr, OnOk};
 ghost use Rattle.std.specs.Vec.{vec_capacity};
 ghost use Rattle.imap_session.specs.Commands.{greeting};
-ghost use Rattle.imap_connection.specs.Dialogue.{Dialogue, StandsFor};
-ghost use Rattle.courier.specs.Carried.{Carried};
+ghost use Rattle.imap_session.specs.Dialogue.{Dialogue, StandsFor};
+ghost use Rattle.workers_sync.specs.Carried.{Carried};
 ghost use Rattle.session_thread.specs.Life.{Awaits, Departs, IsForgotten, IsOver, IsShortInTurn, Lives, LivesInPart, Moment, Steps, StopsIn, Turns, greeted_at, moment, takes_more};
 
 use crate::locked_store::LockedStore;
 use crate::speaking::answer;
 use crate::turns::idle_turn;
-use courier::{Courier, Lost};
-use imap_connection::ImapConnection;
-use imap_session::{After, Folder, Store};
-use pace::Gate;
+use imap_session::{After, Folder, ImapConnection, Store};
 use std::alloc::{AllocError, Global};
 use std::sync::Wait;
 use std::thread;
+use workers_sync::{Courier, Gate, Lost};
 
 /// What a session's thread does next.
 #[derive(Drop)]

@@ -1,11 +1,11 @@
-//! One hold of a mailbox's lock for each call: through the door of `mailbox_holds` one thing is done to the
+//! One hold of a mailbox's lock for each call: through the door of `workers_sync` one thing is done to the
 //! mailbox that is found. Which lock, and for whose handle, is told above.
 
 ghost use Rattle.std.specs.Prelude.{◌≡◌, ◌≢◌, ◌≤◌, ◌⊎◌, ℕ, List, None, Some, Ok, Err, IfErr, IfOk, option_map};
 ghost use Rattle.imap_grammar.specs.Sets.{messages_in};
 ghost use Rattle.std.specs.Option.{option_copied};
 ghost use Rattle.std.specs.Vec.{vec_capacity};
-ghost use Rattle.mailbox_holds.specs.Holds.{DoesAlter, DoesExpunge, DoesFeed, DoesLeave, DoesLook, DoesRead, UnderLock};
+ghost use Rattle.workers_sync.specs.Holds.{DoesAlter, DoesExpunge, DoesFeed, DoesLeave, DoesLook, DoesRead, UnderLock};
 ghost use Rattle.session_thread.specs.Locks.{DoesCountAt, LooksNot};
 ghost use Rattle.session_thread.specs.inner.Entering.{DoesEnterAt};
 
@@ -13,10 +13,10 @@ use change_ring::{FlagOp, Flags};
 use cursor_set::CursorHandle;
 use imap_grammar::{Named, SeqSet, SetFault};
 use mailbox::{MailFault, Mailbox, Opening, Row, Status};
-use mailbox_holds as holds;
-use mailbox_holds::{under, under_with};
 use std::alloc::Global;
 use std::sync::{Mutex, Wait};
+use workers_sync as holds;
+use workers_sync::{under, under_with};
 
 // Lets a client into the mailbox that is held, where it has this number.
 fn enter_at(mailbox: &mut Mailbox, number: u8) -> Result<(CursorHandle, Opening), MailFault>

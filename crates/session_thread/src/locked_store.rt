@@ -2,23 +2,21 @@
 //! whose bells ring behind it, stands here; what is done to the mailbox that is found doesn't.
 
 ghost use Rattle.std.specs.Prelude.{◌≡◌, ◌∷◌, ◌++◌, [], List, IfOk, None, is_some, length};
-ghost use Rattle.courier.specs.Carried.{Carried};
+ghost use Rattle.workers_sync.specs.Carried.{Carried};
 ghost use Rattle.session_thread.specs.Life.{carried_of};
 ghost use Rattle.session_thread.specs.Locks.{Holds, shown_in};
 
 use crate::locked;
 use change_ring::{FlagOp, Flags};
-use courier::{Courier, Lost};
 use cursor_set::CursorHandle;
 use delivery_token::Verdict;
 use imap_grammar::{Named, SeqSet};
 use imap_session::{Append, Store};
 use mailbox::{MailFault, Mailbox, Opening, Row, Status};
-use pace::{Actor, Gate, Pace};
-use session_bells::{SessionBell, ring_each};
 use std::alloc::Global;
 use std::marker::Model;
 use std::sync::{Mutex, Wait};
+use workers_sync::{Actor, Courier, Gate, Lost, Pace, SessionBell, ring_each};
 
 // Whether a read logged that the message was seen.
 fn has_marked(row: &Result<Option<Row>, MailFault>) -> bool {

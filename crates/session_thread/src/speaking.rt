@@ -4,19 +4,17 @@
 
 ghost use Rattle.std.specs.Prelude.{◌≡◌, ◌≢◌, ◌∷◌, ◌++◌, [], List, None, false, true, IfErr, OnErr, OnOk};
 ghost use Rattle.std.specs.Vec.{vec_capacity};
-ghost use Rattle.imap_connection.specs.Dialogue.{Dialogue, StandsFor};
+ghost use Rattle.imap_session.specs.Dialogue.{Dialogue, StandsFor};
 ghost use Rattle.imap_session.specs.Exchange.{may_send};
 ghost use Rattle.imap_session.specs.declared.standing.After.TheVariants as after;
-ghost use Rattle.courier.specs.Carried.{Carried};
+ghost use Rattle.workers_sync.specs.Carried.{Carried};
 ghost use Rattle.session_thread.specs.Life.{Says, SaysInPart, TellsVerdict, moment};
 
 use crate::locked_store::LockedStore;
-use courier::{Courier, Lost};
-use imap_connection::ImapConnection;
-use imap_session::After;
-use pace::Gate;
+use imap_session::{After, ImapConnection};
 use std::alloc::Global;
 use std::sync::Wait;
+use workers_sync::{Courier, Gate, Lost};
 
 // Whether the session waits for the verdict on a message: where it has ended it waits for nothing.
 fn awaits_verdict(connection: &ImapConnection) -> bool

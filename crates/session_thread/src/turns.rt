@@ -3,15 +3,14 @@
 ghost use Rattle.std.specs.Prelude.{◌≡◌, true, IfOk, OnErr};
 ghost use Rattle.std.specs.Vec.{vec_capacity};
 ghost use Rattle.imap_session.specs.Exchange.{is_idling};
-ghost use Rattle.imap_connection.specs.Dialogue.{Dialogue, StandsFor};
+ghost use Rattle.imap_session.specs.Dialogue.{Dialogue, StandsFor};
 ghost use Rattle.session_thread.specs.Life.{HasShown, IsShortInTurn, moment};
 
 use crate::locked_store::LockedStore;
-use imap_connection::ImapConnection;
-use imap_session::SessionFault;
-use pace::Gate;
+use imap_session::{ImapConnection, SessionFault};
 use std::alloc::AllocError;
 use std::sync::Wait;
+use workers_sync::Gate;
 
 /// Room, in bytes, for the line that a turn may end a session with.
 const TURN_ROOM: usize = 48;

@@ -3,7 +3,7 @@ use Rattle.std.specs.Prelude.{◌≡◌, ℕ, ◌+◌, ◌<◌, ◌≤◌, ◌�
 use Rattle.delivery_token.specs.declared.CopyKey.{CopyKey}
 use Rattle.delivery_token.specs.declared.log.Noted.{Noted}
 use Rattle.delivery_token.specs.declared.Job.{Job}
-use Rattle.submission.specs.declared.verdicts.NextCopy.{NextCopy}
+use Rattle.delivery_token.specs.declared.verdicts.NextCopy.{NextCopy}
 use Rattle.world.specs.World.{World}
 use Rattle.delivery_core.specs.DeliveryCore.{DeliveryCore}
 use Rattle.delivery_core.specs.Changes.{SameDelivery}
@@ -13,20 +13,20 @@ use Rattle.delivery_core.specs.declared.steps.Fault.{Fault}
 use Rattle.delivery_core.specs.declared.steps.Fault.TheVariants as faults
 use Rattle.house.specs.declared.event.HouseFault.{HouseFault}
 use Rattle.house.specs.declared.event.HouseFault.TheVariants as house_faults
-use Rattle.house_connection.specs.HouseConnection.{HouseConnection}
+use Rattle.house_peers.specs.HouseConnection.{HouseConnection}
 use Rattle.house.specs.House.{House}
-use Rattle.house_connection.specs.Caller.{Caller, Terms}
+use Rattle.house_peers.specs.Caller.{Caller, Terms}
 use Rattle.house.specs.Setup.{Setup, session_seat}
 use Rattle.envelope.specs.Directory.{Directory}
 use Rattle.lmtp_machine.specs.declared.connection.What.{What}
 use Rattle.lmtp_machine.specs.declared.connection.What.TheVariants.{Quit}
 use Rattle.house.specs.Printing.{ConnectionGoes}
 use Rattle.house.specs.Scene.{Lingers, SessionGoes, SessionIdles, SessionTalks, most_serials, place_of, seat_of}
-use Rattle.house_session.specs.Folders.{has_user}
-use Rattle.house_session.specs.HouseSession.{with_more}
-use Rattle.house_connection.specs.ConnectionStands.{StandsForConnection}
-use Rattle.house_session.specs.SeatedSession.{SeatedSession, StandsForSeated, with_place}
-use Rattle.house_session.specs.SeatedVisitor.{SeatedVisitor}
+use Rattle.house_peers.specs.Folders.{has_user}
+use Rattle.house_peers.specs.HouseSession.{with_more}
+use Rattle.house_peers.specs.ConnectionStands.{StandsForConnection}
+use Rattle.house_peers.specs.SeatedSession.{SeatedSession, StandsForSeated, with_place}
+use Rattle.house_peers.specs.SeatedVisitor.{SeatedVisitor}
 use Rattle.house.specs.Steps.{IsEmptySeat, is_left, is_unread}
 
 -- there is such a connection

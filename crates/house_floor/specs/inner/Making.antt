@@ -3,9 +3,9 @@ use Rattle.std.specs.Prelude.{◌≡◌, ◌≤◌, ◌*◌, ℕ, List, [], All,
 use Rattle.delivery_token.specs.declared.Job.{Job}
 use Rattle.delivery_token.specs.declared.log.Noted.{Noted}
 use Rattle.envelope.specs.Directory.{Directory}
-use Rattle.lane_permits.specs.Rooms.{AreHandRooms, ArePermitRooms, AreRooms}
-use Rattle.lane_permits.specs.LanePermits.{AreConsumers, Rows}
-use Rattle.lane_permits.specs.ChannelPermits.{AreReceivers, SenderRows}
+use Rattle.lane_work.specs.Rooms.{AreHandRooms, ArePermitRooms, AreRooms}
+use Rattle.lane_work.specs.LanePermits.{AreConsumers, Rows}
+use Rattle.lane_work.specs.ChannelPermits.{AreReceivers, SenderRows}
 use Rattle.shard_queue.specs.declared.queue.ShardQueue.{ShardQueue}
 use Rattle.shard_queue.specs.declared.ends.ReplyChannel.{ReplyChannel}
 use Rattle.shard_queue.specs.Reply.{received, room_of, senders_of}
@@ -20,8 +20,8 @@ use Rattle.house_floor.specs.declared.opening.Sizes.{Sizes}
 use Rattle.house_floor.specs.declared.stock.CrewLists.{CrewLists}
 use Rattle.house_floor.specs.declared.stock.Lists.{Lists}
 use Rattle.house_floor.specs.declared.stock.Stock.{Stock}
-use Rattle.lane_permits.specs.declared.channels.Channels.{Channels}
-use Rattle.lane_permits.specs.declared.lanes.Lanes.{Lanes}
+use Rattle.lane_work.specs.declared.channels.Channels.{Channels}
+use Rattle.lane_work.specs.declared.lanes.Lanes.{Lanes}
 
 -- a bell for each consumer, both ends of it, and for each mailbox a list of its sessions' bells
 pub record AreBells (directory : Directory) (b : Bells) : Type 0 where

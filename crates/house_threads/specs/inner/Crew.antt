@@ -9,11 +9,11 @@ use Rattle.house_threads.specs.declared.producers.Hired.TheVariants.{There, Here
 use Rattle.house_threads.specs.declared.consumers.Serves.{Serves}
 use Rattle.house_threads.specs.declared.consumers.Kept.{Kept}
 use Rattle.house_threads.specs.declared.consumers.Kept.TheVariants as kept
-use Rattle.courier.specs.Carried.{Carried}
+use Rattle.workers_sync.specs.Carried.{Carried}
 use Rattle.imap_session.specs.Commands.{greeting}
 use Rattle.session_thread.specs.Life.{Lives, Moment, greeted_at}
 use Rattle.session_thread.specs.Locks.{LockedStore}
-use Rattle.house_session.specs.Folders.{folders_of}
+use Rattle.house_peers.specs.Folders.{folders_of}
 use Rattle.delivery_token.specs.declared.log.Noted.{Noted}
 use Rattle.lane_work.specs.declared.worker.Fate.TheVariants.{Whole}
 use Rattle.lane_work.specs.declared.worker.Worked.{Worked}

@@ -1,6 +1,6 @@
 -- What bodies and proofs say besides: what a session's way to the lanes carried between two moments.
 use Rattle.std.specs.Prelude.{◌++◌, ℕ, List, map}
-use Rattle.courier.specs.Carried.{Carried, judged_of}
+use Rattle.workers_sync.specs.Carried.{Carried, judged_of}
 use Rattle.delivery_token.specs.declared.Job.{Job}
 use Rattle.delivery_token.specs.declared.Verdict.{Verdict}
 use Rattle.shard_queue.specs.Reply.{received}

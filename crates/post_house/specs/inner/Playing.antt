@@ -7,16 +7,16 @@ use Rattle.house.specs.House.{House}
 use Rattle.settings.specs.declared.config.Config.{Config}
 use Rattle.settings.specs.declared.config.ConfigFault.{ConfigFault}
 use Rattle.clap.specs.Words.{Text}
-use Rattle.command_line.specs.Asking.{AsksFor, IsAskedInRange}
-use Rattle.command_line.specs.Words.{faults_at}
+use Rattle.post_house.specs.Asking.{AsksFor, IsAskedInRange}
+use Rattle.post_house.specs.Words.{faults_at}
 use Rattle.post_house.specs.inner.Status.{status_of_done}
 use Rattle.post_house.specs.inner.Telling.{HasRefused}
 use Rattle.post_house.specs.declared.outcome.Done.{Done}
 use Rattle.post_house.specs.declared.outcome.Done.TheVariants.{Played, Served}
 use Rattle.post_house.specs.declared.outcome.Outcome.{Outcome}
 use Rattle.post_house.specs.declared.outcome.Outcome.TheVariants.{Did, Refused}
-use Rattle.command_line.specs.declared.asked.Asked.{Asked}
-use Rattle.command_line.specs.declared.asked.Asked.TheVariants.{Script, Serve}
+use Rattle.post_house.specs.declared.asked.Asked.{Asked}
+use Rattle.post_house.specs.declared.asked.Asked.TheVariants.{Script, Serve}
 use Rattle.post_house.specs.declared.failure.Failure.{Failure}
 use Rattle.post_house.specs.declared.failure.Failure.TheVariants as failures
 use Rattle.script.specs.Promise.{WroteOnce}

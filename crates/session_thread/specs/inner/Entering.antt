@@ -6,7 +6,7 @@ use Rattle.mailbox.specs.Stands.{IsKept}
 use Rattle.mailbox.specs.declared.clients.MailFault.{MailFault}
 use Rattle.mailbox.specs.declared.clients.MailFault.TheVariants.{Stranger}
 use Rattle.mailbox.specs.declared.clients.Opening.{Opening}
-use Rattle.mailbox_holds.specs.Holds.{Enters, EntersNot}
+use Rattle.workers_sync.specs.Holds.{Enters, EntersNot}
 
 -- A client was let into the mailbox of this number, or not: the one that was found has the number, and did so; or it has another, and nothing was done.
 abbrev pub DoesEnterAt : ℕ → Mailbox → Result (CursorHandle × Opening) MailFault → Mailbox → Type 0

@@ -2,7 +2,7 @@ use Rattle.std.proofs.Common.{rules, ◌<◌, ◌≤◌, ◌≡◌, ◌∙◌, �
 use Rattle.std.proofs.lemmas.List.Elements.{All-tail}
 use Rattle.delivery_token.specs.declared.log.Noted.{Noted}
 use Rattle.shard_queue.specs.declared.reply.SenderEnded.{SenderEnded}
-use Rattle.lane_permits.proofs.StepLaws.{removed}
+use Rattle.lane_work.proofs.StepLaws.{removed}
 use Rattle.lane_work.specs.declared.consumer.Consumed.{Consumed}
 use Rattle.clerks.specs.Staff.{IsService}
 use Rattle.house_floor.proofs.Positions.{more_at}

@@ -2,7 +2,7 @@ use Rattle.std.proofs.Common.{rules, ◌<◌, ◌≤◌, ◌≡◌, [], All, Vec
 use Rattle.std.proofs.lemmas.List.Elements.{All-tail}
 use Rattle.delivery_token.specs.declared.log.Noted.{Noted}
 use Rattle.shard_queue.specs.declared.reply.SenderEnded.{SenderEnded}
-use Rattle.lane_permits.proofs.StepLaws.{removed}
+use Rattle.lane_work.proofs.StepLaws.{removed}
 use Rattle.house_floor.specs.declared.floor.Stand.{Stand}
 use Rattle.clerks.proofs.StaffLaws.{one_more}
 use Rattle.clerks.proofs.staff.stand_down.Goals as goal

@@ -1,8 +1,8 @@
 use Rattle.std.proofs.Common.{sym, subst}
-use Rattle.house_connection.specs.HouseConnection.{HouseConnection}
-use Rattle.house_connection.specs.ConnectionStands.{StandsForConnection}
-use Rattle.house_connection.specs.Caller.{greeted, more_waits}
-use Rattle.house_connection.proofs.Arrivals.{more_stands}
+use Rattle.house_peers.specs.HouseConnection.{HouseConnection}
+use Rattle.house_peers.specs.ConnectionStands.{StandsForConnection}
+use Rattle.house_peers.specs.Caller.{greeted, more_waits}
+use Rattle.house_peers.proofs.Arrivals.{more_stands}
 use Rattle.house.proofs.house.opened.Goals as goal
 
 pub returns : goal.returns

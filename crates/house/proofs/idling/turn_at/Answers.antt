@@ -2,8 +2,8 @@ use Rattle.std.proofs.Common.{◌-◌, ◌<◌, ◌∙◌, refl, Option, Some, s
 use Rattle.std.specs.Prelude.{IfSome}
 use Rattle.imap_session.specs.Exchange.{Left}
 use Rattle.imap_session.specs.Store.{answer}
-use Rattle.session_store.specs.declared.core_store.CoreStore.{CoreStore}
-use Rattle.house_session.specs.SeatedSession.{SeatedSession}
+use Rattle.house.specs.declared.core_store.CoreStore.{CoreStore}
+use Rattle.house_peers.specs.SeatedSession.{SeatedSession}
 use Rattle.delivery_core.specs.DeliveryCore.{behind}
 use Rattle.house.specs.Effort.{turns_left}
 use Rattle.house.specs.Setup.{session_seat}

@@ -1,9 +1,9 @@
 use Rattle.std.proofs.Common.{◌∙◌, inl, inr, List, ℕ, sym, subst}
 use Rattle.std.specs.Prelude.{true, false}
 use Rattle.std.proofs.lemmas.Result.{on_err_weaker, on_ok_weaker}
-use Rattle.session_store.specs.CoreStore.{Serves}
-use Rattle.session_store.proofs.Served.{met_delivery}
-use Rattle.house_session.specs.SeatedSession.{SeatedSession}
+use Rattle.house.specs.CoreStore.{Serves}
+use Rattle.house.proofs.Served.{met_delivery}
+use Rattle.house_peers.specs.SeatedSession.{SeatedSession}
 use Rattle.house.specs.inner.Printing.{WentOn}
 use Rattle.house.proofs.Printed.{session_part, unprinted, went_on}
 use Rattle.house.proofs.printing.go_on.Goals as goal

@@ -1,7 +1,7 @@
 use Rattle.std.proofs.Common.{◌∙◌, inl, inr, sym, subst}
 use Rattle.std.specs.Prelude.{true, false}
 use Rattle.lmtp_machine.specs.declared.connection.What.TheVariants.{More}
-use Rattle.house_connection.specs.HouseConnection.{HouseConnection}
+use Rattle.house_peers.specs.HouseConnection.{HouseConnection}
 use Rattle.house.specs.inner.Steps.{ConnectionWent}
 use Rattle.house.proofs.Printed.{in_part, part_printed, went, went_unprinted}
 use Rattle.house.proofs.Settlement.{on_err}

@@ -1,8 +1,8 @@
 use Rattle.std.proofs.Common.{◌∙◌, List, ℕ, inl, inr, refl, sym, subst}
 use Rattle.std.specs.Prelude.{true}
-use Rattle.session_store.specs.CoreStore.{Serves}
-use Rattle.house_session.specs.HouseSession.{HadTurn}
-use Rattle.house_session.specs.SeatedSession.{SeatedSession}
+use Rattle.house.specs.CoreStore.{Serves}
+use Rattle.house_peers.specs.HouseSession.{HadTurn}
+use Rattle.house_peers.specs.SeatedSession.{SeatedSession}
 use Rattle.house.specs.inner.Printing.{Idled, IdledInPart}
 use Rattle.house.proofs.Printed.{idled, idled_unprinted}
 use Rattle.house.proofs.Settlement.{on_err}

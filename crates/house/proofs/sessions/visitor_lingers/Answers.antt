@@ -1,5 +1,5 @@
 use Rattle.std.proofs.Common.{None, Option, refl, Some, subst}
-use Rattle.house_session.specs.SeatedSession.{SeatedSession}
+use Rattle.house_peers.specs.SeatedSession.{SeatedSession}
 use Rattle.house.specs.Scene.{fades, waits}
 use Rattle.house.specs.inner.Steps.{StandsForSomebody}
 use Rattle.house.proofs.sessions.visitor_lingers.Goals as goal

@@ -1,8 +1,8 @@
 use Rattle.std.proofs.Common.{◌≡◌, ◌-◌, ◌∙◌, inl, inr, false, refl, Option, Some, subst, sym, true}
 use Rattle.imap_session.specs.Exchange.{Left}
 use Rattle.imap_session.specs.Store.{answer}
-use Rattle.session_store.specs.declared.core_store.CoreStore.{CoreStore}
-use Rattle.house_session.specs.SeatedSession.{SeatedSession}
+use Rattle.house.specs.declared.core_store.CoreStore.{CoreStore}
+use Rattle.house_peers.specs.SeatedSession.{SeatedSession}
 use Rattle.house.specs.Setup.{session_seat}
 use Rattle.house.specs.inner.Steps.{StandsForSomebody}
 use Rattle.house.proofs.Visiting.{delivery_then, parted, talked}

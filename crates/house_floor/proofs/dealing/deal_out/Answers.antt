@@ -1,6 +1,6 @@
 use Rattle.std.proofs.Common.{arith}
-use Rattle.lane_permits.proofs.RowLaws.{consumers_length}
-use Rattle.lane_permits.proofs.SenderRowLaws.{receivers_length}
+use Rattle.lane_work.proofs.RowLaws.{consumers_length}
+use Rattle.lane_work.proofs.SenderRowLaws.{receivers_length}
 use Rattle.house_floor.proofs.dealing.deal_out.Goals as goal
 
 pub set_stands-stands-requires-clause-consumers : goal.set_stands-stands-requires-clause-consumers

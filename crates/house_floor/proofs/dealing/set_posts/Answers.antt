@@ -8,7 +8,7 @@ use Rattle.shard_queue.specs.declared.queue.Ended.{Ended}
 use Rattle.house_floor.specs.Crew.{AllAt, IsPost}
 use Rattle.house_floor.proofs.DealLaws.{IsHand, IsReceiverAt, all_rest, hands_at, receivers_at}
 use Rattle.house_floor.proofs.Positions.{first_at, more_at}
-use Rattle.lane_permits.proofs.StepLaws.{removed}
+use Rattle.lane_work.proofs.StepLaws.{removed}
 use Rattle.house_floor.proofs.dealing.set_posts.Goals as goal
 
 pub loop-number-init : goal.loop-number-init

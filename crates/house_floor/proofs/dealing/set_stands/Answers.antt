@@ -8,7 +8,7 @@ use Rattle.shard_queue.specs.Permits.{got}
 use Rattle.house_floor.specs.Crew.{AllAt, IsStand}
 use Rattle.house_floor.proofs.DealLaws.{IsConsumerAt, IsSenderHand, all_rest, consumers_at, sender_hands_at}
 use Rattle.house_floor.proofs.Positions.{first_at, more_at}
-use Rattle.lane_permits.proofs.StepLaws.{removed}
+use Rattle.lane_work.proofs.StepLaws.{removed}
 use Rattle.house_floor.proofs.dealing.set_stands.Goals as goal
 
 pub loop-shard-init : goal.loop-shard-init

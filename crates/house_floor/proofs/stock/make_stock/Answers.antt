@@ -1,6 +1,6 @@
 use Rattle.std.proofs.Common.{map, arith}
 use Rattle.std.proofs.lemmas.List.{length-map}
-use Rattle.lane_permits.proofs.RowLaws.{consumers_length, rows_length}
+use Rattle.lane_work.proofs.RowLaws.{consumers_length, rows_length}
 use Rattle.house_floor.proofs.stock.make_stock.Goals as goal
 
 pub abandon_lanes-requires : goal.abandon_lanes-requires

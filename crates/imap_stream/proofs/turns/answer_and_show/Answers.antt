@@ -1,5 +1,5 @@
 use Rattle.std.specs.Vec.{vec_capacity}
-use Rattle.courier.specs.declared.Lost.TheVariants as lost
+use Rattle.workers_sync.specs.declared.courier.Lost.TheVariants as lost
 use Rattle.imap_stream.specs.Visits.{within_bytes}
 use Rattle.session_thread.proofs.Living.{handed_on}
 use Rattle.imap_stream.proofs.Showing.{heard, heard_in_part}

@@ -1,4 +1,4 @@
-use Rattle.imap_connection.specs.Dialogue.{Dialogue, StandsFor}
+use Rattle.imap_session.specs.Dialogue.{Dialogue, StandsFor}
 use Rattle.session_thread.specs.Life.{moment}
 use Rattle.imap_stream.specs.Visits.{GoesOnShowing}
 use Rattle.imap_stream.proofs.turns.show_all.Given as goal

@@ -11,7 +11,7 @@ use Rattle.delivery_token.specs.declared.log.Noted.{Noted}
 use Rattle.shard_queue.specs.declared.reply.ReceiverPermit.{ReceiverPermit}
 use Rattle.lane_work.specs.Awaiting.{copies_in, verdicts_in}
 use Rattle.lane_work.specs.Permits.{overs}
-use Rattle.submission.specs.Verdicts.{unknown}
+use Rattle.delivery_token.specs.Verdicts.{unknown}
 use Rattle.lane_work.proofs.AwaitedLaws.{tried_counts}
 use Rattle.lane_work.proofs.CopyLaws.{judged_at_once, judged_later}
 use Rattle.lane_work.proofs.PermitLaws.{live_at, live_still, overs_length, permits_length}

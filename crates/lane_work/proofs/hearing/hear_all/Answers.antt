@@ -6,9 +6,9 @@ use Rattle.lane_work.specs.Copies.{copies_of}
 use Rattle.lane_work.specs.Ends.{ends_in}
 use Rattle.lane_work.proofs.PermitLaws.{ends_next, not_live}
 use Rattle.delivery_token.specs.declared.CopyKey.{CopyKey}
-use Rattle.submission.specs.Verdicts.{FillsIn}
-use Rattle.submission.proofs.Fills.{fills_same, fills_on, none_unknown}
-use Rattle.submission.proofs.Slots.{known_all}
+use Rattle.delivery_token.specs.Verdicts.{FillsIn}
+use Rattle.delivery_token.proofs.Fills.{fills_same, fills_on, none_unknown}
+use Rattle.delivery_token.proofs.Slots.{known_all}
 use Rattle.lane_work.proofs.CopyLaws.{heard_next}
 use Rattle.lane_work.proofs.SlotLaws.{heard_still, start_on, start_same, were_heard_same}
 use Rattle.lane_work.proofs.hearing.hear_all.Goals as goal

@@ -3,7 +3,7 @@ use Rattle.shard_queue.specs.Reply.{IsReceiver, received}
 use Rattle.shard_queue.specs.Shared.{IsStartOf}
 use Rattle.lmtp_machine.specs.Calls.{submission_of}
 use Rattle.lane_work.specs.Copies.{copies_of}
-use Rattle.submission.specs.Verdicts.{Fills, unknown}
+use Rattle.delivery_token.specs.Verdicts.{Fills, unknown}
 use Rattle.lane_work.specs.inner.Copies.{WereHeard}
 use Rattle.lane_work.specs.inner.Desk.{SameButReceiver}
 use Rattle.lane_work.specs.Ends.{CountsEnds, ends_in}

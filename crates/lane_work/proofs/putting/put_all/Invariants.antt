@@ -2,7 +2,7 @@ use Rattle.std.proofs.Common.{◌≡◌, ◌≤◌, ◌+◌, length, map, take, 
 use Rattle.lane_work.specs.Permits.{put_by}
 use Rattle.lane_work.specs.inner.Permits.{AreOpenTo}
 use Rattle.lane_work.specs.Permits.{ArePermits}
-use Rattle.submission.specs.Verdicts.{unknown}
+use Rattle.delivery_token.specs.Verdicts.{unknown}
 use Rattle.lane_work.specs.Awaiting.{copies_in}
 use Rattle.lane_work.specs.inner.Desk.{SameButPermits}
 use Rattle.lane_work.specs.Copies.{copies, rooms_of}

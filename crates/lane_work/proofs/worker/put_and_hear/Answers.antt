@@ -10,9 +10,9 @@ use Rattle.shard_queue.specs.Shared.{IsStartOf}
 use Rattle.lane_work.specs.Permits.{put_by}
 use Rattle.lane_work.specs.Copies.{copies_of, rooms_of}
 use Rattle.lane_work.specs.inner.Copies.{HavePut}
-use Rattle.submission.proofs.Fills.{fills_length, known_length}
+use Rattle.delivery_token.proofs.Fills.{fills_length, known_length}
 use Rattle.lane_work.proofs.CopyLaws.{books_more}
-use Rattle.submission.specs.Verdicts.{unknown}
+use Rattle.delivery_token.specs.Verdicts.{unknown}
 use Rattle.lane_work.specs.Awaiting.{copies_in, verdicts_in}
 use Rattle.lane_work.specs.Ends.{ends_in}
 use Rattle.lane_work.proofs.AwaitedLaws.{heard_counts}

@@ -1,6 +1,6 @@
 use Rattle.std.proofs.Common.{◌≡◌, length, map, vec_len, arith}
 use Rattle.std.proofs.lemmas.List.{length-map}
-use Rattle.lane_permits.proofs.SenderRowLaws.{none_ended}
+use Rattle.lane_work.proofs.SenderRowLaws.{none_ended}
 use Rattle.reckoning.proofs.Hands.{sender_hands_length, is_empty, is_room, match_both}
 use Rattle.reckoning.proofs.close.close_all_channels.Goals as goal
 

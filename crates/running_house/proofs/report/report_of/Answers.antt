@@ -3,11 +3,11 @@ use Rattle.std.proofs.lemmas.List.{length-map}
 use Rattle.lane_work.specs.Consuming.{items_of}
 use Rattle.lane_work.specs.declared.consumer.Consumed.{Consumed}
 use Rattle.lane_work.specs.declared.worker.Worked.{Worked}
-use Rattle.lane_permits.specs.LanePermits as rows
-use Rattle.lane_permits.specs.ChannelPermits.{AreReceivers, AreSenderEndedHands}
+use Rattle.lane_work.specs.LanePermits as rows
+use Rattle.lane_work.specs.ChannelPermits.{AreReceivers, AreSenderEndedHands}
 use Rattle.reckoning.proofs.Parts.{consumers_of, ended_of, receivers_of, sender_hands_of}
-use Rattle.agreement.specs.Lists.{ListsAgree}
-use Rattle.agreement.specs.Walk.{ListsMet}
+use Rattle.running_house.specs.Lists.{ListsAgree}
+use Rattle.running_house.specs.Walk.{ListsMet}
 use Rattle.reckoning.specs.Balancing.{IsBalanced}
 use Rattle.running_house.specs.Agree.{accepted_of, notes_of, texts_of}
 use Rattle.running_house.specs.Refusals.{MayCome}

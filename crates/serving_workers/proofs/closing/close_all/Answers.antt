@@ -2,8 +2,8 @@ use Rattle.std.proofs.Common.{rules, ◌≡◌, ◌∙◌, false, map, sym, subs
 use Rattle.std.specs.List.{list_any}
 use Rattle.lane_work.specs.declared.consumer.Consumed.{Consumed}
 use Rattle.lane_work.specs.declared.worker.Worked.{Worked}
-use Rattle.lane_permits.specs.LanePermits.{AreEndedHands}
-use Rattle.lane_permits.specs.ChannelPermits.{AreReceivers}
+use Rattle.lane_work.specs.LanePermits.{AreEndedHands}
+use Rattle.lane_work.specs.ChannelPermits.{AreReceivers}
 use Rattle.reckoning.proofs.Balanced.{at_some}
 use Rattle.serving_workers.specs.declared.accepting.Served.{Served}
 use Rattle.serving_workers.proofs.Heard.{ended_of, lengths_of, receivers_of}

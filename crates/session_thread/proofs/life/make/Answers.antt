@@ -1,6 +1,6 @@
 use Rattle.std.proofs.Common.{[], ◌∙◌, sym}
 use Rattle.std.specs.Vec.{vec_capacity}
-use Rattle.courier.specs.declared.Lost.TheVariants as lost
+use Rattle.workers_sync.specs.declared.courier.Lost.TheVariants as lost
 use Rattle.session_thread.proofs.Living.{awaited_in_part, awaited_step, handed_on, rested, said_in_part, said_step}
 use Rattle.session_thread.proofs.Spoken.{none_more}
 use Rattle.session_thread.proofs.life.make.Goals as goal

@@ -1,6 +1,6 @@
 use Rattle.std.proofs.Common.{◌++◌, List, take}
-use Rattle.courier.specs.Carried.{Carried}
-use Rattle.imap_connection.specs.Dialogue.{Dialogue, StandsFor}
+use Rattle.workers_sync.specs.Carried.{Carried}
+use Rattle.imap_session.specs.Dialogue.{Dialogue, StandsFor}
 use Rattle.session_thread.specs.Life.{Lives, moment}
 use Rattle.session_thread.proofs.life.make_all.Given as goal
 

@@ -1,4 +1,4 @@
-use Rattle.imap_connection.specs.Dialogue.{Dialogue, StandsFor}
+use Rattle.imap_session.specs.Dialogue.{Dialogue, StandsFor}
 use Rattle.session_thread.specs.Life.{Turns, moment}
 use Rattle.session_thread.proofs.life.wait_for.Given as goal
 

@@ -1,4 +1,4 @@
-use Rattle.lane_permits.proofs.SenderRowLaws.{ended_hand_length}
+use Rattle.lane_work.proofs.SenderRowLaws.{ended_hand_length}
 use Rattle.std.proofs.Common.{◌≡◌, ◌∙◌, length, [], Some, ap, false, refl, slice_get, subst, sym}
 use Rattle.lane_work.specs.Consuming.{IsConsumed}
 use Rattle.lane_work.specs.Permits.{AreSendersEnded}

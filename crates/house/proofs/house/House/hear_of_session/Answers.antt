@@ -3,7 +3,7 @@ use Rattle.delivery_core.proofs.Follow.{get_or-any}
 use Rattle.delivery_core.specs.Changes.{Hears}
 use Rattle.delivery_core.specs.Stands as core
 use Rattle.world.specs.World as world
-use Rattle.house_session.specs.SeatedSession.{SeatedSession}
+use Rattle.house_peers.specs.SeatedSession.{SeatedSession}
 use Rattle.house.specs.House.{House}
 use Rattle.house.specs.Setup.{session_seat}
 use Rattle.house.specs.Scene.{HearPlay, session_hears}

@@ -6,7 +6,7 @@ use Rattle.house.specs.Scene.{IdlePlay}
 use Rattle.house.specs.Stands.{StandsFor}
 use Rattle.house.specs.Steps.{MayIdle}
 use Rattle.house.specs.inner.Steps.{HasNoTurn, PlaceIdled, PlaceIdledInPart}
-use Rattle.house_session.specs.SeatedSession.{SeatedSession}
+use Rattle.house_peers.specs.SeatedSession.{SeatedSession}
 use Rattle.house.specs.Setup.{session_seat}
 use Rattle.house.specs.inner.Steps.{StandsForSomebody}
 use Rattle.house.proofs.Visiting.{has_place}

@@ -7,7 +7,7 @@ use Rattle.house.specs.Scene.{SayPlay}
 use Rattle.house.specs.Stands.{StandsFor}
 use Rattle.house.specs.Steps.{is_left}
 use Rattle.house.specs.inner.Steps.{PlaceTalked, StandsForSomebody, with_more_came}
-use Rattle.house_session.specs.SeatedSession.{SeatedSession}
+use Rattle.house_peers.specs.SeatedSession.{SeatedSession}
 use Rattle.house.proofs.SessionEvents.{said, somebody}
 use Rattle.house.proofs.Settlement.{on_err}
 use Rattle.house.specs.Steps.{VisitorWants}

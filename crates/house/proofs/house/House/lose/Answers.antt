@@ -1,9 +1,9 @@
 use Rattle.std.proofs.Common.{◌≡◌, ◌+◌, ◌-◌, ◌<◌, refl, sym, subst, ap, ◌∙◌, true, false, Option, None, Some, Result, Ok, Err, OnOk, OnErr, IfSome, ℕ, length, arith, get_or, IsSome, true≢false}
 use Rattle.std.specs.declared.alloc.AllocError.{AllocError}
-use Rattle.house_connection.specs.HouseConnection.{HouseConnection}
+use Rattle.house_peers.specs.HouseConnection.{HouseConnection}
 use Rattle.std.specs.Option.{option_map}
 use Rattle.delivery_core.proofs.Follow.{get_or-any}
-use Rattle.house_connection.specs.Taking.{with_nobody_there}
+use Rattle.house_peers.specs.Taking.{with_nobody_there}
 use Rattle.house.specs.House.{House}
 use Rattle.house.specs.Scene.{VanishPlay}
 use Rattle.house.specs.Stands.{StandsFor}

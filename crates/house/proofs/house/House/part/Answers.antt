@@ -3,7 +3,7 @@ use Rattle.std.specs.Option.{option_map}
 use Rattle.imap_session.specs.Exchange.{Left}
 use Rattle.imap_session.specs.Store.{answer}
 use Rattle.delivery_core.proofs.Follow.{get_or-any}
-use Rattle.house_session.specs.SeatedSession.{SeatedSession, with_nobody_there}
+use Rattle.house_peers.specs.SeatedSession.{SeatedSession, with_nobody_there}
 use Rattle.house.specs.House.{House}
 use Rattle.house.specs.Stands.{StandsFor}
 use Rattle.house.specs.Steps.{is_left}

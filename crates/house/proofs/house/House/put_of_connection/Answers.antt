@@ -5,10 +5,10 @@ use Rattle.delivery_core.proofs.Follow.{get_or-any}
 use Rattle.house.specs.declared.event.HouseFault.TheVariants as house_faults
 use Rattle.house.specs.House.{House}
 use Rattle.house.specs.Scene.{PutPlay, connection_puts}
-use Rattle.house_connection.specs.Taking.{noted_put}
-use Rattle.submission.specs.inner.Verdicts.{heard_verdict}
+use Rattle.house_peers.specs.Taking.{noted_put}
+use Rattle.delivery_token.specs.inner.Verdicts.{heard_verdict}
 use Rattle.house.specs.Stands.{StandsFor}
-use Rattle.session_store.proofs.Serving.{same_delivery}
+use Rattle.house.proofs.Serving.{same_delivery}
 use Rattle.house.proofs.Ended.{due_first}
 use Rattle.house.proofs.Turns.{put_led, puts_none}
 use Rattle.house.proofs.house.House.put_of_connection.Goals as goal

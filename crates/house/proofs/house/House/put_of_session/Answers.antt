@@ -2,8 +2,8 @@ use Rattle.std.proofs.Common.{◌≡◌, ◌+◌, ◌-◌, ◌<◌, ◌∙◌, a
 use Rattle.std.proofs.lemmas.Result.{err_from_is_err_and}
 use Rattle.std.specs.Option.{option_map}
 use Rattle.delivery_core.proofs.Follow.{get_or-any}
-use Rattle.house_session.specs.SeatedSession.{SeatedSession, noted_put}
-use Rattle.submission.specs.inner.Verdicts.{heard_verdict}
+use Rattle.house_peers.specs.SeatedSession.{SeatedSession, noted_put}
+use Rattle.delivery_token.specs.inner.Verdicts.{heard_verdict}
 use Rattle.house.specs.declared.event.HouseFault.TheVariants as house_faults
 use Rattle.house.specs.House.{House}
 use Rattle.house.specs.Setup.{session_seat}

@@ -1,7 +1,7 @@
 use Rattle.std.proofs.Common.{◌≡◌, ◌+◌, ◌-◌, ◌<◌, ◌⊎◌, inl, inr, set, refl, sym, subst, ap, ◌∙◌, true, false, None, ℕ, length, arith, get_or, IsSome}
 use Rattle.std.specs.Option.{option_map}
 use Rattle.delivery_core.proofs.Follow.{get_or-any}
-use Rattle.house_connection.specs.Taking.{with_more}
+use Rattle.house_peers.specs.Taking.{with_more}
 use Rattle.house.specs.House.{House}
 use Rattle.house.specs.Scene.{BytesPlay}
 use Rattle.house.specs.Stands.{StandsFor}

@@ -4,8 +4,8 @@ use Rattle.house.specs.House.{House}
 use Rattle.house.specs.Scene.{BytesPlay, most_serials}
 use Rattle.house.specs.Stands.{StandsFor}
 use Rattle.house.proofs.Events.{welcomed}
-use Rattle.house_connection.specs.Caller.{Terms, greeted, more_waits}
-use Rattle.house_connection.specs.ConnectionStands.{StandsForConnection}
+use Rattle.house_peers.specs.Caller.{Terms, greeted, more_waits}
+use Rattle.house_peers.specs.ConnectionStands.{StandsForConnection}
 use Rattle.delivery_token.specs.Keys.{AtLeast}
 use Rattle.delivery_token.specs.declared.CopyKey.{CopyKey}
 use Rattle.delivery_token.specs.declared.log.Noted.{Noted}

@@ -1,5 +1,5 @@
 use Rattle.std.proofs.Common.{refl}
-use Rattle.courier.specs.declared.Lost.TheVariants as lost
+use Rattle.workers_sync.specs.declared.courier.Lost.TheVariants as lost
 use Rattle.imap_stream.proofs.Sending.{hears_all, hears_in_part, hears_what_went, the_fault}
 use Rattle.imap_stream.proofs.visit.Visit.hear.Goals as goal
 

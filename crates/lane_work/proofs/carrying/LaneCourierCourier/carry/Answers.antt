@@ -1,5 +1,5 @@
 use Rattle.std.proofs.Common.{◌++◌, ◌∷◌, ◌∙◌, [], arith, refl, map, List}
-use Rattle.courier.specs.Carried.{Carried, copy_of}
+use Rattle.workers_sync.specs.Carried.{Carried, copy_of}
 use Rattle.delivery_token.specs.declared.Job.{Job}
 use Rattle.delivery_token.specs.declared.Verdict.{Verdict}
 use Rattle.shard_queue.specs.Reply.{received}

@@ -1,4 +1,0 @@
-pub mod RiseLaws
-pub mod WalkLaws
-pub mod MetLaws
-pub mod OrderLaws

@@ -1,7 +1,0 @@
-use Rattle.std.proofs.Common.{◌↔◌, drop}
-use Rattle.agreement.specs.Lists.{IsEachThere}
-use Rattle.agreement.proofs.there.is_each_there.Given as goal
-
--- what is left is alike just where the whole is
-abbrev pub invariant-loop-pair : goal.invariant-loop-pair
-invariant-loop-pair l = IsEachThere (drop l.pair-index l.accepted) l.left ↔ IsEachThere l.accepted l.texts

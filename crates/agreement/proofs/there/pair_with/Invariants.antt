@@ -1,6 +1,0 @@
-use Rattle.std.proofs.Common.{◌≡◌, drop}
-use Rattle.agreement.specs.Walk.{pair_with}
-use Rattle.agreement.proofs.there.pair_with.Given as goal
-
-abbrev pub invariant-loop-position : goal.invariant-loop-position
-invariant-loop-position l = pair_with l.uid (drop l.position l.accepted) ≡ pair_with l.uid l.accepted

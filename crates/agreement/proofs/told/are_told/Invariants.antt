@@ -1,6 +1,0 @@
-use Rattle.std.proofs.Common.{ℕ, ◌<◌, map, [], slice_index_or}
-use Rattle.agreement.specs.Lists.{IsTold}
-use Rattle.agreement.proofs.told.are_told.Given as goal
-
-abbrev pub invariant-loop-seat : goal.invariant-loop-seat
-invariant-loop-seat l = (p : ℕ) → p < l.seat → IsTold l.mailbox l.accepted p (slice_index_or (map (λ g. g.notes) l.logs) p [])

@@ -1,8 +1,0 @@
-use Rattle.client_flags.proofs.Worlds.{calls_tell_flags, others_leave_flags}
-use Rattle.client_flags.proofs.laws.houses_tell_flags.Goals as goal
-
-pub returns-clause-calls : goal.returns-clause-calls
-returns-clause-calls c = calls_tell_flags
-
-pub returns-clause-others : goal.returns-clause-others
-returns-clause-others c = others_leave_flags

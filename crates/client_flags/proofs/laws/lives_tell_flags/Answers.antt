@@ -1,8 +1,0 @@
-use Rattle.client_flags.proofs.Known.{lives_tell_flags, turns_tell_flags}
-use Rattle.client_flags.proofs.laws.lives_tell_flags.Goals as goal
-
-pub returns-clause-turn : goal.returns-clause-turn
-returns-clause-turn c = turns_tell_flags
-
-pub returns-clause-life : goal.returns-clause-life
-returns-clause-life c = lives_tell_flags

@@ -1,3 +1,0 @@
-pub mod Rows
-pub mod TalkRows
-pub mod WholeRows

@@ -1,8 +1,0 @@
-use Rattle.client_records.proofs.Appended.{appends_are_told, appends_were_told}
-use Rattle.client_records.proofs.laws.appends_are_told.Goals as goal
-
-pub returns-clause-there : goal.returns-clause-there
-returns-clause-there c = appends_are_told
-
-pub returns-clause-ended : goal.returns-clause-ended
-returns-clause-ended c = appends_were_told

@@ -1,2 +1,0 @@
-pub mod ClientRows
-pub mod AnswerRows

@@ -1,3 +1,0 @@
-mod AskLaws
-mod GivenLaws
-mod WordLaws

@@ -1,3 +1,0 @@
-pub mod Asking
-pub mod Words
-pub mod inner

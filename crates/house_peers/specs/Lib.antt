@@ -1,0 +1,12 @@
+pub mod Talk
+pub mod HouseConnection
+pub mod Caller
+pub mod Taking
+pub mod ConnectionStands
+pub mod Laws
+pub mod Visitor
+pub mod HouseSession
+pub mod Folders
+pub mod SeatedVisitor
+pub mod SeatedSession
+pub mod inner

@@ -1,4 +1,0 @@
-pub mod Feeding
-pub mod Conversing
-pub mod Carried
-pub mod Asking

@@ -1,9 +1,0 @@
-use Rattle.std.proofs.Common.{◌≡◌, ◌≤◌, length, vec_len, vec_capacity}
-use Rattle.lane_permits.proofs.StepLaws.{StepTo, list}
-use Rattle.lane_permits.proofs.RowLaws.{Dealt}
-use Rattle.lane_permits.proofs.lanes.deal.Given as goal
-
-abbrev pub invariant-loop-lane : goal.invariant-loop-lane
-invariant-loop-lane l =
-    (vec_len l.hand ≡ l.lane) × (length l.lanes ≤ vec_capacity l.hand)
-    × StepTo (Dealt list) l.lane l.fn.permits.items l.permits.items l.hand.items

@@ -1,0 +1,22 @@
+//! Laws of the definitions, as functions that do nothing: what lanes and channels that were closed
+//! tell of those who held their permits. No code lives here.
+
+ghost use Rattle.lane_work.specs.Telling.{AccountsMeet, ChannelsAreWhole, LanesAreWhole, SaidIsHistory, SaidOnIsHistory};
+
+/// What is known of lanes that were closed: what each producer said is what was taken of it, so that a
+/// worker's account is one of the histories, and nothing else was taken.
+pub fn closed_lanes_tell()
+    // What a producer said, lane by lane, is what was taken of it; so an account by the one is an account by the other.
+    ensures said { SaidIsHistory }
+    ensures accounts { AccountsMeet }
+
+    // There is a history for each lane: it is what its consumer took, and it is whole.
+    ensures whole { LanesAreWhole }
+{}
+
+/// The same of reply channels: what each sender said is what was received of it, and nothing else was
+/// received.
+pub fn closed_channels_tell()
+    ensures said { SaidOnIsHistory }
+    ensures whole { ChannelsAreWhole }
+{}

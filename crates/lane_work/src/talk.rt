@@ -1,0 +1,229 @@
+//! One connection over a reader and a sink, from its greeting to its end. What is done with the bytes of
+//! one read stands in `piece`, what is said last in `shutting`.
+
+ghost use Rattle.std.specs.Prelude.{◌≡◌, ◌<◌, ◌∷◌, List, [], map, length, Err, IfOk, OnOk, false, true};
+ghost use Rattle.lmtp_machine.specs.declared.reply.Reply.TheVariants.{Greeting};
+ghost use Rattle.lmtp_machine.specs.Conversation.{opened};
+ghost use Rattle.lmtp_machine.specs.LmtpMachine.{StandsFor};
+ghost use Rattle.lmtp_machine.specs.Replies.{wire};
+ghost use Rattle.shard_queue.specs.Reply.{IsReceiver, received};
+ghost use Rattle.shard_queue.specs.Shared.{IsStartOf};
+ghost use Rattle.lane_work.specs.Talk.{Judged};
+ghost use Rattle.lane_work.specs.Permits.{AreInForce, put_by};
+ghost use Rattle.lane_work.specs.Account.{AreBooks, setting_at};
+ghost use Rattle.lane_work.specs.Ends.{CountsEnds};
+ghost use Rattle.lane_work.specs.Speaking.{Stands, premises_of};
+ghost use Rattle.lane_work.specs.Copies.{rooms_of};
+ghost use Rattle.lane_work.specs.Streaming.{IsPlayed};
+
+use crate::bells::Summons;
+use crate::desk::{Desk, Office};
+use crate::notebook::Notebook;
+use crate::outcome::{Ending, TalkFault};
+use crate::piece::{Next, take_piece};
+use crate::reading::read_piece;
+use crate::shutting::{give_up, shut_down};
+use crate::worker::Stop;
+use delivery_token::Noted;
+use line_io::{Sink, send};
+use lmtp_machine::{Limits, LmtpMachine};
+use shard_queue::ReplyChannel;
+use std::alloc::{AllocError, Global};
+use std::io::Read;
+use std::sync::Wait;
+use std::sync::atomic::{AtomicBool, Ordering};
+use workers_sync::{Gate, Pace};
+
+// A new connection of this worker, and its greeting in `out`, which is empty.
+fn open(
+    alloc: Global,
+    office: &Office,
+    seat: u8,
+    serial: u64,
+    out: &mut Vec<u8>,
+) -> Result<LmtpMachine, AllocError>
+    requires host { length office.now.host.items < 256 }
+    requires none { out.old.items ≡ [] }
+    ensures setting { IfOk result (λ m. m.setting ≡ setting_at (premises_of office.now) seat serial) }
+    ensures host { IfOk result (λ m. m.host ≡ office.now.host.items) }
+    ensures quiet { IfOk result (λ m. m.pending ≡ []) }
+    ensures stands { IfOk result (λ m. StandsFor m opened) }
+    ensures greeted { IfOk result (λ m. out.new.items ≡ wire m.host (Greeting ∷ [])) }
+{
+    let limits = Limits {
+        host: office.host.as_slice(),
+        max_message: office.max_message,
+    };
+    let mut machine = LmtpMachine::new(alloc, seat, serial, limits)?;
+    machine.greet(out)?;
+    Ok(machine)
+}
+
+// Sends what was said, reads, and takes what came, over and over.
+fn go_on<R: Wait, G: Gate, S: Summons, N: Notebook, I: Read, O: Sink>(
+    rt: &R,
+    alloc: Global,
+    pace: &mut Pace<'_, G>,
+    office: &Office,
+    summons: &S,
+    channel: &ReplyChannel<Noted>,
+    desk: &mut Desk,
+    book: &mut N,
+    machine: &mut LmtpMachine,
+    input: &mut I,
+    output: &mut O,
+    stop: &AtomicBool,
+    buffer: &mut [u8],
+    out: &mut Vec<u8>,
+) -> Result<Ending, TalkFault>
+    requires permits { AreInForce office.now.directory office.now.lanes.items desk.old.number desk.old.permits.items }
+    requires receiver { IsReceiver channel.now desk.old.receiver }
+    requires lanes { office.now.directory.shards ≡ length office.now.lanes.items }
+    requires quiet { machine.old.pending ≡ [] }
+    requires host { machine.old.host ≡ office.now.host.items }
+    requires live { O.failed output.old ≡ false }
+    requires room { 0 < length buffer.old }
+    ensures permits { AreInForce office.now.directory office.now.lanes.items desk.old.number desk.new.permits.items }
+    ensures receiver { IsReceiver channel.now desk.new.receiver }
+    ensures number { desk.new.number ≡ desk.old.number }
+    ensures ends { CountsEnds desk.old desk.new }
+    ensures grew { IsStartOf (received desk.old.receiver) (received desk.new.receiver) }
+    ensures torn { result ≡ Err TalkFault.Torn → length (received desk.old.receiver) < length (received desk.new.receiver) }
+    ensures owner { N.owner book.new ≡ N.owner book.old }
+    ensures len { length buffer.new ≡ length buffer.old }
+    ensures live { OnOk result (O.failed output.new ≡ false) }
+    ensures failed { result ≡ Err TalkFault.Write → O.failed output.new ≡ true }
+    ensures played { (done : List Judged)
+        → Stands office.now.directory office.now.directory
+        (rooms_of office.now.lanes.items) desk.old.number done [] false machine.old out.old.items (N.tells book.old) (received desk.old.receiver)
+        (map put_by desk.old.permits.items)
+        → IsPlayed (premises_of office.now) machine.old.setting desk.old.number done (I.remaining input.old) (I.remaining input.new)
+        (O.taken output.old) (O.taken output.new) (O.failed output.new)
+        (N.tells book.new) (received desk.new.receiver) (map put_by desk.new.permits.items) result }
+{
+    for _ in rt.forever() {
+        let Ok(()) = send(output, out.as_slice()) else {
+            return Err(TalkFault::Write);
+        };
+        out.clear();
+        if machine.has_ended() {
+            return Ok(Ending::Quit);
+        }
+        let Ok(count) = read_piece(rt, input, buffer) else {
+            return Err(TalkFault::Read);
+        };
+        // Who stops the house shuts the side that is read, so that a peer's end may be the house's.
+        if count == 0 && !stop.load(Ordering::SeqCst) {
+            return Ok(Ending::Gone);
+        }
+        match take_piece(
+            rt,
+            alloc,
+            pace,
+            office,
+            summons,
+            channel,
+            desk,
+            book,
+            machine,
+            &buffer[..count],
+            stop,
+            out,
+        ) {
+            Ok(Next::Read) => {}
+            Ok(Next::Shut) => return shut_down(machine, output, out),
+            Err(Stop::NoMemory) => return Err(give_up(output, out.as_slice())),
+            Err(Stop::Torn) => return Err(TalkFault::Torn),
+        }
+    }
+    unreachable!()
+}
+
+/// Plays one connection of a worker over a stream, from the greeting to its end: what was said is sent,
+/// bytes are read into `buffer` and taken turn by turn, over and over. Replies are collected in `out`, and
+/// all that one read leads to are sent together. Both buffers are lent by whoever calls it, to be used for
+/// the next connection too; `buffer` has room for one byte or more, and what `out` has is dropped. The
+/// sink, which hasn't failed, is flushed by nobody here.
+///
+/// The messages that are submitted are put on the worker's lanes, and nothing behind a message is taken
+/// before its verdicts were said (`lane_work`).
+///
+/// `stop` is looked at after each read, and behind each turn that submitted a message. Where it is set the
+/// connection is shut: with `421 4.3.2 Shutting down` (RFC 5321, section 3.8), and within a message's data
+/// with no word and no copy made. What is left of the bytes that were read is dropped.
+///
+/// Errors: `Read` where the reader fails, for another reason than that it was interrupted, and `Write` where
+/// the sink fails; each message that was submitted by then has its verdicts. `NoMemory` where memory is
+/// refused; what was said by then was offered to the sink, and no copy was put that has no verdict. `Torn`
+/// where something came that was not awaited, a verdict or a shard's end; copies may be under way then.
+pub fn converse<R: Wait, G: Gate, S: Summons, N: Notebook, I: Read, O: Sink>(
+    rt: &R,
+    alloc: Global,
+    pace: &mut Pace<'_, G>,
+    office: &Office,
+    summons: &S,
+    channel: &ReplyChannel<Noted>,
+    desk: &mut Desk,
+    book: &mut N,
+    serial: u64,
+    input: &mut I,
+    output: &mut O,
+    stop: &AtomicBool,
+    buffer: &mut [u8],
+    out: &mut Vec<u8>,
+) -> Result<Ending, TalkFault>
+    // The desk has its own permit on each lane, over only where the office marks the shard as shut; its receiver is of `channel`.
+    requires permits { AreInForce office.now.directory office.now.lanes.items desk.old.number desk.old.permits.items }
+    requires receiver { IsReceiver channel.now desk.old.receiver }
+    requires lanes { office.now.directory.shards ≡ length office.now.lanes.items }
+    requires host { length office.now.host.items < 256 }
+    requires live { O.failed output.old ≡ false }
+    requires room { 0 < length buffer.old }
+
+    // The same holds after, so that the next connection may follow; no end was counted that wasn't heard.
+    ensures permits { AreInForce office.now.directory office.now.lanes.items desk.old.number desk.new.permits.items }
+    ensures receiver { IsReceiver channel.now desk.new.receiver }
+    ensures number { desk.new.number ≡ desk.old.number }
+    ensures ends { CountsEnds desk.old desk.new }
+
+    // What was heard before stands in front of what was heard since; after `Torn` something was.
+    ensures grew { IsStartOf (received desk.old.receiver) (received desk.new.receiver) }
+    ensures torn { result ≡ Err TalkFault.Torn → length (received desk.old.receiver) < length (received desk.new.receiver) }
+
+    // The book stays its owner's, and `buffer` as long as it was.
+    ensures owner { N.owner book.new ≡ N.owner book.old }
+    ensures len { length buffer.new ≡ length buffer.old }
+
+    // Without an error the sink hasn't failed; after `Write` it has.
+    ensures live { OnOk result (O.failed output.new ≡ false) }
+    ensures failed { result ≡ Err TalkFault.Write → O.failed output.new ≡ true }
+
+    // If the books told of `done`: what was taken is a conversation, its replies were sent as `result` says, and, unless `Torn`, it is booked.
+    ensures played { (done : List Judged)
+        → AreBooks office.now.directory (rooms_of office.now.lanes.items) desk.old.number done (N.tells book.old) (received desk.old.receiver)
+        (map put_by desk.old.permits.items)
+        → IsPlayed (premises_of office.now) (setting_at (premises_of office.now) desk.old.number serial) desk.old.number done
+        (I.remaining input.old) (I.remaining input.new) (O.taken output.old) (O.taken output.new) (O.failed output.new)
+        (N.tells book.new) (received desk.new.receiver) (map put_by desk.new.permits.items) result }
+{
+    out.clear();
+    let Ok(mut machine) = open(alloc, office, desk.number, serial, out) else {
+        return Err(TalkFault::NoMemory);
+    };
+    go_on(
+        rt,
+        alloc,
+        pace,
+        office,
+        summons,
+        channel,
+        desk,
+        book,
+        &mut machine,
+        input,
+        output,
+        stop,
+        buffer,
+        out,
+    )
+}

@@ -1,0 +1,231 @@
+-- What a session tells of the messages that its client appended, over a whole record.
+use Rattle.std.proofs.Common.{◌≡◌, inl, inr, ℕ, true, false, List, [], ◌∷◌, ◌++◌, Contains, refl, sym, ◌∙◌, subst, Option, Some, None}
+use Rattle.std.specs.Prelude.{filter_map}
+use Rattle.std.proofs.lemmas.Bool.{false≢true}
+use Rattle.delivery_token.specs.declared.CopyKey.{CopyKey}
+use Rattle.delivery_token.specs.declared.Job.{Job}
+use Rattle.delivery_token.specs.declared.Verdict.{Verdict}
+use Rattle.delivery_token.specs.declared.Verdict.TheVariants as verdicts
+use Rattle.delivery_token.specs.declared.log.Noted.{Noted}
+use Rattle.world.specs.World.{Config, Event, IsWorld, Steps, World}
+use Rattle.world.specs.Law.{StandsOnce, pairs}
+use Rattle.world.proofs.Always.{always}
+use Rattle.world.proofs.Base.{Every, Rising, rising_pair}
+use Rattle.imap_session.specs.Commands.{appended_words}
+use Rattle.imap_session.specs.Telling.{tells_uid}
+use Rattle.imap_session.specs.Exchange as calls
+use Rattle.imap_session.specs.Exchange.{Event as Happened, Sent}
+use Rattle.exactly_once.proofs.Grown.{heard_stays_heard}
+use Rattle.laws_client.proofs.Talked.{met_hears}
+use Rattle.house_peers.specs.Folders.{folders_of}
+use Rattle.house.specs.Scene.{LeavesMailbox, empty_scene}
+use Rattle.house.specs.Setup.{Setup, session_seat}
+use Rattle.laws_client.specs.Appends.{AppendsWereTold, TellsOfAppends, AnswersNoted, AppendsAreTold, AreAnswered, Author, EndsWith, IsAnswered, SaysVerdict, TellsKept, TellsOfNone, as_it_is, author_at, copy_under}
+use Rattle.laws_client.specs.Clients.{Told, bytes_in}
+use Rattle.laws_client.specs.ClientRecords.{sent_by_then, shown_by_then}
+use Rattle.laws_client.proofs.Answered.{Came, AreNoted, InTurn, IsNoted, KnownAt, still_noted}
+use Rattle.laws_client.proofs.Entries.{the_client, the_serial}
+use Rattle.laws_client.proofs.RecordKeeping.{KeptBy, kept_by, the_finished, KeepsBy, all_known, arrival_by_then, keeps_by, nobody}
+use Rattle.laws_client.proofs.LastLines.{apart_tells_none, refusal_apart, tags_of_words, words_of_tags}
+use Rattle.laws_client.proofs.LastRests.{no_apart}
+use Rattle.laws_client.proofs.LastWords.{uid_spares}
+use Rattle.laws_client.proofs.Out.{copy_of, fate_met, fate_step}
+use Rattle.laws_client.proofs.Recording.{Arrival, Finished, came_as}
+use Rattle.laws_client.proofs.Stored.{stored_copy}
+
+-- ---- each answer
+
+-- its author, where it was let in so
+author_is : (k : Setup) (place serial : ℕ) (a : Arrival) (sent : List ℕ) → Author
+author_is k place serial a sent = record { place = place; serial = serial; folders = folders_of k.directory a.user; sent = sent }
+
+one_answered : (k : Setup) (events : List Event) (w : World) (place serial : ℕ) (a : Arrival) (sent bytes : List ℕ) (verdict : Option Noted) → IsWorld k.config events w → serial ≡ a.serial
+    → IsNoted k.config.uidvalidity (came_as k place a) sent (KnownAt k.config (came_as k place a) w) bytes verdict → IsAnswered k w (author_is k place serial a sent) bytes verdict
+unfolding author_is
+one_answered k events w place serial a sent bytes None came own h = h
+one_answered k events w place serial a sent bytes (Some noted) came own h = record {
+  seat = h.seat;
+  own = h.own ∙ sym own;
+  heard = there;
+  message = h.message;
+  number = h.number;
+  came = h.came;
+  chosen = h.chosen;
+  says = h.says;
+  stands = λ uid e. once uid e;
+  stored = λ uid e.
+      let key : noted.key ≡ c.key = h.key in
+      let s = stored_copy k.config events w (session_seat k place) noted.mailbox uid c came refl (subst (λ (x : CopyKey). StandsOnce (pairs (w.box noted.mailbox).accepted) x uid) key (once uid e)) h.heard.1 in
+      (s.0, subst (λ (x : CopyKey). Contains (w.box noted.mailbox).accepted (copy_under x h.message, uid)) (sym key) s.1);
+}
+  where
+    c : Job
+    c = copy_of (session_seat k place) a.serial h.message
+
+    once : (uid : ℕ) → noted.verdict ≡ verdicts.Stored uid → StandsOnce (pairs (w.box noted.mailbox).accepted) noted.key uid
+    once uid e = (always k.config events w came).answered noted.key.seat uid noted (subst (λ (p : ℕ). Contains (w.heard p) noted) (sym h.seat) h.heard.0) e
+
+    there : Contains (w.heard noted.key.seat) noted
+    there = subst (λ (p : ℕ). Contains (w.heard p) noted) (sym h.seat) h.heard.0
+
+all_answered : (k : Setup) (events : List Event) (w : World) (place serial : ℕ) (a : Arrival) (sent : List ℕ) (told : List Told) (verdicts : List (Option Noted)) → IsWorld k.config events w → serial ≡ a.serial
+    → AreNoted k.config.uidvalidity (came_as k place a) sent (KnownAt k.config (came_as k place a) w) told verdicts → AreAnswered k w (author_is k place serial a sent) told verdicts
+all_answered k events w place serial a sent [] [] came own h = tt
+all_answered k events w place serial a sent [] (v ∷ vs) came own h = absurd h
+all_answered k events w place serial a sent (t ∷ ts) [] came own h = absurd h
+all_answered k events w place serial a sent (t ∷ ts) (v ∷ vs) came own h = (one_answered k events w place serial a sent (bytes_in t) v came own h.0, all_answered k events w place serial a sent ts vs came own h.1)
+
+-- ---- one that tells a UID
+
+untold : (bytes tag words : List ℕ) → TellsOfNone bytes → EndsWith tag words bytes → tells_uid words ≡ true → ⊥
+untold bytes tag words none ends tells = false≢true (sym (none tag words ends) ∙ tells)
+
+-- what was said to a verdict tells a UID where that is stored
+said_kept : (k : Setup) (w : World) (author : Author) (bytes tag words : List ℕ) (noted : Noted) → AnswersNoted k w author bytes noted → EndsWith tag words bytes → tells_uid words ≡ true → TellsKept k w author tag words noted
+said_kept k w author bytes tag words noted h ends tells = by noted.verdict refl h.says
+  where
+    by : (verdict : Verdict) → noted.verdict ≡ verdict → SaysVerdict k.config.uidvalidity h.message.tag verdict bytes → TellsKept k w author tag words noted
+    by (verdicts.Refused why) e s =
+        absurd (untold bytes tag words (subst TellsOfNone (sym s) (apart_tells_none tells_uid _ (no_apart tells_uid uid_spares h.message.tag h.chosen why))) ends tells)
+    by (verdicts.Stored uid) e (inl s) = record {
+      message = h.message;
+      number = h.number;
+      came = h.came;
+      under = tags_of_words tag h.message.tag words (appended_words k.config.uidvalidity uid) ends.chosen h.chosen (sym ends.last ∙ s.last);
+      uid = uid;
+      words = words_of_tags tag h.message.tag words (appended_words k.config.uidvalidity uid) ends.chosen h.chosen (sym ends.last ∙ s.last);
+      seat = h.seat;
+      own = h.own;
+      heard = h.heard;
+      stored = e;
+      once = h.stands uid e;
+      mailbox = (h.stored uid e).0;
+      copy = (h.stored uid e).1;
+    }
+    by (verdicts.Stored uid) e (inr (fault, s)) =
+        absurd (untold bytes tag words (subst TellsOfNone (sym s) (apart_tells_none tells_uid _ (refusal_apart tells_uid uid_spares h.message.tag h.chosen fault))) ends tells)
+
+-- an answer that tells a UID was said to a verdict
+record SaidTo (k : Setup) (w : World) (author : Author) (tag words : List ℕ) (Q : Noted → Type 0) : Type 0 where
+  pub noted : Noted
+  pub kept : TellsKept k w author tag words noted
+  pub so : Q noted
+
+said_to : (k : Setup) (w : World) (author : Author) (bytes tag words : List ℕ) (verdict : Option Noted) (others : List (Option Noted)) (Q : Noted → Type 0) → IsAnswered k w author bytes verdict
+    → EndsWith tag words bytes → tells_uid words ≡ true → Every Q (filter_map as_it_is (verdict ∷ others)) → SaidTo k w author tag words Q
+said_to k w author bytes tag words None others Q h ends tells all = absurd (untold bytes tag words h ends tells)
+said_to k w author bytes tag words (Some noted) others Q h ends tells all = record { noted = noted; kept = said_kept k w author bytes tag words noted h ends tells; so = all.0 }
+
+others_every : (verdict : Option Noted) (others : List (Option Noted)) (Q : Noted → Type 0) → Every Q (filter_map as_it_is (verdict ∷ others)) → Every Q (filter_map as_it_is others)
+others_every None others Q all = all
+others_every (Some noted) others Q all = all.1
+
+said_at : (k : Setup) (w : World) (author : Author) (before after : List Told) (one : Told) (tag words : List ℕ) (verdicts : List (Option Noted)) (Q : Noted → Type 0) → AreAnswered k w author (before ++ one ∷ after) verdicts
+    → EndsWith tag words (bytes_in one) → tells_uid words ≡ true → Every Q (filter_map as_it_is verdicts) → SaidTo k w author tag words Q
+said_at k w author [] after one tag words [] Q h ends tells all = absurd h
+said_at k w author [] after one tag words (v ∷ vs) Q h ends tells all = said_to k w author (bytes_in one) tag words v vs Q h.0 ends tells all
+said_at k w author (t ∷ ts) after one tag words [] Q h ends tells all = absurd h
+said_at k w author (t ∷ ts) after one tag words (v ∷ vs) Q h ends tells all = said_at k w author ts after one tag words vs Q h.1 ends tells (others_every v vs Q all)
+
+-- two of them, one behind the other
+record BothSaid (k : Setup) (w : World) (author : Author) (tag words other_tag other_words : List ℕ) : Type 0 where
+  pub first : Noted
+  pub second : Noted
+  pub one : TellsKept k w author tag words first
+  pub two : TellsKept k w author other_tag other_words second
+  pub order : InTurn first second
+
+first_of_both : (k : Setup) (w : World) (author : Author) (mid after : List Told) (two : Told) (bytes tag words other_tag other_words : List ℕ) (verdict : Option Noted) (others : List (Option Noted)) → IsAnswered k w author bytes verdict
+    → AreAnswered k w author (mid ++ two ∷ after) others → EndsWith tag words bytes → tells_uid words ≡ true → EndsWith other_tag other_words (bytes_in two) → tells_uid other_words ≡ true
+    → Rising InTurn (filter_map as_it_is (verdict ∷ others)) → BothSaid k w author tag words other_tag other_words
+first_of_both k w author mid after two bytes tag words other_tag other_words None others h more ends tells other_ends other_tells rising = absurd (untold bytes tag words h ends tells)
+first_of_both k w author mid after two bytes tag words other_tag other_words (Some noted) others h more ends tells other_ends other_tells rising =
+    let s = said_at k w author mid after two other_tag other_words others (InTurn noted) more other_ends other_tells rising.0 in
+    record { first = noted; second = s.noted; one = said_kept k w author bytes tag words noted h ends tells; two = s.kept; order = s.so }
+
+others_rise : (verdict : Option Noted) (others : List (Option Noted)) → Rising InTurn (filter_map as_it_is (verdict ∷ others)) → Rising InTurn (filter_map as_it_is others)
+others_rise None others rising = rising
+others_rise (Some noted) others rising = rising.1
+
+both_said : (k : Setup) (w : World) (author : Author) (before mid after : List Told) (one two : Told) (tag words other_tag other_words : List ℕ) (verdicts : List (Option Noted)) → AreAnswered k w author (before ++ one ∷ (mid ++ two ∷ after)) verdicts
+    → EndsWith tag words (bytes_in one) → tells_uid words ≡ true → EndsWith other_tag other_words (bytes_in two) → tells_uid other_words ≡ true → Rising InTurn (filter_map as_it_is verdicts) → BothSaid k w author tag words other_tag other_words
+both_said k w author [] mid after one two tag words other_tag other_words [] h ends tells other_ends other_tells rising = absurd h
+both_said k w author [] mid after one two tag words other_tag other_words (v ∷ vs) h ends tells other_ends other_tells rising =
+    first_of_both k w author mid after two (bytes_in one) tag words other_tag other_words v vs h.0 h.1 ends tells other_ends other_tells rising
+both_said k w author (t ∷ ts) mid after one two tag words other_tag other_words [] h ends tells other_ends other_tells rising = absurd h
+both_said k w author (t ∷ ts) mid after one two tag words other_tag other_words (v ∷ vs) h ends tells other_ends other_tells rising =
+    both_said k w author ts mid after one two tag words other_tag other_words vs h.1 ends tells other_ends other_tells (others_rise v vs rising)
+
+every_noted : (xs : List Noted) → Every (λ (n : Noted). Unit {0}) xs
+every_noted [] = tt
+every_noted (x ∷ xs) = (tt, every_noted xs)
+
+-- ---- over a record
+
+-- all that was told, where its verdicts are known
+tells_so : (k : Setup) (events : List Event) (w : World) (place serial : ℕ) (a : Arrival) (sent : List ℕ) (told : List Told) (verdicts : List (Option Noted)) → IsWorld k.config events w → serial ≡ a.serial
+    → AreNoted k.config.uidvalidity (came_as k place a) sent (KnownAt k.config (came_as k place a) w) told verdicts → Rising InTurn (filter_map as_it_is verdicts) → TellsOfAppends k w (author_is k place serial a sent) told
+tells_so k events w place serial a sent told verdicts came own noted order =
+    let author : Author = author_is k place serial a sent in
+    let each : AreAnswered k w author told verdicts = all_answered k events w place serial a sent told verdicts came own noted in record {
+      verdicts = verdicts;
+      each = each;
+      in_order = rising_pair InTurn (filter_map as_it_is verdicts) order;
+      kept = λ before after one tag words e ends tells.
+          let s = said_at k w author before after one tag words verdicts (λ n. Unit {0}) (subst (λ (told : List Told). AreAnswered k w author told verdicts) e each) ends tells (every_noted (filter_map as_it_is verdicts)) in
+          (s.noted, s.kept);
+      apart = λ before mid after one two tag words other_tag other_words e ends tells other_ends other_tells.
+          let b = both_said k w author before mid after one two tag words other_tag other_words verdicts (subst (λ (told : List Told). AreAnswered k w author told verdicts) e each) ends tells other_ends other_tells order in
+          (b.first, b.second, b.one, b.two, b.order);
+    }
+
+-- what waits of all that its client sent
+all_sent : (u : ℕ) (first : Came) (sent waits all : List ℕ) (notes more : Noted → Sent → Type 0) → all ≡ sent ++ waits → ((n : Noted) (m : Sent) → notes n m → more n m) → (told : List Told) (verdicts : List (Option Noted))
+    → AreNoted u first sent notes told verdicts → AreNoted u first all more told verdicts
+all_sent u first sent waits all notes more e grows told verdicts each =
+    subst (λ (x : List ℕ). AreNoted u first x more told verdicts) (sym e) (still_noted u first sent waits notes more grows told verdicts each)
+
+pub appends_are_told : AppendsAreTold
+unfolding author_is
+appends_are_told k entries t place v printable is there read =
+    let K = all_known k entries t printable.numbers is in
+    let a : Arrival = arrival_by_then place nobody (empty_scene k) entries in
+    let c = the_client k (λ n. arrival_by_then n nobody (empty_scene k) entries) _ _ t place v K there read in
+    let kb : KeepsBy k entries place v t c.reached.talked.told = keeps_by k entries t place v printable is c in
+    let notes = c.reached.talked.notes in
+    let own : v.serial ≡ a.serial = (the_serial k (λ n. arrival_by_then n nobody (empty_scene k) entries) _ _ t place v K there).own in
+    let sent : List ℕ = sent_by_then place [] entries in
+    let known : Noted → Sent → Type 0 = KnownAt k.config (came_as k place a) t.world in
+    let so : TellsOfAppends k t.world (author_at k entries place v.serial) c.reached.talked.told =
+    tells_so k K.events t.world place v.serial a sent c.reached.talked.told notes.verdicts K.came own
+    (all_sent k.config.uidvalidity (came_as k place a) c.reached.sent v.session.waits sent known known c.reached.waits (λ n m h. h) c.reached.talked.told notes.verdicts notes.each) notes.order in
+    (kb.keeps, subst (TellsOfAppends k t.world (author_at k entries place v.serial)) (sym kb.is) so)
+
+-- ---- of one that has ended
+
+-- what is known stays so
+known_steps : (k : Config) (first : Came) (events : List Event) (w v : World) → Steps k w events v → (n : Noted) (m : Sent) → KnownAt k first w n m → KnownAt k first v n m
+known_steps k first [] w v e n m h = subst (λ (u : World). KnownAt k first u n m) (sym e) h
+known_steps k first (event ∷ events) w v (u, step, more) n m h =
+    known_steps k first events u v more n m (heard_stays_heard k w (event ∷ []) u first.seat n (u, step, refl) h.0, fate_step k w event u first.seat (copy_of first.seat first.serial m) step h.1)
+
+-- also behind the leave of its mailbox
+known_left : (k : Setup) (place : ℕ) (first : Came) (w v : World) → LeavesMailbox k place w v → (n : Noted) (m : Sent) → KnownAt k.config first w n m → KnownAt k.config first v n m
+known_left k place first w v leaves n m h =
+    let happened : Happened = record { call = calls.Leave false; answer = leaves.0 } in
+    (met_hears k.config place w (happened ∷ []) v first.seat n (v, leaves.1, refl) h.0, fate_met k.config place w (happened ∷ []) v first.seat (copy_of first.seat first.serial m) (v, leaves.1, refl) h.1)
+
+pub appends_were_told : AppendsWereTold
+unfolding author_is
+appends_were_told k entries t place printable is stays none =
+    let K = all_known k entries t printable.numbers is in
+    let a : Arrival = arrival_by_then place nobody (empty_scene k) entries in
+    let f : Finished k place a (sent_by_then place [] entries) (shown_by_then place [] entries) t.world = the_finished k entries t place printable is stays none in
+    let talked = f.client.reached.talked in
+    let kb : KeptBy k entries place t talked.told = kept_by k entries t place printable is f in
+    let first : Came = came_as k place a in
+    let so : TellsOfAppends k t.world (author_at k entries place a.serial) talked.told =
+    tells_so k K.events t.world place a.serial a (sent_by_then place [] entries) talked.told talked.notes.verdicts K.came refl
+    (all_sent k.config.uidvalidity first f.client.reached.sent f.visitor.waits (sent_by_then place [] entries) (KnownAt k.config first f.last) (KnownAt k.config first t.world) f.client.reached.waits
+    (λ n m h. known_steps k.config first f.later f.left t.world f.moved n m (known_left k place first f.last f.left f.leaves n m h)) talked.told talked.notes.verdicts talked.notes.each) talked.notes.order in
+    (kb.kept, subst (TellsOfAppends k t.world (author_at k entries place a.serial)) (sym kb.is) so)

@@ -1,0 +1,348 @@
+-- The answers to lines that a client sends.
+use Rattle.std.proofs.Common.{◌≡◌, ℕ, ◌<◌, ◌^◌, ◌==◌, length, append_assoc, sym, Bool, true, false, List, [], ◌∷◌, ◌++◌, refl}
+use Rattle.std.specs.Prelude.{Option, Some, None, Result, Ok, Err, IfSome, codes, decimal, nat_le, nat_lt, ◌&&◌, not, if◌then◌else◌}
+use Rattle.std.specs.List.{list_all, list_any}
+use Rattle.std.proofs.lemmas.Bool.{false≢true}
+use Rattle.std.proofs.lemmas.Option.{none-some}
+use Rattle.change_ring.specs.declared.change.Flags.{Flags}
+use Rattle.cursor_set.specs.Lines.{position}
+use Rattle.mailbox.specs.declared.clients.Row.{Row}
+use Rattle.imap_grammar.specs.Items.{marks_seen}
+use Rattle.imap_grammar.specs.Reading.{read, is_done}
+use Rattle.imap_grammar.specs.Sets.{named_in}
+use Rattle.imap_grammar.specs.Verbs.{verb_of}
+use Rattle.imap_grammar.specs.declared.set.SeqRange.{SeqRange}
+use Rattle.imap_grammar.specs.declared.command.Command.{Command}
+use Rattle.imap_grammar.specs.declared.command.Command.TheVariants as commands
+use Rattle.delivery_token.specs.declared.Verdict.{Verdict}
+use Rattle.delivery_token.specs.declared.Verdict.TheVariants as verdicts
+use Rattle.delivery_token.specs.declared.Refusal.TheVariants.{Full, MailboxFull, NoMemory, UidSpent, Shut}
+use Rattle.imap_grammar.specs.declared.command.Append.{Append}
+use Rattle.imap_grammar.specs.declared.command.Fetch.{Fetch}
+use Rattle.imap_grammar.specs.declared.command.Store.{Store}
+use Rattle.imap_grammar.specs.declared.items.StatusItem.{StatusItem}
+use Rattle.imap_grammar.specs.declared.command.ImapFault.{ImapFault}
+use Rattle.imap_grammar.specs.declared.command.ImapFault.TheVariants.{NoTag, Unknown, LeftOut, Arguments}
+use Rattle.imap_session.specs.declared.standing.After.TheVariants.{Go}
+use Rattle.imap_session.specs.declared.standing.Selected.{Selected}
+use Rattle.imap_session.specs.Exchange.{Answer, Appending, Exchange, Expunge, Feed, Folder, ForNothing, ForVerdict, Mailing, Sent, Standing, Turn, Wait, Write, bye, kept_behind, tagged}
+use Rattle.imap_session.specs.Commands.{appended_words, appending, last_number, long_idle_text, long_rest_words, long_text, most_unasked, nowhere, number_named, on_rest, on_text, on_verdict, is_over, over, turn_behind, turn_with, wanting, without_begun, without_sent, completed, counting, expunge_set, fault_text, fetch_messages, fetched, fetching, folder_of, in_selected, in_writable, messages_done, on_chosen, on_command, on_found, on_idle_line, on_read, on_set, only_says, says, showing, store_messages, stored, storing, turn_while, unlimited, verb_text, wrong_state, asking, coming}
+use Rattle.imap_answers.specs.Answers.{flags_answer}
+use Rattle.laws_client.specs.Beliefs.{Leads, Leaves, TellsNothing}
+use Rattle.laws_client.specs.ListTurns.{is_inner, IsPlain, IsRowOf, IsTag, Says, SeesAll}
+use Rattle.laws_client.specs.Fetches.{AreToldParts, IsNumbered}
+use Rattle.laws_client.specs.Commands.{AreNames, IsFollowed, IsPrinted, MayAnswer, MayAsk}
+use Rattle.laws_client.specs.ListLaws.{AnswerIsFollowed, LongLineTellsNothing, VerdictIsFollowed}
+use Rattle.laws_client.proofs.Ends.{leaves, plain_words, refusals, tagged_tells_nothing}
+use Rattle.laws_client.proofs.Chosen.{AreIn, named_are_in, small_in}
+use Rattle.laws_client.proofs.Fetched.{flags_leave, row_leaves}
+use Rattle.laws_client.proofs.Bytes.{decimal_word, words_are_inner}
+use Rattle.laws_client.proofs.Untold.{folder_plain, inner_both, list_tells_nothing, status_tells_nothing}
+use Rattle.laws_client.proofs.ListPlayed.{turn_follows}
+use Rattle.laws_client.proofs.Tags.{Tagged, read_tagged}
+use Rattle.laws_client.proofs.Turns.{ends}
+
+-- a last line whose words are written out
+last : (tag view front : List ℕ) (b : ℕ) → IsTag tag → IsPlain (front ++ b ∷ []) → Says tag view (says (front ++ b ∷ []))
+last tag view front b t plain = leaves view _ (tagged_tells_nothing tag (front ++ b ∷ []) t plain)
+
+wrong : (tag view : List ℕ) → IsTag tag → Says tag view wrong_state
+wrong tag view t = last tag view (codes "BAD Wrong stat") 101 t (plain_words (codes "BAD Wrong stat") 101 refl refl)
+
+-- what is pending is shown, where a mailbox is selected
+shows_then : (tag view : List ℕ) (selected : Option Selected) (x : Exchange) → ((new : List ℕ) → Says tag new x) → Says tag view (showing selected x)
+shows_then tag view None x h = h view
+shows_then tag view (Some selected) x h = h
+
+writable : (tag view : List ℕ) (selected : Option Selected) (now : Standing) (x : Exchange) → now.selected ≡ selected → IsTag tag → Says tag view x → Says tag view (in_writable now x)
+writable tag view None now x e t h = rw e (wrong tag view t)
+writable tag view (Some selected) now x e t h = rw e (by selected.read_only)
+  where
+    by : (b : Bool) → Says tag view (if b then says (codes "NO Mailbox is read-only") else x)
+    by true = last tag view (codes "NO Mailbox is read-onl") 121 t (plain_words (codes "NO Mailbox is read-onl") 121 refl refl)
+    by false = h
+
+nothing_leaves : (view : List ℕ) → Leaves view []
+nothing_leaves view = leaves view [] (λ messages. refl)
+
+expunged : (tag new : List ℕ) → IsTag tag → Says tag new (completed commands.Expunge)
+expunged tag new t = last tag new (codes "OK EXPUNGE complete") 100 t (plain_words (codes "OK EXPUNGE complete") 100 refl refl)
+
+set_expunged : (tag view : List ℕ) (set : List SeqRange) → IsTag tag → Says tag view (expunge_set set)
+set_expunged tag view set t = by (named_in true set view)
+  where
+    done : (new : List ℕ) → Says tag new (completed (commands.UidExpunge set))
+    done new = last tag new (codes "OK UID EXPUNGE complete") 100 t (plain_words (codes "OK UID EXPUNGE complete") 100 refl refl)
+
+    by : (chosen : Option (List ℕ)) → Says tag view (on_chosen chosen (λ uids. wanting (Expunge (Some uids) (Feed unlimited (completed (commands.UidExpunge set))))))
+    by None = last tag view (codes "BAD Sequence number too hig") 104 t (plain_words (codes "BAD Sequence number too hig") 104 refl refl)
+    by (Some uids) = (nothing_leaves view, λ new newer. done newer)
+
+-- ---- FETCH and STORE
+
+-- what stands behind the last message of a FETCH, under its UID form or not
+fetch_done : (tag view : List ℕ) (fetch : Fetch) (gone : Bool) → IsTag tag → Says tag view (messages_done (commands.Fetch fetch) fetch.by_uid gone)
+fetch_done tag view fetch gone t = by fetch.by_uid gone
+  where
+    by : (b gone : Bool) → Says tag view (messages_done (commands.Fetch (record { by_uid = b; set = fetch.set; items = fetch.items })) b gone)
+    by true gone = λ new. last tag new (codes "OK UID FETCH complete") 100 t (plain_words (codes "OK UID FETCH complete") 100 refl refl)
+    by false true = last tag view (codes "NO [EXPUNGEISSUED] Some messages are gon") 101 t (plain_words (codes "NO [EXPUNGEISSUED] Some messages are gon") 101 refl refl)
+    by false false = last tag view (codes "OK FETCH complete") 100 t (plain_words (codes "OK FETCH complete") 100 refl refl)
+
+store_done : (tag view : List ℕ) (store : Store) (gone : Bool) → IsTag tag → Says tag view (messages_done (commands.Store store) store.by_uid gone)
+store_done tag view store gone t = by store.by_uid gone
+  where
+    by : (b gone : Bool) → Says tag view (messages_done (commands.Store (record { by_uid = b; set = store.set; silent = store.silent; change = store.change })) b gone)
+    by true gone = λ new. last tag new (codes "OK UID STORE complete") 100 t (plain_words (codes "OK UID STORE complete") 100 refl refl)
+    by false true = last tag view (codes "NO [EXPUNGEISSUED] Some messages are gon") 101 t (plain_words (codes "NO [EXPUNGEISSUED] Some messages are gon") 101 refl refl)
+    by false false = last tag view (codes "OK STORE complete") 100 t (plain_words (codes "OK STORE complete") 100 refl refl)
+
+fetching_says : (tag view : List ℕ) (fetch : Fetch) (mark : Bool) (done : Bool → Exchange) → ((gone : Bool) → Says tag view (done gone)) → AreToldParts fetch.items → IsNumbered view
+    → (uids : List ℕ) (gone : Bool) → AreIn uids view → Says tag view (fetching fetch mark view done uids gone)
+fetching_says tag view fetch mark done ends parts numbered [] gone there = ends gone
+fetching_says tag view fetch mark done ends parts numbered (uid ∷ uids) gone there = by (fetching_says tag view fetch mark done ends parts numbered uids)
+  where
+    by : ((gone : Bool) → AreIn uids view → Says tag view (fetching fetch mark view done uids gone)) → (row : Option Row) → IsRowOf uid row
+        → Says tag view (on_found (λ row. Write (fetched fetch view uid row) (fetching fetch mark view done uids gone)) (fetching fetch mark view done uids true) row)
+    by more None is = more true there.1
+    by more (Some row) is = (row_leaves view uid fetch.by_uid fetch.items row there.0 numbered.few (small_in uid view numbered.small there.0) is.0 is.1 parts, more gone there.1)
+
+storing_says : (tag view : List ℕ) (store : Store) (done : Bool → Exchange) → ((gone : Bool) → Says tag view (done gone)) → IsNumbered view
+    → (uids : List ℕ) (gone : Bool) → AreIn uids view → Says tag view (storing store view done uids gone)
+storing_says tag view store done ends numbered [] gone there = ends gone
+storing_says tag view store done ends numbered (uid ∷ uids) gone there = by (storing_says tag view store done ends numbered uids)
+  where
+    silent_or : (b : Bool) (flags : Flags) (x : Exchange) → Says tag view x → Says tag view (if b then x else Write (flags_answer store.by_uid (position uid view) uid flags) x)
+    silent_or true flags x s = s
+    silent_or false flags x s = (flags_leave view uid store.by_uid flags there.0 numbered.few (small_in uid view numbered.small there.0), s)
+
+    by : ((gone : Bool) → AreIn uids view → Says tag view (storing store view done uids gone)) → (flags : Option Flags)
+        → Says tag view (on_found (λ flags. stored store view uid flags (storing store view done uids gone)) (storing store view done uids true) flags)
+    by more None = more true there.1
+    by more (Some flags) = silent_or store.silent flags (storing store view done uids gone) (more gone there.1)
+
+-- the messages that a set names, or one that isn't there
+chosen_says : (tag view : List ℕ) (by_uid : Bool) (set : List SeqRange) (next : List ℕ → List ℕ → Exchange) → IsTag tag → ((uids : List ℕ) → AreIn uids view → Says tag view (next view uids))
+    → Says tag view (on_set by_uid set next)
+chosen_says tag view by_uid set next t h = by (named_in by_uid set view) (named_are_in by_uid set view)
+  where
+    by : (chosen : Option (List ℕ)) → IfSome chosen (λ uids. AreIn uids view) → Says tag view (on_chosen chosen (next view))
+    by None there = last tag view (codes "BAD Sequence number too hig") 104 t (plain_words (codes "BAD Sequence number too hig") 104 refl refl)
+    by (Some uids) there = h uids there
+
+fetch_says : (tag view : List ℕ) (fetch : Fetch) (selected : Selected) → IsTag tag → AreToldParts fetch.items → IsNumbered view → Says tag view (fetch_messages fetch selected)
+fetch_says tag view fetch selected t parts numbered = (
+  nothing_leaves view,
+  chosen_says tag view fetch.by_uid fetch.set
+      (λ view uids. fetching fetch (list_any marks_seen fetch.items && not selected.read_only) view (messages_done (commands.Fetch fetch) fetch.by_uid) uids false) t
+      (λ uids there. fetching_says tag view fetch (list_any marks_seen fetch.items && not selected.read_only) (messages_done (commands.Fetch fetch) fetch.by_uid)
+      (λ gone. fetch_done tag view fetch gone t) parts numbered uids false there),
+)
+
+store_says : (tag view : List ℕ) (store : Store) → IsTag tag → IsNumbered view → Says tag view (store_messages store)
+store_says tag view store t numbered =
+    chosen_says tag view store.by_uid store.set (λ view uids. storing store view (messages_done (commands.Store store) store.by_uid) uids false) t
+    (λ uids there. storing_says tag view store (messages_done (commands.Store store) store.by_uid) (λ gone. store_done tag view store gone t) numbered uids false there)
+
+selected_says : (tag view : List ℕ) (selected : Option Selected) (now : Standing) (next : Selected → Exchange) → now.selected ≡ selected → IsTag tag → ((s : Selected) → Says tag view (next s))
+    → Says tag view (in_selected now next)
+selected_says tag view None now next e t h = rw e (wrong tag view t)
+selected_says tag view (Some selected) now next e t h = rw e (h selected)
+
+-- ---- LIST and STATUS
+
+list_says : (tag view : List ℕ) (now : Standing) (reference pattern : List ℕ) → IsTag tag → AreNames now.folders → Says tag view (on_command now (commands.List reference pattern))
+list_says tag view now reference pattern t names = (
+  leaves view _ (list_tells_nothing reference pattern now.folders names),
+  shows_then tag view now.selected (completed (commands.List reference pattern)) (λ new. last tag new (codes "OK LIST complete") 100 t (plain_words (codes "OK LIST complete") 100 refl refl)),
+)
+
+status_says : (tag view : List ℕ) (now : Standing) (name : List ℕ) (items : List StatusItem) → IsTag tag → AreNames now.folders → Says tag view (on_command now (commands.Status name items))
+status_says tag view now name items t names = (leaves view [] (λ messages. refl), by (folder_of name now.folders) (folder_plain name now.folders names))
+  where
+    by : (folder : Option Folder) → IfSome folder (λ f. IsPlain f.name)
+        → Says tag view (on_found (counting now name items) (says (codes "NO [NONEXISTENT] No such mailbox")) folder)
+    by None plain = last tag view (codes "NO [NONEXISTENT] No such mailbo") 120 t (plain_words (codes "NO [NONEXISTENT] No such mailbo") 120 refl refl)
+    by (Some folder) plain = λ status counted. (
+      leaves view _ (status_tells_nothing folder.name items status plain counted),
+      shows_then tag view now.selected (completed (commands.Status name items)) (λ new. last tag new (codes "OK STATUS complete") 100 t (plain_words (codes "OK STATUS complete") 100 refl refl)),
+    )
+
+-- ---- APPEND
+
+nowhere_says : (tag view : List ℕ) → IsTag tag → Says tag view nowhere
+nowhere_says tag view t = last tag view (codes "NO [TRYCREATE] No such mailbo") 120 t (plain_words (codes "NO [TRYCREATE] No such mailbo") 120 refl refl)
+
+over_says : (tag view : List ℕ) (most : Option ℕ) → IsTag tag → Says tag view (over most)
+over_says tag view None t = last tag view (codes "NO [CANNOT] Not offered her") 101 t (plain_words (codes "NO [CANNOT] Not offered her") 101 refl refl)
+over_says tag view (Some most) t = last tag view (codes "NO Message too bi") 103 t (plain_words (codes "NO Message too bi") 103 refl refl)
+
+append_says : (tag view : List ℕ) (most : Option ℕ) (folders : List Folder) (a : Append) → IsTag tag → Says tag view (appending most folders a)
+append_says tag view most folders a t = by a.literal.waits (is_over most a.literal.size) (nat_lt most_unasked a.literal.size) (number_named a.name folders)
+  where
+    fits : (big : Bool) (mailbox : ℕ) → Says tag view (if big then over most else asking mailbox a.flags a.literal.size)
+    fits true mailbox = over_says tag view most t
+    fits false mailbox = leaves view _ (λ messages. refl)
+
+    found : (big : Bool) (o : Option ℕ) → Says tag view (on_found (λ mailbox. if big then over most else asking mailbox a.flags a.literal.size) nowhere o)
+    found big None = nowhere_says tag view t
+    found big (Some mailbox) = fits big mailbox
+
+    by : (waits big long : Bool) (o : Option ℕ)
+        → Says tag view (if waits then wanting (on_found (λ mailbox. if big then over most else asking mailbox a.flags a.literal.size) nowhere o)
+        else (if long then Wait (bye (codes "Literal too big")) ForNothing else coming o a.flags a.literal.size))
+    by true big long o = (nothing_leaves view, found big o)
+    by false big true o = leaves view _ (λ messages. refl)
+    by false big false o = nothing_leaves view
+
+-- what stands behind a literal
+rest_says : (tag view : List ℕ) (mailing : Mailing) (a : Appending) (empty : Bool) → IsTag tag → Says tag view (on_rest mailing a empty)
+rest_says tag view mailing a empty t = kept a.text
+  where
+    text_says : (big nul spent : Bool) (text : List ℕ) (mailbox : ℕ)
+        → Says tag view (if big then over mailing.most else if nul then says (codes "NO NUL byte") else if spent then says (codes "NO Mailbox is spent") else wanting (Wait [] (ForVerdict mailbox a.flags text)))
+    text_says true nul spent text mailbox = over_says tag view mailing.most t
+    text_says false true spent text mailbox = last tag view (codes "NO NUL byt") 101 t (plain_words (codes "NO NUL byt") 101 refl refl)
+    text_says false false true text mailbox = last tag view (codes "NO Mailbox is spen") 116 t (plain_words (codes "NO Mailbox is spen") 116 refl refl)
+    text_says false false false text mailbox = (nothing_leaves view, nothing_leaves view)
+
+    named : (text : List ℕ) (mailbox : Option ℕ) → Says tag view (on_found (on_text mailing a text) nowhere mailbox)
+    named text None = nowhere_says tag view t
+    named text (Some mailbox) = text_says (is_over mailing.most a.size) (list_any (λ b. b == 0) text) (nat_le last_number mailing.number) text mailbox
+
+    ended : (b : Bool) (text : List ℕ) → Says tag view (if b then on_found (on_text mailing a text) nowhere a.mailbox else says (codes "BAD Invalid arguments"))
+    ended true text = named text a.mailbox
+    ended false text = last tag view (codes "BAD Invalid argument") 115 t (plain_words (codes "BAD Invalid argument") 115 refl refl)
+
+    kept : (text : Option (List ℕ))
+        → Says tag view (on_found (λ text. if empty then on_found (on_text mailing a text) nowhere a.mailbox else says (codes "BAD Invalid arguments")) (says (codes "NO Out of memory")) text)
+    kept None = last tag view (codes "NO Out of memor") 121 t (plain_words (codes "NO Out of memor") 121 refl refl)
+    kept (Some text) = ended empty text
+
+-- the line that tells where a message was stored
+pub stored_plain : (uidvalidity uid : ℕ) → uidvalidity < 2 ^ 64 → uid < 2 ^ 64 → IsPlain (appended_words uidvalidity uid)
+stored_plain uidvalidity uid v u =
+    let front : List ℕ = codes "OK [APPENDUID " ++ decimal uidvalidity ++ codes " " ++ decimal uid in
+    let inner : list_all is_inner front ≡ true =
+    inner_both (codes "OK [APPENDUID " ++ decimal uidvalidity ++ codes " ") (decimal uid)
+    (inner_both (codes "OK [APPENDUID " ++ decimal uidvalidity) (codes " ")
+    (inner_both (codes "OK [APPENDUID ") (decimal uidvalidity) refl (words_are_inner (decimal uidvalidity) (decimal_word uidvalidity v))) refl)
+    (words_are_inner (decimal uid) (decimal_word uid u)) in
+    record {
+      front = front ++ codes "] APPEND complete";
+      last = 100;
+      is = sym (append_assoc front (codes "] APPEND complete") (100 ∷ []));
+      no_count = refl;
+      inner = inner_both (front ++ codes "] APPEND complete") (100 ∷ []) (inner_both front (codes "] APPEND complete") inner refl) refl;
+    }
+
+verdict_says : (tag view : List ℕ) (selected : Option Selected) (mailbox : ℕ) (verdict : Verdict) → IsTag tag → IsPrinted verdict → Says tag view (on_verdict selected mailbox verdict)
+verdict_says tag view selected mailbox (verdicts.Stored uid) t u = λ status counted.
+    shows_then tag view selected (says (appended_words status.uidvalidity uid))
+    (λ new. leaves new _ (tagged_tells_nothing tag (appended_words status.uidvalidity uid) t (stored_plain status.uidvalidity uid counted.uidvalidity u)))
+verdict_says tag view selected mailbox (verdicts.Refused Full) t u = last tag view (codes "NO Shard ful") 108 t (plain_words (codes "NO Shard ful") 108 refl refl)
+verdict_says tag view selected mailbox (verdicts.Refused MailboxFull) t u = last tag view (codes "NO Mailbox ful") 108 t (plain_words (codes "NO Mailbox ful") 108 refl refl)
+verdict_says tag view selected mailbox (verdicts.Refused NoMemory) t u = last tag view (codes "NO Out of memor") 121 t (plain_words (codes "NO Out of memor") 121 refl refl)
+verdict_says tag view selected mailbox (verdicts.Refused UidSpent) t u = last tag view (codes "NO No UID lef") 116 t (plain_words (codes "NO No UID lef") 116 refl refl)
+verdict_says tag view selected mailbox (verdicts.Refused Shut) t u = last tag view (codes "NO Shard close") 100 t (plain_words (codes "NO Shard close") 100 refl refl)
+
+-- ---- all of them
+
+-- a command's tagged OK but for its last byte
+abbrev done_front : Command → List ℕ
+done_front command = codes "OK " ++ verb_text (verb_of command) ++ codes " complete"
+
+command_says : (tag view : List ℕ) (now : Standing) (command : Command) → IsTag tag → MayAsk now view command → Says tag view (on_command now command)
+command_says tag view now commands.Noop t may =
+    shows_then tag view now.selected (completed commands.Noop) (λ new. last tag new (codes "OK NOOP complete") 100 t (plain_words (codes "OK NOOP complete") 100 refl refl))
+command_says tag view now commands.Logout t may =
+    (leaves view _ (λ messages. refl), leaves view _ (tagged_tells_nothing tag (codes "OK LOGOUT completed") t (plain_words (codes "OK LOGOUT complete") 100 refl refl)))
+command_says tag view now commands.Idle t may = leaves view _ (λ messages. refl)
+command_says tag view now commands.Login t may = wrong tag view t
+command_says tag view now commands.Authenticate t may = wrong tag view t
+command_says tag view now commands.StartTls t may = wrong tag view t
+command_says tag view now (commands.Select name) t may = absurd (false≢true may.stays)
+command_says tag view now (commands.Examine name) t may = absurd (false≢true may.stays)
+command_says tag view now (commands.List reference pattern) t may = list_says tag view now reference pattern t may.names
+command_says tag view now (commands.Status name items) t may = status_says tag view now name items t may.names
+command_says tag view now commands.Close t may = absurd (false≢true may.stays)
+command_says tag view now commands.Unselect t may = absurd (false≢true may.stays)
+command_says tag view now commands.Expunge t may = writable tag view now.selected now (Expunge None (Feed unlimited (completed commands.Expunge))) refl t (λ new newer. expunged tag newer t)
+command_says tag view now (commands.UidExpunge set) t may = writable tag view now.selected now (expunge_set set) refl t (set_expunged tag view set t)
+command_says tag view now (commands.Fetch fetch) t may = selected_says tag view now.selected now (fetch_messages fetch) refl t (λ selected. fetch_says tag view fetch selected t may.parts may.numbered)
+command_says tag view now (commands.Store store) t may = writable tag view now.selected now (store_messages store) refl t (store_says tag view store t may.numbered)
+command_says tag view now (commands.Append append) t may = append_says tag view now.mailing.most now.folders append t
+command_says tag view now command t may = (leaves view _ (λ messages. refl), last tag view (done_front command) 100 t (plain_words (done_front command) 100 refl refl))
+
+-- ---- lines that are no commands
+
+pub fault_tells_nothing : (fault : ImapFault) → Tagged (Err fault) → TellsNothing (fault_text fault)
+fault_tells_nothing NoTag t messages = refl
+fault_tells_nothing (Unknown tag) t messages = tagged_tells_nothing tag (codes "BAD Unknown command") t (plain_words (codes "BAD Unknown comman") 100 refl refl) messages
+fault_tells_nothing (LeftOut tag) t messages = tagged_tells_nothing tag (codes "NO [CANNOT] Not offered here") t (plain_words (codes "NO [CANNOT] Not offered her") 101 refl refl) messages
+fault_tells_nothing (Arguments tag) t messages = tagged_tells_nothing tag (codes "BAD Invalid arguments") t (plain_words (codes "BAD Invalid argument") 115 refl refl) messages
+
+fault_follows : (now : Standing) (fault : ImapFault) (view : List ℕ) (answers : List Answer) (turn : Turn) (new : List ℕ)
+    → Tagged (Err fault) → only_says (fault_text fault) now answers ≡ Some turn → SeesAll view turn.events new → Leads view turn.bytes new
+fault_follows now fault view [] turn new t e sees = ends view now (fault_text fault) Go turn new e (leaves view _ (fault_tells_nothing fault t)) sees
+fault_follows now fault view (answer ∷ more) turn new t e sees = absurd (none-some turn e)
+
+read_follows : (now : Standing) (r : Result (List ℕ × Command) ImapFault) (view : List ℕ) (answers : List Answer) (turn : Turn) (new : List ℕ)
+    → Tagged r → MayAnswer now view r → on_read now r answers ≡ Some turn → SeesAll view turn.events new → Leads view turn.bytes new
+read_follows now (Ok line) view answers turn new t h e sees =
+    turn_follows line.0 (refusals line.0 t) view now (on_command now line.1) answers turn new e (command_says line.0 view now line.1 t h) sees
+read_follows now (Err fault) view answers turn new t h e sees = fault_follows now fault view answers turn new t e sees
+
+-- ---- the line that ends an IDLE
+
+idle_line_says : (tag view : List ℕ) (selected : Option Selected) (line : List ℕ) → IsTag tag → Says tag view (on_idle_line selected line)
+idle_line_says tag view selected line t = by (is_done line)
+  where
+    done : (new : List ℕ) → Says tag new (completed commands.Idle)
+    done new = last tag new (codes "OK IDLE complete") 100 t (plain_words (codes "OK IDLE complete") 100 refl refl)
+
+    by : (b : Bool) → Says tag view (if b then showing selected (completed commands.Idle) else says (codes "BAD Expected DONE"))
+    by true = shows_then tag view selected (completed commands.Idle) done
+    by false = last tag view (codes "BAD Expected DON") 69 t (plain_words (codes "BAD Expected DON") 69 refl refl)
+
+while_follows : (idling : Option (List ℕ)) (now : Standing) (line view : List ℕ) (answers : List Answer) (turn : Turn) (new : List ℕ)
+    → IsFollowed idling now view line → turn_while idling now line answers ≡ Some turn → SeesAll view turn.events new → Leads view turn.bytes new
+while_follows None now line view answers turn new h e sees = read_follows now (read line) view answers turn new (read_tagged line) h e sees
+while_follows (Some tag) now line view answers turn new t e sees =
+    turn_follows tag (refusals tag t) view (record now { idling = None }) (on_idle_line now.selected line) answers turn new e (idle_line_says tag view now.selected line t) sees
+
+behind_follows : (begun : Option Appending) (now : Standing) (line view : List ℕ) (answers : List Answer) (turn : Turn) (new : List ℕ)
+    → IsFollowed (kept_behind begun now.idling) now view line → turn_behind begun now line answers ≡ Some turn → SeesAll view turn.events new → Leads view turn.bytes new
+behind_follows None now line view answers turn new h e sees = while_follows now.idling now line view answers turn new h e sees
+behind_follows (Some a) now line view answers turn new t e sees =
+    turn_follows a.tag (refusals a.tag t) view (without_begun now) (on_rest now.mailing a (length line == 0)) answers turn new e (rest_says a.tag view now.mailing a (length line == 0) t) sees
+
+pub answer_is_followed : AnswerIsFollowed
+answer_is_followed now line view answers turn new h e sees = behind_follows now.mailing.begun now line view answers turn new h e sees
+
+long_idle_tells_nothing : (idling : Option (List ℕ)) → IfSome idling IsTag → TellsNothing (long_idle_text idling)
+long_idle_tells_nothing None t messages = refl
+long_idle_tells_nothing (Some tag) t messages = tagged_tells_nothing tag (codes "BAD Expected DONE") t (plain_words (codes "BAD Expected DON") 69 refl refl) messages
+
+long_rest_tells_nothing : (tag : List ℕ) (text : Option (List ℕ)) → IsTag tag → TellsNothing (tagged tag (long_rest_words text))
+long_rest_tells_nothing tag None t messages = tagged_tells_nothing tag (codes "NO Out of memory") t (plain_words (codes "NO Out of memor") 121 refl refl) messages
+long_rest_tells_nothing tag (Some text) t messages = tagged_tells_nothing tag (codes "BAD Invalid arguments") t (plain_words (codes "BAD Invalid argument") 115 refl refl) messages
+
+long_tells_nothing : (begun : Option Appending) (idling : Option (List ℕ)) → IfSome (kept_behind begun idling) IsTag → TellsNothing (long_text begun idling)
+long_tells_nothing None idling t = long_idle_tells_nothing idling t
+long_tells_nothing (Some a) idling t = long_rest_tells_nothing a.tag a.text t
+
+pub long_line_tells_nothing : LongLineTellsNothing
+long_line_tells_nothing now t = long_tells_nothing now.mailing.begun now.idling t
+
+-- ---- verdicts
+
+heard_follows : (sent : Option Sent) (now : Standing) (verdict : Verdict) (view : List ℕ) (answers : List Answer) (turn : Turn) (new : List ℕ)
+    → IfSome sent (λ s. IsTag s.tag) → IsPrinted verdict → turn_with sent now verdict answers ≡ Some turn → SeesAll view turn.events new → Leads view turn.bytes new
+heard_follows None now verdict view answers turn new t u e sees = absurd (none-some turn e)
+heard_follows (Some sent) now verdict view answers turn new t u e sees =
+    turn_follows sent.tag (refusals sent.tag t) view (without_sent now) (on_verdict now.selected sent.append.mailbox verdict) answers turn new e
+    (verdict_says sent.tag view now.selected sent.append.mailbox verdict t u) sees
+
+pub verdict_is_followed : VerdictIsFollowed
+verdict_is_followed now verdict view answers turn new t u e sees = heard_follows now.mailing.sent now verdict view answers turn new t u e sees

@@ -1,0 +1,540 @@
+-- A turn of a session says one answer: it has one tagged line at most, and that is its last.
+use Rattle.std.proofs.Common.{◌≡◌, ◌⊎◌, inl, inr, append_assoc, ℕ, zero, suc, ◌^◌, ◌<◌, Bool, true, false, List, [], ◌∷◌, ◌++◌, length, refl, sym, ap, ◌∙◌, subst, append-nil, Option, Some, None, Result, Ok, Err}
+use Rattle.std.specs.Prelude.{codes, decimal, reverse, IfSome, nat_le, nat_lt, ◌==◌, if◌then◌else◌}
+use Rattle.std.specs.List.{list_all, list_any}
+use Rattle.std.specs.Option.{option_map}
+use Rattle.std.proofs.lemmas.List.{reverse-append}
+use Rattle.std.proofs.lemmas.Option.{none-some}
+use Rattle.change_ring.specs.declared.change.Change.{Change}
+use Rattle.change_ring.specs.declared.change.Flags.{Flags}
+use Rattle.cursor_set.specs.Lines.{lines, position}
+use Rattle.delivery_token.specs.declared.Refusal.{Refusal}
+use Rattle.delivery_token.specs.declared.Refusal.TheVariants as refusals
+use Rattle.delivery_token.specs.declared.Verdict.{Verdict}
+use Rattle.delivery_token.specs.declared.Verdict.TheVariants as verdicts
+use Rattle.mailbox.specs.declared.clients.MailFault.{MailFault}
+use Rattle.mailbox.specs.declared.clients.MailFault.TheVariants.{Stranger, Lapped, Spent, NoMemory}
+use Rattle.mailbox.specs.declared.clients.Opening.{Opening}
+use Rattle.mailbox.specs.declared.clients.Row.{Row}
+use Rattle.mailbox.specs.declared.mailbox.Status.{Status}
+use Rattle.imap_grammar.specs.Reading.{is_done, read}
+use Rattle.imap_grammar.specs.Sets.{named_in}
+use Rattle.imap_grammar.specs.declared.command.Append.{Append}
+use Rattle.imap_grammar.specs.declared.command.Command.{Command}
+use Rattle.imap_grammar.specs.declared.command.Command.TheVariants as commands
+use Rattle.imap_grammar.specs.declared.command.Fetch.{Fetch}
+use Rattle.imap_grammar.specs.declared.command.ImapFault.{ImapFault}
+use Rattle.imap_grammar.specs.declared.command.ImapFault.TheVariants as faults
+use Rattle.imap_grammar.specs.declared.command.Store.{Store}
+use Rattle.imap_grammar.specs.declared.command.Verb.TheVariants as verbs
+use Rattle.imap_session.specs.declared.standing.After.{After}
+use Rattle.imap_session.specs.declared.standing.After.TheVariants.{Go, Bye}
+use Rattle.imap_session.specs.declared.standing.After.TheVariants as afters
+use Rattle.imap_session.specs.declared.standing.Selected.{Selected}
+use Rattle.imap_session.proofs.Unkept.{unkept_by}
+use Rattle.imap_session.specs.Exchange as ex
+use Rattle.imap_session.specs.Exchange.{Answer, Appending, Call, Entered, Looked, Found, Counted, Altered, Expunged, Fed, Left, Refused, Starved, Event as Happened, Exchange, Folder, ForVerdict, Mailing, Sent, Standing, Turn, bye, closed, having, is_idling, kept_behind, kept_tag, played, refusal_after, refusal_text, refused, saying, tagged}
+use Rattle.imap_session.specs.Commands.{appended_words, appending, closing, completed, counting, entering, expunge_set, fetch_messages, fetched, fetching, folder_of, idle_turn_in, if_writable, is_over, last_number, long_rest_words, long_text, messages_done, most_unasked, nowhere, number_named, on_chosen, on_command, on_found, on_idle_line, on_read, on_rest, on_text, on_verdict, over, refused_words, says, showing, store_messages, storing, turn_behind, turn_of, turn_while, turn_with, unlimited, verb_text, wanting, without_begun, without_sent, wrong_state}
+use Rattle.laws_client.specs.Commands.{AreNames}
+use Rattle.laws_client.specs.Talks.{Happening, Line, LongLine, Turned, Literal, Heard, leads_to}
+use Rattle.laws_client.specs.ListTurns.{IsPlain, is_inner}
+use Rattle.laws_client.proofs.IdleTags.{AreTagsOf}
+use Rattle.laws_client.proofs.Tags.{TaggedOf, read_tagged_so}
+use Rattle.laws_client.proofs.Turns.{the_turn}
+use Rattle.laws_client.proofs.Untold.{folder_plain}
+use Rattle.laws_client.specs.Cuts.{EndsItself, IsOneAnswer, SaysBye, ends, leaves_open, opens}
+use Rattle.laws_client.proofs.CutBytes.{Ends, Passes, both_pass, passes_none, then_ends}
+use Rattle.laws_client.proofs.CutTexts.{bye_passes, flags_pass, lines_pass, list_passes, opening_passes, plain_end, plus_passes, row_passes, star_passes, status_passes, tagged_ends}
+use Rattle.laws_client.proofs.LastLines.{IsWord}
+use Rattle.laws_client.proofs.LastTurns.{appended_inner}
+
+-- ---- what is read
+
+-- a text that is read has a length that can be printed
+abbrev pub IsShort : Option Row → Type 0
+IsShort None = Unit {0}
+IsShort (Some row) = length row.text < 2 ^ 64
+
+abbrev pub IsShortAnswer : Answer → Type 0
+IsShortAnswer (Found row) = IsShort row
+IsShortAnswer answer = Unit {0}
+
+abbrev pub AreShort : List Happened → Type 0
+AreShort [] = Unit {0}
+AreShort (event ∷ events) = IsShortAnswer event.answer × AreShort events
+
+-- ---- an exchange
+
+-- whatever the store answers, each piece that it writes is passed over, and its last words end a line; and it waits only where it may
+abbrev pub SaysCut : (o : Bool) → Exchange → Type 0
+SaysCut o (ex.Done words how) = (list_all is_inner words ≡ true) × (plain_end (reverse words) ≡ true)
+SaysCut o (ex.Wait bytes waits) = (o ≡ true) × Passes bytes
+SaysCut o (ex.Write bytes x) = Passes bytes × SaysCut o x
+SaysCut o (ex.Put bytes x) = Passes bytes × SaysCut o x
+SaysCut o (ex.Enter selected next) = (opening : Opening) → SaysCut o (next opening)
+SaysCut o (ex.Look by_uid set next) = (view : List ℕ) → SaysCut o (next view)
+SaysCut o (ex.Read uid mark next) = (row : Option Row) → IsShort row → SaysCut o (next row)
+SaysCut o (ex.Count mailbox next) = (status : Status) → SaysCut o (next status)
+SaysCut o (ex.Alter uid op next) = (flags : Option Flags) → SaysCut o (next flags)
+SaysCut o (ex.Expunge uids x) = SaysCut o x
+SaysCut o (ex.Feed limit x) = SaysCut o x
+SaysCut o (ex.Leave remove x) = SaysCut o x
+
+-- It ends with the line of this tag; or it has no tagged line, where the session waits and may, or says BYE.
+pub data OneOf (tag : List ℕ) (o : Bool) (bytes : List ℕ) : Type 0 where
+  kept_open : Passes bytes → (o ≡ true) ⊎ SaysBye bytes → OneOf tag o bytes
+  ended : Ends bytes → EndsItself tag bytes → OneOf tag o bytes
+
+-- of a turn, if there is one, whose texts are short
+abbrev pub TurnCut : (tag : List ℕ) → (o : Bool) → Option Turn → Type 0
+TurnCut tag o None = Unit {0}
+TurnCut tag o (Some turn) = AreShort turn.events → OneOf tag o turn.bytes
+
+pub one_of : (tag : List ℕ) (o : Bool) (bytes : List ℕ) → OneOf tag o bytes → IsOneAnswer bytes
+one_of tag o bytes (kept_open p why) = opens p
+one_of tag o bytes (ended p own) = ends p
+
+bye_behind : (text bytes : List ℕ) → SaysBye bytes → SaysBye (text ++ bytes)
+bye_behind text bytes (front, words, e) = (text ++ front, words, ap (λ (x : List ℕ). text ++ x) e ∙ sym (append_assoc text front (bye words)))
+
+own_behind : (tag text bytes : List ℕ) → EndsItself tag bytes → EndsItself tag (text ++ bytes)
+own_behind tag text bytes (front, words, e) = (text ++ front, words, ap (λ (x : List ℕ). text ++ x) e ∙ sym (append_assoc text front (tagged tag words)))
+
+behind_text : (tag : List ℕ) (o : Bool) (text bytes : List ℕ) → Passes text → OneOf tag o bytes → OneOf tag o (text ++ bytes)
+behind_text tag o text bytes p (kept_open h (inl may)) = kept_open (both_pass text bytes p h) (inl may)
+behind_text tag o text bytes p (kept_open h (inr says)) = kept_open (both_pass text bytes p h) (inr (bye_behind text bytes says))
+behind_text tag o text bytes p (ended h own) = ended (then_ends text bytes p h) (own_behind tag text bytes own)
+
+tagged_one : (tag words : List ℕ) (o : Bool) → IsWord tag → list_all is_inner words ≡ true → plain_end (reverse words) ≡ true → OneOf tag o (tagged tag words)
+tagged_one tag words o t h k = ended (tagged_ends tag words t h k) ([], words, refl)
+
+bye_of : (tag words : List ℕ) (o : Bool) → list_all is_inner words ≡ true → plain_end (reverse words) ≡ true → OneOf tag o (bye words)
+bye_of tag words o h k = kept_open (bye_passes words h k) (inr ([], words, refl))
+
+then_having : (tag : List ℕ) (o : Bool) (call : Call) (answer : Answer) (t : Option Turn) → TurnCut tag o t → TurnCut tag o (option_map (having call answer) t)
+then_having tag o call answer None p = tt
+then_having tag o call answer (Some turn) p = λ short. p short.1
+
+then_reading : (tag : List ℕ) (o : Bool) (uid : ℕ) (mark : Bool) (row : Option Row) (t : Option Turn) → (IsShort row → TurnCut tag o t) → TurnCut tag o (option_map (having (ex.Read uid mark) (Found row)) t)
+then_reading tag o uid mark row None p = tt
+then_reading tag o uid mark row (Some turn) p = λ short. p short.0 short.1
+
+then_saying : (tag : List ℕ) (o : Bool) (bytes : List ℕ) (t : Option Turn) → Passes bytes → TurnCut tag o t → TurnCut tag o (option_map (saying bytes) t)
+then_saying tag o bytes None w p = tt
+then_saying tag o bytes (Some turn) w p = λ short. behind_text tag o bytes turn.bytes w (p short)
+
+then_showing : (tag : List ℕ) (o : Bool) (call : Call) (answer : Answer) (view : List ℕ) (changes : List Change) (t : Option Turn) → TurnCut tag o t → TurnCut tag o (option_map (λ turn. having call answer (saying (lines view changes) turn)) t)
+then_showing tag o call answer view changes None p = tt
+then_showing tag o call answer view changes (Some turn) p = λ short. behind_text tag o (lines view changes) turn.bytes (lines_pass view changes) (p short.1)
+
+closed_cut : (tag : List ℕ) (o : Bool) (bytes : List ℕ) (now : Standing) (how : After) → OneOf tag o bytes → OneOf tag o (saying bytes (closed now how)).bytes
+closed_cut tag o bytes now Go p = subst (OneOf tag o) (sym (append-nil bytes)) p
+closed_cut tag o bytes now Bye p = subst (OneOf tag o) (sym (append-nil bytes)) p
+closed_cut tag o bytes now afters.Idle p = subst (OneOf tag o) (sym (append-nil bytes)) p
+closed_cut tag o bytes now (afters.Literal due) p = subst (OneOf tag o) (sym (append-nil bytes)) p
+closed_cut tag o bytes now afters.Submit p = subst (OneOf tag o) (sym (append-nil bytes)) p
+
+refusal_one : (tag : List ℕ) → IsWord tag → (o : Bool) (fault : MailFault) → OneOf tag o (refusal_text tag fault)
+refusal_one tag t o Stranger = bye_of tag (codes "Internal fault") o refl refl
+refusal_one tag t o Lapped = bye_of tag (codes "Too many changes were missed") o refl refl
+refusal_one tag t o Spent = tagged_one tag (codes "NO Mailbox is spent") o t refl refl
+refusal_one tag t o NoMemory = tagged_one tag (codes "NO Out of memory") o t refl refl
+
+refused_one : (tag : List ℕ) → IsWord tag → (o : Bool) (now : Standing) (fault : MailFault) → OneOf tag o (refused tag now fault).bytes
+refused_one tag t o now fault = closed_cut tag o (refusal_text tag fault) now (refusal_after fault) (refusal_one tag t o fault)
+
+played_cut : (tag : List ℕ) → IsWord tag → (o : Bool) (now : Standing) (x : Exchange) (answers : List Answer) → SaysCut o x → TurnCut tag o (played tag now x answers)
+played_cut tag t o now (ex.Done words how) [] p = (λ short. closed_cut tag o (tagged tag words) now how (tagged_one tag words o t p.0 p.1))
+played_cut tag t o now (ex.Done words how) (answer ∷ more) p = tt
+played_cut tag t o now (ex.Wait bytes waits) [] p = (λ short. subst (OneOf tag o) (sym (append-nil bytes)) (kept_open p.1 (inl p.0)))
+played_cut tag t o now (ex.Wait bytes waits) ((Entered a) ∷ more) p = tt
+played_cut tag t o now (ex.Wait bytes waits) ((Looked a) ∷ more) p = tt
+played_cut tag t o now (ex.Wait bytes waits) ((Found a) ∷ more) p = tt
+played_cut tag t o now (ex.Wait bytes waits) ((Counted a) ∷ more) p = tt
+played_cut tag t o now (ex.Wait bytes waits) ((Altered a) ∷ more) p = tt
+played_cut tag t o now (ex.Wait bytes waits) ((Expunged a b c) ∷ more) p = tt
+played_cut tag t o now (ex.Wait bytes waits) ((Fed a b) ∷ more) p = tt
+played_cut tag t o now (ex.Wait bytes waits) ((Left a) ∷ more) p = tt
+played_cut tag t o now (ex.Wait bytes waits) ((Refused a) ∷ more) p = tt
+played_cut tag t o now (ex.Wait bytes waits) (Starved n ∷ []) p =
+    unkept_by (TurnCut tag o) tt tag now (λ short. refused_one tag t o now NoMemory) (λ flags size short. kept_open passes_none (inl p.0)) (λ short. subst (OneOf tag o) (sym (append-nil (bye (codes "Out of memory")))) (bye_of tag (codes "Out of memory") o refl refl)) waits n
+played_cut tag t o now (ex.Wait bytes waits) (Starved n ∷ d ∷ more) p = tt
+played_cut tag t o now (ex.Write bytes x) [] p = then_saying tag o bytes (played tag now x []) p.0 (played_cut tag t o now x [] p.1)
+played_cut tag t o now (ex.Write bytes x) ((Entered a) ∷ more) p = then_saying tag o bytes (played tag now x ((Entered a) ∷ more)) p.0 (played_cut tag t o now x ((Entered a) ∷ more) p.1)
+played_cut tag t o now (ex.Write bytes x) ((Looked a) ∷ more) p = then_saying tag o bytes (played tag now x ((Looked a) ∷ more)) p.0 (played_cut tag t o now x ((Looked a) ∷ more) p.1)
+played_cut tag t o now (ex.Write bytes x) ((Found a) ∷ more) p = then_saying tag o bytes (played tag now x ((Found a) ∷ more)) p.0 (played_cut tag t o now x ((Found a) ∷ more) p.1)
+played_cut tag t o now (ex.Write bytes x) ((Counted a) ∷ more) p = then_saying tag o bytes (played tag now x ((Counted a) ∷ more)) p.0 (played_cut tag t o now x ((Counted a) ∷ more) p.1)
+played_cut tag t o now (ex.Write bytes x) ((Altered a) ∷ more) p = then_saying tag o bytes (played tag now x ((Altered a) ∷ more)) p.0 (played_cut tag t o now x ((Altered a) ∷ more) p.1)
+played_cut tag t o now (ex.Write bytes x) ((Expunged a b c) ∷ more) p = then_saying tag o bytes (played tag now x ((Expunged a b c) ∷ more)) p.0 (played_cut tag t o now x ((Expunged a b c) ∷ more) p.1)
+played_cut tag t o now (ex.Write bytes x) ((Fed a b) ∷ more) p = then_saying tag o bytes (played tag now x ((Fed a b) ∷ more)) p.0 (played_cut tag t o now x ((Fed a b) ∷ more) p.1)
+played_cut tag t o now (ex.Write bytes x) ((Left a) ∷ more) p = then_saying tag o bytes (played tag now x ((Left a) ∷ more)) p.0 (played_cut tag t o now x ((Left a) ∷ more) p.1)
+played_cut tag t o now (ex.Write bytes x) ((Refused a) ∷ more) p = then_saying tag o bytes (played tag now x ((Refused a) ∷ more)) p.0 (played_cut tag t o now x ((Refused a) ∷ more) p.1)
+played_cut tag t o now (ex.Write bytes x) (Starved zero ∷ []) p = (λ short. refused_one tag t o now NoMemory)
+played_cut tag t o now (ex.Write bytes x) (Starved zero ∷ d ∷ more) p = then_saying tag o bytes (played tag now x (Starved zero ∷ d ∷ more)) p.0 (played_cut tag t o now x (Starved zero ∷ d ∷ more) p.1)
+played_cut tag t o now (ex.Write bytes x) (Starved (suc a) ∷ []) p = then_saying tag o bytes (played tag now x (Starved a ∷ [])) p.0 (played_cut tag t o now x (Starved a ∷ []) p.1)
+played_cut tag t o now (ex.Write bytes x) (Starved (suc a) ∷ d ∷ more) p = then_saying tag o bytes (played tag now x (Starved (suc a) ∷ d ∷ more)) p.0 (played_cut tag t o now x (Starved (suc a) ∷ d ∷ more) p.1)
+played_cut tag t o now (ex.Put bytes x) answers p = then_saying tag o bytes (played tag now x answers) p.0 (played_cut tag t o now x answers p.1)
+played_cut tag t o now (ex.Enter selected next) [] p = tt
+played_cut tag t o now (ex.Enter selected next) ((Entered a) ∷ more) p = then_having tag o (ex.Enter selected.mailbox) (Entered a) (played tag (record now { selected = Some selected }) (next a) more) (played_cut tag t o (record now { selected = Some selected }) (next a) more (p a))
+played_cut tag t o now (ex.Enter selected next) ((Looked a) ∷ more) p = tt
+played_cut tag t o now (ex.Enter selected next) ((Found a) ∷ more) p = tt
+played_cut tag t o now (ex.Enter selected next) ((Counted a) ∷ more) p = tt
+played_cut tag t o now (ex.Enter selected next) ((Altered a) ∷ more) p = tt
+played_cut tag t o now (ex.Enter selected next) ((Expunged a b c) ∷ more) p = tt
+played_cut tag t o now (ex.Enter selected next) ((Fed a b) ∷ more) p = tt
+played_cut tag t o now (ex.Enter selected next) ((Left a) ∷ more) p = tt
+played_cut tag t o now (ex.Enter selected next) (Refused a ∷ []) p = (λ short. refused_one tag t o now a)
+played_cut tag t o now (ex.Enter selected next) (Refused a ∷ d ∷ more) p = tt
+played_cut tag t o now (ex.Enter selected next) ((Starved zero) ∷ more) p = tt
+played_cut tag t o now (ex.Enter selected next) ((Starved (suc a)) ∷ more) p = tt
+played_cut tag t o now (ex.Look by_uid set next) [] p = tt
+played_cut tag t o now (ex.Look by_uid set next) ((Entered a) ∷ more) p = tt
+played_cut tag t o now (ex.Look by_uid set next) ((Looked a) ∷ more) p = then_having tag o (ex.Look by_uid set) (Looked a) (played tag now (next a) more) (played_cut tag t o now (next a) more (p a))
+played_cut tag t o now (ex.Look by_uid set next) ((Found a) ∷ more) p = tt
+played_cut tag t o now (ex.Look by_uid set next) ((Counted a) ∷ more) p = tt
+played_cut tag t o now (ex.Look by_uid set next) ((Altered a) ∷ more) p = tt
+played_cut tag t o now (ex.Look by_uid set next) ((Expunged a b c) ∷ more) p = tt
+played_cut tag t o now (ex.Look by_uid set next) ((Fed a b) ∷ more) p = tt
+played_cut tag t o now (ex.Look by_uid set next) ((Left a) ∷ more) p = tt
+played_cut tag t o now (ex.Look by_uid set next) (Refused a ∷ []) p = (λ short. refused_one tag t o now a)
+played_cut tag t o now (ex.Look by_uid set next) (Refused a ∷ d ∷ more) p = tt
+played_cut tag t o now (ex.Look by_uid set next) (Starved a ∷ more) p = tt
+played_cut tag t o now (ex.Read uid mark next) [] p = tt
+played_cut tag t o now (ex.Read uid mark next) ((Entered a) ∷ more) p = tt
+played_cut tag t o now (ex.Read uid mark next) ((Looked a) ∷ more) p = tt
+played_cut tag t o now (ex.Read uid mark next) ((Found a) ∷ more) p = then_reading tag o uid mark a (played tag now (next a) more) (λ row. played_cut tag t o now (next a) more (p a row))
+played_cut tag t o now (ex.Read uid mark next) ((Counted a) ∷ more) p = tt
+played_cut tag t o now (ex.Read uid mark next) ((Altered a) ∷ more) p = tt
+played_cut tag t o now (ex.Read uid mark next) ((Expunged a b c) ∷ more) p = tt
+played_cut tag t o now (ex.Read uid mark next) ((Fed a b) ∷ more) p = tt
+played_cut tag t o now (ex.Read uid mark next) ((Left a) ∷ more) p = tt
+played_cut tag t o now (ex.Read uid mark next) (Refused a ∷ []) p = (λ short. refused_one tag t o now a)
+played_cut tag t o now (ex.Read uid mark next) (Refused a ∷ d ∷ more) p = tt
+played_cut tag t o now (ex.Read uid mark next) ((Starved zero) ∷ more) p = tt
+played_cut tag t o now (ex.Read uid mark next) ((Starved (suc a)) ∷ more) p = tt
+played_cut tag t o now (ex.Count mailbox next) [] p = tt
+played_cut tag t o now (ex.Count mailbox next) ((Entered a) ∷ more) p = tt
+played_cut tag t o now (ex.Count mailbox next) ((Looked a) ∷ more) p = tt
+played_cut tag t o now (ex.Count mailbox next) ((Found a) ∷ more) p = tt
+played_cut tag t o now (ex.Count mailbox next) ((Counted a) ∷ more) p = then_having tag o (ex.Count mailbox) (Counted a) (played tag now (next a) more) (played_cut tag t o now (next a) more (p a))
+played_cut tag t o now (ex.Count mailbox next) ((Altered a) ∷ more) p = tt
+played_cut tag t o now (ex.Count mailbox next) ((Expunged a b c) ∷ more) p = tt
+played_cut tag t o now (ex.Count mailbox next) ((Fed a b) ∷ more) p = tt
+played_cut tag t o now (ex.Count mailbox next) ((Left a) ∷ more) p = tt
+played_cut tag t o now (ex.Count mailbox next) (Refused a ∷ []) p = (λ short. refused_one tag t o now a)
+played_cut tag t o now (ex.Count mailbox next) (Refused a ∷ d ∷ more) p = tt
+played_cut tag t o now (ex.Count mailbox next) ((Starved zero) ∷ more) p = tt
+played_cut tag t o now (ex.Count mailbox next) ((Starved (suc a)) ∷ more) p = tt
+played_cut tag t o now (ex.Alter uid op next) [] p = tt
+played_cut tag t o now (ex.Alter uid op next) ((Entered a) ∷ more) p = tt
+played_cut tag t o now (ex.Alter uid op next) ((Looked a) ∷ more) p = tt
+played_cut tag t o now (ex.Alter uid op next) ((Found a) ∷ more) p = tt
+played_cut tag t o now (ex.Alter uid op next) ((Counted a) ∷ more) p = tt
+played_cut tag t o now (ex.Alter uid op next) ((Altered a) ∷ more) p = then_having tag o (ex.Alter uid op) (Altered a) (played tag now (next a) more) (played_cut tag t o now (next a) more (p a))
+played_cut tag t o now (ex.Alter uid op next) ((Expunged a b c) ∷ more) p = tt
+played_cut tag t o now (ex.Alter uid op next) ((Fed a b) ∷ more) p = tt
+played_cut tag t o now (ex.Alter uid op next) ((Left a) ∷ more) p = tt
+played_cut tag t o now (ex.Alter uid op next) (Refused a ∷ []) p = (λ short. refused_one tag t o now a)
+played_cut tag t o now (ex.Alter uid op next) (Refused a ∷ d ∷ more) p = tt
+played_cut tag t o now (ex.Alter uid op next) ((Starved zero) ∷ more) p = tt
+played_cut tag t o now (ex.Alter uid op next) ((Starved (suc a)) ∷ more) p = tt
+played_cut tag t o now (ex.Expunge uids x) [] p = tt
+played_cut tag t o now (ex.Expunge uids x) ((Entered a) ∷ more) p = tt
+played_cut tag t o now (ex.Expunge uids x) ((Looked a) ∷ more) p = tt
+played_cut tag t o now (ex.Expunge uids x) ((Found a) ∷ more) p = tt
+played_cut tag t o now (ex.Expunge uids x) ((Counted a) ∷ more) p = tt
+played_cut tag t o now (ex.Expunge uids x) ((Altered a) ∷ more) p = tt
+played_cut tag t o now (ex.Expunge uids x) ((Expunged a b c) ∷ more) p = then_showing tag o (ex.Expunge uids) (Expunged a b c) a b (played tag now x more) (played_cut tag t o now x more p)
+played_cut tag t o now (ex.Expunge uids x) ((Fed a b) ∷ more) p = tt
+played_cut tag t o now (ex.Expunge uids x) ((Left a) ∷ more) p = tt
+played_cut tag t o now (ex.Expunge uids x) (Refused a ∷ []) p = (λ short. refused_one tag t o now a)
+played_cut tag t o now (ex.Expunge uids x) (Refused a ∷ d ∷ more) p = tt
+played_cut tag t o now (ex.Expunge uids x) ((Starved zero) ∷ more) p = tt
+played_cut tag t o now (ex.Expunge uids x) ((Starved (suc a)) ∷ more) p = tt
+played_cut tag t o now (ex.Feed limit x) [] p = tt
+played_cut tag t o now (ex.Feed limit x) ((Entered a) ∷ more) p = tt
+played_cut tag t o now (ex.Feed limit x) ((Looked a) ∷ more) p = tt
+played_cut tag t o now (ex.Feed limit x) ((Found a) ∷ more) p = tt
+played_cut tag t o now (ex.Feed limit x) ((Counted a) ∷ more) p = tt
+played_cut tag t o now (ex.Feed limit x) ((Altered a) ∷ more) p = tt
+played_cut tag t o now (ex.Feed limit x) ((Expunged a b c) ∷ more) p = tt
+played_cut tag t o now (ex.Feed limit x) ((Fed a b) ∷ more) p = then_showing tag o (ex.Feed limit) (Fed a b) a b (played tag now x more) (played_cut tag t o now x more p)
+played_cut tag t o now (ex.Feed limit x) ((Left a) ∷ more) p = tt
+played_cut tag t o now (ex.Feed limit x) (Refused a ∷ []) p = (λ short. refused_one tag t o now a)
+played_cut tag t o now (ex.Feed limit x) (Refused a ∷ d ∷ more) p = tt
+played_cut tag t o now (ex.Feed limit x) ((Starved zero) ∷ more) p = tt
+played_cut tag t o now (ex.Feed limit x) ((Starved (suc a)) ∷ more) p = tt
+played_cut tag t o now (ex.Leave remove x) [] p = tt
+played_cut tag t o now (ex.Leave remove x) ((Entered a) ∷ more) p = tt
+played_cut tag t o now (ex.Leave remove x) ((Looked a) ∷ more) p = tt
+played_cut tag t o now (ex.Leave remove x) ((Found a) ∷ more) p = tt
+played_cut tag t o now (ex.Leave remove x) ((Counted a) ∷ more) p = tt
+played_cut tag t o now (ex.Leave remove x) ((Altered a) ∷ more) p = tt
+played_cut tag t o now (ex.Leave remove x) ((Expunged a b c) ∷ more) p = tt
+played_cut tag t o now (ex.Leave remove x) ((Fed a b) ∷ more) p = tt
+played_cut tag t o now (ex.Leave remove x) ((Left a) ∷ more) p = then_having tag o (ex.Leave remove) (Left a) (played tag (record now { selected = None }) x more) (played_cut tag t o (record now { selected = None }) x more p)
+played_cut tag t o now (ex.Leave remove x) (Refused a ∷ []) p = (λ short. refused_one tag t o now a)
+played_cut tag t o now (ex.Leave remove x) (Refused a ∷ d ∷ more) p = tt
+played_cut tag t o now (ex.Leave remove x) ((Starved zero) ∷ more) p = tt
+played_cut tag t o now (ex.Leave remove x) ((Starved (suc a)) ∷ more) p = tt
+
+-- ---- what an exchange is made of
+
+in_either : (o : Bool) → (b : Bool) (x y : Exchange) → SaysCut o x → SaysCut o y → SaysCut o (if b then x else y)
+in_either o true x y p q = p
+in_either o false x y p q = q
+
+in_showing : (o : Bool) → (selected : Option Selected) (x : Exchange) → SaysCut o x → SaysCut o (showing selected x)
+in_showing o None x p = p
+in_showing o (Some selected) x p = p
+
+in_closing : (o : Bool) → (selected : Option Selected) (x : Exchange) → SaysCut o x → SaysCut o (closing selected x)
+in_closing o None x p = p
+in_closing o (Some selected) x p = (star_passes (codes "OK [CLOSED] Previous mailbox is ") (codes "closed") refl refl refl, p)
+
+in_found : {A : Type 0} (o : Bool) (next : A → Exchange) (gone : Exchange) → ((a : A) → SaysCut o (next a)) → SaysCut o gone → (found : Option A) → SaysCut o (on_found next gone found)
+in_found o next gone p q None = q
+in_found o next gone p q (Some a) = p a
+
+in_folder : (o : Bool) → (next : Folder → Exchange) → ((folder : Folder) → IsPlain folder.name → SaysCut o (next folder)) → (found : Option Folder) → IfSome found (λ (folder : Folder). IsPlain folder.name)
+    → SaysCut o (on_found next (says (codes "NO [NONEXISTENT] No such mailbox")) found)
+in_folder o next p None plain = (refl, refl)
+in_folder o next p (Some folder) plain = p folder plain
+
+in_writable : (o : Bool) → (selected : Option Selected) (x : Exchange) → SaysCut o x → SaysCut o (on_found (if_writable x) wrong_state selected)
+in_writable o selected x p = in_found o (if_writable x) wrong_state (λ (s : Selected). in_either o s.read_only (says (codes "NO Mailbox is read-only")) x (refl, refl) p) (refl, refl) selected
+
+in_chosen : (o : Bool) → (chosen : Option (List ℕ)) (next : List ℕ → Exchange) → ((uids : List ℕ) → SaysCut o (next uids)) → SaysCut o (on_chosen chosen next)
+in_chosen o None next p = (refl, refl)
+in_chosen o (Some uids) next p = p uids
+
+in_done : (o : Bool) → (command : Command) (by_uid gone : Bool) → SaysCut o (completed command) → SaysCut o (messages_done command by_uid gone)
+in_done o command true gone p = p
+in_done o command false true p = (refl, refl)
+in_done o command false false p = p
+
+in_fetching : (o : Bool) → (fetch : Fetch) (mark : Bool) (view : List ℕ) (done : Bool → Exchange) → ((gone : Bool) → SaysCut o (done gone))
+    → (uids : List ℕ) (gone : Bool) → SaysCut o (fetching fetch mark view done uids gone)
+in_fetching o fetch mark view done p [] gone = p gone
+in_fetching o fetch mark view done p (uid ∷ uids) gone =
+    λ row short. by (in_fetching o fetch mark view done p uids true) (in_fetching o fetch mark view done p uids gone) row short
+  where
+    by : SaysCut o (fetching fetch mark view done uids true) → SaysCut o (fetching fetch mark view done uids gone) → (row : Option Row) → IsShort row
+        → SaysCut o (on_found (λ (r : Row). ex.Write (fetched fetch view uid r) (fetching fetch mark view done uids gone)) (fetching fetch mark view done uids true) row)
+    by without with None short = without
+    by without with (Some row) short = (row_passes (position uid view) fetch.by_uid fetch.items row short, with)
+
+in_silence : (o : Bool) → (silent : Bool) (text : List ℕ) (x : Exchange) → Passes text → SaysCut o x → SaysCut o (if silent then x else ex.Write text x)
+in_silence o true text x w p = p
+in_silence o false text x w p = (w, p)
+
+in_storing : (o : Bool) → (store : Store) (view : List ℕ) (done : Bool → Exchange) → ((gone : Bool) → SaysCut o (done gone))
+    → (uids : List ℕ) (gone : Bool) → SaysCut o (storing store view done uids gone)
+in_storing o store view done p [] gone = p gone
+in_storing o store view done p (uid ∷ uids) gone =
+    elim [ None ↦ in_storing o store view done p uids true | Some flags ↦ in_silence o store.silent _ _ (flags_pass store.by_uid (position uid view) uid flags) (in_storing o store view done p uids gone) ]
+
+fetch_words : (o : Bool) → (fetch : Fetch) → SaysCut o (completed (commands.Fetch fetch))
+fetch_words o fetch = by fetch.by_uid
+  where
+    by : (b : Bool) → SaysCut o (says (codes "OK " ++ verb_text (if b then verbs.UidFetch else verbs.Fetch) ++ codes " completed"))
+    by true = (refl, refl)
+    by false = (refl, refl)
+
+store_words : (o : Bool) → (store : Store) → SaysCut o (completed (commands.Store store))
+store_words o store = by store.by_uid
+  where
+    by : (b : Bool) → SaysCut o (says (codes "OK " ++ verb_text (if b then verbs.UidStore else verbs.Store) ++ codes " completed"))
+    by true = (refl, refl)
+    by false = (refl, refl)
+
+entered_words : (o : Bool) → (read_only : Bool) → SaysCut o (says (if read_only then codes "OK [READ-ONLY] EXAMINE completed" else codes "OK [READ-WRITE] SELECT completed"))
+entered_words o true = (refl, refl)
+entered_words o false = (refl, refl)
+
+in_entering : (o : Bool) → (read_only : Bool) (folder : Folder) → IsPlain folder.name → SaysCut o (entering read_only folder)
+in_entering o read_only folder plain opening = (opening_passes read_only folder.name opening plain, entered_words o read_only)
+
+in_selecting : (o : Bool) → (now : Standing) (read_only : Bool) (name : List ℕ) → AreNames now.folders → SaysCut o (closing now.selected (wanting (on_found (entering read_only) (says (codes "NO [NONEXISTENT] No such mailbox")) (folder_of name now.folders))))
+in_selecting o now read_only name names = in_closing o now.selected _ (passes_none, in_folder o (entering read_only) (in_entering o read_only) (folder_of name now.folders) (folder_plain name now.folders names))
+
+in_over : (o : Bool) → (most : Option ℕ) → SaysCut o (over most)
+in_over o None = (refl, refl)
+in_over o (Some most) = (refl, refl)
+
+-- ---- commands
+
+append_cut : (most : Option ℕ) (folders : List Folder) (a : Append) → SaysCut true (appending most folders a)
+append_cut most folders a =
+    in_either true a.literal.waits _ _
+    (passes_none, in_found true _ nowhere (λ (mailbox : ℕ). in_either true (is_over most a.literal.size) (over most) _ (in_over true most) (refl, plus_passes (codes "ready") refl refl)) (refl, refl) (number_named a.name folders))
+    (in_either true (nat_lt most_unasked a.literal.size) _ _ (refl, bye_passes (codes "Literal too big") refl refl) (refl, passes_none))
+
+command_cut : (now : Standing) (command : Command) → AreNames now.folders → SaysCut (leaves_open command) (on_command now command)
+command_cut now commands.Noop names = in_showing false now.selected (completed commands.Noop) (refl, refl)
+command_cut now commands.Logout names = (bye_passes (codes "Logging out") refl refl, (refl, refl))
+command_cut now commands.Idle names = (refl, plus_passes (codes "idling") refl refl)
+command_cut now commands.Login names = (refl, refl)
+command_cut now commands.Authenticate names = (refl, refl)
+command_cut now commands.StartTls names = (refl, refl)
+command_cut now commands.Capability names = (star_passes (codes "CAPABILITY IMAP4rev2 ") (codes "IDLE") refl refl refl, (refl, refl))
+command_cut now commands.Namespace names = (star_passes (codes "NAMESPACE ((\"\" \"/\")) NIL ") (codes "NIL") refl refl refl, (refl, refl))
+command_cut now (commands.Select name) names = in_selecting false now false name names
+command_cut now (commands.Examine name) names = in_selecting false now true name names
+command_cut now (commands.List reference pattern) names = (list_passes reference pattern now.folders names, in_showing false now.selected (completed (commands.List reference pattern)) (refl, refl))
+command_cut now (commands.Status name items) names =
+    (passes_none, in_folder false (counting now name items) (λ folder plain status. (status_passes folder.name items status plain, in_showing false now.selected (completed (commands.Status name items)) (refl, refl))) (folder_of name now.folders) (folder_plain name now.folders names))
+command_cut now commands.Close names = in_found false _ wrong_state (λ (s : Selected). (refl, refl)) (refl, refl) now.selected
+command_cut now commands.Unselect names = in_found false _ wrong_state (λ (s : Selected). (refl, refl)) (refl, refl) now.selected
+command_cut now commands.Expunge names = in_writable false now.selected (ex.Expunge None (ex.Feed unlimited (completed commands.Expunge))) (refl, refl)
+command_cut now (commands.UidExpunge set) names =
+    in_writable false now.selected (expunge_set set)
+    (λ view. in_chosen false (named_in true set view) (λ uids. wanting (ex.Expunge (Some uids) (ex.Feed unlimited (completed (commands.UidExpunge set))))) (λ uids. (passes_none, (refl, refl))))
+command_cut now (commands.Fetch fetch) names =
+    in_found false (fetch_messages fetch) wrong_state
+    (λ (s : Selected). (
+      passes_none,
+      λ view. in_chosen false (named_in fetch.by_uid fetch.set view) _
+          (λ uids. in_fetching false fetch _ view (messages_done (commands.Fetch fetch) fetch.by_uid) (λ gone. in_done false (commands.Fetch fetch) fetch.by_uid gone (fetch_words false fetch)) uids false),
+    )) (refl, refl) now.selected
+command_cut now (commands.Store store) names =
+    in_writable false now.selected (store_messages store)
+    (λ view. in_chosen false (named_in store.by_uid store.set view) _
+    (λ uids. in_storing false store view (messages_done (commands.Store store) store.by_uid) (λ gone. in_done false (commands.Store store) store.by_uid gone (store_words false store)) uids false))
+command_cut now (commands.Append append) names = append_cut now.mailing.most now.folders append
+
+-- a turn says one answer, whatever its tag
+abbrev pub TurnOne : Option Turn → Type 0
+TurnOne None = Unit {0}
+TurnOne (Some turn) = AreShort turn.events → IsOneAnswer turn.bytes
+
+plain : (tag : List ℕ) (o : Bool) (turn : Option Turn) → TurnCut tag o turn → TurnOne turn
+plain tag o None p = tt
+plain tag o (Some turn) p = λ short. one_of tag o turn.bytes (p short)
+
+plain_turn : (tag : List ℕ) → IsWord tag → (o : Bool) (now : Standing) (x : Exchange) (answers : List Answer) → SaysCut o x → TurnOne (played tag now x answers)
+plain_turn tag t o now x answers p = plain tag o (played tag now x answers) (played_cut tag t o now x answers p)
+
+-- ---- lines
+
+text_cut : (mailing : Mailing) (a : Appending) (text : List ℕ) (mailbox : ℕ) → SaysCut true (on_text mailing a text mailbox)
+text_cut mailing a text mailbox =
+    in_either true (is_over mailing.most a.size) (over mailing.most) _ (in_over true mailing.most)
+    (in_either true (list_any (λ b. b == 0) text) (says (codes "NO NUL byte")) _ (refl, refl)
+    (in_either true (nat_le last_number mailing.number) (says (codes "NO Mailbox is spent")) (wanting (ex.Wait [] (ForVerdict mailbox a.flags text))) (refl, refl) (passes_none, (refl, passes_none))))
+
+rest_cut : (mailing : Mailing) (a : Appending) (empty : Bool) → SaysCut true (on_rest mailing a empty)
+rest_cut mailing a empty =
+    in_found true (λ text. if empty then on_found (on_text mailing a text) nowhere a.mailbox else says (codes "BAD Invalid arguments")) (says (codes "NO Out of memory"))
+    (λ (text : List ℕ). in_either true empty (on_found (on_text mailing a text) nowhere a.mailbox) (says (codes "BAD Invalid arguments")) (in_found true (on_text mailing a text) nowhere (text_cut mailing a text) (refl, refl) a.mailbox) (refl, refl))
+    (refl, refl) a.text
+
+idling_cut : (selected : Option Selected) (line : List ℕ) → SaysCut true (on_idle_line selected line)
+idling_cut selected line =
+    in_either true (is_done line) (showing selected (completed commands.Idle)) (says (codes "BAD Expected DONE")) (in_showing true selected (completed commands.Idle) (refl, refl)) (refl, refl)
+
+fault_cut : (fault : ImapFault) (now : Standing) (answers : List Answer) → TaggedOf IsWord (Err fault) → TurnOne (on_read now (Err fault) answers)
+fault_cut faults.NoTag now [] t = λ short. subst IsOneAnswer (sym (append-nil (codes "* BAD Missing tag\r\n"))) (opens (star_passes (codes "BAD Missing ") (codes "tag") refl refl refl))
+fault_cut (faults.Unknown tag) now [] t = λ short. subst IsOneAnswer (sym (append-nil (tagged tag (codes "BAD Unknown command")))) (ends (tagged_ends tag (codes "BAD Unknown command") t refl refl))
+fault_cut (faults.LeftOut tag) now [] t = λ short. subst IsOneAnswer (sym (append-nil (tagged tag (codes "NO [CANNOT] Not offered here")))) (ends (tagged_ends tag (codes "NO [CANNOT] Not offered here") t refl refl))
+fault_cut (faults.Arguments tag) now [] t = λ short. subst IsOneAnswer (sym (append-nil (tagged tag (codes "BAD Invalid arguments")))) (ends (tagged_ends tag (codes "BAD Invalid arguments") t refl refl))
+fault_cut fault now (answer ∷ more) t = tt
+
+read_cut : (now : Standing) (r : Result (List ℕ × Command) ImapFault) (answers : List Answer) → TaggedOf IsWord r → AreNames now.folders → TurnOne (on_read now r answers)
+read_cut now (Ok line) answers t names = plain_turn line.0 t (leaves_open line.1) now (on_command now line.1) answers (command_cut now line.1 names)
+read_cut now (Err fault) answers t names = fault_cut fault now answers t
+
+while_cut : (idling : Option (List ℕ)) (now : Standing) (line : List ℕ) (answers : List Answer) → IfSome idling IsWord → AreNames now.folders → TurnOne (turn_while idling now line answers)
+while_cut None now line answers t names = read_cut now (read line) answers (read_tagged_so IsWord (λ tag word. word) line) names
+while_cut (Some tag) now line answers t names = plain_turn tag t true (record now { idling = None }) (on_idle_line now.selected line) answers (idling_cut now.selected line)
+
+behind_cut : (begun : Option Appending) (now : Standing) (line : List ℕ) (answers : List Answer) → IfSome begun (λ (a : Appending). IsWord a.tag) → IfSome now.idling IsWord → AreNames now.folders → TurnOne (turn_behind begun now line answers)
+behind_cut None now line answers t s names = while_cut now.idling now line answers s names
+behind_cut (Some a) now line answers t s names = plain_turn a.tag t true (without_begun now) (on_rest now.mailing a (length line == 0)) answers (rest_cut now.mailing a (length line == 0))
+
+rest_words : (text : Option (List ℕ)) → SaysCut true (says (long_rest_words text))
+rest_words None = (refl, refl)
+rest_words (Some text) = (refl, refl)
+
+long_cut : (begun : Option Appending) (idling : Option (List ℕ)) → IfSome begun (λ (a : Appending). IsWord a.tag) → IfSome idling IsWord → IsOneAnswer (long_text begun idling)
+long_cut None None t s = opens (star_passes (codes "BAD Line too ") (codes "long") refl refl refl)
+long_cut None (Some tag) t s = ends (tagged_ends tag (codes "BAD Expected DONE") s refl refl)
+long_cut (Some a) idling t s = let w = rest_words a.text in ends (tagged_ends a.tag (long_rest_words a.text) t w.0 w.1)
+
+-- ---- a session that idles, and verdicts
+
+bye_one : (words : List ℕ) → list_all is_inner words ≡ true → plain_end (reverse words) ≡ true → IsOneAnswer (bye words ++ [])
+bye_one words h k = subst IsOneAnswer (sym (append-nil (bye words))) (opens (bye_passes words h k))
+
+idle_cut : (selected : Option Selected) (idling : Bool) (now : Standing) (answers : List Answer) → TurnOne (idle_turn_in selected idling now answers)
+idle_cut None idling now [] = λ short. opens passes_none
+idle_cut None idling now (answer ∷ more) = tt
+idle_cut (Some s) false now [] = λ short. opens passes_none
+idle_cut (Some s) false now (answer ∷ more) = tt
+idle_cut (Some s) true now [] = tt
+idle_cut (Some s) true now ((Entered a) ∷ more) = tt
+idle_cut (Some s) true now ((Looked a) ∷ more) = tt
+idle_cut (Some s) true now ((Found a) ∷ more) = tt
+idle_cut (Some s) true now ((Counted a) ∷ more) = tt
+idle_cut (Some s) true now ((Altered a) ∷ more) = tt
+idle_cut (Some s) true now ((Expunged a b c) ∷ more) = tt
+idle_cut (Some s) true now (Fed a b ∷ []) = λ short. subst IsOneAnswer (sym (append-nil (lines a b))) (opens (lines_pass a b))
+idle_cut (Some s) true now (Fed a b ∷ d ∷ more) = tt
+idle_cut (Some s) true now ((Left a) ∷ more) = tt
+idle_cut (Some s) true now (Refused Lapped ∷ []) = λ short. bye_one (codes "Too many changes were missed") refl refl
+idle_cut (Some s) true now (Refused Lapped ∷ d ∷ more) = tt
+idle_cut (Some s) true now (Refused Stranger ∷ []) = λ short. bye_one (codes "Internal fault") refl refl
+idle_cut (Some s) true now (Refused Stranger ∷ d ∷ more) = tt
+idle_cut (Some s) true now (Refused Spent ∷ more) = tt
+idle_cut (Some s) true now (Refused NoMemory ∷ more) = tt
+idle_cut (Some s) true now ((Starved a) ∷ more) = tt
+
+appended_end : (v uid : ℕ) → plain_end (reverse (appended_words v uid)) ≡ true
+appended_end v uid = ap plain_end (reverse-append (codes "OK [APPENDUID " ++ decimal v ++ codes " " ++ decimal uid) (codes "] APPEND completed"))
+
+refusals_cut : (why : Refusal) → SaysCut true (says (refused_words why))
+refusals_cut refusals.Full = (refl, refl)
+refusals_cut refusals.MailboxFull = (refl, refl)
+refusals_cut refusals.NoMemory = (refl, refl)
+refusals_cut refusals.UidSpent = (refl, refl)
+refusals_cut refusals.Shut = (refl, refl)
+
+verdict_cut : (selected : Option Selected) (mailbox : ℕ) (verdict : Verdict) → SaysCut true (on_verdict selected mailbox verdict)
+verdict_cut selected mailbox (verdicts.Stored uid) = λ status. in_showing true selected (says (appended_words status.uidvalidity uid)) (appended_inner status.uidvalidity uid, appended_end status.uidvalidity uid)
+verdict_cut selected mailbox (verdicts.Refused why) = refusals_cut why
+
+heard_cut : (sent : Option Sent) (now : Standing) (verdict : Verdict) (answers : List Answer) → IfSome sent (λ (s : Sent). IsWord s.tag) → TurnOne (turn_with sent now verdict answers)
+heard_cut None now verdict answers t = tt
+heard_cut (Some sent) now verdict answers t = plain_turn sent.tag t true (without_sent now) (on_verdict now.selected sent.append.mailbox verdict) answers (verdict_cut now.selected sent.append.mailbox verdict)
+
+-- ---- a turn
+
+some_cut : (o : Option Turn) (turn : Turn) → TurnOne o → o ≡ Some turn → AreShort turn.events → IsOneAnswer turn.bytes
+some_cut o turn p e short = subst TurnOne e p short
+
+pub turn_cut : (now : Standing) (happening : Happening) (turn : Turn) → AreTagsOf IsWord now → AreNames now.folders → leads_to now happening ≡ Some turn → AreShort turn.events → IsOneAnswer turn.bytes
+turn_cut now (Line line answers) turn t names e short = some_cut (turn_of now line answers) turn (behind_cut now.mailing.begun now line answers t.1 t.0 names) e short
+turn_cut now LongLine turn t names e short = subst (λ (x : Turn). IsOneAnswer x.bytes) (ap (the_turn turn) e) (long_cut now.mailing.begun now.idling t.1 t.0)
+turn_cut now (Turned answers) turn t names e short = some_cut (idle_turn_in now.selected (is_idling now) now answers) turn (idle_cut now.selected (is_idling now) now answers) e short
+turn_cut now (Literal kept bytes) turn t names e short = subst (λ (x : Turn). IsOneAnswer x.bytes) (ap (the_turn turn) e) (opens passes_none)
+turn_cut now (Heard verdict answers) turn t names e short = some_cut (turn_with now.mailing.sent now verdict answers) turn (heard_cut now.mailing.sent now verdict answers t.2) e short
+
+-- the answer to a command
+some_own : (tag : List ℕ) (o : Bool) (found : Option Turn) (turn : Turn) → TurnCut tag o found → found ≡ Some turn → AreShort turn.events → OneOf tag o turn.bytes
+some_own tag o found turn p e short = subst (TurnCut tag o) e p short
+
+pub command_one : (now : Standing) (line tag : List ℕ) (command : Command) (answers : List Answer) (turn : Turn) → AreNames now.folders → kept_tag now ≡ None → read line ≡ Ok (tag, command) → turn_of now line answers ≡ Some turn
+    → AreShort turn.events → OneOf tag (leaves_open command) turn.bytes
+command_one now line tag command answers turn names kept reads e short = by now.mailing.begun now.idling refl refl
+  where
+    word : IsWord tag
+    word = subst (TaggedOf IsWord) reads (read_tagged_so IsWord (λ tag word. word) line)
+
+    by : (begun : Option Appending) (idling : Option (List ℕ)) → begun ≡ now.mailing.begun → idling ≡ now.idling → OneOf tag (leaves_open command) turn.bytes
+    by (Some b) idling p q = absurd (none-some b.tag (sym kept ∙ sym (ap (λ (x : Option Appending). kept_behind x now.idling) p)))
+    by None (Some i) p q = absurd (none-some i (sym kept ∙ sym (ap (λ (x : Option Appending). kept_behind x now.idling) p) ∙ sym q))
+    by None None p q =
+        let first : turn_while now.idling now line answers ≡ Some turn = subst (λ (o : Option Appending). turn_behind o now line answers ≡ Some turn) (sym p) e in
+        let second : on_read now (read line) answers ≡ Some turn = subst (λ (o : Option (List ℕ)). turn_while o now line answers ≡ Some turn) (sym q) first in
+        let third : played tag now (on_command now command) answers ≡ Some turn = subst (λ (r : Result (List ℕ × Command) ImapFault). on_read now r answers ≡ Some turn) reads second in
+        some_own tag (leaves_open command) (played tag now (on_command now command) answers) turn (played_cut tag word (leaves_open command) now (on_command now command) answers (command_cut now command names)) third short

@@ -1,0 +1,141 @@
+-- A turn of a session, and its whole life, as they tell its client flags.
+use Rattle.std.proofs.Common.{◌≡◌, ℕ, true, false, List, refl, sym, subst, ap, ap₂}
+use Rattle.std.specs.Prelude.{Option, Some, None, Result, Ok, Err, codes, not}
+use Rattle.world.specs.World.{Config, World}
+use Rattle.imap_grammar.specs.Reading.{read}
+use Rattle.imap_grammar.specs.declared.command.Command.{Command}
+use Rattle.imap_grammar.specs.declared.command.Command.TheVariants as commands
+use Rattle.imap_grammar.specs.declared.command.ImapFault.{ImapFault}
+use Rattle.imap_session.specs.Exchange.{Answer as StoreAnswer, Appending, Standing, Turn, kept_tag, kept_behind, may_send, played}
+use Rattle.imap_session.specs.Commands.{on_command, on_read, turn_behind, turn_of, turn_of_long_line, turn_while, with_bytes}
+use Rattle.imap_session.specs.Store.{Met}
+use Rattle.laws_client.specs.Client.{Client}
+use Rattle.laws_client.specs.Commands.{MayAnswer, stays}
+use Rattle.laws_client.specs.Fetches.{IsNumbered}
+use Rattle.laws_client.specs.Talks.{Happening, Line, LongLine, Turned, Literal, Heard, MayCome, MayHappen, leads_to}
+use Rattle.laws_client.specs.ListTurns.{AreTags, IsTag}
+use Rattle.laws_client.proofs.Commands.{long_line_tells_nothing}
+use Rattle.laws_client.proofs.Tags.{Tagged, read_tagged}
+use Rattle.laws_client.proofs.Talking.{kept_is_tag, may_follow}
+use Rattle.laws_client.proofs.Turns.{the_turn}
+use Rattle.laws_client.specs.Clients.{Told, answered, asked, asked_by, hears, hears_all, reads_on}
+use Rattle.laws_client.specs.Lives.{Lives, comes, turns, others}
+use Rattle.laws_client.specs.Sizes.{HasShortTexts, HasSmallNumbers}
+use Rattle.laws_client.specs.RecordTurns.{Stands, VerdictsArePrinted, told_line, told_of}
+use Rattle.laws_client.proofs.Boxes.{box_goes}
+use Rattle.laws_client.proofs.RecordEntering.{tagged_has}
+use Rattle.laws_client.proofs.RecordKnown.{may_ask, stands_still}
+use Rattle.laws_client.proofs.Living.{hears_last}
+use Rattle.laws_client.proofs.Moved.{Calls, short_before, short_met, sound_met, sound_step}
+use Rattle.laws_client.proofs.Names.{goes_extends}
+use Rattle.laws_client.proofs.Parts.{HasTold, read_told}
+use Rattle.laws_client.proofs.RecordWorlds.{Sound, numbered_view, sound_always}
+use Rattle.laws_client.specs.Flags.{Point, counted}
+use Rattle.laws_client.specs.FlagTurns.{LeadsFlags, SeesAllFlags}
+use Rattle.laws_client.specs.Worlds.{IsRightOnFlags, LivesTellFlags, TurnsTellFlags, point_of}
+use Rattle.laws_client.proofs.FlagEntering.{closes_right, reads_right, selects_right}
+use Rattle.laws_client.proofs.Idling.{idle_tells_flags}
+use Rattle.laws_client.proofs.Saying.{answer_tells_flags, verdict_tells_flags}
+use Rattle.laws_client.proofs.Turning.{leaves, rests_in}
+use Rattle.laws_client.proofs.FlagWorlds.{counted_of, others_flags, sees_all_flags}
+
+-- ---- what may happen
+
+long_tells : (now : Standing) (p : Point) (turn : Turn) (q : Point) → AreTags now → Some (turn_of_long_line now) ≡ Some turn → SeesAllFlags p turn.events q → LeadsFlags p turn.bytes q
+long_tells now p turn q k e sees =
+    let same : turn_of_long_line now ≡ turn = ap (the_turn turn) e in
+    let s : q ≡ p = subst (λ (t : Turn). SeesAllFlags p t.events q) (sym same) sees in
+    subst (λ (t : Turn). LeadsFlags p t.bytes q) same
+    (subst (λ (r : Point). LeadsFlags p (turn_of_long_line now).bytes r) (sym s) (leaves p (turn_of_long_line now).bytes (long_line_tells_nothing now (kept_is_tag now.mailing.begun now.idling k.1 k.0))))
+
+happening_tells : (now : Standing) (p : Point) (happening : Happening) (turn : Turn) (q : Point) → AreTags now → MayHappen now (counted p) happening → leads_to now happening ≡ Some turn
+    → SeesAllFlags p turn.events q → LeadsFlags p turn.bytes q
+happening_tells now p (Line line answers) turn q k may e sees = answer_tells_flags now line p answers turn q (may_follow (kept_tag now) now (counted p) line (kept_is_tag now.mailing.begun now.idling k.1 k.0) may) e sees
+happening_tells now p LongLine turn q k may e sees = long_tells now p turn q k e sees
+happening_tells now p (Turned answers) turn q k may e sees = idle_tells_flags now p answers turn q e sees
+happening_tells now p (Literal kept bytes) turn q k may e sees = rests_in p (may_send (with_bytes kept bytes now)) (with_bytes kept bytes now) turn q e sees
+happening_tells now p (Heard verdict answers) turn q k may e sees = verdict_tells_flags now verdict p answers turn q k.2 may e sees
+
+command_flags : (k : Config) (n : ℕ) (now : Standing) (w : World) (tag : List ℕ) (command : Command) (answers : List StoreAnswer) (turn : Turn) (v : World) (client : Option Client)
+    → HasSmallNumbers k → Sound k w → Stands now → IsTag tag → played tag now (on_command now command) answers ≡ Some turn → Met (Calls k n) w turn.events v → IsRightOnFlags (point_of w n) client
+    → (stays command ≡ true → IsRightOnFlags (point_of v n) (reads_on turn.bytes client)) → IsRightOnFlags (point_of v n) (answered (asked_by tag command) turn.bytes client)
+command_flags k n now w tag (commands.Select name) answers turn v client h S stands t e met right more =
+    selects_right k n tag now w false name answers turn v h S t stands.names e met
+command_flags k n now w tag (commands.Examine name) answers turn v client h S stands t e met right more =
+    selects_right k n tag now w true name answers turn v h S t stands.names e met
+command_flags k n now w tag commands.Close answers turn v client h S stands t e met right more =
+    closes_right k n tag (codes "OK CLOSE completed") now w (λ s. not s.read_only) now.selected answers turn v client t (tagged_has tag (codes "OK CLOSE completed") t) e met right
+command_flags k n now w tag commands.Unselect answers turn v client h S stands t e met right more =
+    closes_right k n tag (codes "OK UNSELECT completed") now w (λ s. false) now.selected answers turn v client t (tagged_has tag (codes "OK UNSELECT completed") t) e met right
+command_flags k n now w tag _ answers turn v client h S stands t e met right more = more refl
+
+read_flags : (k : Config) (n : ℕ) (now : Standing) (w : World) (r : Result (List ℕ × Command) ImapFault) (answers : List StoreAnswer) (turn : Turn) (v : World) (client : Option Client)
+    → HasSmallNumbers k → Sound k w → Stands now → IsNumbered (counted (point_of w n)) → Tagged r → HasTold r → on_read now r answers ≡ Some turn → Met (Calls k n) w turn.events v → IsRightOnFlags (point_of w n) client
+    → (MayAnswer now (counted (point_of w n)) r → IsRightOnFlags (point_of v n) (reads_on turn.bytes client)) → IsRightOnFlags (point_of v n) (answered (asked r) turn.bytes client)
+read_flags k n now w (Ok line) answers turn v client h S stands numbered t told e met right more =
+    command_flags k n now w line.0 line.1 answers turn v client h S stands t e met right (λ stay. more (may_ask now (counted (point_of w n)) line.1 stands numbered told stay))
+read_flags k n now w (Err fault) answers turn v client h S stands numbered t told e met right more = more tt
+
+-- ---- turns
+
+happening_flags : (k : Config) (n : ℕ) (now : Standing) (w : World) (happening : Happening) (turn : Turn) (v : World) (client : Option Client) → HasSmallNumbers k → Sound k w → HasShortTexts v → Stands now
+    → leads_to now happening ≡ Some turn → Met (Calls k n) w turn.events v → IsRightOnFlags (point_of w n) client → MayHappen now (counted (point_of w n)) happening → IsRightOnFlags (point_of v n) (reads_on turn.bytes client)
+happening_flags k n now w happening turn v client h S short stands e met right may =
+    reads_right (point_of w n) turn.bytes (point_of v n) client (happening_tells now (point_of w n) happening turn (point_of v n) stands.tags may e (sees_all_flags k n w turn.events v h S short met)) right
+
+line_flags : (k : Config) (n : ℕ) (now : Standing) (w : World) (line : List ℕ) (answers : List StoreAnswer) (turn : Turn) (v : World) (client : Option Client) → HasSmallNumbers k → Sound k w → HasShortTexts v → Stands now
+    → turn_of now line answers ≡ Some turn → Met (Calls k n) w turn.events v → IsRightOnFlags (point_of w n) client → IsRightOnFlags (point_of v n) (hears client (told_line (kept_tag now) line turn.bytes))
+line_flags k n now w line answers turn v client h S short stands e met right = by now.mailing.begun now.idling refl refl
+  where
+    more : MayCome (kept_tag now) now (counted (point_of w n)) line → IsRightOnFlags (point_of v n) (reads_on turn.bytes client)
+    more may = happening_flags k n now w (Line line answers) turn v client h S short stands e met right may
+
+    by : (begun : Option Appending) (idling : Option (List ℕ)) → begun ≡ now.mailing.begun → idling ≡ now.idling → IsRightOnFlags (point_of v n) (hears client (told_line (kept_behind begun idling) line turn.bytes))
+    by (Some a) idling b i = more (subst (λ (o : Option (List ℕ)). MayCome o now (counted (point_of w n)) line) (ap₂ kept_behind b i) tt)
+    by None (Some tag) b i = more (subst (λ (o : Option (List ℕ)). MayCome o now (counted (point_of w n)) line) (ap₂ kept_behind b i) tt)
+    by None None b i =
+        let first : turn_while now.idling now line answers ≡ Some turn = subst (λ (o : Option Appending). turn_behind o now line answers ≡ Some turn) (sym b) e in
+        let second : on_read now (read line) answers ≡ Some turn = subst (λ (o : Option (List ℕ)). turn_while o now line answers ≡ Some turn) (sym i) first in
+        read_flags k n now w (read line) answers turn v client h S stands (subst IsNumbered (counted_of w n) (numbered_view k w n S)) (read_tagged line) (read_told line) second met right
+        (λ may. more (subst (λ (o : Option (List ℕ)). MayCome o now (counted (point_of w n)) line) (ap₂ kept_behind b i) may))
+
+turn_flags : (k : Config) (n : ℕ) (now : Standing) (w : World) (happening : Happening) (turn : Turn) (v : World) (client : Option Client) → HasSmallNumbers k → Sound k w → HasShortTexts v → Stands now
+    → VerdictsArePrinted happening → leads_to now happening ≡ Some turn → Met (Calls k n) w turn.events v → IsRightOnFlags (point_of w n) client → IsRightOnFlags (point_of v n) (hears client (told_of now happening turn.bytes))
+turn_flags k n now w (Line line answers) turn v client h S short stands printed e met right = line_flags k n now w line answers turn v client h S short stands e met right
+turn_flags k n now w LongLine turn v client h S short stands printed e met right = happening_flags k n now w LongLine turn v client h S short stands e met right tt
+turn_flags k n now w (Turned answers) turn v client h S short stands printed e met right = happening_flags k n now w (Turned answers) turn v client h S short stands e met right tt
+turn_flags k n now w (Literal kept bytes) turn v client h S short stands printed e met right = happening_flags k n now w (Literal kept bytes) turn v client h S short stands e met right tt
+turn_flags k n now w (Heard verdict answers) turn v client h S short stands printed e met right = happening_flags k n now w (Heard verdict answers) turn v client h S short stands e met right printed
+
+pub turns_tell_flags : TurnsTellFlags
+turns_tell_flags k events w n now happening turn v client h is short stands printed e met right =
+    turn_flags k n now w happening turn v client h (sound_always k events w h is) short stands printed e met right
+
+-- ---- a whole life
+
+pub record KnownFlags (k : Config) (n : ℕ) (told : List Told) (now : Standing) (w : World) : Type 0 where
+  pub sound : Sound k w
+  pub stands : Stands now
+  pub right : IsRightOnFlags (point_of w n) (hears_all None told)
+
+-- the last turn comes after all that was known before it
+pub lives_flags : (k : Config) (n : ℕ) (first : Standing) (began : World) {sent : List ℕ} {told : List Told} {now : Standing} {w : World} → HasSmallNumbers k → Sound k began → Stands first
+    → Lives k n first began sent told now w → HasShortTexts w → KnownFlags k n told now w
+lives_flags k n first began h S stands comes short = record { sound = S; stands = stands; right = tt }
+lives_flags k n first began h S stands (turns {told = told} {now = now} {w = w} lives happening bytes turn v sent printed e met) short =
+    let K = lives_flags k n first began h S stands lives (short_met k n w turn.events v met short) in record {
+      sound = sound_met k n w turn.events v K.sound met;
+      stands = stands_still now happening turn K.stands e;
+      right = subst (λ (c : Option Client). IsRightOnFlags (point_of v n) c) (sym (hears_last None told (told_of now happening turn.bytes)))
+          (turn_flags k n now w happening turn v (hears_all None told) h K.sound short K.stands printed e met K.right);
+    }
+lives_flags k n first began h S stands (others {told = told} {now = now} {w = w} lives event v o step) short =
+    let K = lives_flags k n first began h S stands lives (short_before w v (λ m. goes_extends k (w.box m) (v.box m) (box_goes k w event v m step)) short) in record {
+      sound = sound_step k w event v K.sound step;
+      stands = K.stands;
+      right = others_flags k w event v n (hears_all None told) K.sound.kept step o K.right;
+    }
+
+pub lives_tell_flags : LivesTellFlags
+lives_tell_flags k events n first began sent told now w h is short stands lives =
+    (lives_flags k n first began h (sound_always k events began h is) stands lives short).right

@@ -1,0 +1,92 @@
+-- One life is lived, in which a client knows newer flags than those that its session was shown.
+use Rattle.std.proofs.Common.{[], ◌∷◌, refl, arith, inl}
+use Rattle.std.specs.Prelude.{codes, false, true, Some}
+use Rattle.std.specs.Fmt.{digits}
+use Rattle.shard_queue.specs.declared.lane.Entry.TheVariants.{Item}
+use Rattle.change_ring.specs.Log.{no_flags}
+use Rattle.change_ring.specs.declared.change.Change.TheVariants.{Add, Flags as SetFlags}
+use Rattle.change_ring.specs.declared.change.Flags.{Flags}
+use Rattle.change_ring.specs.declared.flag_op.FlagOp.TheVariants.{Insert}
+use Rattle.imap_grammar.specs.Reading.{read}
+use Rattle.imap_grammar.specs.declared.set.SeqNumber.TheVariants.{Number}
+use Rattle.imap_session.specs.declared.standing.After.TheVariants.{Go}
+use Rattle.imap_session.specs.Exchange.{Alter, Altered, Entered, Fed, Look, Looked, Turn}
+use Rattle.world.specs.World.{Box, Put, Take, Deliver, Answer as AnswerEvent, Hear, put_joins, takes, delivers, answers, hears_one, enters, mails}
+use Rattle.world.specs.First.{one_copy, one_reply}
+use Rattle.laws_client.specs.Talks.{Line}
+use Rattle.laws_client.specs.Lives.{comes, turns, others}
+use Rattle.laws_client.specs.RecordLife.{one_last}
+use Rattle.laws_client.proofs.RecordOneLife.{selects, shows_it}
+use Rattle.world.proofs.FirstRun.{box}
+use Rattle.laws_client.specs.FlagLife.{OneLifeKnowsFlags}
+
+abbrev flagged : Flags
+flagged = record no_flags { flagged = true }
+
+abbrev marked : Box
+marked = record { log = Add 1 ∷ SetFlags 1 flagged ∷ []; base = 0; accepted = (one_copy, 1) ∷ [] }
+
+sets_it : Turn
+sets_it = record {
+  events = record { call = Look false (record { from = Number 1; to = Number 1 } ∷ []); answer = Looked (1 ∷ []) } ∷ record { call = Alter 1 (Insert flagged); answer = Altered (Some flagged) } ∷ [];
+  bytes = codes "* 1 FETCH (FLAGS (\\Flagged))\r\na3 OK STORE completed\r\n";
+  after = Go;
+  standing = one_last;
+}
+
+pub one_life_knows_flags : OneLifeKnowsFlags
+unfolding read digits selects shows_it sets_it
+one_life_knows_flags = (
+  _,
+  turns
+      (turns
+      (others
+      (others
+      (others
+      (others
+      (others
+      (turns comes (Line (codes "a1 SELECT INBOX") (Entered (record { count = 0; uidvalidity = 1; uidnext = 1 }) ∷ [])) (codes "a1 SELECT INBOX\r\n") selects _ refl tt refl
+      (_, (enters (omega arith) (omega arith) refl (omega arith) refl, (_, refl, refl), (refl, refl), refl), refl))
+      (Put 0 0 one_copy) _ tt
+      (put_joins (record { seat = omega arith; own = refl; mailbox = omega arith; shard = (omega arith, refl); above_sent = λ t i d l. absurd (omega arith); above_heard = λ i d l. absurd (omega arith) }) refl (omega arith) refl))
+      (Take 0) _ tt (takes (Item 0 one_copy) [] refl refl refl))
+      (Deliver 0) _ tt (delivers one_copy box refl (omega arith, omega arith) (omega arith) (record { room = omega arith; log = refl; base = inl refl; accepted = refl }) refl))
+      (AnswerEvent 0) _ tt (answers one_reply refl (omega arith) refl))
+      (Hear 0) _ tt (hears_one 0 one_reply [] refl refl))
+      (Line (codes "a2 NOOP") (Fed [] (Add 1 ∷ []) ∷ [])) (codes "a2 NOOP\r\n") shows_it _ refl tt refl (
+        _,
+        (
+          (_, refl, mails box (omega arith) (record { room = omega arith; log = refl; base = refl; accepted = refl }) refl),
+          (
+            _,
+            refl,
+            (
+              record { kept = omega arith; mailbox = box; logs = record { room = omega arith; log = refl; base = refl; accepted = refl }; made = refl },
+              record { kept = omega arith; counted = refl; handed = refl },
+            ),
+          ),
+        ),
+        refl,
+      ))
+      (Line (codes "a3 STORE 1 +FLAGS (\\Flagged)") (Looked (1 ∷ []) ∷ Altered (Some flagged) ∷ [])) (codes "a3 STORE 1 +FLAGS (\\Flagged)\r\n") sets_it _ refl tt refl (
+        _,
+        (refl, (_, refl, refl)),
+        (
+          _,
+          (
+            (_, refl, mails marked (omega arith) (record { room = omega arith; log = refl; base = inl refl; accepted = refl }) refl),
+            (
+              _,
+              refl,
+              (
+                record { kept = omega arith; mailbox = marked; logs = record { room = omega arith; log = refl; base = inl refl; accepted = refl }; made = refl },
+                (omega arith, refl),
+              ),
+            ),
+          ),
+          refl,
+        ),
+      ),
+  refl,
+  refl,
+)

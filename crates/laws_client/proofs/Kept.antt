@@ -1,0 +1,141 @@
+-- What a client keeps of the line of a FETCH with literals in it.
+use Rattle.std.proofs.Common.{zero, suc, ◌≡◌, ℕ, ◌^◌, ◌<◌, ◌≤◌, Bool, true, false, ◌&&◌, List, [], ◌∷◌, ◌++◌, length, take, drop, map, ap, ◌∙◌, sym, refl, arith, append_assoc}
+use Rattle.std.specs.Prelude.{reverse, decimal, codes, Option, Some, None, if◌then◌else◌}
+use Rattle.std.specs.List.{list_all}
+use Rattle.std.proofs.lemmas.Bool.{false≢true}
+use Rattle.std.proofs.lemmas.List.{append-nil, length-drop, reverse-append, reverse-reverse}
+use Rattle.std.proofs.lemmas.List.Folds.{list_all-append}
+use Rattle.cursor_set.specs.Lines.{spaced}
+use Rattle.mailbox.specs.declared.clients.Row.{Row}
+use Rattle.imap_answers.specs.Answers.{crlf, is_crlf, flags_text, header, header_from, item_text, literal, origin_text, part, section}
+use Rattle.imap_grammar.specs.Grammar.{section_word}
+use Rattle.imap_grammar.specs.declared.items.FetchItem.{FetchItem}
+use Rattle.imap_grammar.specs.declared.items.FetchItem.TheVariants as fetch
+use Rattle.imap_grammar.specs.declared.items.Section.{Section}
+use Rattle.imap_grammar.specs.declared.items.Section.TheVariants.{Whole, Header, Text}
+use Rattle.imap_grammar.specs.declared.items.Span.{Span}
+use Rattle.laws_client.specs.Client.{Client, Messages, knowing, within, reads, line_ends, literal_of, told}
+use Rattle.laws_client.specs.ListTurns.{is_inner}
+use Rattle.laws_client.specs.Fetches.{IsToldPart, AreToldParts}
+use Rattle.laws_client.proofs.Bytes.{reads-append, inner_byte, inner_text, words_are_inner, decimal_word}
+use Rattle.laws_client.proofs.LinesRead.{flags_inner, flags_part}
+use Rattle.laws_client.proofs.Literals.{literal_leaves_its_count}
+
+-- within a line, reading this text leaves these bytes
+abbrev pub Keeping : List ℕ → List ℕ → Type 0
+Keeping text kept = (o : Messages) (line : List ℕ) → reads (within o line) text ≡ within o (reverse kept ++ line)
+
+pub inner_keeping : (text : List ℕ) → list_all is_inner text ≡ true → Keeping text text
+inner_keeping text h o line = inner_text o line text h
+
+pub both_keeping : (a ka b kb : List ℕ) → Keeping a ka → Keeping b kb → Keeping (a ++ b) (ka ++ kb)
+both_keeping a ka b kb ha hb o line =
+    reads-append (within o line) a b ∙ ap (λ (c : Client). reads c b) (ha o line) ∙ hb o (reverse ka ++ line)
+    ∙ ap (within o) (sym (ap (λ (l : List ℕ). l ++ line) (reverse-append ka kb) ∙ append_assoc (reverse kb) (reverse ka) line))
+
+number_keeping : (n : ℕ) → n < 2 ^ 64 → Keeping (decimal n) (decimal n)
+number_keeping n h = inner_keeping (decimal n) (words_are_inner (decimal n) (decimal_word n h))
+
+-- a line whose end is read
+pub whole_kept : (o : Messages) (text kept : List ℕ) → Keeping text kept → literal_of (reverse kept) ≡ None → reads (knowing o) (text ++ 13 ∷ 10 ∷ []) ≡ knowing (told kept o)
+whole_kept o text kept h none =
+    reads-append (knowing o) text (13 ∷ 10 ∷ [])
+    ∙ ap (λ (c : Client). reads c (13 ∷ 10 ∷ [])) (h o [] ∙ ap (within o) (append-nil (reverse kept)))
+    ∙ ap (λ (c : Client). reads c (10 ∷ [])) (inner_byte o (reverse kept) 13 refl)
+    ∙ ap (λ (n : Option ℕ). line_ends n o (reverse kept)) none
+    ∙ ap (λ (t : List ℕ). knowing (told t o)) (reverse-reverse kept)
+
+-- ---- items
+
+-- of a literal its count is kept
+abbrev pub count_kept : List ℕ → List ℕ
+count_kept bytes = codes "{" ++ decimal (length bytes) ++ codes "}\r\n"
+
+abbrev pub body_word : Section → Option Span → List ℕ
+body_word which span = codes "BODY[" ++ section_word which ++ codes "]" ++ origin_text span
+
+abbrev pub item_kept : Row → FetchItem → List ℕ
+item_kept row fetch.Uid = codes "UID " ++ decimal row.uid
+item_kept row fetch.Flags = flags_text row.flags
+item_kept row fetch.Size = codes "RFC822.SIZE " ++ decimal (length row.text)
+item_kept row (fetch.Body peek which span) = body_word which span ++ codes " " ++ count_kept (part span (section which row.text))
+
+-- the numbers of a row can be printed
+pub record IsSmall (row : Row) : Type 0 where
+  pub uid : row.uid < 2 ^ 64
+  pub text : length row.text < 2 ^ 64
+
+header_most : (fresh : Bool) (text : List ℕ) → length (header_from fresh text) ≤ length text
+header_most fresh [] = omega arith
+header_most fresh (b ∷ []) = omega arith
+header_most fresh (b ∷ c ∷ bs) = by (is_crlf (b ∷ c ∷ bs)) fresh (header_most true bs) (header_most false (c ∷ bs))
+  where
+    by : (t f : Bool) → length (header_from true bs) ≤ length bs → length (header_from false (c ∷ bs)) ≤ length (c ∷ bs)
+        → length (if t then (if f then crlf else 13 ∷ 10 ∷ header_from true bs) else b ∷ header_from false (c ∷ bs)) ≤ length (b ∷ c ∷ bs)
+    by true true h k = omega arith
+    by true false h k = omega (arith, h)
+    by false f h k = omega (arith, k)
+
+front_inner : (which : Section) → list_all is_inner (codes "BODY[" ++ section_word which ++ codes "]") ≡ true
+front_inner Whole = refl
+front_inner Header = refl
+front_inner Text = refl
+
+origin_keeping : (peek : Bool) (which : Section) (span : Option Span) → IsToldPart (fetch.Body peek which span) → Keeping (origin_text span) (origin_text span)
+origin_keeping peek which None small = inner_keeping [] refl
+origin_keeping peek which (Some span) small =
+    both_keeping (codes "<" ++ decimal span.origin) (codes "<" ++ decimal span.origin) (codes ">") (codes ">")
+    (both_keeping (codes "<") (codes "<") (decimal span.origin) (decimal span.origin) (inner_keeping (codes "<") refl) (number_keeping span.origin small)) (inner_keeping (codes ">") refl)
+
+literal_keeping : (bytes : List ℕ) → length bytes < 2 ^ 64 → Keeping (literal bytes) (count_kept bytes)
+literal_keeping bytes h o line = literal_leaves_its_count o line bytes h
+
+take_most : (n : ℕ) (xs : List ℕ) → length (take n xs) ≤ length xs
+take_most zero xs = omega arith
+take_most (suc n) [] = omega arith
+take_most (suc n) (x ∷ xs) = omega (arith, take_most n xs)
+
+drop_most : (n : ℕ) (xs : List ℕ) → length (drop n xs) ≤ length xs
+drop_most n xs = omega (arith, length-drop n xs)
+
+section_most : (which : Section) (text : List ℕ) → length (section which text) ≤ length text
+section_most Whole text = omega arith
+section_most Header text = header_most true text
+section_most Text text = drop_most (length (header text)) text
+
+part_most : (span : Option Span) (bytes : List ℕ) → length (part span bytes) ≤ length bytes
+part_most None bytes = omega arith
+part_most (Some span) bytes = omega (arith, take_most span.count (drop span.origin bytes), drop_most span.origin bytes)
+
+pub part_small : (row : Row) (which : Section) (span : Option Span) → IsSmall row → length (part span (section which row.text)) < 2 ^ 64
+part_small row which span small = omega (arith, small.text, part_most span (section which row.text), section_most which row.text)
+
+flags_all : (text : List ℕ) → list_all is_inner (text ++ 41 ∷ []) ≡ true → list_all is_inner text ≡ true
+flags_all text h = by (list_all is_inner text) (sym (list_all-append is_inner text (41 ∷ [])) ∙ h)
+  where
+    by : (b : Bool) → (b && true) ≡ true → b ≡ true
+    by true k = refl
+    by false k = absurd (false≢true k)
+
+pub item_keeping : (row : Row) (item : FetchItem) → IsSmall row → IsToldPart item → Keeping (item_text row item) (item_kept row item)
+item_keeping row fetch.Uid small told = both_keeping (codes "UID ") (codes "UID ") (decimal row.uid) (decimal row.uid) (inner_keeping (codes "UID ") refl) (number_keeping row.uid small.uid)
+item_keeping row fetch.Flags small told =
+    inner_keeping (flags_part row.flags) (flags_all (flags_part row.flags) (flags_inner row.flags.answered row.flags.flagged row.flags.deleted row.flags.seen row.flags.draft))
+item_keeping row fetch.Size small told =
+    both_keeping (codes "RFC822.SIZE ") (codes "RFC822.SIZE ") (decimal (length row.text)) (decimal (length row.text)) (inner_keeping (codes "RFC822.SIZE ") refl) (number_keeping (length row.text) small.text)
+item_keeping row (fetch.Body peek which span) small told =
+    let front : List ℕ = codes "BODY[" ++ section_word which ++ codes "]" in
+    let bytes : List ℕ = part span (section which row.text) in
+    both_keeping (body_word which span ++ codes " ") (body_word which span ++ codes " ") (literal bytes) (count_kept bytes)
+    (both_keeping (body_word which span) (body_word which span) (codes " ") (codes " ")
+    (both_keeping front front (origin_text span) (origin_text span) (inner_keeping front (front_inner which)) (origin_keeping peek which span told)) (inner_keeping (codes " ") refl))
+    (literal_keeping bytes (part_small row which span small))
+
+pub items_keeping : (row : Row) (items : List FetchItem) → IsSmall row → AreToldParts items → Keeping (spaced (map (item_text row) items)) (spaced (map (item_kept row) items))
+items_keeping row [] small told = inner_keeping [] refl
+items_keeping row (item ∷ []) small told = item_keeping row item small told.0
+items_keeping row (item ∷ other ∷ items) small told =
+    let texts : List ℕ = spaced (map (item_text row) (other ∷ items)) in
+    let kept : List ℕ = spaced (map (item_kept row) (other ∷ items)) in
+    both_keeping (item_text row item) (item_kept row item) (32 ∷ texts) (32 ∷ kept) (item_keeping row item small told.0)
+    (both_keeping (32 ∷ []) (32 ∷ []) texts kept (inner_keeping (32 ∷ []) refl) (items_keeping row (other ∷ items) small told.1))

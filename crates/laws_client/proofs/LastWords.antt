@@ -1,0 +1,182 @@
+-- Whatever a client sends but a message that is stored, its answer tells no UID in its last line.
+use Rattle.std.proofs.Common.{inl, inr, ℕ, Bool, true, false, List, [], ◌∷◌, ◌++◌, map, length, refl, sym, subst, append-nil, Option, Some, None, Result, Ok, Err}
+use Rattle.std.specs.Prelude.{codes, IfSome, nat_lt, ◌==◌, if◌then◌else◌}
+use Rattle.cursor_set.specs.Lines.{position, spaced}
+use Rattle.imap_grammar.specs.Reading.{is_done, read}
+use Rattle.imap_grammar.specs.Sets.{named_in}
+use Rattle.imap_grammar.specs.declared.command.Append.{Append}
+use Rattle.imap_grammar.specs.declared.command.Command.{Command}
+use Rattle.imap_grammar.specs.declared.command.Command.TheVariants as commands
+use Rattle.imap_grammar.specs.declared.command.Fetch.{Fetch}
+use Rattle.imap_grammar.specs.declared.command.ImapFault.{ImapFault}
+use Rattle.imap_grammar.specs.declared.command.ImapFault.TheVariants as faults
+use Rattle.imap_grammar.specs.declared.command.Store.{Store}
+use Rattle.imap_grammar.specs.declared.command.Verb.TheVariants as verbs
+use Rattle.imap_session.specs.declared.standing.Selected.{Selected}
+use Rattle.imap_session.specs.Exchange as ex
+use Rattle.imap_session.specs.Exchange.{Answer, Appending, Exchange, Folder, ForVerdict, Mailing, Standing, Turn, bye, played}
+use Rattle.imap_session.specs.Commands.{appending, asking, closing, completed, counting, entering, expunge_set, fetch_messages, fetching, folder_of, if_writable, is_over, messages_done, most_unasked, notice, noticing, nowhere, number_named, on_chosen, on_command, on_found, on_idle_line, on_read, over, says, showing, store_messages, storing, turn_behind, turn_of, turn_while, unlimited, verb_text, wanting, without_begun, wrong_state}
+use Rattle.imap_session.specs.Telling.{tells_uid}
+use Rattle.exactly_once.proofs.Whole.{IsWhole, bye_whole, ends, fetched_whole, flags_whole, list_whole, opening_whole}
+use Rattle.laws_client.proofs.IdleTags.{AreTagsOf}
+use Rattle.laws_client.proofs.Tags.{TaggedOf, read_tagged_so}
+use Rattle.laws_client.proofs.LastRests.{EndsFine, either_fine, rest_fine, says_fine}
+use Rattle.laws_client.proofs.LastLines.{Apart, IsWord, SaysApart, Spares, TurnFine, bye_apart, fine_wait, tagged_apart, untagged_apart}
+
+pub uid_spares : Spares tells_uid
+uid_spares = record { no = λ rest. refl; bad = λ rest. refl }
+
+-- ---- what an exchange is made of
+
+in_either : (b : Bool) (x y : Exchange) → SaysApart tells_uid x → SaysApart tells_uid y → SaysApart tells_uid (if b then x else y)
+in_either true x y p q = p
+in_either false x y p q = q
+
+in_showing : (selected : Option Selected) (x : Exchange) → SaysApart tells_uid x → SaysApart tells_uid (showing selected x)
+in_showing None x p = p
+in_showing (Some selected) x p = p
+
+in_closing : (selected : Option Selected) (x : Exchange) → SaysApart tells_uid x → SaysApart tells_uid (closing selected x)
+in_closing None x p = p
+in_closing (Some selected) x p = (inr (codes "* OK [CLOSED] Previous mailbox is closed", refl), p)
+
+in_found : {A : Type 0} (next : A → Exchange) (gone : Exchange) → ((a : A) → SaysApart tells_uid (next a)) → SaysApart tells_uid gone → (found : Option A) → SaysApart tells_uid (on_found next gone found)
+in_found next gone p q None = q
+in_found next gone p q (Some a) = p a
+
+in_folder : (next : Folder → Exchange) → ((folder : Folder) → SaysApart tells_uid (next folder)) → (found : Option Folder) → SaysApart tells_uid (on_found next (says (codes "NO [NONEXISTENT] No such mailbox")) found)
+in_folder next p found = in_found next (says (codes "NO [NONEXISTENT] No such mailbox")) p (refl, refl) found
+
+in_writable : (selected : Option Selected) (x : Exchange) → SaysApart tells_uid x → SaysApart tells_uid (on_found (if_writable x) wrong_state selected)
+in_writable selected x p = in_found (if_writable x) wrong_state (λ (s : Selected). in_either s.read_only (says (codes "NO Mailbox is read-only")) x (refl, refl) p) (refl, refl) selected
+
+in_chosen : (chosen : Option (List ℕ)) (next : List ℕ → Exchange) → ((uids : List ℕ) → SaysApart tells_uid (next uids)) → SaysApart tells_uid (on_chosen chosen next)
+in_chosen None next p = (refl, refl)
+in_chosen (Some uids) next p = p uids
+
+in_done : (command : Command) (by_uid gone : Bool) → SaysApart tells_uid (completed command) → SaysApart tells_uid (messages_done command by_uid gone)
+in_done command true gone p = p
+in_done command false true p = (refl, refl)
+in_done command false false p = p
+
+in_fetching : (fetch : Fetch) (mark : Bool) (view : List ℕ) (done : Bool → Exchange) → ((gone : Bool) → SaysApart tells_uid (done gone))
+    → (uids : List ℕ) (gone : Bool) → SaysApart tells_uid (fetching fetch mark view done uids gone)
+in_fetching fetch mark view done p [] gone = p gone
+in_fetching fetch mark view done p (uid ∷ uids) gone =
+    elim [ None ↦ in_fetching fetch mark view done p uids true | Some row ↦ (fetched_whole fetch view uid row, in_fetching fetch mark view done p uids gone) ]
+
+in_silence : (silent : Bool) (text : List ℕ) (x : Exchange) → IsWhole text → SaysApart tells_uid x → SaysApart tells_uid (if silent then x else ex.Write text x)
+in_silence true text x w p = p
+in_silence false text x w p = (w, p)
+
+in_storing : (store : Store) (view : List ℕ) (done : Bool → Exchange) → ((gone : Bool) → SaysApart tells_uid (done gone))
+    → (uids : List ℕ) (gone : Bool) → SaysApart tells_uid (storing store view done uids gone)
+in_storing store view done p [] gone = p gone
+in_storing store view done p (uid ∷ uids) gone =
+    elim [ None ↦ in_storing store view done p uids true | Some flags ↦ in_silence store.silent _ _ (flags_whole store.by_uid (position uid view) uid flags) (in_storing store view done p uids gone) ]
+
+fetch_words : (fetch : Fetch) → SaysApart tells_uid (completed (commands.Fetch fetch))
+fetch_words fetch = by fetch.by_uid
+  where
+    by : (b : Bool) → SaysApart tells_uid (says (codes "OK " ++ verb_text (if b then verbs.UidFetch else verbs.Fetch) ++ codes " completed"))
+    by true = (refl, refl)
+    by false = (refl, refl)
+
+store_words : (store : Store) → SaysApart tells_uid (completed (commands.Store store))
+store_words store = by store.by_uid
+  where
+    by : (b : Bool) → SaysApart tells_uid (says (codes "OK " ++ verb_text (if b then verbs.UidStore else verbs.Store) ++ codes " completed"))
+    by true = (refl, refl)
+    by false = (refl, refl)
+
+entered_words : (read_only : Bool) → SaysApart tells_uid (says (if read_only then codes "OK [READ-ONLY] EXAMINE completed" else codes "OK [READ-WRITE] SELECT completed"))
+entered_words true = (refl, refl)
+entered_words false = (refl, refl)
+
+in_entering : (read_only : Bool) (folder : Folder) → SaysApart tells_uid (entering read_only folder)
+in_entering read_only folder opening = (opening_whole read_only folder.name opening, entered_words read_only)
+
+in_selecting : (now : Standing) (read_only : Bool) (name : List ℕ) → SaysApart tells_uid (closing now.selected (wanting (on_found (entering read_only) (says (codes "NO [NONEXISTENT] No such mailbox")) (folder_of name now.folders))))
+in_selecting now read_only name = in_closing now.selected _ (inl refl, in_folder (entering read_only) (in_entering read_only) (folder_of name now.folders))
+
+in_over : (most : Option ℕ) → SaysApart tells_uid (over most)
+in_over None = (refl, refl)
+in_over (Some most) = (refl, refl)
+
+-- ---- commands
+
+append_fine : (most : Option ℕ) (folders : List Folder) (a : Append) → EndsFine tells_uid (appending most folders a)
+append_fine most folders a =
+    either_fine tells_uid a.literal.waits _ _
+    (says_fine tells_uid uid_spares (wanting (on_found (λ mailbox. if is_over most a.literal.size then over most else asking mailbox a.flags a.literal.size) nowhere (number_named a.name folders)))
+    (inl refl, in_found _ nowhere (λ (mailbox : ℕ). in_either (is_over most a.literal.size) (over most) _ (in_over most) (untagged_apart tells_uid 43 (codes " ready") refl refl, tt)) (refl, refl) (number_named a.name folders)))
+    (either_fine tells_uid (nat_lt most_unasked a.literal.size) _ _ (says_fine tells_uid uid_spares (ex.Wait (bye (codes "Literal too big")) ex.ForNothing) (bye_apart tells_uid (codes "Literal too big") refl, tt))
+    (λ tag t now answers. fine_wait tells_uid uid_spares tag t now (ex.ForLiteral ex.Unasked (number_named a.name folders) a.flags a.literal.size) answers))
+
+notice_apart : (said : Option (List ℕ)) (x : Exchange) → SaysApart tells_uid x → SaysApart tells_uid (noticing said x)
+notice_apart None x p = p
+notice_apart (Some words) x p = (ends (codes "* ") words, p)
+
+command_apart : (now : Standing) (command : Command) → EndsFine tells_uid (on_command now command)
+command_apart now commands.Noop = says_fine tells_uid uid_spares (on_command now commands.Noop) (in_showing now.selected (completed commands.Noop) (refl, refl))
+command_apart now commands.Logout = says_fine tells_uid uid_spares (on_command now commands.Logout) (bye_whole (codes "Logging out"), (refl, refl))
+command_apart now commands.Idle = says_fine tells_uid uid_spares (on_command now commands.Idle) (untagged_apart tells_uid 43 (codes " idling") refl refl, tt)
+command_apart now commands.Login = says_fine tells_uid uid_spares (on_command now commands.Login) (refl, refl)
+command_apart now commands.Authenticate = says_fine tells_uid uid_spares (on_command now commands.Authenticate) (refl, refl)
+command_apart now commands.StartTls = says_fine tells_uid uid_spares (on_command now commands.StartTls) (refl, refl)
+command_apart now (commands.Select name) = says_fine tells_uid uid_spares (on_command now (commands.Select name)) (in_selecting now false name)
+command_apart now (commands.Examine name) = says_fine tells_uid uid_spares (on_command now (commands.Examine name)) (in_selecting now true name)
+command_apart now (commands.List reference pattern) =
+    says_fine tells_uid uid_spares (on_command now (commands.List reference pattern)) (list_whole reference pattern (map (λ (folder : Folder). folder.name) now.folders), in_showing now.selected (completed (commands.List reference pattern)) (refl, refl))
+command_apart now (commands.Status name items) = says_fine tells_uid uid_spares (on_command now (commands.Status name items)) (
+  inl refl,
+  in_folder (counting now name items)
+      (λ folder status. (ends (codes "* STATUS " ++ folder.name ++ codes " (" ++ spaced (map _ items)) (codes ")"), in_showing now.selected (completed (commands.Status name items)) (refl, refl))) (folder_of name now.folders),
+)
+command_apart now commands.Close = says_fine tells_uid uid_spares (on_command now commands.Close) (in_found _ wrong_state (λ (s : Selected). (refl, refl)) (refl, refl) now.selected)
+command_apart now commands.Unselect = says_fine tells_uid uid_spares (on_command now commands.Unselect) (in_found _ wrong_state (λ (s : Selected). (refl, refl)) (refl, refl) now.selected)
+command_apart now commands.Expunge = says_fine tells_uid uid_spares (on_command now commands.Expunge) (in_writable now.selected (ex.Expunge None (ex.Feed unlimited (completed commands.Expunge))) (refl, refl))
+command_apart now (commands.UidExpunge set) =
+    says_fine tells_uid uid_spares (on_command now (commands.UidExpunge set)) (in_writable now.selected (expunge_set set)
+    (λ view. in_chosen (named_in true set view) (λ uids. wanting (ex.Expunge (Some uids) (ex.Feed unlimited (completed (commands.UidExpunge set))))) (λ uids. (inl refl, (refl, refl)))))
+command_apart now (commands.Fetch fetch) =
+    says_fine tells_uid uid_spares (on_command now (commands.Fetch fetch)) (in_found (fetch_messages fetch) wrong_state
+    (λ (s : Selected). (
+      inl refl,
+      λ view. in_chosen (named_in fetch.by_uid fetch.set view) _
+          (λ uids. in_fetching fetch _ view (messages_done (commands.Fetch fetch) fetch.by_uid) (λ gone. in_done (commands.Fetch fetch) fetch.by_uid gone (fetch_words fetch)) uids false),
+    )) (refl, refl) now.selected)
+command_apart now (commands.Store store) =
+    says_fine tells_uid uid_spares (on_command now (commands.Store store)) (in_writable now.selected (store_messages store)
+    (λ view. in_chosen (named_in store.by_uid store.set view) _
+    (λ uids. in_storing store view (messages_done (commands.Store store) store.by_uid) (λ gone. in_done (commands.Store store) store.by_uid gone (store_words store)) uids false)))
+command_apart now (commands.Append append) = append_fine now.mailing.most now.folders append
+command_apart now command = says_fine tells_uid uid_spares (on_command now command) (notice_apart (notice command) (completed command) (refl, refl))
+
+-- ---- lines
+
+idling_apart : (selected : Option Selected) (line : List ℕ) → SaysApart tells_uid (on_idle_line selected line)
+idling_apart selected line =
+    in_either (is_done line) (showing selected (completed commands.Idle)) (says (codes "BAD Expected DONE")) (in_showing selected (completed commands.Idle) (refl, refl)) (refl, refl)
+
+fault_fine : (fault : ImapFault) (now : Standing) (answers : List Answer) → TaggedOf IsWord (Err fault) → TurnFine tells_uid (on_read now (Err fault) answers)
+fault_fine faults.NoTag now [] t = inr (subst (Apart tells_uid) (sym (append-nil (codes "* BAD Missing tag\r\n"))) (untagged_apart tells_uid 42 (codes " BAD Missing tag") refl refl))
+fault_fine (faults.Unknown tag) now [] t = inr (subst (Apart tells_uid) (sym (append-nil (ex.tagged tag (codes "BAD Unknown command")))) (tagged_apart tells_uid tag (codes "BAD Unknown command") t refl refl))
+fault_fine (faults.LeftOut tag) now [] t = inr (subst (Apart tells_uid) (sym (append-nil (ex.tagged tag (codes "NO [CANNOT] Not offered here")))) (tagged_apart tells_uid tag (codes "NO [CANNOT] Not offered here") t refl refl))
+fault_fine (faults.Arguments tag) now [] t = inr (subst (Apart tells_uid) (sym (append-nil (ex.tagged tag (codes "BAD Invalid arguments")))) (tagged_apart tells_uid tag (codes "BAD Invalid arguments") t refl refl))
+fault_fine fault now (answer ∷ more) t = tt
+
+read_fine : (now : Standing) (r : Result (List ℕ × Command) ImapFault) (answers : List Answer) → TaggedOf IsWord r → TurnFine tells_uid (on_read now r answers)
+read_fine now (Ok line) answers t = command_apart now line.1 line.0 t now answers
+read_fine now (Err fault) answers t = fault_fine fault now answers t
+
+while_fine : (idling : Option (List ℕ)) (now : Standing) (line : List ℕ) (answers : List Answer) → IfSome idling IsWord → TurnFine tells_uid (turn_while idling now line answers)
+while_fine None now line answers t = read_fine now (read line) answers (read_tagged_so IsWord (λ tag word. word) line)
+while_fine (Some tag) now line answers t = says_fine tells_uid uid_spares (on_idle_line now.selected line) (idling_apart now.selected line) tag t (record now { idling = None }) answers
+
+behind_fine : (begun : Option Appending) (now : Standing) (line : List ℕ) (answers : List Answer) → IfSome begun (λ (a : Appending). IsWord a.tag) → IfSome now.idling IsWord → TurnFine tells_uid (turn_behind begun now line answers)
+behind_fine None now line answers t s = while_fine now.idling now line answers s
+behind_fine (Some a) now line answers t s = rest_fine tells_uid uid_spares now.mailing a (length line == 0) a.tag t (without_begun now) answers
+
+pub line_fine : (now : Standing) (line : List ℕ) (answers : List Answer) → AreTagsOf IsWord now → TurnFine tells_uid (turn_of now line answers)
+line_fine now line answers k = behind_fine now.mailing.begun now line answers k.1 k.0

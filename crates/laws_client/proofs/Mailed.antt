@@ -1,0 +1,423 @@
+-- No text that a session submits is longer than the most that it takes: by induction over the exchange, a clause for each answer that there is.
+use Rattle.std.proofs.Common.{zero, suc, ◌≡◌, ℕ, ◌+◌, ◌-◌, ◌≤◌, Bool, true, false, List, [], ◌∷◌, length, ap, refl, subst, sym, ◌∙◌, arith, length-append}
+use Rattle.std.specs.Prelude.{Option, Some, None, IfSome, Result, Ok, Err, codes, nat_le, nat_lt, ◌==◌, ◌&&◌, not, if◌then◌else◌}
+use Rattle.std.specs.List.{list_any}
+use Rattle.std.specs.Option.{option_map}
+use Rattle.std.proofs.lemmas.Option.{none-some}
+use Rattle.change_ring.specs.declared.change.Flags.{Flags}
+use Rattle.cursor_set.specs.Lines.{lines}
+use Rattle.mailbox.specs.declared.clients.MailFault.{MailFault}
+use Rattle.mailbox.specs.declared.clients.MailFault.TheVariants.{Stranger, Lapped, Spent, NoMemory}
+use Rattle.mailbox.specs.declared.clients.Opening.{Opening}
+use Rattle.mailbox.specs.declared.clients.Row.{Row}
+use Rattle.mailbox.specs.declared.mailbox.Status.{Status}
+use Rattle.imap_grammar.specs.Items.{marks_seen}
+use Rattle.imap_grammar.specs.Reading.{is_done, read}
+use Rattle.imap_grammar.specs.Sets.{named_in}
+use Rattle.imap_grammar.specs.declared.set.SeqRange.{SeqRange}
+use Rattle.imap_grammar.specs.declared.command.Append.{Append}
+use Rattle.imap_grammar.specs.declared.command.Command.{Command}
+use Rattle.imap_grammar.specs.declared.command.Command.TheVariants as commands
+use Rattle.imap_grammar.specs.declared.command.Fetch.{Fetch}
+use Rattle.imap_grammar.specs.declared.command.Store.{Store}
+use Rattle.imap_grammar.specs.declared.command.ImapFault.{ImapFault}
+use Rattle.imap_session.specs.declared.standing.After.{After}
+use Rattle.imap_session.specs.declared.standing.After.TheVariants.{Go, Bye}
+use Rattle.imap_session.specs.declared.standing.After.TheVariants as afters
+use Rattle.imap_session.specs.declared.standing.Selected.{Selected}
+use Rattle.imap_session.specs.Exchange.{Answer, Entered, Looked, Found, Counted, Altered, Expunged, Fed, Left, Refused, Starved, Exchange, ForDone, ForLiteral, ForVerdict, ForNothing, Done, Wait, Write, Put, Enter, Look, Read, Count, Alter, Expunge, Feed, Leave, Folder, Mailing, Standing, Turn, Appending, Sent, Waiting, closed, having, played, refusal_after, refusal_text, refused, saying, tagged, waiting, unkept, Asked, Dropped, Unasked}
+use Rattle.imap_session.proofs.Unkept.{unkept_by}
+use Rattle.imap_session.specs.Commands.{appending, closing, completed, counting, entering, expunge_set, fault_text, fetch_messages, fetched, fetching, folder_of, idle_turn_in, if_writable, in_writable, is_over, kept_text, last_number, messages_done, most_unasked, nowhere, number_named, on_chosen, on_command, on_folder, on_found, on_idle_line, on_read, on_rest, on_set, on_text, on_verdict, only_says, over, says, selecting, showing, store_messages, stored, storing, taking, turn_behind, turn_of, turn_of_long_line, turn_of_verdict, turn_while, turn_with, unlimited, wanting, with_bytes, without_begun, without_sent, wrong_state, asking, coming}
+use Rattle.delivery_token.specs.declared.Verdict.{Verdict}
+use Rattle.delivery_token.specs.declared.Verdict.TheVariants as verdicts
+use Rattle.laws_client.proofs.Turns.{the_turn}
+use Rattle.laws_client.proofs.Dialogues.{not_over}
+
+-- what it has of messages: of one that is announced no more than was, and of one that was submitted no more than it takes
+pub record IsMailShort (most : ℕ) (m : Mailing) : Type 0 where
+  pub takes : m.most ≡ Some most
+  pub begun : IfSome m.begun (λ a. IfSome a.text (λ text. length text + a.due ≤ a.size))
+  pub sent : IfSome m.sent (λ sent. length sent.append.text ≤ most)
+
+abbrev pub Kept : ℕ → Turn → Type 0
+Kept most turn = IsMailShort most turn.standing.mailing
+
+abbrev WaitFits : ℕ → Waiting → Type 0
+WaitFits most (ForVerdict mailbox flags text) = length text ≤ most
+WaitFits most w = Unit {0}
+
+-- wherever a message is submitted it is no longer than that
+abbrev TextsFit : ℕ → Exchange → Type 0
+TextsFit most (Done words how) = Unit {0}
+TextsFit most (Wait bytes w) = WaitFits most w
+TextsFit most (Write bytes x) = TextsFit most x
+TextsFit most (Put bytes x) = TextsFit most x
+TextsFit most (Enter selected next) = (o : Opening) → TextsFit most (next o)
+TextsFit most (Look by_uid set next) = (view : List ℕ) → TextsFit most (next view)
+TextsFit most (Read uid mark next) = (row : Option Row) → TextsFit most (next row)
+TextsFit most (Count mailbox next) = (status : Status) → TextsFit most (next status)
+TextsFit most (Alter uid op next) = (flags : Option Flags) → TextsFit most (next flags)
+TextsFit most (Expunge uids x) = TextsFit most x
+TextsFit most (Feed limit x) = TextsFit most x
+TextsFit most (Leave remove x) = TextsFit most x
+
+-- a turn with an event or a text more
+maps : (most : ℕ) (f : Turn → Turn) → ((s : Turn) → (f s).standing ≡ s.standing) → (rest : Option Turn) (turn : Turn) → option_map f rest ≡ Some turn → ((more : Turn) → rest ≡ Some more → Kept most more) → Kept most turn
+maps most f same None turn e behind = absurd (none-some turn e)
+maps most f same (Some more) turn e behind =
+    subst (λ (s : Turn). Kept most s) (ap (the_turn turn) e) (subst (λ (s : Standing). IsMailShort most s.mailing) (sym (same more)) (behind more refl))
+
+closed_keeps : (most : ℕ) (now : Standing) (how : After) → IsMailShort most now.mailing → Kept most (closed now how)
+closed_keeps most now Go k = k
+closed_keeps most now Bye k = k
+closed_keeps most now afters.Idle k = k
+closed_keeps most now (afters.Literal due) k = k
+closed_keeps most now afters.Submit k = k
+
+-- a turn that ends
+told : (most : ℕ) (now : Standing) (f : Turn → Turn) → ((s : Turn) → (f s).standing ≡ s.standing) → (how : After) (turn : Turn) → IsMailShort most now.mailing → Some (f (closed now how)) ≡ Some turn → Kept most turn
+told most now f same how turn k e = maps most f same (Some (closed now how)) turn e (λ more d. subst (λ (s : Turn). Kept most s) (ap (the_turn more) d) (closed_keeps most now how k))
+
+given_up : (most : ℕ) (tag : List ℕ) (now : Standing) (fault : MailFault) (turn : Turn) → IsMailShort most now.mailing → Some (refused tag now fault) ≡ Some turn → Kept most turn
+given_up most tag now fault turn k e = told most now (saying (refusal_text tag fault)) (λ s. refl) (refusal_after fault) turn k e
+
+waiting_keeps : (most : ℕ) (tag : List ℕ) (now : Standing) (w : Waiting) → WaitFits most w → IsMailShort most now.mailing → IsMailShort most (waiting tag w now).mailing
+waiting_keeps most tag now ForDone p k = k
+waiting_keeps most tag now (ForLiteral Asked mailbox flags size) p k = record { takes = k.takes; begun = omega arith; sent = k.sent }
+waiting_keeps most tag now (ForLiteral Unasked mailbox flags size) p k = record { takes = k.takes; begun = omega arith; sent = k.sent }
+waiting_keeps most tag now (ForLiteral Dropped mailbox flags size) p k = record { takes = k.takes; begun = tt; sent = k.sent }
+waiting_keeps most tag now (ForVerdict mailbox flags text) p k = record { takes = k.takes; begun = k.begun; sent = p }
+waiting_keeps most tag now ForNothing p k = k
+
+-- memory is refused to who was to wait
+goes_without : (most : ℕ) (tag : List ℕ) (now : Standing) (w : Waiting) (n : ℕ) (turn : Turn) → IsMailShort most now.mailing → unkept tag w now n ≡ Some turn → Kept most turn
+goes_without most tag now w n turn k e =
+    let P : Option Turn → Type 0 = λ o. o ≡ Some turn → Kept most turn in
+    unkept_by P (λ d. absurd (none-some turn d)) tag now (λ d. given_up most tag now NoMemory turn k d)
+    (λ flags size d. subst (λ (s : Turn). Kept most s) (ap (the_turn turn) d) (waiting_keeps most tag now (ForLiteral Dropped None flags size) tt k))
+    (λ d. subst (λ (s : Turn). Kept most s) (ap (the_turn turn) d) (waiting_keeps most tag now ForNothing tt k)) w n e
+
+mail_stays : (most : ℕ) (tag : List ℕ) (now : Standing) (x : Exchange) (answers : List Answer) (turn : Turn) → TextsFit most x → IsMailShort most now.mailing → played tag now x answers ≡ Some turn → Kept most turn
+mail_stays most tag now (Done words how) [] turn p k e = told most now (saying (tagged tag words)) (λ s. refl) how turn k e
+mail_stays most tag now (Done words how) (a ∷ more) turn p k e = absurd (none-some turn e)
+mail_stays most tag now (Wait bytes w) [] turn p k e = subst (λ (s : Turn). Kept most s) (ap (the_turn turn) e) (waiting_keeps most tag now w p k)
+mail_stays most tag now (Wait bytes w) (Entered a ∷ more) turn p k e = absurd (none-some turn e)
+mail_stays most tag now (Wait bytes w) (Looked a ∷ more) turn p k e = absurd (none-some turn e)
+mail_stays most tag now (Wait bytes w) (Found a ∷ more) turn p k e = absurd (none-some turn e)
+mail_stays most tag now (Wait bytes w) (Counted a ∷ more) turn p k e = absurd (none-some turn e)
+mail_stays most tag now (Wait bytes w) (Altered a ∷ more) turn p k e = absurd (none-some turn e)
+mail_stays most tag now (Wait bytes w) (Expunged a b c ∷ more) turn p k e = absurd (none-some turn e)
+mail_stays most tag now (Wait bytes w) (Fed a b ∷ more) turn p k e = absurd (none-some turn e)
+mail_stays most tag now (Wait bytes w) (Left a ∷ more) turn p k e = absurd (none-some turn e)
+mail_stays most tag now (Wait bytes w) (Refused a ∷ more) turn p k e = absurd (none-some turn e)
+mail_stays most tag now (Wait bytes w) (Starved n ∷ []) turn p k e = goes_without most tag now w n turn k e
+mail_stays most tag now (Wait bytes w) (Starved n ∷ b ∷ more) turn p k e = absurd (none-some turn e)
+mail_stays most tag now (Write bytes x) [] turn p k e = maps most (saying bytes) (λ s. refl) (played tag now x []) turn e (λ s d. mail_stays most tag now x [] s p k d)
+mail_stays most tag now (Write bytes x) (Entered a ∷ more) turn p k e = maps most (saying bytes) (λ s. refl) (played tag now x (Entered a ∷ more)) turn e (λ s d. mail_stays most tag now x (Entered a ∷ more) s p k d)
+mail_stays most tag now (Write bytes x) (Looked a ∷ more) turn p k e = maps most (saying bytes) (λ s. refl) (played tag now x (Looked a ∷ more)) turn e (λ s d. mail_stays most tag now x (Looked a ∷ more) s p k d)
+mail_stays most tag now (Write bytes x) (Found a ∷ more) turn p k e = maps most (saying bytes) (λ s. refl) (played tag now x (Found a ∷ more)) turn e (λ s d. mail_stays most tag now x (Found a ∷ more) s p k d)
+mail_stays most tag now (Write bytes x) (Counted a ∷ more) turn p k e = maps most (saying bytes) (λ s. refl) (played tag now x (Counted a ∷ more)) turn e (λ s d. mail_stays most tag now x (Counted a ∷ more) s p k d)
+mail_stays most tag now (Write bytes x) (Altered a ∷ more) turn p k e = maps most (saying bytes) (λ s. refl) (played tag now x (Altered a ∷ more)) turn e (λ s d. mail_stays most tag now x (Altered a ∷ more) s p k d)
+mail_stays most tag now (Write bytes x) (Expunged a b c ∷ more) turn p k e = maps most (saying bytes) (λ s. refl) (played tag now x (Expunged a b c ∷ more)) turn e (λ s d. mail_stays most tag now x (Expunged a b c ∷ more) s p k d)
+mail_stays most tag now (Write bytes x) (Fed a b ∷ more) turn p k e = maps most (saying bytes) (λ s. refl) (played tag now x (Fed a b ∷ more)) turn e (λ s d. mail_stays most tag now x (Fed a b ∷ more) s p k d)
+mail_stays most tag now (Write bytes x) (Left a ∷ more) turn p k e = maps most (saying bytes) (λ s. refl) (played tag now x (Left a ∷ more)) turn e (λ s d. mail_stays most tag now x (Left a ∷ more) s p k d)
+mail_stays most tag now (Write bytes x) (Refused a ∷ more) turn p k e = maps most (saying bytes) (λ s. refl) (played tag now x (Refused a ∷ more)) turn e (λ s d. mail_stays most tag now x (Refused a ∷ more) s p k d)
+mail_stays most tag now (Write bytes x) (Starved zero ∷ []) turn p k e = given_up most tag now NoMemory turn k e
+mail_stays most tag now (Write bytes x) (Starved (suc n) ∷ []) turn p k e = maps most (saying bytes) (λ s. refl) (played tag now x (Starved n ∷ [])) turn e (λ s d. mail_stays most tag now x (Starved n ∷ []) s p k d)
+mail_stays most tag now (Write bytes x) (Starved zero ∷ b ∷ more) turn p k e = maps most (saying bytes) (λ s. refl) (played tag now x (Starved zero ∷ b ∷ more)) turn e (λ s d. mail_stays most tag now x (Starved zero ∷ b ∷ more) s p k d)
+mail_stays most tag now (Write bytes x) (Starved (suc n) ∷ b ∷ more) turn p k e = maps most (saying bytes) (λ s. refl) (played tag now x (Starved (suc n) ∷ b ∷ more)) turn e (λ s d. mail_stays most tag now x (Starved (suc n) ∷ b ∷ more) s p k d)
+mail_stays most tag now (Put bytes x) answers turn p k e = maps most (saying bytes) (λ s. refl) (played tag now x answers) turn e (λ s d. mail_stays most tag now x answers s p k d)
+mail_stays most tag now (Enter selected next) [] turn p k e = absurd (none-some turn e)
+mail_stays most tag now (Enter selected next) (Entered a ∷ more) turn p k e = maps most (having (Enter selected.mailbox) (Entered a)) (λ s. refl) (played tag (record now { selected = Some selected }) (next a) more) turn e (λ s d. mail_stays most tag (record now { selected = Some selected }) (next a) more s (p a) k d)
+mail_stays most tag now (Enter selected next) (Looked a ∷ more) turn p k e = absurd (none-some turn e)
+mail_stays most tag now (Enter selected next) (Found a ∷ more) turn p k e = absurd (none-some turn e)
+mail_stays most tag now (Enter selected next) (Counted a ∷ more) turn p k e = absurd (none-some turn e)
+mail_stays most tag now (Enter selected next) (Altered a ∷ more) turn p k e = absurd (none-some turn e)
+mail_stays most tag now (Enter selected next) (Expunged a b c ∷ more) turn p k e = absurd (none-some turn e)
+mail_stays most tag now (Enter selected next) (Fed a b ∷ more) turn p k e = absurd (none-some turn e)
+mail_stays most tag now (Enter selected next) (Left a ∷ more) turn p k e = absurd (none-some turn e)
+mail_stays most tag now (Enter selected next) (Refused a ∷ []) turn p k e = told most now (λ s. having (Enter selected.mailbox) (Refused a) (saying (refusal_text tag a) s)) (λ s. refl) (refusal_after a) turn k e
+mail_stays most tag now (Enter selected next) (Refused a ∷ b ∷ more) turn p k e = absurd (none-some turn e)
+mail_stays most tag now (Enter selected next) (Starved a ∷ more) turn p k e = absurd (none-some turn e)
+mail_stays most tag now (Look by_uid set next) [] turn p k e = absurd (none-some turn e)
+mail_stays most tag now (Look by_uid set next) (Entered a ∷ more) turn p k e = absurd (none-some turn e)
+mail_stays most tag now (Look by_uid set next) (Looked a ∷ more) turn p k e = maps most (having (Look by_uid set) (Looked a)) (λ s. refl) (played tag now (next a) more) turn e (λ s d. mail_stays most tag now (next a) more s (p a) k d)
+mail_stays most tag now (Look by_uid set next) (Found a ∷ more) turn p k e = absurd (none-some turn e)
+mail_stays most tag now (Look by_uid set next) (Counted a ∷ more) turn p k e = absurd (none-some turn e)
+mail_stays most tag now (Look by_uid set next) (Altered a ∷ more) turn p k e = absurd (none-some turn e)
+mail_stays most tag now (Look by_uid set next) (Expunged a b c ∷ more) turn p k e = absurd (none-some turn e)
+mail_stays most tag now (Look by_uid set next) (Fed a b ∷ more) turn p k e = absurd (none-some turn e)
+mail_stays most tag now (Look by_uid set next) (Left a ∷ more) turn p k e = absurd (none-some turn e)
+mail_stays most tag now (Look by_uid set next) (Refused a ∷ []) turn p k e = told most now (λ s. having (Look by_uid set) (Refused a) (saying (refusal_text tag a) s)) (λ s. refl) (refusal_after a) turn k e
+mail_stays most tag now (Look by_uid set next) (Refused a ∷ b ∷ more) turn p k e = absurd (none-some turn e)
+mail_stays most tag now (Look by_uid set next) (Starved n ∷ more) turn p k e = absurd (none-some turn e)
+mail_stays most tag now (Read uid mark next) [] turn p k e = absurd (none-some turn e)
+mail_stays most tag now (Read uid mark next) (Entered a ∷ more) turn p k e = absurd (none-some turn e)
+mail_stays most tag now (Read uid mark next) (Looked a ∷ more) turn p k e = absurd (none-some turn e)
+mail_stays most tag now (Read uid mark next) (Found a ∷ more) turn p k e = maps most (having (Read uid mark) (Found a)) (λ s. refl) (played tag now (next a) more) turn e (λ s d. mail_stays most tag now (next a) more s (p a) k d)
+mail_stays most tag now (Read uid mark next) (Counted a ∷ more) turn p k e = absurd (none-some turn e)
+mail_stays most tag now (Read uid mark next) (Altered a ∷ more) turn p k e = absurd (none-some turn e)
+mail_stays most tag now (Read uid mark next) (Expunged a b c ∷ more) turn p k e = absurd (none-some turn e)
+mail_stays most tag now (Read uid mark next) (Fed a b ∷ more) turn p k e = absurd (none-some turn e)
+mail_stays most tag now (Read uid mark next) (Left a ∷ more) turn p k e = absurd (none-some turn e)
+mail_stays most tag now (Read uid mark next) (Refused a ∷ []) turn p k e = told most now (λ s. having (Read uid mark) (Refused a) (saying (refusal_text tag a) s)) (λ s. refl) (refusal_after a) turn k e
+mail_stays most tag now (Read uid mark next) (Refused a ∷ b ∷ more) turn p k e = absurd (none-some turn e)
+mail_stays most tag now (Read uid mark next) (Starved a ∷ more) turn p k e = absurd (none-some turn e)
+mail_stays most tag now (Count mailbox next) [] turn p k e = absurd (none-some turn e)
+mail_stays most tag now (Count mailbox next) (Entered a ∷ more) turn p k e = absurd (none-some turn e)
+mail_stays most tag now (Count mailbox next) (Looked a ∷ more) turn p k e = absurd (none-some turn e)
+mail_stays most tag now (Count mailbox next) (Found a ∷ more) turn p k e = absurd (none-some turn e)
+mail_stays most tag now (Count mailbox next) (Counted a ∷ more) turn p k e = maps most (having (Count mailbox) (Counted a)) (λ s. refl) (played tag now (next a) more) turn e (λ s d. mail_stays most tag now (next a) more s (p a) k d)
+mail_stays most tag now (Count mailbox next) (Altered a ∷ more) turn p k e = absurd (none-some turn e)
+mail_stays most tag now (Count mailbox next) (Expunged a b c ∷ more) turn p k e = absurd (none-some turn e)
+mail_stays most tag now (Count mailbox next) (Fed a b ∷ more) turn p k e = absurd (none-some turn e)
+mail_stays most tag now (Count mailbox next) (Left a ∷ more) turn p k e = absurd (none-some turn e)
+mail_stays most tag now (Count mailbox next) (Refused a ∷ []) turn p k e = told most now (λ s. having (Count mailbox) (Refused a) (saying (refusal_text tag a) s)) (λ s. refl) (refusal_after a) turn k e
+mail_stays most tag now (Count mailbox next) (Refused a ∷ b ∷ more) turn p k e = absurd (none-some turn e)
+mail_stays most tag now (Count mailbox next) (Starved a ∷ more) turn p k e = absurd (none-some turn e)
+mail_stays most tag now (Alter uid op next) [] turn p k e = absurd (none-some turn e)
+mail_stays most tag now (Alter uid op next) (Entered a ∷ more) turn p k e = absurd (none-some turn e)
+mail_stays most tag now (Alter uid op next) (Looked a ∷ more) turn p k e = absurd (none-some turn e)
+mail_stays most tag now (Alter uid op next) (Found a ∷ more) turn p k e = absurd (none-some turn e)
+mail_stays most tag now (Alter uid op next) (Counted a ∷ more) turn p k e = absurd (none-some turn e)
+mail_stays most tag now (Alter uid op next) (Altered a ∷ more) turn p k e = maps most (having (Alter uid op) (Altered a)) (λ s. refl) (played tag now (next a) more) turn e (λ s d. mail_stays most tag now (next a) more s (p a) k d)
+mail_stays most tag now (Alter uid op next) (Expunged a b c ∷ more) turn p k e = absurd (none-some turn e)
+mail_stays most tag now (Alter uid op next) (Fed a b ∷ more) turn p k e = absurd (none-some turn e)
+mail_stays most tag now (Alter uid op next) (Left a ∷ more) turn p k e = absurd (none-some turn e)
+mail_stays most tag now (Alter uid op next) (Refused a ∷ []) turn p k e = told most now (λ s. having (Alter uid op) (Refused a) (saying (refusal_text tag a) s)) (λ s. refl) (refusal_after a) turn k e
+mail_stays most tag now (Alter uid op next) (Refused a ∷ b ∷ more) turn p k e = absurd (none-some turn e)
+mail_stays most tag now (Alter uid op next) (Starved a ∷ more) turn p k e = absurd (none-some turn e)
+mail_stays most tag now (Expunge uids x) [] turn p k e = absurd (none-some turn e)
+mail_stays most tag now (Expunge uids x) (Entered a ∷ more) turn p k e = absurd (none-some turn e)
+mail_stays most tag now (Expunge uids x) (Looked a ∷ more) turn p k e = absurd (none-some turn e)
+mail_stays most tag now (Expunge uids x) (Found a ∷ more) turn p k e = absurd (none-some turn e)
+mail_stays most tag now (Expunge uids x) (Counted a ∷ more) turn p k e = absurd (none-some turn e)
+mail_stays most tag now (Expunge uids x) (Altered a ∷ more) turn p k e = absurd (none-some turn e)
+mail_stays most tag now (Expunge uids x) (Expunged a b c ∷ more) turn p k e = maps most (λ s. having (Expunge uids) (Expunged a b c) (saying (lines a b) s)) (λ s. refl) (played tag now x more) turn e (λ s d. mail_stays most tag now x more s p k d)
+mail_stays most tag now (Expunge uids x) (Fed a b ∷ more) turn p k e = absurd (none-some turn e)
+mail_stays most tag now (Expunge uids x) (Left a ∷ more) turn p k e = absurd (none-some turn e)
+mail_stays most tag now (Expunge uids x) (Refused a ∷ []) turn p k e = told most now (λ s. having (Expunge uids) (Refused a) (saying (refusal_text tag a) s)) (λ s. refl) (refusal_after a) turn k e
+mail_stays most tag now (Expunge uids x) (Refused a ∷ b ∷ more) turn p k e = absurd (none-some turn e)
+mail_stays most tag now (Expunge uids x) (Starved a ∷ more) turn p k e = absurd (none-some turn e)
+mail_stays most tag now (Feed limit x) [] turn p k e = absurd (none-some turn e)
+mail_stays most tag now (Feed limit x) (Entered a ∷ more) turn p k e = absurd (none-some turn e)
+mail_stays most tag now (Feed limit x) (Looked a ∷ more) turn p k e = absurd (none-some turn e)
+mail_stays most tag now (Feed limit x) (Found a ∷ more) turn p k e = absurd (none-some turn e)
+mail_stays most tag now (Feed limit x) (Counted a ∷ more) turn p k e = absurd (none-some turn e)
+mail_stays most tag now (Feed limit x) (Altered a ∷ more) turn p k e = absurd (none-some turn e)
+mail_stays most tag now (Feed limit x) (Expunged a b c ∷ more) turn p k e = absurd (none-some turn e)
+mail_stays most tag now (Feed limit x) (Fed a b ∷ more) turn p k e = maps most (λ s. having (Feed limit) (Fed a b) (saying (lines a b) s)) (λ s. refl) (played tag now x more) turn e (λ s d. mail_stays most tag now x more s p k d)
+mail_stays most tag now (Feed limit x) (Left a ∷ more) turn p k e = absurd (none-some turn e)
+mail_stays most tag now (Feed limit x) (Refused a ∷ []) turn p k e = told most now (λ s. having (Feed limit) (Refused a) (saying (refusal_text tag a) s)) (λ s. refl) (refusal_after a) turn k e
+mail_stays most tag now (Feed limit x) (Refused a ∷ b ∷ more) turn p k e = absurd (none-some turn e)
+mail_stays most tag now (Feed limit x) (Starved a ∷ more) turn p k e = absurd (none-some turn e)
+mail_stays most tag now (Leave remove x) [] turn p k e = absurd (none-some turn e)
+mail_stays most tag now (Leave remove x) (Entered a ∷ more) turn p k e = absurd (none-some turn e)
+mail_stays most tag now (Leave remove x) (Looked a ∷ more) turn p k e = absurd (none-some turn e)
+mail_stays most tag now (Leave remove x) (Found a ∷ more) turn p k e = absurd (none-some turn e)
+mail_stays most tag now (Leave remove x) (Counted a ∷ more) turn p k e = absurd (none-some turn e)
+mail_stays most tag now (Leave remove x) (Altered a ∷ more) turn p k e = absurd (none-some turn e)
+mail_stays most tag now (Leave remove x) (Expunged a b c ∷ more) turn p k e = absurd (none-some turn e)
+mail_stays most tag now (Leave remove x) (Fed a b ∷ more) turn p k e = absurd (none-some turn e)
+mail_stays most tag now (Leave remove x) (Left a ∷ more) turn p k e = maps most (having (Leave remove) (Left a)) (λ s. refl) (played tag (record now { selected = None }) x more) turn e (λ s d. mail_stays most tag (record now { selected = None }) x more s p k d)
+mail_stays most tag now (Leave remove x) (Refused a ∷ []) turn p k e = told most now (λ s. having (Leave remove) (Refused a) (saying (refusal_text tag a) s)) (λ s. refl) (refusal_after a) turn k e
+mail_stays most tag now (Leave remove x) (Refused a ∷ b ∷ more) turn p k e = absurd (none-some turn e)
+mail_stays most tag now (Leave remove x) (Starved a ∷ more) turn p k e = absurd (none-some turn e)
+
+-- ---- exchanges
+
+fit_showing : (most : ℕ) (selected : Option Selected) (x : Exchange) → TextsFit most x → TextsFit most (showing selected x)
+fit_showing most None x h = h
+fit_showing most (Some selected) x h = h
+
+fit_found : {A : Type 0} (most : ℕ) (found : A → Exchange) (gone : Exchange) (o : Option A) → ((a : A) → TextsFit most (found a)) → TextsFit most gone → TextsFit most (on_found found gone o)
+fit_found most found gone None h g = g
+fit_found most found gone (Some a) h g = h a
+
+fit_if : (most : ℕ) (b : Bool) (x y : Exchange) → TextsFit most x → TextsFit most y → TextsFit most (if b then x else y)
+fit_if most true x y h k = h
+fit_if most false x y h k = k
+
+fit_closing : (most : ℕ) (selected : Option Selected) (x : Exchange) → TextsFit most x → TextsFit most (closing selected x)
+fit_closing most None x h = h
+fit_closing most (Some selected) x h = h
+
+fit_selecting : (most : ℕ) (now : Standing) (read_only : Bool) (name : List ℕ) → TextsFit most (selecting now read_only name)
+fit_selecting most now read_only name =
+    fit_closing most now.selected (wanting (on_folder name now.folders (entering read_only))) (fit_found most (entering read_only) (says (codes "NO [NONEXISTENT] No such mailbox")) (folder_of name now.folders) (λ folder o. tt) tt)
+
+fit_messages : (most : ℕ) (command : Command) (by_uid gone : Bool) → TextsFit most (messages_done command by_uid gone)
+fit_messages most command true gone = tt
+fit_messages most command false true = tt
+fit_messages most command false false = tt
+
+fit_fetching : (most : ℕ) (fetch : Fetch) (mark : Bool) (view : List ℕ) (done : Bool → Exchange) (uids : List ℕ) (gone : Bool) → ((b : Bool) → TextsFit most (done b)) → TextsFit most (fetching fetch mark view done uids gone)
+fit_fetching most fetch mark view done [] gone h = h gone
+fit_fetching most fetch mark view done (uid ∷ uids) gone h = λ row.
+    fit_found most (λ r. Write (fetched fetch view uid r) (fetching fetch mark view done uids gone)) (fetching fetch mark view done uids true) row (λ r. fit_fetching most fetch mark view done uids gone h) (fit_fetching most fetch mark view done uids true h)
+
+fit_storing : (most : ℕ) (store : Store) (view : List ℕ) (done : Bool → Exchange) (uids : List ℕ) (gone : Bool) → ((b : Bool) → TextsFit most (done b)) → TextsFit most (storing store view done uids gone)
+fit_storing most store view done [] gone h = h gone
+fit_storing most store view done (uid ∷ uids) gone h = λ flags.
+    fit_found most (λ f. stored store view uid f (storing store view done uids gone)) (storing store view done uids true) flags
+    (λ f. fit_if most store.silent _ _ (fit_storing most store view done uids gone h) (fit_storing most store view done uids gone h)) (fit_storing most store view done uids true h)
+
+fit_chosen : (most : ℕ) (by_uid : Bool) (set : List SeqRange) (next : List ℕ → List ℕ → Exchange) → ((view uids : List ℕ) → TextsFit most (next view uids)) → TextsFit most (on_set by_uid set next)
+fit_chosen most by_uid set next h = λ view. by view (named_in by_uid set view)
+  where
+    by : (view : List ℕ) (chosen : Option (List ℕ)) → TextsFit most (on_chosen chosen (next view))
+    by view None = tt
+    by view (Some uids) = h view uids
+
+fit_writable : (most : ℕ) (now : Standing) (x : Exchange) → TextsFit most x → TextsFit most (in_writable now x)
+fit_writable most now x h = fit_found most (if_writable x) wrong_state now.selected (λ s. fit_if most s.read_only (says (codes "NO Mailbox is read-only")) x tt h) tt
+
+fit_over : (most : ℕ) (o : Option ℕ) → TextsFit most (over o)
+fit_over most None = tt
+fit_over most (Some n) = tt
+
+fit_append : (most : ℕ) (o : Option ℕ) (folders : List Folder) (a : Append) → TextsFit most (appending o folders a)
+fit_append most o folders a =
+    fit_if most a.literal.waits
+    (wanting (on_found (λ mailbox. if is_over o a.literal.size then over o else asking mailbox a.flags a.literal.size) nowhere (number_named a.name folders)))
+    (if nat_lt most_unasked a.literal.size then Wait (codes "* BYE Literal too big\r\n") ForNothing else coming (number_named a.name folders) a.flags a.literal.size)
+    (fit_found most (λ mailbox. if is_over o a.literal.size then over o else asking mailbox a.flags a.literal.size) nowhere (number_named a.name folders)
+    (λ mailbox. fit_if most (is_over o a.literal.size) (over o) (asking mailbox a.flags a.literal.size) (fit_over most o) tt) tt)
+    (fit_if most (nat_lt most_unasked a.literal.size) (Wait (codes "* BYE Literal too big\r\n") ForNothing) (coming (number_named a.name folders) a.flags a.literal.size) tt tt)
+
+fit_command : (most : ℕ) (now : Standing) (command : Command) → TextsFit most (on_command now command)
+fit_command most now commands.Noop = fit_showing most now.selected (completed commands.Noop) tt
+fit_command most now (commands.Select name) = fit_selecting most now false name
+fit_command most now (commands.Examine name) = fit_selecting most now true name
+fit_command most now (commands.List reference pattern) = fit_showing most now.selected (completed (commands.List reference pattern)) tt
+fit_command most now (commands.Status name items) =
+    fit_found most (counting now name items) (says (codes "NO [NONEXISTENT] No such mailbox")) (folder_of name now.folders) (λ folder status. fit_showing most now.selected (completed (commands.Status name items)) tt) tt
+fit_command most now commands.Close = fit_found most (λ (selected : Selected). Leave (not selected.read_only) (completed commands.Close)) wrong_state now.selected (λ s. tt) tt
+fit_command most now commands.Unselect = fit_found most (λ (selected : Selected). Leave false (completed commands.Unselect)) wrong_state now.selected (λ s. tt) tt
+fit_command most now commands.Expunge = fit_writable most now (Expunge None (Feed unlimited (completed commands.Expunge))) tt
+fit_command most now (commands.UidExpunge set) =
+    fit_writable most now (expunge_set set) (fit_chosen most true set (λ view uids. wanting (Expunge (Some uids) (Feed unlimited (completed (commands.UidExpunge set))))) (λ view uids. tt))
+fit_command most now (commands.Fetch fetch) = fit_found most (fetch_messages fetch) wrong_state now.selected
+    (λ (selected : Selected). fit_chosen most fetch.by_uid fetch.set
+    (λ view uids. fetching fetch (list_any marks_seen fetch.items && not selected.read_only) view (messages_done (commands.Fetch fetch) fetch.by_uid) uids false)
+    (λ view uids. fit_fetching most fetch (list_any marks_seen fetch.items && not selected.read_only) view (messages_done (commands.Fetch fetch) fetch.by_uid) uids false (λ b. fit_messages most (commands.Fetch fetch) fetch.by_uid b))) tt
+fit_command most now (commands.Store store) = fit_writable most now (store_messages store)
+    (fit_chosen most store.by_uid store.set (λ view uids. storing store view (messages_done (commands.Store store) store.by_uid) uids false)
+    (λ view uids. fit_storing most store view (messages_done (commands.Store store) store.by_uid) uids false (λ b. fit_messages most (commands.Store store) store.by_uid b)))
+fit_command most now (commands.Append append) = fit_append most now.mailing.most now.folders append
+fit_command most now _ = tt
+
+-- ---- what stands behind a literal
+
+over_most : (most : ℕ) (o : Option ℕ) (size : ℕ) → o ≡ Some most → is_over o size ≡ false → size ≤ most
+over_most most o size e h = not_over most size (sym (ap (λ (x : Option ℕ). is_over x size) e) ∙ h)
+
+fit_rest : (most : ℕ) (mailing : Mailing) (a : Appending) (empty : Bool) → mailing.most ≡ Some most → IfSome a.text (λ text. length text + a.due ≤ a.size) → TextsFit most (on_rest mailing a empty)
+fit_rest most mailing a empty takes short = kept a.text short
+  where
+    by : (text : List ℕ) (mailbox : ℕ) (x y z : Bool) → is_over mailing.most a.size ≡ x → length text + a.due ≤ a.size
+        → TextsFit most (if x then over mailing.most else if y then says (codes "NO NUL byte") else if z then says (codes "NO Mailbox is spent") else wanting (Wait [] (ForVerdict mailbox a.flags text)))
+    by text mailbox true y z e few = fit_over most mailing.most
+    by text mailbox false true z e few = tt
+    by text mailbox false false true e few = tt
+    by text mailbox false false false e few = omega (arith, few, over_most most mailing.most a.size takes e)
+
+    named : (text : List ℕ) (mailbox : Option ℕ) → length text + a.due ≤ a.size → TextsFit most (on_found (on_text mailing a text) nowhere mailbox)
+    named text None few = tt
+    named text (Some mailbox) few = by text mailbox (is_over mailing.most a.size) (list_any (λ b. b == 0) text) (nat_le last_number mailing.number) refl few
+
+    ended : (b : Bool) (text : List ℕ) → length text + a.due ≤ a.size → TextsFit most (if b then on_found (on_text mailing a text) nowhere a.mailbox else says (codes "BAD Invalid arguments"))
+    ended true text few = named text a.mailbox few
+    ended false text few = tt
+
+    kept : (text : Option (List ℕ)) → IfSome text (λ t. length t + a.due ≤ a.size)
+        → TextsFit most (on_found (λ t. if empty then on_found (on_text mailing a t) nowhere a.mailbox else says (codes "BAD Invalid arguments")) (says (codes "NO Out of memory")) text)
+    kept None few = tt
+    kept (Some text) few = ended empty text few
+
+fit_idle_line : (most : ℕ) (selected : Option Selected) (line : List ℕ) → TextsFit most (on_idle_line selected line)
+fit_idle_line most selected line = fit_if most (is_done line) (showing selected (completed commands.Idle)) (says (codes "BAD Expected DONE")) (fit_showing most selected (completed commands.Idle) tt) tt
+
+fit_verdict : (most : ℕ) (selected : Option Selected) (mailbox : ℕ) (verdict : Verdict) → TextsFit most (on_verdict selected mailbox verdict)
+fit_verdict most selected mailbox (verdicts.Stored uid) = λ status. fit_showing most selected _ tt
+fit_verdict most selected mailbox (verdicts.Refused why) = tt
+
+-- ---- lines, literals and verdicts
+
+fault_keeps : (most : ℕ) (now : Standing) (text : List ℕ) (answers : List Answer) (turn : Turn) → IsMailShort most now.mailing → only_says text now answers ≡ Some turn → Kept most turn
+fault_keeps most now text [] turn k e = told most now (saying text) (λ s. refl) Go turn k e
+fault_keeps most now text (answer ∷ more) turn k e = absurd (none-some turn e)
+
+read_keeps : (most : ℕ) (now : Standing) (r : Result (List ℕ × Command) ImapFault) (answers : List Answer) (turn : Turn) → IsMailShort most now.mailing → on_read now r answers ≡ Some turn → Kept most turn
+read_keeps most now (Ok line) answers turn k e = mail_stays most line.0 now (on_command now line.1) answers turn (fit_command most now line.1) k e
+read_keeps most now (Err fault) answers turn k e = fault_keeps most now (fault_text fault) answers turn k e
+
+while_keeps : (most : ℕ) (idling : Option (List ℕ)) (now : Standing) (line : List ℕ) (answers : List Answer) (turn : Turn) → IsMailShort most now.mailing → turn_while idling now line answers ≡ Some turn → Kept most turn
+while_keeps most None now line answers turn k e = read_keeps most now (read line) answers turn k e
+while_keeps most (Some tag) now line answers turn k e = mail_stays most tag (record now { idling = None }) (on_idle_line now.selected line) answers turn (fit_idle_line most now.selected line) k e
+
+none_begun : (most : ℕ) (now : Standing) → IsMailShort most now.mailing → IsMailShort most (without_begun now).mailing
+none_begun most now k = record { takes = k.takes; begun = tt; sent = k.sent }
+
+behind_keeps : (most : ℕ) (begun : Option Appending) (now : Standing) (line : List ℕ) (answers : List Answer) (turn : Turn) → IfSome begun (λ a. IfSome a.text (λ text. length text + a.due ≤ a.size)) → IsMailShort most now.mailing
+    → turn_behind begun now line answers ≡ Some turn → Kept most turn
+behind_keeps most None now line answers turn b k e = while_keeps most now.idling now line answers turn k e
+behind_keeps most (Some a) now line answers turn b k e =
+    mail_stays most a.tag (without_begun now) (on_rest now.mailing a (length line == 0)) answers turn (fit_rest most now.mailing a (length line == 0) k.takes b) (none_begun most now k) e
+
+heard_keeps : (most : ℕ) (sent : Option Sent) (now : Standing) (verdict : Verdict) (answers : List Answer) (turn : Turn) → IsMailShort most now.mailing → turn_with sent now verdict answers ≡ Some turn → Kept most turn
+heard_keeps most None now verdict answers turn k e = absurd (none-some turn e)
+heard_keeps most (Some sent) now verdict answers turn k e =
+    mail_stays most sent.tag (without_sent now) (on_verdict now.selected sent.append.mailbox verdict) answers turn (fit_verdict most now.selected sent.append.mailbox verdict) (record { takes = k.takes; begun = tt; sent = tt }) e
+
+pub line_mail : (most : ℕ) (now : Standing) (line : List ℕ) (answers : List Answer) (turn : Turn) → IsMailShort most now.mailing → turn_of now line answers ≡ Some turn → Kept most turn
+line_mail most now line answers turn k e = behind_keeps most now.mailing.begun now line answers turn k.begun k e
+
+pub long_mail : (most : ℕ) (now : Standing) → IsMailShort most now.mailing → Kept most (turn_of_long_line now)
+long_mail most now k = none_begun most now k
+
+pub verdict_mail : (most : ℕ) (now : Standing) (verdict : Verdict) (answers : List Answer) (turn : Turn) → IsMailShort most now.mailing → turn_of_verdict now verdict answers ≡ Some turn → Kept most turn
+verdict_mail most now verdict answers turn k e = heard_keeps most now.mailing.sent now verdict answers turn k e
+
+-- bytes of the literal, no more than were due
+pub bytes_mail : (most : ℕ) (now : Standing) (kept : Bool) (bytes : List ℕ) → IsMailShort most now.mailing → IfSome now.mailing.begun (λ a. length bytes ≤ a.due) → IsMailShort most (with_bytes kept bytes now).mailing
+bytes_mail most now kept bytes k few = record { takes = k.takes; begun = by now.mailing.begun k.begun few; sent = k.sent }
+  where
+    text_with : (b : Bool) (a : Appending) (text : Option (List ℕ)) → IfSome text (λ t. length t + a.due ≤ a.size) → length bytes ≤ a.due
+        → IfSome (kept_text b bytes text) (λ t. length t + (a.due - length bytes) ≤ a.size)
+    text_with true a None h f = tt
+    text_with true a (Some text) h f = omega (arith, h, f, length-append text bytes)
+    text_with false a None h f = tt
+    text_with false a (Some text) h f = tt
+
+    by : (begun : Option Appending) → IfSome begun (λ a. IfSome a.text (λ text. length text + a.due ≤ a.size)) → IfSome begun (λ a. length bytes ≤ a.due)
+        → IfSome (option_map (taking kept bytes) begun) (λ a. IfSome a.text (λ text. length text + a.due ≤ a.size))
+    by None h f = tt
+    by (Some a) h f = text_with kept a a.text h f
+
+-- ---- turns while it idles
+
+pub idle_mail : (most : ℕ) (selected : Option Selected) (idling : Bool) (now : Standing) (answers : List Answer) (turn : Turn) → IsMailShort most now.mailing → idle_turn_in selected idling now answers ≡ Some turn → Kept most turn
+idle_mail most (Some selected) true now [] turn k e = absurd (none-some turn e)
+idle_mail most (Some selected) true now (Fed met changes ∷ []) turn k e = subst (λ (s : Turn). Kept most s) (ap (the_turn turn) e) k
+idle_mail most (Some selected) true now (Fed met changes ∷ b ∷ more) turn k e = absurd (none-some turn e)
+idle_mail most (Some selected) true now (Refused Lapped ∷ []) turn k e = subst (λ (s : Turn). Kept most s) (ap (the_turn turn) e) k
+idle_mail most (Some selected) true now (Refused Lapped ∷ b ∷ more) turn k e = absurd (none-some turn e)
+idle_mail most (Some selected) true now (Refused Stranger ∷ []) turn k e = subst (λ (s : Turn). Kept most s) (ap (the_turn turn) e) k
+idle_mail most (Some selected) true now (Refused Stranger ∷ b ∷ more) turn k e = absurd (none-some turn e)
+idle_mail most (Some selected) true now (Refused Spent ∷ more) turn k e = absurd (none-some turn e)
+idle_mail most (Some selected) true now (Refused NoMemory ∷ more) turn k e = absurd (none-some turn e)
+idle_mail most (Some selected) true now (Entered a ∷ more) turn k e = absurd (none-some turn e)
+idle_mail most (Some selected) true now (Looked a ∷ more) turn k e = absurd (none-some turn e)
+idle_mail most (Some selected) true now (Found a ∷ more) turn k e = absurd (none-some turn e)
+idle_mail most (Some selected) true now (Counted a ∷ more) turn k e = absurd (none-some turn e)
+idle_mail most (Some selected) true now (Altered a ∷ more) turn k e = absurd (none-some turn e)
+idle_mail most (Some selected) true now (Expunged a b c ∷ more) turn k e = absurd (none-some turn e)
+idle_mail most (Some selected) true now (Left a ∷ more) turn k e = absurd (none-some turn e)
+idle_mail most (Some selected) true now (Starved a ∷ more) turn k e = absurd (none-some turn e)
+idle_mail most (Some selected) false now [] turn k e = subst (λ (s : Turn). Kept most s) (ap (the_turn turn) e) k
+idle_mail most (Some selected) false now (a ∷ more) turn k e = absurd (none-some turn e)
+idle_mail most None true now [] turn k e = subst (λ (s : Turn). Kept most s) (ap (the_turn turn) e) k
+idle_mail most None true now (a ∷ more) turn k e = absurd (none-some turn e)
+idle_mail most None false now [] turn k e = subst (λ (s : Turn). Kept most s) (ap (the_turn turn) e) k
+idle_mail most None false now (a ∷ more) turn k e = absurd (none-some turn e)

@@ -1,0 +1,405 @@
+-- After a command that shows all that is pending last, what the session counts is what is there, where it is answered OK: by induction over the exchange, a clause for each answer that there is.
+use Rattle.std.proofs.Common.{zero, suc, ◌≡◌, ℕ, ◌⊎◌, inl, inr, Bool, true, false, ◌==◌, List, [], ◌∷◌, ◌++◌, take, ap, refl, subst, sym, ◌∙◌, append_assoc}
+use Rattle.std.specs.Prelude.{Option, Some, None, Result, Ok, codes, get_or, reverse, ◌&&◌, not, if◌then◌else◌}
+use Rattle.std.specs.List.{list_any}
+use Rattle.std.specs.Option.{option_map}
+use Rattle.std.proofs.lemmas.Bool.{eq-eqb, false≢true}
+use Rattle.std.proofs.lemmas.List.{reverse-append}
+use Rattle.std.proofs.lemmas.Option.{none-some}
+use Rattle.change_ring.specs.declared.change.Change.{Change}
+use Rattle.change_ring.specs.declared.change.Flags.{Flags}
+use Rattle.cursor_set.specs.Lines.{lines}
+use Rattle.mailbox.specs.declared.clients.MailFault.{MailFault}
+use Rattle.mailbox.specs.declared.clients.MailFault.TheVariants.{Stranger, Lapped, Spent, NoMemory}
+use Rattle.mailbox.specs.declared.clients.Row.{Row}
+use Rattle.mailbox.specs.declared.mailbox.Status.{Status}
+use Rattle.world.specs.World.{Config, World}
+use Rattle.world.proofs.Always.{kept_always}
+use Rattle.world.proofs.Kept.{Kept}
+use Rattle.imap_grammar.specs.Items.{marks_seen}
+use Rattle.imap_grammar.specs.Verbs.{verb_of}
+use Rattle.imap_grammar.specs.Reading.{read}
+use Rattle.imap_grammar.specs.declared.command.ImapFault.{ImapFault}
+use Rattle.imap_grammar.specs.Sets.{named_in}
+use Rattle.imap_grammar.specs.declared.set.SeqRange.{SeqRange}
+use Rattle.imap_grammar.specs.declared.command.Command.{Command}
+use Rattle.imap_grammar.specs.declared.command.Command.TheVariants as commands
+use Rattle.imap_grammar.specs.declared.command.Fetch.{Fetch}
+use Rattle.imap_grammar.specs.declared.command.Store.{Store}
+use Rattle.imap_session.specs.declared.standing.After.{After}
+use Rattle.imap_session.specs.declared.standing.Selected.{Selected}
+use Rattle.imap_session.specs.Exchange.{Appending, kept_behind, kept_tag, Call, Answer, Event, Entered, Looked, Found, Counted, Altered, Expunged, Fed, Left, Refused, Starved, Exchange, Done, Wait, Write, Put, Enter, Look, Read, Count, Alter, Expunge, Feed, Leave, Standing, Turn, having, played, refusal_text, refused, saying, tagged}
+use Rattle.imap_session.specs.Commands.{completed, counting, expunge_set, fetch_messages, fetched, fetching, folder_of, if_writable, in_writable, messages_done, on_chosen, on_command, on_found, on_read, on_set, turn_behind, turn_while, verb_text, says, showing, store_messages, stored, storing, unlimited, wrong_state, wanting}
+use Rattle.imap_session.specs.Store.{Met}
+use Rattle.house.specs.Meets.{Meets}
+use Rattle.laws_client.specs.ListTurns.{IsTag}
+use Rattle.line_io.specs.Wire.{crlf}
+use Rattle.laws_client.specs.Talks.{Line}
+use Rattle.laws_client.proofs.Tags.{tags_are_tags}
+use Rattle.laws_client.specs.Current.{DoneCommandsMakeCurrent, IsAnswered, IsCurrent, ListsAreCurrent, shows_all}
+use Rattle.laws_client.proofs.RecordCurrent.{fed_current, kept_moved}
+use Rattle.laws_client.proofs.RecordEntering.{mapped, only_done, only_refused}
+use Rattle.laws_client.specs.Clients.{Answer as Answer_to, Asked, Neither, IsRightAbout, Told, answered, asked, asked_by, hears, hears_all}
+use Rattle.laws_client.specs.Beliefs.{IsRight}
+use Rattle.laws_client.specs.Client.{Client, Known, knowing, reads}
+use Rattle.laws_client.specs.Selecting.{Known_selected}
+use Rattle.laws_client.proofs.Selecting.{knowing_is_selected}
+use Rattle.laws_client.specs.Lives.{turns}
+use Rattle.laws_client.specs.RecordTurns.{told_line, told_of}
+use Rattle.laws_client.specs.Views.{messages_of, view_of}
+use Rattle.laws_client.proofs.Living.{hears_last, lives_known}
+use Rattle.laws_client.proofs.Moved.{Calls, moved, short_met}
+use Rattle.laws_client.proofs.RecordWorlds.{sound_always}
+
+-- ---- how bytes end
+
+abbrev pub last_of : List ℕ → List ℕ
+last_of bytes = take 6 (reverse bytes)
+
+-- as `completed` and the end of its line
+abbrev pub the_end : List ℕ
+the_end = 10 ∷ 13 ∷ 100 ∷ 101 ∷ 116 ∷ 101 ∷ []
+
+-- no bytes that end so end as a command that is done
+abbrev pub NoEnd : List ℕ → Type 0
+NoEnd text = (front : List ℕ) → last_of (front ++ text) ≡ the_end → ⊥
+
+no_end : (text : List ℕ) (i c : ℕ) → ((behind : List ℕ) → get_or (take 6 (reverse text ++ behind)) i 0 ≡ c) → (c == get_or the_end i 0) ≡ false → NoEnd text
+no_end text i c at other front e =
+    absurd (false≢true (sym other ∙ eq-eqb c (get_or the_end i 0) (sym (at (reverse front)) ∙ ap (λ (xs : List ℕ). get_or (take 6 xs) i 0) (sym (reverse-append front text)) ∙ ap (λ (xs : List ℕ). get_or xs i 0) e)))
+
+-- a last line's words, which end differently
+abbrev pub NotDone : List ℕ → Type 0
+NotDone words = NoEnd (words ++ codes "\r\n")
+
+tagged_shape : (a b c d e : List ℕ) → a ++ (b ++ c ++ d ++ e) ≡ ((a ++ b) ++ c) ++ (d ++ e)
+tagged_shape a b c d e = simp append_assoc
+
+no_tagged : (tag words : List ℕ) → NotDone words → NoEnd (tagged tag words)
+no_tagged tag words h front e = h ((front ++ tag) ++ codes " ") (ap last_of (sym (tagged_shape front tag (codes " ") words (codes "\r\n"))) ∙ e)
+
+no_refusal : (tag : List ℕ) (fault : MailFault) → NoEnd (refusal_text tag fault)
+no_refusal tag Stranger = no_end (refusal_text tag Stranger) 2 116 (λ b. refl) refl
+no_refusal tag Lapped = no_end (refusal_text tag Lapped) 4 115 (λ b. refl) refl
+no_refusal tag Spent = no_tagged tag (codes "NO Mailbox is spent") (no_end (codes "NO Mailbox is spent\r\n") 2 116 (λ b. refl) refl)
+no_refusal tag NoMemory = no_tagged tag (codes "NO Out of memory") (no_end (codes "NO Out of memory\r\n") 2 121 (λ b. refl) refl)
+
+-- ---- exchanges
+
+-- Where a last line says that the command is done, all that was pending was shown in the last call: that was the last call before these, or it comes.
+abbrev pub ShowsLast : Bool → Exchange → Type 0
+ShowsLast fed (Done words how) = (fed ≡ true) ⊎ NotDone words
+ShowsLast fed (Wait bytes waits) = ⊥
+ShowsLast fed (Write bytes x) = ShowsLast fed x
+ShowsLast fed (Put bytes x) = ShowsLast fed x
+ShowsLast fed (Enter selected next) = ⊥
+ShowsLast fed (Look by_uid set next) = (view : List ℕ) → ShowsLast false (next view)
+ShowsLast fed (Read uid mark next) = (row : Option Row) → ShowsLast false (next row)
+ShowsLast fed (Count mailbox next) = (status : Status) → ShowsLast false (next status)
+ShowsLast fed (Alter uid op next) = (flags : Option Flags) → ShowsLast false (next flags)
+ShowsLast fed (Expunge uids x) = ShowsLast false x
+ShowsLast fed (Feed limit x) = (limit ≡ unlimited) × ShowsLast true x
+ShowsLast fed (Leave remove x) = ⊥
+
+never : {A : Type 0} → false ≡ true → A
+never e = absurd (false≢true e)
+
+given_up : (tag front : List ℕ) (now : Standing) (fault : MailFault) (turn : Turn) (v : World) (n : ℕ) → IsTag tag → Some (refused tag now fault) ≡ Some turn → last_of (front ++ turn.bytes) ≡ the_end → IsCurrent v n
+given_up tag front now fault turn v n t e ends =
+    let only = only_refused tag now fault turn e in
+    absurd (no_refusal tag fault front (ap (λ (b : List ℕ). last_of (front ++ b)) (sym only.bytes) ∙ ends))
+
+was_given_up : (tag front : List ℕ) (now : Standing) (call : Call) (fault : MailFault) (turn : Turn) (v : World) (n : ℕ) → IsTag tag → Some (having call (Refused fault) (refused tag now fault)) ≡ Some turn
+    → last_of (front ++ turn.bytes) ≡ the_end → IsCurrent v n
+was_given_up tag front now call fault turn v n t e ends =
+    let m = mapped (having call (Refused fault)) (Some (refused tag now fault)) turn e in
+    given_up tag front now fault m.more v n t m.is (ap (λ (s : Turn). last_of (front ++ s.bytes)) m.makes ∙ ends)
+
+done_current : (k : Config) (n : ℕ) (tag words : List ℕ) (how : After) (front : List ℕ) (fed : Bool) (now : Standing) (w : World) (turn : Turn) (v : World) → IsTag tag → (fed ≡ true → IsCurrent w n) → (fed ≡ true) ⊎ NotDone words
+    → played tag now (Done words how) [] ≡ Some turn → Met (Calls k n) w turn.events v → last_of (front ++ turn.bytes) ≡ the_end → IsCurrent v n
+done_current k n tag words how front fed now w turn v t c (inl is) e met ends =
+    let d = only_done tag words how now [] turn e in
+    let last : v ≡ w = subst (λ (es : List Event). Met (Calls k n) w es v) d.events met in
+    subst (λ (u : World). IsCurrent u n) (sym last) (c is)
+done_current k n tag words how front fed now w turn v t c (inr unlike) e met ends =
+    let d = only_done tag words how now [] turn e in
+    absurd (no_tagged tag words unlike front (ap (λ (b : List ℕ). last_of (front ++ b)) (sym d.bytes) ∙ ends))
+
+-- a text, and what comes behind it
+said : (tag front bytes : List ℕ) (rest : Option Turn) (turn : Turn) (v : World) (k : Config) (n : ℕ) (w : World) → option_map (saying bytes) rest ≡ Some turn → Met (Calls k n) w turn.events v → last_of (front ++ turn.bytes) ≡ the_end
+    → ((more : Turn) → rest ≡ Some more → Met (Calls k n) w more.events v → last_of ((front ++ bytes) ++ more.bytes) ≡ the_end → IsCurrent v n) → IsCurrent v n
+said tag front bytes rest turn v k n w e met ends behind =
+    let m = mapped (saying bytes) rest turn e in
+    behind m.more m.is (subst (λ (s : Turn). Met (Calls k n) w s.events v) (sym m.makes) met)
+    (ap last_of (append_assoc front bytes m.more.bytes) ∙ ap (λ (s : Turn). last_of (front ++ s.bytes)) m.makes ∙ ends)
+
+-- a call that was answered, with a text, and what comes behind it
+called : (tag front text : List ℕ) (call : Call) (answer : Answer) (f : Turn → Turn) (rest : Option Turn) (turn : Turn) (v : World) (k : Config) (n : ℕ) (w : World) → option_map f rest ≡ Some turn → Met (Calls k n) w turn.events v
+    → last_of (front ++ turn.bytes) ≡ the_end → Kept k w → ((s : Turn) → (f s).events ≡ record { call = call; answer = answer } ∷ s.events) → ((s : Turn) → (f s).bytes ≡ text ++ s.bytes)
+    → ((more : Turn) (mid : World) → Meets k n w call answer mid → rest ≡ Some more → Met (Calls k n) mid more.events v → last_of ((front ++ text) ++ more.bytes) ≡ the_end → Kept k mid → IsCurrent v n) → IsCurrent v n
+called tag front text call answer f rest turn v k n w e met ends K events bytes behind =
+    let m = mapped f rest turn e in
+    let met1 : Met (Calls k n) w (record { call = call; answer = answer } ∷ m.more.events) v = subst (λ (es : List Event). Met (Calls k n) w es v) (ap (λ (s : Turn). s.events) (sym m.makes) ∙ events m.more) met in
+    behind m.more met1.0 met1.1 m.is met1.2
+    (ap last_of (append_assoc front text m.more.bytes) ∙ ap (λ (b : List ℕ). last_of (front ++ b)) (sym (bytes m.more)) ∙ ap (λ (s : Turn). last_of (front ++ s.bytes)) m.makes ∙ ends)
+    (kept_moved k n w met1.0 (moved k n w call answer met1.0 met1.1) K)
+
+fed_now : (k : Config) (n : ℕ) (w : World) (limit : ℕ) (met : List ℕ) (changes : List Change) (v : World) → Kept k w → limit ≡ unlimited → Meets k n w (Feed limit) (Fed met changes) v → IsCurrent v n
+fed_now k n w limit met changes v K e m = fed_current k w n met changes v K (subst (λ (l : ℕ). Meets k n w (Feed l) (Fed met changes) v) e m)
+
+ok_current : (k : Config) (n : ℕ) (tag front : List ℕ) (fed : Bool) (now : Standing) (w : World) (x : Exchange) (answers : List Answer) (turn : Turn) (v : World) → Kept k w → IsTag tag → (fed ≡ true → IsCurrent w n) → ShowsLast fed x
+    → played tag now x answers ≡ Some turn → Met (Calls k n) w turn.events v → last_of (front ++ turn.bytes) ≡ the_end → IsCurrent v n
+ok_current k n tag front fed now w (Done words how) [] turn v K t c p e met ends = done_current k n tag words how front fed now w turn v t c p e met ends
+ok_current k n tag front fed now w (Done words how) (a ∷ more) turn v K t c p e met ends = absurd (none-some turn e)
+ok_current k n tag front fed now w (Wait bytes how) [] turn v K t c p e met ends = absurd p
+ok_current k n tag front fed now w (Wait bytes how) (Entered a ∷ more) turn v K t c p e met ends = absurd (none-some turn e)
+ok_current k n tag front fed now w (Wait bytes how) (Looked a ∷ more) turn v K t c p e met ends = absurd (none-some turn e)
+ok_current k n tag front fed now w (Wait bytes how) (Found a ∷ more) turn v K t c p e met ends = absurd (none-some turn e)
+ok_current k n tag front fed now w (Wait bytes how) (Counted a ∷ more) turn v K t c p e met ends = absurd (none-some turn e)
+ok_current k n tag front fed now w (Wait bytes how) (Altered a ∷ more) turn v K t c p e met ends = absurd (none-some turn e)
+ok_current k n tag front fed now w (Wait bytes how) (Expunged a b c0 ∷ more) turn v K t c p e met ends = absurd (none-some turn e)
+ok_current k n tag front fed now w (Wait bytes how) (Fed a b ∷ more) turn v K t c p e met ends = absurd (none-some turn e)
+ok_current k n tag front fed now w (Wait bytes how) (Left a ∷ more) turn v K t c p e met ends = absurd (none-some turn e)
+ok_current k n tag front fed now w (Wait bytes how) (Refused a ∷ more) turn v K t c p e met ends = absurd (none-some turn e)
+ok_current k n tag front fed now w (Wait bytes how) (Starved j ∷ more) turn v K t c p e met ends = absurd p
+ok_current k n tag front fed now w (Write bytes x) [] turn v K t c p e met ends = said tag front bytes (played tag now x []) turn v k n w e met ends (λ s d m f. ok_current k n tag (front ++ bytes) fed now w x [] s v K t c p d m f)
+ok_current k n tag front fed now w (Write bytes x) (Entered a ∷ more) turn v K t c p e met ends = said tag front bytes (played tag now x (Entered a ∷ more)) turn v k n w e met ends (λ s d m f. ok_current k n tag (front ++ bytes) fed now w x (Entered a ∷ more) s v K t c p d m f)
+ok_current k n tag front fed now w (Write bytes x) (Looked a ∷ more) turn v K t c p e met ends = said tag front bytes (played tag now x (Looked a ∷ more)) turn v k n w e met ends (λ s d m f. ok_current k n tag (front ++ bytes) fed now w x (Looked a ∷ more) s v K t c p d m f)
+ok_current k n tag front fed now w (Write bytes x) (Found a ∷ more) turn v K t c p e met ends = said tag front bytes (played tag now x (Found a ∷ more)) turn v k n w e met ends (λ s d m f. ok_current k n tag (front ++ bytes) fed now w x (Found a ∷ more) s v K t c p d m f)
+ok_current k n tag front fed now w (Write bytes x) (Counted a ∷ more) turn v K t c p e met ends = said tag front bytes (played tag now x (Counted a ∷ more)) turn v k n w e met ends (λ s d m f. ok_current k n tag (front ++ bytes) fed now w x (Counted a ∷ more) s v K t c p d m f)
+ok_current k n tag front fed now w (Write bytes x) (Altered a ∷ more) turn v K t c p e met ends = said tag front bytes (played tag now x (Altered a ∷ more)) turn v k n w e met ends (λ s d m f. ok_current k n tag (front ++ bytes) fed now w x (Altered a ∷ more) s v K t c p d m f)
+ok_current k n tag front fed now w (Write bytes x) (Expunged a b c0 ∷ more) turn v K t c p e met ends = said tag front bytes (played tag now x (Expunged a b c0 ∷ more)) turn v k n w e met ends (λ s d m f. ok_current k n tag (front ++ bytes) fed now w x (Expunged a b c0 ∷ more) s v K t c p d m f)
+ok_current k n tag front fed now w (Write bytes x) (Fed a b ∷ more) turn v K t c p e met ends = said tag front bytes (played tag now x (Fed a b ∷ more)) turn v k n w e met ends (λ s d m f. ok_current k n tag (front ++ bytes) fed now w x (Fed a b ∷ more) s v K t c p d m f)
+ok_current k n tag front fed now w (Write bytes x) (Left a ∷ more) turn v K t c p e met ends = said tag front bytes (played tag now x (Left a ∷ more)) turn v k n w e met ends (λ s d m f. ok_current k n tag (front ++ bytes) fed now w x (Left a ∷ more) s v K t c p d m f)
+ok_current k n tag front fed now w (Write bytes x) (Refused a ∷ more) turn v K t c p e met ends = said tag front bytes (played tag now x (Refused a ∷ more)) turn v k n w e met ends (λ s d m f. ok_current k n tag (front ++ bytes) fed now w x (Refused a ∷ more) s v K t c p d m f)
+ok_current k n tag front fed now w (Write bytes x) (Starved zero ∷ []) turn v K t c p e met ends = given_up tag front now NoMemory turn v n t e ends
+ok_current k n tag front fed now w (Write bytes x) (Starved (suc j) ∷ []) turn v K t c p e met ends = said tag front bytes (played tag now x (Starved j ∷ [])) turn v k n w e met ends (λ s d m f. ok_current k n tag (front ++ bytes) fed now w x (Starved j ∷ []) s v K t c p d m f)
+ok_current k n tag front fed now w (Write bytes x) (Starved zero ∷ b ∷ more) turn v K t c p e met ends = said tag front bytes (played tag now x (Starved zero ∷ b ∷ more)) turn v k n w e met ends (λ s d m f. ok_current k n tag (front ++ bytes) fed now w x (Starved zero ∷ b ∷ more) s v K t c p d m f)
+ok_current k n tag front fed now w (Write bytes x) (Starved (suc j) ∷ b ∷ more) turn v K t c p e met ends = said tag front bytes (played tag now x (Starved (suc j) ∷ b ∷ more)) turn v k n w e met ends (λ s d m f. ok_current k n tag (front ++ bytes) fed now w x (Starved (suc j) ∷ b ∷ more) s v K t c p d m f)
+ok_current k n tag front fed now w (Put bytes x) answers turn v K t c p e met ends = said tag front bytes (played tag now x answers) turn v k n w e met ends (λ s d m f. ok_current k n tag (front ++ bytes) fed now w x answers s v K t c p d m f)
+ok_current k n tag front fed now w (Enter selected next) [] turn v K t c p e met ends = absurd (none-some turn e)
+ok_current k n tag front fed now w (Enter selected next) (Entered a ∷ more) turn v K t c p e met ends = absurd p
+ok_current k n tag front fed now w (Enter selected next) (Looked a ∷ more) turn v K t c p e met ends = absurd (none-some turn e)
+ok_current k n tag front fed now w (Enter selected next) (Found a ∷ more) turn v K t c p e met ends = absurd (none-some turn e)
+ok_current k n tag front fed now w (Enter selected next) (Counted a ∷ more) turn v K t c p e met ends = absurd (none-some turn e)
+ok_current k n tag front fed now w (Enter selected next) (Altered a ∷ more) turn v K t c p e met ends = absurd (none-some turn e)
+ok_current k n tag front fed now w (Enter selected next) (Expunged a b c0 ∷ more) turn v K t c p e met ends = absurd (none-some turn e)
+ok_current k n tag front fed now w (Enter selected next) (Fed a b ∷ more) turn v K t c p e met ends = absurd (none-some turn e)
+ok_current k n tag front fed now w (Enter selected next) (Left a ∷ more) turn v K t c p e met ends = absurd (none-some turn e)
+ok_current k n tag front fed now w (Enter selected next) (Refused a ∷ []) turn v K t c p e met ends = absurd p
+ok_current k n tag front fed now w (Enter selected next) (Refused a ∷ b ∷ more) turn v K t c p e met ends = absurd (none-some turn e)
+ok_current k n tag front fed now w (Enter selected next) (Starved a ∷ more) turn v K t c p e met ends = absurd (none-some turn e)
+ok_current k n tag front fed now w (Look by_uid set next) [] turn v K t c p e met ends = absurd (none-some turn e)
+ok_current k n tag front fed now w (Look by_uid set next) (Entered a ∷ more) turn v K t c p e met ends = absurd (none-some turn e)
+ok_current k n tag front fed now w (Look by_uid set next) (Looked a ∷ more) turn v K t c p e met ends = called tag front [] (Look by_uid set) (Looked a) (having (Look by_uid set) (Looked a)) (played tag now (next a) more) turn v k n w e met ends K (λ s. refl) (λ s. refl) (λ s mid one d m f J. ok_current k n tag (front ++ []) false now mid (next a) more s v J t never (p a) d m f)
+ok_current k n tag front fed now w (Look by_uid set next) (Found a ∷ more) turn v K t c p e met ends = absurd (none-some turn e)
+ok_current k n tag front fed now w (Look by_uid set next) (Counted a ∷ more) turn v K t c p e met ends = absurd (none-some turn e)
+ok_current k n tag front fed now w (Look by_uid set next) (Altered a ∷ more) turn v K t c p e met ends = absurd (none-some turn e)
+ok_current k n tag front fed now w (Look by_uid set next) (Expunged a b c0 ∷ more) turn v K t c p e met ends = absurd (none-some turn e)
+ok_current k n tag front fed now w (Look by_uid set next) (Fed a b ∷ more) turn v K t c p e met ends = absurd (none-some turn e)
+ok_current k n tag front fed now w (Look by_uid set next) (Left a ∷ more) turn v K t c p e met ends = absurd (none-some turn e)
+ok_current k n tag front fed now w (Look by_uid set next) (Refused a ∷ []) turn v K t c p e met ends = was_given_up tag front now (Look by_uid set) a turn v n t e ends
+ok_current k n tag front fed now w (Look by_uid set next) (Refused a ∷ b ∷ more) turn v K t c p e met ends = absurd (none-some turn e)
+ok_current k n tag front fed now w (Look by_uid set next) (Starved j ∷ more) turn v K t c p e met ends = absurd (none-some turn e)
+ok_current k n tag front fed now w (Read uid mark next) [] turn v K t c p e met ends = absurd (none-some turn e)
+ok_current k n tag front fed now w (Read uid mark next) (Entered a ∷ more) turn v K t c p e met ends = absurd (none-some turn e)
+ok_current k n tag front fed now w (Read uid mark next) (Looked a ∷ more) turn v K t c p e met ends = absurd (none-some turn e)
+ok_current k n tag front fed now w (Read uid mark next) (Found a ∷ more) turn v K t c p e met ends = called tag front [] (Read uid mark) (Found a) (having (Read uid mark) (Found a)) (played tag now (next a) more) turn v k n w e met ends K (λ s. refl) (λ s. refl) (λ s mid one d m f J. ok_current k n tag (front ++ []) false now mid (next a) more s v J t never (p a) d m f)
+ok_current k n tag front fed now w (Read uid mark next) (Counted a ∷ more) turn v K t c p e met ends = absurd (none-some turn e)
+ok_current k n tag front fed now w (Read uid mark next) (Altered a ∷ more) turn v K t c p e met ends = absurd (none-some turn e)
+ok_current k n tag front fed now w (Read uid mark next) (Expunged a b c0 ∷ more) turn v K t c p e met ends = absurd (none-some turn e)
+ok_current k n tag front fed now w (Read uid mark next) (Fed a b ∷ more) turn v K t c p e met ends = absurd (none-some turn e)
+ok_current k n tag front fed now w (Read uid mark next) (Left a ∷ more) turn v K t c p e met ends = absurd (none-some turn e)
+ok_current k n tag front fed now w (Read uid mark next) (Refused a ∷ []) turn v K t c p e met ends = was_given_up tag front now (Read uid mark) a turn v n t e ends
+ok_current k n tag front fed now w (Read uid mark next) (Refused a ∷ b ∷ more) turn v K t c p e met ends = absurd (none-some turn e)
+ok_current k n tag front fed now w (Read uid mark next) (Starved a ∷ more) turn v K t c p e met ends = absurd (none-some turn e)
+ok_current k n tag front fed now w (Count mailbox next) [] turn v K t c p e met ends = absurd (none-some turn e)
+ok_current k n tag front fed now w (Count mailbox next) (Entered a ∷ more) turn v K t c p e met ends = absurd (none-some turn e)
+ok_current k n tag front fed now w (Count mailbox next) (Looked a ∷ more) turn v K t c p e met ends = absurd (none-some turn e)
+ok_current k n tag front fed now w (Count mailbox next) (Found a ∷ more) turn v K t c p e met ends = absurd (none-some turn e)
+ok_current k n tag front fed now w (Count mailbox next) (Counted a ∷ more) turn v K t c p e met ends = called tag front [] (Count mailbox) (Counted a) (having (Count mailbox) (Counted a)) (played tag now (next a) more) turn v k n w e met ends K (λ s. refl) (λ s. refl) (λ s mid one d m f J. ok_current k n tag (front ++ []) false now mid (next a) more s v J t never (p a) d m f)
+ok_current k n tag front fed now w (Count mailbox next) (Altered a ∷ more) turn v K t c p e met ends = absurd (none-some turn e)
+ok_current k n tag front fed now w (Count mailbox next) (Expunged a b c0 ∷ more) turn v K t c p e met ends = absurd (none-some turn e)
+ok_current k n tag front fed now w (Count mailbox next) (Fed a b ∷ more) turn v K t c p e met ends = absurd (none-some turn e)
+ok_current k n tag front fed now w (Count mailbox next) (Left a ∷ more) turn v K t c p e met ends = absurd (none-some turn e)
+ok_current k n tag front fed now w (Count mailbox next) (Refused a ∷ []) turn v K t c p e met ends = was_given_up tag front now (Count mailbox) a turn v n t e ends
+ok_current k n tag front fed now w (Count mailbox next) (Refused a ∷ b ∷ more) turn v K t c p e met ends = absurd (none-some turn e)
+ok_current k n tag front fed now w (Count mailbox next) (Starved a ∷ more) turn v K t c p e met ends = absurd (none-some turn e)
+ok_current k n tag front fed now w (Alter uid op next) [] turn v K t c p e met ends = absurd (none-some turn e)
+ok_current k n tag front fed now w (Alter uid op next) (Entered a ∷ more) turn v K t c p e met ends = absurd (none-some turn e)
+ok_current k n tag front fed now w (Alter uid op next) (Looked a ∷ more) turn v K t c p e met ends = absurd (none-some turn e)
+ok_current k n tag front fed now w (Alter uid op next) (Found a ∷ more) turn v K t c p e met ends = absurd (none-some turn e)
+ok_current k n tag front fed now w (Alter uid op next) (Counted a ∷ more) turn v K t c p e met ends = absurd (none-some turn e)
+ok_current k n tag front fed now w (Alter uid op next) (Altered a ∷ more) turn v K t c p e met ends = called tag front [] (Alter uid op) (Altered a) (having (Alter uid op) (Altered a)) (played tag now (next a) more) turn v k n w e met ends K (λ s. refl) (λ s. refl) (λ s mid one d m f J. ok_current k n tag (front ++ []) false now mid (next a) more s v J t never (p a) d m f)
+ok_current k n tag front fed now w (Alter uid op next) (Expunged a b c0 ∷ more) turn v K t c p e met ends = absurd (none-some turn e)
+ok_current k n tag front fed now w (Alter uid op next) (Fed a b ∷ more) turn v K t c p e met ends = absurd (none-some turn e)
+ok_current k n tag front fed now w (Alter uid op next) (Left a ∷ more) turn v K t c p e met ends = absurd (none-some turn e)
+ok_current k n tag front fed now w (Alter uid op next) (Refused a ∷ []) turn v K t c p e met ends = was_given_up tag front now (Alter uid op) a turn v n t e ends
+ok_current k n tag front fed now w (Alter uid op next) (Refused a ∷ b ∷ more) turn v K t c p e met ends = absurd (none-some turn e)
+ok_current k n tag front fed now w (Alter uid op next) (Starved a ∷ more) turn v K t c p e met ends = absurd (none-some turn e)
+ok_current k n tag front fed now w (Expunge uids x) [] turn v K t c p e met ends = absurd (none-some turn e)
+ok_current k n tag front fed now w (Expunge uids x) (Entered a ∷ more) turn v K t c p e met ends = absurd (none-some turn e)
+ok_current k n tag front fed now w (Expunge uids x) (Looked a ∷ more) turn v K t c p e met ends = absurd (none-some turn e)
+ok_current k n tag front fed now w (Expunge uids x) (Found a ∷ more) turn v K t c p e met ends = absurd (none-some turn e)
+ok_current k n tag front fed now w (Expunge uids x) (Counted a ∷ more) turn v K t c p e met ends = absurd (none-some turn e)
+ok_current k n tag front fed now w (Expunge uids x) (Altered a ∷ more) turn v K t c p e met ends = absurd (none-some turn e)
+ok_current k n tag front fed now w (Expunge uids x) (Expunged a b c0 ∷ more) turn v K t c p e met ends = called tag front (lines a b) (Expunge uids) (Expunged a b c0) (λ s. having (Expunge uids) (Expunged a b c0) (saying (lines a b) s)) (played tag now x more) turn v k n w e met ends K (λ s. refl) (λ s. refl) (λ s mid one d m f J. ok_current k n tag (front ++ lines a b) false now mid x more s v J t never p d m f)
+ok_current k n tag front fed now w (Expunge uids x) (Fed a b ∷ more) turn v K t c p e met ends = absurd (none-some turn e)
+ok_current k n tag front fed now w (Expunge uids x) (Left a ∷ more) turn v K t c p e met ends = absurd (none-some turn e)
+ok_current k n tag front fed now w (Expunge uids x) (Refused a ∷ []) turn v K t c p e met ends = was_given_up tag front now (Expunge uids) a turn v n t e ends
+ok_current k n tag front fed now w (Expunge uids x) (Refused a ∷ b ∷ more) turn v K t c p e met ends = absurd (none-some turn e)
+ok_current k n tag front fed now w (Expunge uids x) (Starved a ∷ more) turn v K t c p e met ends = absurd (none-some turn e)
+ok_current k n tag front fed now w (Feed limit x) [] turn v K t c p e met ends = absurd (none-some turn e)
+ok_current k n tag front fed now w (Feed limit x) (Entered a ∷ more) turn v K t c p e met ends = absurd (none-some turn e)
+ok_current k n tag front fed now w (Feed limit x) (Looked a ∷ more) turn v K t c p e met ends = absurd (none-some turn e)
+ok_current k n tag front fed now w (Feed limit x) (Found a ∷ more) turn v K t c p e met ends = absurd (none-some turn e)
+ok_current k n tag front fed now w (Feed limit x) (Counted a ∷ more) turn v K t c p e met ends = absurd (none-some turn e)
+ok_current k n tag front fed now w (Feed limit x) (Altered a ∷ more) turn v K t c p e met ends = absurd (none-some turn e)
+ok_current k n tag front fed now w (Feed limit x) (Expunged a b c0 ∷ more) turn v K t c p e met ends = absurd (none-some turn e)
+ok_current k n tag front fed now w (Feed limit x) (Fed a b ∷ more) turn v K t c p e met ends = called tag front (lines a b) (Feed limit) (Fed a b) (λ s. having (Feed limit) (Fed a b) (saying (lines a b) s)) (played tag now x more) turn v k n w e met ends K (λ s. refl) (λ s. refl) (λ s mid one d m f J. ok_current k n tag (front ++ lines a b) true now mid x more s v J t (λ is. fed_now k n w limit a b mid K p.0 one) p.1 d m f)
+ok_current k n tag front fed now w (Feed limit x) (Left a ∷ more) turn v K t c p e met ends = absurd (none-some turn e)
+ok_current k n tag front fed now w (Feed limit x) (Refused a ∷ []) turn v K t c p e met ends = was_given_up tag front now (Feed limit) a turn v n t e ends
+ok_current k n tag front fed now w (Feed limit x) (Refused a ∷ b ∷ more) turn v K t c p e met ends = absurd (none-some turn e)
+ok_current k n tag front fed now w (Feed limit x) (Starved a ∷ more) turn v K t c p e met ends = absurd (none-some turn e)
+ok_current k n tag front fed now w (Leave remove x) [] turn v K t c p e met ends = absurd (none-some turn e)
+ok_current k n tag front fed now w (Leave remove x) (Entered a ∷ more) turn v K t c p e met ends = absurd (none-some turn e)
+ok_current k n tag front fed now w (Leave remove x) (Looked a ∷ more) turn v K t c p e met ends = absurd (none-some turn e)
+ok_current k n tag front fed now w (Leave remove x) (Found a ∷ more) turn v K t c p e met ends = absurd (none-some turn e)
+ok_current k n tag front fed now w (Leave remove x) (Counted a ∷ more) turn v K t c p e met ends = absurd (none-some turn e)
+ok_current k n tag front fed now w (Leave remove x) (Altered a ∷ more) turn v K t c p e met ends = absurd (none-some turn e)
+ok_current k n tag front fed now w (Leave remove x) (Expunged a b c0 ∷ more) turn v K t c p e met ends = absurd (none-some turn e)
+ok_current k n tag front fed now w (Leave remove x) (Fed a b ∷ more) turn v K t c p e met ends = absurd (none-some turn e)
+ok_current k n tag front fed now w (Leave remove x) (Left a ∷ more) turn v K t c p e met ends = absurd p
+ok_current k n tag front fed now w (Leave remove x) (Refused a ∷ []) turn v K t c p e met ends = absurd p
+ok_current k n tag front fed now w (Leave remove x) (Refused a ∷ b ∷ more) turn v K t c p e met ends = absurd (none-some turn e)
+ok_current k n tag front fed now w (Leave remove x) (Starved a ∷ more) turn v K t c p e met ends = absurd (none-some turn e)
+
+-- ---- commands
+
+missing : NotDone (codes "NO [NONEXISTENT] No such mailbox")
+missing = no_end (codes "NO [NONEXISTENT] No such mailbox\r\n") 2 120 (λ b. refl) refl
+
+wrong : NotDone (codes "BAD Wrong state")
+wrong = no_end (codes "BAD Wrong state\r\n") 3 116 (λ b. refl) refl
+
+only_read : NotDone (codes "NO Mailbox is read-only")
+only_read = no_end (codes "NO Mailbox is read-only\r\n") 2 121 (λ b. refl) refl
+
+too_high : NotDone (codes "BAD Sequence number too high")
+too_high = no_end (codes "BAD Sequence number too high\r\n") 2 104 (λ b. refl) refl
+
+found_last : {A : Type 0} (found : A → Exchange) (gone : Exchange) (o : Option A) → ((a : A) → ShowsLast false (found a)) → ShowsLast false gone → ShowsLast false (on_found found gone o)
+found_last found gone None h g = g
+found_last found gone (Some a) h g = h a
+
+writable_last : (now : Standing) (x : Exchange) → ShowsLast false x → ShowsLast false (in_writable now x)
+writable_last now x h = found_last (if_writable x) wrong_state now.selected (λ s. by s.read_only) (inr wrong)
+  where
+    by : (b : Bool) → ShowsLast false (if b then says (codes "NO Mailbox is read-only") else x)
+    by true = inr only_read
+    by false = h
+
+chosen_last : (by_uid : Bool) (set : List SeqRange) (next : List ℕ → List ℕ → Exchange) → ((view uids : List ℕ) → ShowsLast false (next view uids)) → ShowsLast false (on_set by_uid set next)
+chosen_last by_uid set next h = λ view. by view (named_in by_uid set view)
+  where
+    by : (view : List ℕ) (chosen : Option (List ℕ)) → ShowsLast false (on_chosen chosen (next view))
+    by view None = inr too_high
+    by view (Some uids) = h view uids
+
+fetching_last : (fetch : Fetch) (mark : Bool) (view : List ℕ) (done : Bool → Exchange) (uids : List ℕ) (gone : Bool) → ((b : Bool) → ShowsLast false (done b)) → ShowsLast false (fetching fetch mark view done uids gone)
+fetching_last fetch mark view done [] gone h = h gone
+fetching_last fetch mark view done (uid ∷ uids) gone h = λ row.
+    found_last (λ r. Write (fetched fetch view uid r) (fetching fetch mark view done uids gone)) (fetching fetch mark view done uids true) row (λ r. fetching_last fetch mark view done uids gone h) (fetching_last fetch mark view done uids true h)
+
+silent_last : (silent : Bool) (text : List ℕ) (x : Exchange) → ShowsLast false x → ShowsLast false (if silent then x else Write text x)
+silent_last true text x h = h
+silent_last false text x h = h
+
+storing_last : (store : Store) (view : List ℕ) (done : Bool → Exchange) (uids : List ℕ) (gone : Bool) → ((b : Bool) → ShowsLast false (done b)) → ShowsLast false (storing store view done uids gone)
+storing_last store view done [] gone h = h gone
+storing_last store view done (uid ∷ uids) gone h = λ flags.
+    found_last (λ f. stored store view uid f (storing store view done uids gone)) (storing store view done uids true) flags (λ f. silent_last store.silent _ _ (storing_last store view done uids gone h)) (storing_last store view done uids true h)
+
+messages_last : (command : Command) (by_uid gone : Bool) → by_uid ≡ true → ShowsLast false (messages_done command by_uid gone)
+messages_last command true gone e = (refl, inl refl)
+messages_last command false gone e = never e
+
+pub command_last : (now : Standing) (selected : Selected) (command : Command) → now.selected ≡ Some selected → shows_all command ≡ true → ShowsLast false (on_command now command)
+command_last now selected commands.Noop is e = subst (λ (o : Option Selected). ShowsLast false (showing o (completed commands.Noop))) (sym is) (refl, inl refl)
+command_last now selected (commands.List reference pattern) is e = subst (λ (o : Option Selected). ShowsLast false (showing o (completed (commands.List reference pattern)))) (sym is) (refl, inl refl)
+command_last now selected (commands.Status name items) is e =
+    found_last (counting now name items) (says (codes "NO [NONEXISTENT] No such mailbox")) (folder_of name now.folders)
+    (λ folder status. subst (λ (o : Option Selected). ShowsLast false (showing o (completed (commands.Status name items)))) (sym is) (refl, inl refl)) (inr missing)
+command_last now selected commands.Expunge is e = writable_last now (Expunge None (Feed unlimited (completed commands.Expunge))) (refl, inl refl)
+command_last now selected (commands.UidExpunge set) is e =
+    writable_last now (expunge_set set) (chosen_last true set (λ view uids. wanting (Expunge (Some uids) (Feed unlimited (completed (commands.UidExpunge set))))) (λ view uids. (refl, inl refl)))
+command_last now selected (commands.Fetch fetch) is e = found_last (fetch_messages fetch) wrong_state now.selected
+    (λ (s : Selected). chosen_last fetch.by_uid fetch.set
+    (λ view uids. fetching fetch (list_any marks_seen fetch.items && not s.read_only) view (messages_done (commands.Fetch fetch) fetch.by_uid) uids false)
+    (λ view uids. fetching_last fetch (list_any marks_seen fetch.items && not s.read_only) view (messages_done (commands.Fetch fetch) fetch.by_uid) uids false (λ b. messages_last (commands.Fetch fetch) fetch.by_uid b e))) (inr wrong)
+command_last now selected (commands.Store store) is e = writable_last now (store_messages store)
+    (chosen_last store.by_uid store.set (λ view uids. storing store view (messages_done (commands.Store store) store.by_uid) uids false)
+    (λ view uids. storing_last store view (messages_done (commands.Store store) store.by_uid) uids false (λ b. messages_last (commands.Store store) store.by_uid b e)))
+command_last now selected _ is e = never e
+
+-- ---- their answers
+
+done_shape : (a b c d g h e : List ℕ) → a ++ (b ++ c ++ (d ++ g ++ h) ++ e) ≡ (((a ++ b) ++ c) ++ (d ++ g)) ++ (h ++ e)
+done_shape a b c d g h e = simp append_assoc
+
+ends_done : (front tag verb : List ℕ) → last_of (front ++ tagged tag (codes "OK " ++ verb ++ codes " completed")) ≡ the_end
+ends_done front tag verb =
+    let before : List ℕ = ((front ++ tag) ++ codes " ") ++ (codes "OK " ++ verb) in
+    ap last_of (done_shape front tag (codes " ") (codes "OK ") verb (codes " completed") (codes "\r\n")) ∙ ap (take 6) (reverse-append before (codes " completed\r\n"))
+
+done_current_in : (k : Config) (n : ℕ) (now : Standing) (line tag : List ℕ) (command : Command) (w : World) (turn : Turn) (v : World) (front : List ℕ) → Kept k w → IsAnswered k n now line w turn v → kept_tag now ≡ None → read line ≡ Ok (tag, command)
+    → shows_all command ≡ true → turn.bytes ≡ front ++ tagged tag (codes "OK " ++ verb_text (verb_of command) ++ codes " completed") → IsCurrent v n
+done_current_in k n now line tag command w turn v front K a kept reads shows bytes = by now.mailing.begun now.idling refl refl
+  where
+    read_current : on_read now (Ok (tag, command)) a.answers ≡ Some turn → IsCurrent v n
+    read_current e =
+        ok_current k n tag [] false now w (on_command now command) a.answers turn v K (tags_are_tags line tag command reads) never (command_last now a.selected command a.there shows) e a.met
+        (ap last_of bytes ∙ ends_done front tag (verb_text (verb_of command)))
+
+    by : (begun : Option Appending) (idling : Option (List ℕ)) → begun ≡ now.mailing.begun → idling ≡ now.idling → IsCurrent v n
+    by (Some b) idling p q = absurd (none-some b.tag (sym kept ∙ sym (ap (λ (x : Option Appending). kept_behind x now.idling) p)))
+    by None (Some i) p q = absurd (none-some i (sym kept ∙ sym (ap (λ (x : Option Appending). kept_behind x now.idling) p) ∙ sym q))
+    by None None p q =
+        let first : turn_while now.idling now line a.answers ≡ Some turn = subst (λ (o : Option Appending). turn_behind o now line a.answers ≡ Some turn) (sym p) a.answered in
+        let second : on_read now (read line) a.answers ≡ Some turn = subst (λ (o : Option (List ℕ)). turn_while o now line a.answers ≡ Some turn) (sym q) first in
+        read_current (subst (λ (r : Result (List ℕ × Command) ImapFault). on_read now r a.answers ≡ Some turn) reads second)
+
+pub done_commands_make_current : DoneCommandsMakeCurrent
+done_commands_make_current k events n now line tag command w turn v front is a kept reads shows bytes = done_current_in k n now line tag command w turn v front (kept_always k events w is) a kept reads shows bytes
+
+-- ---- in a life
+
+-- such a command asks for no mailbox and leaves none
+neither_shows : (tag : List ℕ) (command : Command) → shows_all command ≡ true → asked_by tag command ≡ Neither
+neither_shows tag (commands.Select name) e = absurd (false≢true e)
+neither_shows tag (commands.Examine name) e = absurd (false≢true e)
+neither_shows tag commands.Close e = absurd (false≢true e)
+neither_shows tag commands.Unselect e = absurd (false≢true e)
+neither_shows tag _ e = refl
+
+-- a client that is right about a view has a list
+pub has_list : (view : List ℕ) (client : Client) (heard : Option Client) → heard ≡ Some client → IsRightAbout view (Some client) → (list : List Known) × (heard ≡ Some (knowing (Some list))) × IsRight view list
+has_list view client heard e right = (right.0, e ∙ ap (λ (c : Client). Some c) right.1, right.2)
+
+pub lists_are_current : ListsAreCurrent
+lists_are_current k events n first began sent told now w client line tag command answers turn v front s h is short stands lives knows answer met kept reads_as shows bytes at =
+    let short_w = short_met k n w turn.events v met short in
+    let before = lives_known k n first began h (sound_always k events began h is) stands lives short_w in
+    let after = lives_known k n first began h (sound_always k events began h is) stands (turns lives (Line line answers) (line ++ crlf) turn v refl tt answer met) short in
+    let chosen : Known_selected (Some client) now = subst (λ (c : Option Client). Known_selected c now) knows (knowing_is_selected k n first began sent told now w lives) in
+    let a : IsAnswered k n now line w turn v = record { selected = chosen.0; there = chosen.1; stands = before.stands; answers = answers; answered = answer; met = met } in
+    let told_is : told_of now (Line line answers) turn.bytes ≡ Answer_to line turn.bytes = ap (λ (o : Option (List ℕ)). told_line o line turn.bytes) kept in
+    let heard : hears_all None (told ++ Answer_to line turn.bytes ∷ []) ≡ Some (reads client turn.bytes) =
+    hears_last None told (Answer_to line turn.bytes) ∙ ap (λ (c : Option Client). hears c (Answer_to line turn.bytes)) knows ∙ ap (λ (r : Result (List ℕ × Command) ImapFault). answered (asked r) turn.bytes (Some client)) reads_as
+    ∙ ap (λ (x : Asked). answered x turn.bytes (Some client)) (neither_shows tag command shows) in
+    let right : IsRightAbout (view_of v n) (hears_all None (told ++ Answer_to line turn.bytes ∷ [])) =
+    subst (λ (one : Told). IsRightAbout (view_of v n) (hears_all None (told ++ one ∷ []))) told_is after.right in
+    let all : IsRightAbout (messages_of (v.box s.mailbox)) (hears_all None (told ++ Answer_to line turn.bytes ∷ [])) = subst (λ (view : List ℕ). IsRightAbout view (hears_all None (told ++ Answer_to line turn.bytes ∷ [])))
+    (done_current_in k n now line tag command w turn v front before.sound.kept a kept reads_as shows bytes s at) right in
+    has_list (messages_of (v.box s.mailbox)) (reads client turn.bytes) (hears_all None (told ++ Answer_to line turn.bytes ∷ [])) heard
+    (subst (λ (c : Option Client). IsRightAbout (messages_of (v.box s.mailbox)) c) heard all)

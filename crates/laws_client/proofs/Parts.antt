@@ -1,0 +1,48 @@
+-- The numbers of a FETCH that was read are such as can be printed.
+use Rattle.std.proofs.Common.{ℕ, inl, inr, List, [], ◌∷◌, arith, subst, sym}
+use Rattle.std.specs.Prelude.{Some, None, Result, Ok, Err}
+use Rattle.envelope.specs.Grammar.{Gap}
+use Rattle.imap_grammar.specs.Grammar.{ItemIs, ItemsAre, Line, Others, Reads, Separated}
+use Rattle.imap_grammar.specs.Reading.{read}
+use Rattle.imap_grammar.specs.declared.command.Command.{Command}
+use Rattle.imap_grammar.specs.declared.command.Command.TheVariants as commands
+use Rattle.imap_grammar.specs.declared.command.ImapFault.{ImapFault}
+use Rattle.imap_grammar.specs.declared.items.FetchItem.{FetchItem}
+use Rattle.imap_grammar.specs.declared.items.FetchItem.TheVariants as fetch
+use Rattle.imap_grammar.proofs.LineLaw.{reads}
+use Rattle.laws_client.specs.Fetches.{AreToldParts, IsToldPart}
+use Rattle.laws_client.specs.Commands.{HasToldParts}
+
+item_told : (item : FetchItem) (text : List ℕ) → ItemIs item text → IsToldPart item
+item_told fetch.Uid text is = tt
+item_told fetch.Flags text is = tt
+item_told fetch.Size text is = tt
+item_told (fetch.Body peek section None) text is = tt
+item_told (fetch.Body peek section (Some span)) text is = omega (arith, is.second.second.second.second.first.1)
+
+others_told : (items : List FetchItem) (text : List ℕ) → Others Gap ItemIs items text → AreToldParts items
+others_told [] text are = tt
+others_told (item ∷ items) text are = (item_told item are.second.front are.second.first, others_told items are.second.back are.second.second)
+
+separated_told : (items : List FetchItem) (text : List ℕ) → Separated Gap ItemIs items text → AreToldParts items
+separated_told [] text are = absurd are
+separated_told (item ∷ items) text are = (item_told item are.front are.first, others_told items are.back are.second)
+
+items_told : (items : List FetchItem) (text : List ℕ) → ItemsAre items text → AreToldParts items
+items_told items text (inl (item, is, one)) = subst (λ (xs : List FetchItem). AreToldParts xs) (sym is) (item_told item text one, tt)
+items_told items text (inr many) = separated_told items many.second.front many.second.first
+
+line_told : (tag : List ℕ) (command : Command) (line : List ℕ) → Line tag command line → HasToldParts command
+line_told tag (commands.Fetch f) line is = items_told f.items _ is.second.second.second.first.second.second.second
+line_told tag _ line is = tt
+
+abbrev pub HasTold : Result (List ℕ × Command) ImapFault → Type 0
+HasTold (Ok line) = HasToldParts line.1
+HasTold (Err fault) = Unit {0}
+
+has_told : (line : List ℕ) (r : Result (List ℕ × Command) ImapFault) → Reads line r → HasTold r
+has_told line (Ok read) is = line_told read.0 read.1 line is
+has_told line (Err fault) is = tt
+
+pub read_told : (line : List ℕ) → HasTold (read line)
+read_told line = has_told line (read line) (reads line)

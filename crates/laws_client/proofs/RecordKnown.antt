@@ -1,0 +1,102 @@
+-- A turn of a session, as its client hears it that knows which of its lines were SELECT, EXAMINE, CLOSE or UNSELECT.
+use Rattle.std.proofs.Common.{◌≡◌, ℕ, true, false, List, [], refl, sym, subst, ap, ap₂}
+use Rattle.std.specs.Prelude.{Option, Some, None, Result, Ok, Err, codes, not}
+use Rattle.world.specs.World.{Config, World}
+use Rattle.imap_grammar.specs.Reading.{read}
+use Rattle.imap_grammar.specs.declared.command.Command.{Command}
+use Rattle.imap_grammar.specs.declared.command.Command.TheVariants as commands
+use Rattle.imap_grammar.specs.declared.command.ImapFault.{ImapFault}
+use Rattle.imap_session.specs.Exchange.{Answer as StoreAnswer, Appending, Standing, Folder, Turn, is_idling, kept_tag, kept_behind, played}
+use Rattle.imap_session.specs.Commands.{on_command, on_read, turn_behind, turn_of, turn_while}
+use Rattle.imap_session.specs.Store.{Met}
+use Rattle.laws_client.specs.Client.{Client}
+use Rattle.laws_client.specs.Commands.{AreNames, HasToldParts, MayAnswer, MayAsk, stays}
+use Rattle.laws_client.specs.Fetches.{IsNumbered}
+use Rattle.laws_client.specs.Talks.{Happening, Line, LongLine, Turned, Literal, Heard, MayCome, MayHappen, leads_to}
+use Rattle.laws_client.specs.ListTurns.{IsTag}
+use Rattle.laws_client.proofs.Tags.{Tagged, read_tagged}
+use Rattle.laws_client.proofs.Talking.{happening_follows, happening_keeps}
+use Rattle.laws_client.specs.Clients.{IsRightAbout, asked, asked_by, answered, hears, reads_on}
+use Rattle.laws_client.specs.Sizes.{HasShortTexts, HasSmallNumbers}
+use Rattle.laws_client.specs.RecordTurns.{Stands, StandsStill, TurnIsKnown, VerdictsArePrinted, told_line, told_of}
+use Rattle.laws_client.specs.Views.{view_of}
+use Rattle.laws_client.proofs.RecordEntering.{closes_right, entering_right, reads_right, selecting_known, tagged_has}
+use Rattle.laws_client.proofs.Folders.{idle_folders, line_folders, the_turn, verdict_folders}
+use Rattle.laws_client.proofs.Moved.{Calls, sees_all}
+use Rattle.laws_client.proofs.Parts.{HasTold, read_told}
+use Rattle.laws_client.proofs.RecordWorlds.{Sound, numbered_view, sound_always}
+
+-- ---- lines that are commands
+
+pub may_ask : (now : Standing) (view : List ℕ) (command : Command) → Stands now → IsNumbered view → HasToldParts command → stays command ≡ true → MayAsk now view command
+may_ask now view command stands numbered parts stay = record { stays = stay; numbered = numbered; names = stands.names; parts = parts }
+
+command_known : (k : Config) (n : ℕ) (now : Standing) (w : World) (tag : List ℕ) (command : Command) (answers : List StoreAnswer) (turn : Turn) (v : World) (client : Option Client)
+    → HasSmallNumbers k → Sound k w → Stands now → IsTag tag → played tag now (on_command now command) answers ≡ Some turn → Met (Calls k n) w turn.events v → IsRightAbout (view_of w n) client
+    → (stays command ≡ true → IsRightAbout (view_of v n) (reads_on turn.bytes client)) → IsRightAbout (view_of v n) (answered (asked_by tag command) turn.bytes client)
+command_known k n now w tag (commands.Select name) answers turn v client h S stands t e met right more =
+    entering_right tag turn.bytes (view_of v n) (selecting_known k n tag now w false name answers turn v h S t stands.names e met)
+command_known k n now w tag (commands.Examine name) answers turn v client h S stands t e met right more =
+    entering_right tag turn.bytes (view_of v n) (selecting_known k n tag now w true name answers turn v h S t stands.names e met)
+command_known k n now w tag commands.Close answers turn v client h S stands t e met right more =
+    closes_right k n tag (codes "OK CLOSE completed") now w (λ s. not s.read_only) now.selected answers turn v client t (tagged_has tag (codes "OK CLOSE completed") t) e met right
+command_known k n now w tag commands.Unselect answers turn v client h S stands t e met right more =
+    closes_right k n tag (codes "OK UNSELECT completed") now w (λ s. false) now.selected answers turn v client t (tagged_has tag (codes "OK UNSELECT completed") t) e met right
+command_known k n now w tag _ answers turn v client h S stands t e met right more = more refl
+
+read_known : (k : Config) (n : ℕ) (now : Standing) (w : World) (r : Result (List ℕ × Command) ImapFault) (answers : List StoreAnswer) (turn : Turn) (v : World) (client : Option Client)
+    → HasSmallNumbers k → Sound k w → Stands now → IsNumbered (view_of w n) → Tagged r → HasTold r → on_read now r answers ≡ Some turn → Met (Calls k n) w turn.events v → IsRightAbout (view_of w n) client
+    → (MayAnswer now (view_of w n) r → IsRightAbout (view_of v n) (reads_on turn.bytes client)) → IsRightAbout (view_of v n) (answered (asked r) turn.bytes client)
+read_known k n now w (Ok line) answers turn v client h S stands numbered t told e met right more =
+    command_known k n now w line.0 line.1 answers turn v client h S stands t e met right (λ stay. more (may_ask now (view_of w n) line.1 stands numbered told stay))
+read_known k n now w (Err fault) answers turn v client h S stands numbered t told e met right more = more tt
+
+-- ---- turns
+
+happening_known : (k : Config) (n : ℕ) (now : Standing) (w : World) (happening : Happening) (turn : Turn) (v : World) (client : Option Client) → HasSmallNumbers k → Sound k w → HasShortTexts v → Stands now
+    → leads_to now happening ≡ Some turn → Met (Calls k n) w turn.events v → IsRightAbout (view_of w n) client → MayHappen now (view_of w n) happening → IsRightAbout (view_of v n) (reads_on turn.bytes client)
+happening_known k n now w happening turn v client h S short stands e met right may =
+    reads_right (view_of w n) turn.bytes (view_of v n) client (happening_follows now (view_of w n) happening turn (view_of v n) stands.tags may e (sees_all k n w turn.events v h S short met)) right
+
+line_known : (k : Config) (n : ℕ) (now : Standing) (w : World) (line : List ℕ) (answers : List StoreAnswer) (turn : Turn) (v : World) (client : Option Client) → HasSmallNumbers k → Sound k w → HasShortTexts v → Stands now
+    → turn_of now line answers ≡ Some turn → Met (Calls k n) w turn.events v → IsRightAbout (view_of w n) client → IsRightAbout (view_of v n) (hears client (told_line (kept_tag now) line turn.bytes))
+line_known k n now w line answers turn v client h S short stands e met right = by now.mailing.begun now.idling refl refl
+  where
+    more : MayCome (kept_tag now) now (view_of w n) line → IsRightAbout (view_of v n) (reads_on turn.bytes client)
+    more may = happening_known k n now w (Line line answers) turn v client h S short stands e met right may
+
+    by : (begun : Option Appending) (idling : Option (List ℕ)) → begun ≡ now.mailing.begun → idling ≡ now.idling → IsRightAbout (view_of v n) (hears client (told_line (kept_behind begun idling) line turn.bytes))
+    by (Some a) idling b i = more (subst (λ (o : Option (List ℕ)). MayCome o now (view_of w n) line) (ap₂ kept_behind b i) tt)
+    by None (Some tag) b i = more (subst (λ (o : Option (List ℕ)). MayCome o now (view_of w n) line) (ap₂ kept_behind b i) tt)
+    by None None b i =
+        let first : turn_while now.idling now line answers ≡ Some turn = subst (λ (o : Option Appending). turn_behind o now line answers ≡ Some turn) (sym b) e in
+        let second : on_read now (read line) answers ≡ Some turn = subst (λ (o : Option (List ℕ)). turn_while o now line answers ≡ Some turn) (sym i) first in
+        read_known k n now w (read line) answers turn v client h S stands (numbered_view k w n S) (read_tagged line) (read_told line) second met right
+        (λ may. more (subst (λ (o : Option (List ℕ)). MayCome o now (view_of w n) line) (ap₂ kept_behind b i) may))
+
+pub turn_known : (k : Config) (n : ℕ) (now : Standing) (w : World) (happening : Happening) (turn : Turn) (v : World) (client : Option Client) → HasSmallNumbers k → Sound k w → HasShortTexts v → Stands now
+    → VerdictsArePrinted happening → leads_to now happening ≡ Some turn → Met (Calls k n) w turn.events v → IsRightAbout (view_of w n) client → IsRightAbout (view_of v n) (hears client (told_of now happening turn.bytes))
+turn_known k n now w (Line line answers) turn v client h S short stands printed e met right = line_known k n now w line answers turn v client h S short stands e met right
+turn_known k n now w LongLine turn v client h S short stands printed e met right = happening_known k n now w LongLine turn v client h S short stands e met right tt
+turn_known k n now w (Turned answers) turn v client h S short stands printed e met right = happening_known k n now w (Turned answers) turn v client h S short stands e met right tt
+turn_known k n now w (Literal kept bytes) turn v client h S short stands printed e met right = happening_known k n now w (Literal kept bytes) turn v client h S short stands e met right tt
+turn_known k n now w (Heard verdict answers) turn v client h S short stands printed e met right = happening_known k n now w (Heard verdict answers) turn v client h S short stands e met right printed
+
+pub turn_is_known : TurnIsKnown
+turn_is_known k events w n now happening turn v client h is short stands printed e met right =
+    turn_known k n now w happening turn v client h (sound_always k events w h is) short stands printed e met right
+
+-- ---- and the session stands as before
+
+happening_folders : (now : Standing) (happening : Happening) (turn : Turn) → leads_to now happening ≡ Some turn → turn.standing.folders ≡ now.folders
+happening_folders now (Line line answers) turn e = line_folders now line answers turn e
+happening_folders now LongLine turn e = ap (λ (t : Turn). t.standing.folders) (sym (ap (the_turn turn) e))
+happening_folders now (Turned answers) turn e = idle_folders now.selected (is_idling now) now answers turn e
+happening_folders now (Literal kept bytes) turn e = ap (λ (t : Turn). t.standing.folders) (sym (ap (the_turn turn) e))
+happening_folders now (Heard verdict answers) turn e = verdict_folders now verdict answers turn e
+
+pub stands_still : StandsStill
+stands_still now happening turn stands e = record {
+  tags = happening_keeps now [] happening turn stands.tags e;
+  names = subst (λ (folders : List Folder). AreNames folders) (sym (happening_folders now happening turn e)) stands.names;
+}

@@ -1,0 +1,332 @@
+-- The answers to lines that a client sends, and what they tell of flags.
+use Rattle.std.proofs.Common.{◌≡◌, ℕ, ◌+◌, ◌<◌, ◌≤◌, ◌^◌, ◌==◌, length, sym, subst, ◌∙◌, Bool, true, false, List, [], ◌∷◌, ◌++◌, refl}
+use Rattle.std.specs.Prelude.{Option, Some, None, Result, Ok, Err, IfSome, codes, nat_le, nat_lt, ◌&&◌, not, if◌then◌else◌}
+use Rattle.std.specs.List.{list_any}
+use Rattle.std.proofs.lemmas.Bool.{false≢true}
+use Rattle.std.proofs.lemmas.Option.{none-some}
+use Rattle.change_ring.specs.declared.change.Flags.{Flags}
+use Rattle.cursor_set.specs.Lines.{position}
+use Rattle.mailbox.specs.declared.clients.Row.{Row}
+use Rattle.imap_grammar.specs.Items.{marks_seen}
+use Rattle.imap_answers.specs.Answers.{row_answer, flags_answer}
+use Rattle.imap_grammar.specs.Reading.{read, is_done}
+use Rattle.imap_grammar.specs.Sets.{named_in}
+use Rattle.imap_grammar.specs.Verbs.{verb_of}
+use Rattle.imap_grammar.specs.declared.set.SeqRange.{SeqRange}
+use Rattle.imap_grammar.specs.declared.command.Command.{Command}
+use Rattle.imap_grammar.specs.declared.command.Command.TheVariants as commands
+use Rattle.delivery_token.specs.declared.Verdict.{Verdict}
+use Rattle.delivery_token.specs.declared.Verdict.TheVariants as verdicts
+use Rattle.delivery_token.specs.declared.Refusal.TheVariants.{Full, MailboxFull, NoMemory, UidSpent, Shut}
+use Rattle.imap_grammar.specs.declared.command.Append.{Append}
+use Rattle.imap_grammar.specs.declared.command.Fetch.{Fetch}
+use Rattle.imap_grammar.specs.declared.command.Store.{Store}
+use Rattle.imap_grammar.specs.declared.items.StatusItem.{StatusItem}
+use Rattle.imap_grammar.specs.declared.command.ImapFault.{ImapFault}
+use Rattle.imap_session.specs.declared.standing.After.TheVariants.{Go}
+use Rattle.imap_session.specs.declared.standing.Selected.{Selected}
+use Rattle.imap_session.specs.Exchange.{Alter, Altered, Answer, Appending, Exchange, Expunge, Feed, Folder, ForNothing, ForVerdict, Found, Mailing, Read, Sent, Standing, Turn, Wait, Write, bye, kept_behind}
+use Rattle.imap_session.specs.Commands.{appended_words, appending, last_number, most_unasked, nowhere, number_named, on_rest, on_text, on_verdict, is_over, over, turn_behind, turn_with, wanting, without_begun, without_sent, completed, counting, expunge_set, fault_text, fetch_messages, fetched, fetching, folder_of, in_selected, in_writable, messages_done, on_chosen, on_command, on_found, on_idle_line, on_read, on_set, only_says, says, showing, store_messages, stored, storing, turn_while, unlimited, verb_text, wrong_state, asking, coming}
+use Rattle.laws_client.specs.ListTurns.{IsPlain, IsTag}
+use Rattle.laws_client.specs.Fetches.{AreToldParts, IsNumbered}
+use Rattle.laws_client.specs.Commands.{AreNames, IsFollowed, IsPrinted, MayAnswer, MayAsk}
+use Rattle.laws_client.proofs.Commands.{fault_tells_nothing, stored_plain}
+use Rattle.laws_client.proofs.Each.{IsIn}
+use Rattle.laws_client.proofs.Ends.{plain_words, refusal_tells_nothing, tagged_tells_nothing}
+use Rattle.laws_client.proofs.Chosen.{AreIn, named_are_in, small_in}
+use Rattle.laws_client.proofs.Untold.{folder_plain, list_tells_nothing, status_tells_nothing}
+use Rattle.laws_client.proofs.Tags.{Tagged, read_tagged}
+use Rattle.laws_client.specs.Flags.{Point, counted, flags_at}
+use Rattle.laws_client.specs.FlagTurns.{LeadsFlags, LeavesFlags, SeesAllFlags, SeesFlags}
+use Rattle.laws_client.specs.FlagLaws.{AnswerTellsFlags, VerdictTellsFlags}
+use Rattle.laws_client.proofs.FlagPlayed.{turn_tells}
+use Rattle.laws_client.proofs.Telling.{row_tells, store_tells}
+use Rattle.laws_client.proofs.Turning.{Refusals, SaysFlags, ends, leaves, still_within}
+
+pub refusals : (tag : List ℕ) → IsTag tag → Refusals tag
+refusals tag t p fault = leaves p _ (refusal_tells_nothing tag fault t)
+
+-- a last line whose words are written out
+last : (tag : List ℕ) (p : Point) (front : List ℕ) (b : ℕ) → IsTag tag → IsPlain (front ++ b ∷ []) → SaysFlags tag p (says (front ++ b ∷ []))
+last tag p front b t plain = leaves p _ (tagged_tells_nothing tag (front ++ b ∷ []) t plain)
+
+wrong : (tag : List ℕ) (p : Point) → IsTag tag → SaysFlags tag p wrong_state
+wrong tag p t = last tag p (codes "BAD Wrong stat") 101 t (plain_words (codes "BAD Wrong stat") 101 refl refl)
+
+-- what is pending is shown, where a mailbox is selected
+shows_then : (tag : List ℕ) (p : Point) (selected : Option Selected) (x : Exchange) → ((q : Point) → SaysFlags tag q x) → SaysFlags tag p (showing selected x)
+shows_then tag p None x h = h p
+shows_then tag p (Some selected) x h = h
+
+writable : (tag : List ℕ) (p : Point) (selected : Option Selected) (now : Standing) (x : Exchange) → now.selected ≡ selected → IsTag tag → SaysFlags tag p x → SaysFlags tag p (in_writable now x)
+writable tag p None now x e t h = rw e (wrong tag p t)
+writable tag p (Some selected) now x e t h = rw e (by selected.read_only)
+  where
+    by : (b : Bool) → SaysFlags tag p (if b then says (codes "NO Mailbox is read-only") else x)
+    by true = last tag p (codes "NO Mailbox is read-onl") 121 t (plain_words (codes "NO Mailbox is read-onl") 121 refl refl)
+    by false = h
+
+expunged : (tag : List ℕ) (q : Point) → IsTag tag → SaysFlags tag q (completed commands.Expunge)
+expunged tag q t = last tag q (codes "OK EXPUNGE complete") 100 t (plain_words (codes "OK EXPUNGE complete") 100 refl refl)
+
+set_expunged : (tag : List ℕ) (p : Point) (set : List SeqRange) → IsTag tag → SaysFlags tag p (expunge_set set)
+set_expunged tag p set t = λ copied r s. by r (named_in true set copied)
+  where
+    done : (q : Point) → SaysFlags tag q (completed (commands.UidExpunge set))
+    done q = last tag q (codes "OK UID EXPUNGE complete") 100 t (plain_words (codes "OK UID EXPUNGE complete") 100 refl refl)
+
+    by : (r : Point) (chosen : Option (List ℕ)) → SaysFlags tag r (on_chosen chosen (λ uids. wanting (Expunge (Some uids) (Feed unlimited (completed (commands.UidExpunge set))))))
+    by r None = last tag r (codes "BAD Sequence number too hig") 104 t (plain_words (codes "BAD Sequence number too hig") 104 refl refl)
+    by r (Some uids) = (leaves r [] (λ messages. refl), λ q newer. done newer)
+
+-- ---- FETCH and STORE
+
+-- what stands behind the last message of a FETCH, under its UID form or not
+fetch_done : (tag : List ℕ) (p : Point) (fetch : Fetch) (gone : Bool) → IsTag tag → SaysFlags tag p (messages_done (commands.Fetch fetch) fetch.by_uid gone)
+fetch_done tag p fetch gone t = by fetch.by_uid gone
+  where
+    by : (b gone : Bool) → SaysFlags tag p (messages_done (commands.Fetch (record { by_uid = b; set = fetch.set; items = fetch.items })) b gone)
+    by true gone = λ q. last tag q (codes "OK UID FETCH complete") 100 t (plain_words (codes "OK UID FETCH complete") 100 refl refl)
+    by false true = last tag p (codes "NO [EXPUNGEISSUED] Some messages are gon") 101 t (plain_words (codes "NO [EXPUNGEISSUED] Some messages are gon") 101 refl refl)
+    by false false = last tag p (codes "OK FETCH complete") 100 t (plain_words (codes "OK FETCH complete") 100 refl refl)
+
+store_done : (tag : List ℕ) (p : Point) (store : Store) (gone : Bool) → IsTag tag → SaysFlags tag p (messages_done (commands.Store store) store.by_uid gone)
+store_done tag p store gone t = by store.by_uid gone
+  where
+    by : (b gone : Bool) → SaysFlags tag p (messages_done (commands.Store (record { by_uid = b; set = store.set; silent = store.silent; change = store.change })) b gone)
+    by true gone = λ q. last tag q (codes "OK UID STORE complete") 100 t (plain_words (codes "OK UID STORE complete") 100 refl refl)
+    by false true = last tag p (codes "NO [EXPUNGEISSUED] Some messages are gon") 101 t (plain_words (codes "NO [EXPUNGEISSUED] Some messages are gon") 101 refl refl)
+    by false false = last tag p (codes "OK STORE complete") 100 t (plain_words (codes "OK STORE complete") 100 refl refl)
+
+fetching_says : (tag view : List ℕ) (fetch : Fetch) (mark : Bool) (done : Bool → Exchange) → ((q : Point) (gone : Bool) → SaysFlags tag q (done gone)) → AreToldParts fetch.items → IsNumbered view
+    → (uids : List ℕ) (p : Point) (gone : Bool) → counted p ≡ view → AreIn uids view → SaysFlags tag p (fetching fetch mark view done uids gone)
+fetching_says tag view fetch mark done ends parts numbered [] p gone same there = ends p gone
+fetching_says tag view fetch mark done ends parts numbered (uid ∷ uids) p gone same there = by (fetching_says tag view fetch mark done ends parts numbered uids)
+  where
+    by : ((q : Point) (gone : Bool) → counted q ≡ view → AreIn uids view → SaysFlags tag q (fetching fetch mark view done uids gone)) → (row : Option Row) (q : Point)
+        → SeesFlags p (record { call = Read uid mark; answer = Found row }) q
+        → SaysFlags tag q (on_found (λ row. Write (fetched fetch view uid row) (fetching fetch mark view done uids gone)) (fetching fetch mark view done uids true) row)
+    by more None q s = more q true (s.sees.leads ∙ same) there.1
+    by more (Some row) q s =
+        let is : counted q ≡ view = s.sees.leads ∙ same in
+        let here : IsIn uid (counted q) = subst (λ (v : List ℕ). IsIn uid v) (sym is) there.0 in
+        let few : length (counted q) + 1 < 2 ^ 64 = subst (λ (v : List ℕ). length v + 1 < 2 ^ 64) (sym is) numbered.few in (
+          subst (λ (v : List ℕ). LeavesFlags q (row_answer (position uid v) fetch.by_uid fetch.items row)) is
+              (row_tells q uid fetch.by_uid fetch.items row here few (small_in uid view numbered.small there.0) s.sees.fits.0 s.sees.fits.1 parts s.tells (still_within p (record { call = Read uid mark; answer = Found (Some row) }) q s)),
+          more q gone is there.1,
+        )
+
+storing_says : (tag view : List ℕ) (store : Store) (done : Bool → Exchange) → ((q : Point) (gone : Bool) → SaysFlags tag q (done gone)) → IsNumbered view
+    → (uids : List ℕ) (p : Point) (gone : Bool) → counted p ≡ view → AreIn uids view → SaysFlags tag p (storing store view done uids gone)
+storing_says tag view store done ends numbered [] p gone same there = ends p gone
+storing_says tag view store done ends numbered (uid ∷ uids) p gone same there = by (storing_says tag view store done ends numbered uids)
+  where
+    silent_or : (q : Point) (b : Bool) (flags : Flags) (x : Exchange) → counted q ≡ view → flags_at uid q.log ≡ Some flags → q.cursor ≤ length q.log → SaysFlags tag q x
+        → SaysFlags tag q (if b then x else Write (flags_answer store.by_uid (position uid view) uid flags) x)
+    silent_or q true flags x is has within says = says
+    silent_or q false flags x is has within says = (
+      subst (λ (v : List ℕ). LeavesFlags q (flags_answer store.by_uid (position uid v) uid flags)) is
+          (store_tells q uid store.by_uid flags (subst (λ (v : List ℕ). IsIn uid v) (sym is) there.0) (subst (λ (v : List ℕ). length v + 1 < 2 ^ 64) (sym is) numbered.few) (small_in uid view numbered.small there.0) has within),
+      says,
+    )
+
+    by : ((q : Point) (gone : Bool) → counted q ≡ view → AreIn uids view → SaysFlags tag q (storing store view done uids gone)) → (flags : Option Flags) (q : Point)
+        → SeesFlags p (record { call = Alter uid store.change; answer = Altered flags }) q
+        → SaysFlags tag q (on_found (λ flags. stored store view uid flags (storing store view done uids gone)) (storing store view done uids true) flags)
+    by more None q s = more q true (s.sees.leads ∙ same) there.1
+    by more (Some flags) q s =
+        let is : counted q ≡ view = s.sees.leads ∙ same in
+        silent_or q store.silent flags (storing store view done uids gone) is s.tells (still_within p (record { call = Alter uid store.change; answer = Altered (Some flags) }) q s) (more q gone is there.1)
+
+-- the messages that a set names, or one that isn't there
+chosen_says : (tag : List ℕ) (p : Point) (by_uid : Bool) (set : List SeqRange) (next : List ℕ → List ℕ → Exchange) → IsTag tag
+    → ((q : Point) (uids : List ℕ) → counted q ≡ counted p → AreIn uids (counted p) → SaysFlags tag q (next (counted p) uids)) → SaysFlags tag p (on_set by_uid set next)
+chosen_says tag p by_uid set next t h = λ copied q s.
+    subst (λ (v : List ℕ). SaysFlags tag q (on_chosen (named_in by_uid set v) (next v))) (sym s.sees.leads.0)
+    (by q s.sees.leads.1 (named_in by_uid set (counted p)) (named_are_in by_uid set (counted p)))
+  where
+    by : (q : Point) → counted q ≡ counted p → (chosen : Option (List ℕ)) → IfSome chosen (λ uids. AreIn uids (counted p)) → SaysFlags tag q (on_chosen chosen (next (counted p)))
+    by q same None there = last tag q (codes "BAD Sequence number too hig") 104 t (plain_words (codes "BAD Sequence number too hig") 104 refl refl)
+    by q same (Some uids) there = h q uids same there
+
+fetch_says : (tag : List ℕ) (p : Point) (fetch : Fetch) (selected : Selected) → IsTag tag → AreToldParts fetch.items → IsNumbered (counted p) → SaysFlags tag p (fetch_messages fetch selected)
+fetch_says tag p fetch selected t parts numbered = (
+  leaves p [] (λ messages. refl),
+  chosen_says tag p fetch.by_uid fetch.set
+      (λ view uids. fetching fetch (list_any marks_seen fetch.items && not selected.read_only) view (messages_done (commands.Fetch fetch) fetch.by_uid) uids false) t
+      (λ q uids same there. fetching_says tag (counted p) fetch (list_any marks_seen fetch.items && not selected.read_only) (messages_done (commands.Fetch fetch) fetch.by_uid)
+      (λ r gone. fetch_done tag r fetch gone t) parts numbered uids q false same there),
+)
+
+store_says : (tag : List ℕ) (p : Point) (store : Store) → IsTag tag → IsNumbered (counted p) → SaysFlags tag p (store_messages store)
+store_says tag p store t numbered =
+    chosen_says tag p store.by_uid store.set (λ view uids. storing store view (messages_done (commands.Store store) store.by_uid) uids false) t
+    (λ q uids same there. storing_says tag (counted p) store (messages_done (commands.Store store) store.by_uid) (λ r gone. store_done tag r store gone t) numbered uids q false same there)
+
+selected_says : (tag : List ℕ) (p : Point) (selected : Option Selected) (now : Standing) (next : Selected → Exchange) → now.selected ≡ selected → IsTag tag → ((s : Selected) → SaysFlags tag p (next s))
+    → SaysFlags tag p (in_selected now next)
+selected_says tag p None now next e t h = rw e (wrong tag p t)
+selected_says tag p (Some selected) now next e t h = rw e (h selected)
+
+-- ---- LIST and STATUS
+
+list_says : (tag : List ℕ) (p : Point) (now : Standing) (reference pattern : List ℕ) → IsTag tag → AreNames now.folders → SaysFlags tag p (on_command now (commands.List reference pattern))
+list_says tag p now reference pattern t names = (
+  leaves p _ (list_tells_nothing reference pattern now.folders names),
+  shows_then tag p now.selected (completed (commands.List reference pattern)) (λ q. last tag q (codes "OK LIST complete") 100 t (plain_words (codes "OK LIST complete") 100 refl refl)),
+)
+
+status_says : (tag : List ℕ) (p : Point) (now : Standing) (name : List ℕ) (items : List StatusItem) → IsTag tag → AreNames now.folders → SaysFlags tag p (on_command now (commands.Status name items))
+status_says tag p now name items t names = (leaves p [] (λ messages. refl), by (folder_of name now.folders) (folder_plain name now.folders names))
+  where
+    by : (folder : Option Folder) → IfSome folder (λ f. IsPlain f.name)
+        → SaysFlags tag p (on_found (counting now name items) (says (codes "NO [NONEXISTENT] No such mailbox")) folder)
+    by None plain = last tag p (codes "NO [NONEXISTENT] No such mailbo") 120 t (plain_words (codes "NO [NONEXISTENT] No such mailbo") 120 refl refl)
+    by (Some folder) plain = λ status r s. (
+      leaves r _ (status_tells_nothing folder.name items status plain s.sees.fits),
+      shows_then tag r now.selected (completed (commands.Status name items)) (λ q. last tag q (codes "OK STATUS complete") 100 t (plain_words (codes "OK STATUS complete") 100 refl refl)),
+    )
+
+-- ---- APPEND
+
+nothing_leaves : (p : Point) → LeavesFlags p []
+nothing_leaves p = leaves p [] (λ messages. refl)
+
+nowhere_says : (tag : List ℕ) (p : Point) → IsTag tag → SaysFlags tag p nowhere
+nowhere_says tag p t = last tag p (codes "NO [TRYCREATE] No such mailbo") 120 t (plain_words (codes "NO [TRYCREATE] No such mailbo") 120 refl refl)
+
+over_says : (tag : List ℕ) (p : Point) (most : Option ℕ) → IsTag tag → SaysFlags tag p (over most)
+over_says tag p None t = last tag p (codes "NO [CANNOT] Not offered her") 101 t (plain_words (codes "NO [CANNOT] Not offered her") 101 refl refl)
+over_says tag p (Some most) t = last tag p (codes "NO Message too bi") 103 t (plain_words (codes "NO Message too bi") 103 refl refl)
+
+append_says : (tag : List ℕ) (p : Point) (most : Option ℕ) (folders : List Folder) (a : Append) → IsTag tag → SaysFlags tag p (appending most folders a)
+append_says tag p most folders a t = by a.literal.waits (is_over most a.literal.size) (nat_lt most_unasked a.literal.size) (number_named a.name folders)
+  where
+    fits : (big : Bool) (mailbox : ℕ) → SaysFlags tag p (if big then over most else asking mailbox a.flags a.literal.size)
+    fits true mailbox = over_says tag p most t
+    fits false mailbox = leaves p _ (λ messages. refl)
+
+    found : (big : Bool) (o : Option ℕ) → SaysFlags tag p (on_found (λ mailbox. if big then over most else asking mailbox a.flags a.literal.size) nowhere o)
+    found big None = nowhere_says tag p t
+    found big (Some mailbox) = fits big mailbox
+
+    by : (waits big long : Bool) (o : Option ℕ)
+        → SaysFlags tag p (if waits then wanting (on_found (λ mailbox. if big then over most else asking mailbox a.flags a.literal.size) nowhere o)
+        else (if long then Wait (bye (codes "Literal too big")) ForNothing else coming o a.flags a.literal.size))
+    by true big long o = (nothing_leaves p, found big o)
+    by false big true o = leaves p _ (λ messages. refl)
+    by false big false o = nothing_leaves p
+
+-- what stands behind a literal
+rest_says : (tag : List ℕ) (p : Point) (mailing : Mailing) (a : Appending) (empty : Bool) → IsTag tag → SaysFlags tag p (on_rest mailing a empty)
+rest_says tag p mailing a empty t = kept a.text
+  where
+    text_says : (big nul spent : Bool) (text : List ℕ) (mailbox : ℕ)
+        → SaysFlags tag p (if big then over mailing.most else if nul then says (codes "NO NUL byte") else if spent then says (codes "NO Mailbox is spent") else wanting (Wait [] (ForVerdict mailbox a.flags text)))
+    text_says true nul spent text mailbox = over_says tag p mailing.most t
+    text_says false true spent text mailbox = last tag p (codes "NO NUL byt") 101 t (plain_words (codes "NO NUL byt") 101 refl refl)
+    text_says false false true text mailbox = last tag p (codes "NO Mailbox is spen") 116 t (plain_words (codes "NO Mailbox is spen") 116 refl refl)
+    text_says false false false text mailbox = (nothing_leaves p, nothing_leaves p)
+
+    named : (text : List ℕ) (mailbox : Option ℕ) → SaysFlags tag p (on_found (on_text mailing a text) nowhere mailbox)
+    named text None = nowhere_says tag p t
+    named text (Some mailbox) = text_says (is_over mailing.most a.size) (list_any (λ b. b == 0) text) (nat_le last_number mailing.number) text mailbox
+
+    ended : (b : Bool) (text : List ℕ) → SaysFlags tag p (if b then on_found (on_text mailing a text) nowhere a.mailbox else says (codes "BAD Invalid arguments"))
+    ended true text = named text a.mailbox
+    ended false text = last tag p (codes "BAD Invalid argument") 115 t (plain_words (codes "BAD Invalid argument") 115 refl refl)
+
+    kept : (text : Option (List ℕ))
+        → SaysFlags tag p (on_found (λ text. if empty then on_found (on_text mailing a text) nowhere a.mailbox else says (codes "BAD Invalid arguments")) (says (codes "NO Out of memory")) text)
+    kept None = last tag p (codes "NO Out of memor") 121 t (plain_words (codes "NO Out of memor") 121 refl refl)
+    kept (Some text) = ended empty text
+
+verdict_says : (tag : List ℕ) (p : Point) (selected : Option Selected) (mailbox : ℕ) (verdict : Verdict) → IsTag tag → IsPrinted verdict → SaysFlags tag p (on_verdict selected mailbox verdict)
+verdict_says tag p selected mailbox (verdicts.Stored uid) t u = λ status r s.
+    shows_then tag r selected (says (appended_words status.uidvalidity uid))
+    (λ q. leaves q _ (tagged_tells_nothing tag (appended_words status.uidvalidity uid) t (stored_plain status.uidvalidity uid s.sees.fits.uidvalidity u)))
+verdict_says tag p selected mailbox (verdicts.Refused Full) t u = last tag p (codes "NO Shard ful") 108 t (plain_words (codes "NO Shard ful") 108 refl refl)
+verdict_says tag p selected mailbox (verdicts.Refused MailboxFull) t u = last tag p (codes "NO Mailbox ful") 108 t (plain_words (codes "NO Mailbox ful") 108 refl refl)
+verdict_says tag p selected mailbox (verdicts.Refused NoMemory) t u = last tag p (codes "NO Out of memor") 121 t (plain_words (codes "NO Out of memor") 121 refl refl)
+verdict_says tag p selected mailbox (verdicts.Refused UidSpent) t u = last tag p (codes "NO No UID lef") 116 t (plain_words (codes "NO No UID lef") 116 refl refl)
+verdict_says tag p selected mailbox (verdicts.Refused Shut) t u = last tag p (codes "NO Shard close") 100 t (plain_words (codes "NO Shard close") 100 refl refl)
+
+-- ---- all of them
+
+-- a command's tagged OK but for its last byte
+abbrev done_front : Command → List ℕ
+done_front command = codes "OK " ++ verb_text (verb_of command) ++ codes " complete"
+
+command_says : (tag : List ℕ) (p : Point) (now : Standing) (command : Command) → IsTag tag → MayAsk now (counted p) command → SaysFlags tag p (on_command now command)
+command_says tag p now commands.Noop t may =
+    shows_then tag p now.selected (completed commands.Noop) (λ q. last tag q (codes "OK NOOP complete") 100 t (plain_words (codes "OK NOOP complete") 100 refl refl))
+command_says tag p now commands.Logout t may =
+    (leaves p _ (λ messages. refl), leaves p _ (tagged_tells_nothing tag (codes "OK LOGOUT completed") t (plain_words (codes "OK LOGOUT complete") 100 refl refl)))
+command_says tag p now commands.Idle t may = leaves p _ (λ messages. refl)
+command_says tag p now commands.Login t may = wrong tag p t
+command_says tag p now commands.Authenticate t may = wrong tag p t
+command_says tag p now commands.StartTls t may = wrong tag p t
+command_says tag p now (commands.Select name) t may = absurd (false≢true may.stays)
+command_says tag p now (commands.Examine name) t may = absurd (false≢true may.stays)
+command_says tag p now (commands.List reference pattern) t may = list_says tag p now reference pattern t may.names
+command_says tag p now (commands.Status name items) t may = status_says tag p now name items t may.names
+command_says tag p now commands.Close t may = absurd (false≢true may.stays)
+command_says tag p now commands.Unselect t may = absurd (false≢true may.stays)
+command_says tag p now commands.Expunge t may = writable tag p now.selected now (Expunge None (Feed unlimited (completed commands.Expunge))) refl t (λ q newer. expunged tag newer t)
+command_says tag p now (commands.UidExpunge set) t may = writable tag p now.selected now (expunge_set set) refl t (set_expunged tag p set t)
+command_says tag p now (commands.Fetch fetch) t may = selected_says tag p now.selected now (fetch_messages fetch) refl t (λ selected. fetch_says tag p fetch selected t may.parts may.numbered)
+command_says tag p now (commands.Store store) t may = writable tag p now.selected now (store_messages store) refl t (store_says tag p store t may.numbered)
+command_says tag p now (commands.Append append) t may = append_says tag p now.mailing.most now.folders append t
+command_says tag p now command t may = (leaves p _ (λ messages. refl), last tag p (done_front command) 100 t (plain_words (done_front command) 100 refl refl))
+
+-- ---- lines that are no commands
+
+fault_follows : (now : Standing) (fault : ImapFault) (p : Point) (answers : List Answer) (turn : Turn) (q : Point)
+    → Tagged (Err fault) → only_says (fault_text fault) now answers ≡ Some turn → SeesAllFlags p turn.events q → LeadsFlags p turn.bytes q
+fault_follows now fault p [] turn q t e sees = ends p now (fault_text fault) Go turn q e (leaves p _ (fault_tells_nothing fault t)) sees
+fault_follows now fault p (answer ∷ more) turn q t e sees = absurd (none-some turn e)
+
+read_follows : (now : Standing) (r : Result (List ℕ × Command) ImapFault) (p : Point) (answers : List Answer) (turn : Turn) (q : Point)
+    → Tagged r → MayAnswer now (counted p) r → on_read now r answers ≡ Some turn → SeesAllFlags p turn.events q → LeadsFlags p turn.bytes q
+read_follows now (Ok line) p answers turn q t h e sees =
+    turn_tells line.0 (refusals line.0 t) p now (on_command now line.1) answers turn q e (command_says line.0 p now line.1 t h) sees
+read_follows now (Err fault) p answers turn q t h e sees = fault_follows now fault p answers turn q t e sees
+
+-- ---- the line that ends an IDLE
+
+idle_line_says : (tag : List ℕ) (p : Point) (selected : Option Selected) (line : List ℕ) → IsTag tag → SaysFlags tag p (on_idle_line selected line)
+idle_line_says tag p selected line t = by (is_done line)
+  where
+    done : (q : Point) → SaysFlags tag q (completed commands.Idle)
+    done q = last tag q (codes "OK IDLE complete") 100 t (plain_words (codes "OK IDLE complete") 100 refl refl)
+
+    by : (b : Bool) → SaysFlags tag p (if b then showing selected (completed commands.Idle) else says (codes "BAD Expected DONE"))
+    by true = shows_then tag p selected (completed commands.Idle) done
+    by false = last tag p (codes "BAD Expected DON") 69 t (plain_words (codes "BAD Expected DON") 69 refl refl)
+
+while_follows : (idling : Option (List ℕ)) (now : Standing) (line : List ℕ) (p : Point) (answers : List Answer) (turn : Turn) (q : Point)
+    → IsFollowed idling now (counted p) line → turn_while idling now line answers ≡ Some turn → SeesAllFlags p turn.events q → LeadsFlags p turn.bytes q
+while_follows None now line p answers turn q h e sees = read_follows now (read line) p answers turn q (read_tagged line) h e sees
+while_follows (Some tag) now line p answers turn q t e sees =
+    turn_tells tag (refusals tag t) p (record now { idling = None }) (on_idle_line now.selected line) answers turn q e (idle_line_says tag p now.selected line t) sees
+
+behind_follows : (begun : Option Appending) (now : Standing) (line : List ℕ) (p : Point) (answers : List Answer) (turn : Turn) (q : Point)
+    → IsFollowed (kept_behind begun now.idling) now (counted p) line → turn_behind begun now line answers ≡ Some turn → SeesAllFlags p turn.events q → LeadsFlags p turn.bytes q
+behind_follows None now line p answers turn q h e sees = while_follows now.idling now line p answers turn q h e sees
+behind_follows (Some a) now line p answers turn q t e sees =
+    turn_tells a.tag (refusals a.tag t) p (without_begun now) (on_rest now.mailing a (length line == 0)) answers turn q e (rest_says a.tag p now.mailing a (length line == 0) t) sees
+
+pub answer_tells_flags : AnswerTellsFlags
+answer_tells_flags now line p answers turn q h e sees = behind_follows now.mailing.begun now line p answers turn q h e sees
+
+-- ---- verdicts
+
+heard_follows : (sent : Option Sent) (now : Standing) (verdict : Verdict) (p : Point) (answers : List Answer) (turn : Turn) (q : Point)
+    → IfSome sent (λ s. IsTag s.tag) → IsPrinted verdict → turn_with sent now verdict answers ≡ Some turn → SeesAllFlags p turn.events q → LeadsFlags p turn.bytes q
+heard_follows None now verdict p answers turn q t u e sees = absurd (none-some turn e)
+heard_follows (Some sent) now verdict p answers turn q t u e sees =
+    turn_tells sent.tag (refusals sent.tag t) p (without_sent now) (on_verdict now.selected sent.append.mailbox verdict) answers turn q e
+    (verdict_says sent.tag p now.selected sent.append.mailbox verdict t u) sees
+
+pub verdict_tells_flags : VerdictTellsFlags
+verdict_tells_flags now verdict p answers turn q t u e sees = heard_follows now.mailing.sent now verdict p answers turn q t u e sees

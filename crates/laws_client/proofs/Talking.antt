@@ -1,0 +1,87 @@
+-- A whole talk, one turn behind the other.
+use Rattle.std.proofs.Common.{◌≡◌, ℕ, Bool, true, false, List, [], ◌∷◌, ap, sym, refl, subst}
+use Rattle.std.specs.Prelude.{Option, Some, None, IfSome}
+use Rattle.std.proofs.lemmas.Option.{none-some}
+use Rattle.mailbox.specs.declared.clients.MailFault.TheVariants.{Stranger, Lapped, Spent, NoMemory}
+use Rattle.imap_session.specs.declared.standing.Selected.{Selected}
+use Rattle.imap_session.specs.Exchange.{Answer, Entered, Looked, Found, Counted, Altered, Expunged, Fed, Left, Refused, Starved, Standing, Turn, Appending, is_idling, kept_behind, kept_tag, may_send}
+use Rattle.imap_session.specs.Commands.{idle_turn_in, turn_of_long_line, with_bytes}
+use Rattle.laws_client.specs.Beliefs.{IsOf, Follows, Leads}
+use Rattle.laws_client.specs.Commands.{IsFollowed}
+use Rattle.laws_client.specs.ListLaws.{TalkIsFollowed}
+use Rattle.laws_client.specs.Talks.{Happening, Line, LongLine, Turned, Literal, Heard, MayCome, MayHappen, leads_to}
+use Rattle.laws_client.specs.ListTurns.{AreTags, IsTag, SeesAll}
+use Rattle.laws_client.proofs.Commands.{answer_is_followed, long_line_tells_nothing, verdict_is_followed}
+use Rattle.laws_client.proofs.Ends.{leaves}
+use Rattle.laws_client.proofs.IdleTags.{AreTagsOf, Kept, bytes_keep, line_keeps, verdict_keeps}
+use Rattle.laws_client.proofs.Tags.{word_is_tag}
+use Rattle.imap_grammar.specs.Bytes.{is_tag}
+use Rattle.imap_grammar.specs.Items.{is_word_of}
+use Rattle.laws_client.proofs.IdleTurns.{idle_turn_is_followed}
+use Rattle.laws_client.proofs.Turns.{rests_in, the_turn, then_follows}
+
+turned_keeps : (P : List ℕ → Type 0) (selected : Option Selected) (idling : Bool) (now : Standing) (answers : List Answer) (turn : Turn) → AreTagsOf P now → idle_turn_in selected idling now answers ≡ Some turn → Kept (AreTagsOf P) turn
+turned_keeps P (Some selected) true now [] turn k e = absurd (none-some turn e)
+turned_keeps P (Some selected) true now (Fed met changes ∷ []) turn k e = subst (λ (s : Turn). Kept (AreTagsOf P) s) (ap (the_turn turn) e) k
+turned_keeps P (Some selected) true now (Fed met changes ∷ b ∷ more) turn k e = absurd (none-some turn e)
+turned_keeps P (Some selected) true now (Refused Lapped ∷ []) turn k e = subst (λ (s : Turn). Kept (AreTagsOf P) s) (ap (the_turn turn) e) k
+turned_keeps P (Some selected) true now (Refused Lapped ∷ b ∷ more) turn k e = absurd (none-some turn e)
+turned_keeps P (Some selected) true now (Refused Stranger ∷ []) turn k e = subst (λ (s : Turn). Kept (AreTagsOf P) s) (ap (the_turn turn) e) k
+turned_keeps P (Some selected) true now (Refused Stranger ∷ b ∷ more) turn k e = absurd (none-some turn e)
+turned_keeps P (Some selected) true now (Refused Spent ∷ more) turn k e = absurd (none-some turn e)
+turned_keeps P (Some selected) true now (Refused NoMemory ∷ more) turn k e = absurd (none-some turn e)
+turned_keeps P (Some selected) true now (Entered a ∷ more) turn k e = absurd (none-some turn e)
+turned_keeps P (Some selected) true now (Looked a ∷ more) turn k e = absurd (none-some turn e)
+turned_keeps P (Some selected) true now (Found a ∷ more) turn k e = absurd (none-some turn e)
+turned_keeps P (Some selected) true now (Counted a ∷ more) turn k e = absurd (none-some turn e)
+turned_keeps P (Some selected) true now (Altered a ∷ more) turn k e = absurd (none-some turn e)
+turned_keeps P (Some selected) true now (Expunged a b c ∷ more) turn k e = absurd (none-some turn e)
+turned_keeps P (Some selected) true now (Left a ∷ more) turn k e = absurd (none-some turn e)
+turned_keeps P (Some selected) true now (Starved a ∷ more) turn k e = absurd (none-some turn e)
+turned_keeps P (Some selected) false now [] turn k e = subst (λ (s : Turn). Kept (AreTagsOf P) s) (ap (the_turn turn) e) k
+turned_keeps P (Some selected) false now (a ∷ more) turn k e = absurd (none-some turn e)
+turned_keeps P None true now [] turn k e = subst (λ (s : Turn). Kept (AreTagsOf P) s) (ap (the_turn turn) e) k
+turned_keeps P None true now (a ∷ more) turn k e = absurd (none-some turn e)
+turned_keeps P None false now [] turn k e = subst (λ (s : Turn). Kept (AreTagsOf P) s) (ap (the_turn turn) e) k
+turned_keeps P None false now (a ∷ more) turn k e = absurd (none-some turn e)
+
+-- whatever holds of all words of tags
+pub happening_keeps_so : (P : List ℕ → Type 0) → ((tag : List ℕ) → is_word_of is_tag tag ≡ true → P tag) → (now : Standing) (happening : Happening) (turn : Turn) → AreTagsOf P now → leads_to now happening ≡ Some turn → Kept (AreTagsOf P) turn
+happening_keeps_so P make now (Line line answers) turn k e = line_keeps P make now line answers turn k e
+happening_keeps_so P make now LongLine turn k e = subst (λ (s : Turn). Kept (AreTagsOf P) s) (ap (the_turn turn) e) (tt, tt, k.2)
+happening_keeps_so P make now (Turned answers) turn k e = turned_keeps P now.selected (is_idling now) now answers turn k e
+happening_keeps_so P make now (Literal kept bytes) turn k e = subst (λ (s : Turn). Kept (AreTagsOf P) s) (ap (the_turn turn) e) (bytes_keep P now kept bytes k)
+happening_keeps_so P make now (Heard verdict answers) turn k e = verdict_keeps P now verdict answers turn k e
+
+pub happening_keeps : (now : Standing) (view : List ℕ) (happening : Happening) (turn : Turn) → AreTags now → leads_to now happening ≡ Some turn → Kept (AreTagsOf IsTag) turn
+happening_keeps now view happening turn k e = happening_keeps_so IsTag word_is_tag now happening turn k e
+
+pub kept_is_tag : (begun : Option Appending) (idling : Option (List ℕ)) → IfSome begun (λ a. IsTag a.tag) → IfSome idling IsTag → IfSome (kept_behind begun idling) IsTag
+kept_is_tag None idling b i = i
+kept_is_tag (Some a) idling b i = b
+
+pub may_follow : (idling : Option (List ℕ)) (now : Standing) (view line : List ℕ) → IfSome idling IsTag → MayCome idling now view line → IsFollowed idling now view line
+may_follow None now view line k may = may
+may_follow (Some tag) now view line k may = k
+
+long_follows : (now : Standing) (view : List ℕ) (turn : Turn) (new : List ℕ) → AreTags now → Some (turn_of_long_line now) ≡ Some turn → SeesAll view turn.events new → Leads view turn.bytes new
+long_follows now view turn new k e sees =
+    let same : turn_of_long_line now ≡ turn = ap (the_turn turn) e in
+    let s : new ≡ view = subst (λ (t : Turn). SeesAll view t.events new) (sym same) sees in
+    subst (λ (t : Turn). Leads view t.bytes new) same (subst (λ (v : List ℕ). Leads view (turn_of_long_line now).bytes v) (sym s) (leaves view (turn_of_long_line now).bytes (long_line_tells_nothing now (kept_is_tag now.mailing.begun now.idling k.1 k.0))))
+
+pub happening_follows : (now : Standing) (view : List ℕ) (happening : Happening) (turn : Turn) (new : List ℕ) → AreTags now → MayHappen now view happening → leads_to now happening ≡ Some turn
+    → SeesAll view turn.events new → Leads view turn.bytes new
+happening_follows now view (Line line answers) turn new k may e sees = answer_is_followed now line view answers turn new (may_follow (kept_tag now) now view line (kept_is_tag now.mailing.begun now.idling k.1 k.0) may) e sees
+happening_follows now view LongLine turn new k may e sees = long_follows now view turn new k e sees
+happening_follows now view (Turned answers) turn new k may e sees = idle_turn_is_followed view now answers turn new e sees
+happening_follows now view (Literal kept bytes) turn new k may e sees = rests_in view (may_send (with_bytes kept bytes now)) (with_bytes kept bytes now) turn new e sees
+happening_follows now view (Heard verdict answers) turn new k may e sees = verdict_is_followed now verdict view answers turn new k.2 may e sees
+
+pub talk_is_followed : TalkIsFollowed
+talk_is_followed now view [] bytes new k talk list right =
+    subst (λ (b : List ℕ). Follows IsOf list b new) (sym talk.0) (subst (λ (v : List ℕ). Follows IsOf list [] v) (sym talk.1) (record { after = list; reads = refl; each = right }))
+talk_is_followed now view (happening ∷ more) bytes new k (turn, mid, rest, may, e, sees, is, talk) list right =
+    let f = happening_follows now view happening turn mid k may e sees list right in
+    let g = talk_is_followed turn.standing mid more rest new (happening_keeps now view happening turn k e) talk f.after f.each in
+    subst (λ (b : List ℕ). Follows IsOf list b new) (sym is) (then_follows list turn.bytes rest mid new f g)

@@ -1,0 +1,198 @@
+-- A SELECT or EXAMINE that isn't answered OK leaves no mailbox selected.
+use Rattle.std.proofs.Common.{◌≡◌, ◌<◌, ◌⊎◌, inl, inr, ℕ, ◌+◌, arith, length, Bool, true, false, ◌==◌, List, [], ◌∷◌, ◌++◌, refl, sym, subst, ap, ◌∙◌, append_assoc}
+use Rattle.std.specs.Prelude.{Option, Some, None, Result, Ok, Err, codes, decimal, ◌&&◌, ◌||◌, if◌then◌else◌}
+use Rattle.std.proofs.lemmas.Bool.{false≢true}
+use Rattle.std.proofs.lemmas.Option.{none-some}
+use Rattle.mailbox.specs.declared.clients.MailFault.{MailFault}
+use Rattle.mailbox.specs.declared.clients.MailFault.TheVariants.{Stranger, Lapped, Spent, NoMemory}
+use Rattle.mailbox.specs.declared.clients.Opening.{Opening}
+use Rattle.world.specs.World as world
+use Rattle.world.specs.World.{Config, IsWorld, World, most_changes}
+use Rattle.world.proofs.Always.{kept_always}
+use Rattle.imap_grammar.specs.Reading.{read}
+use Rattle.imap_grammar.specs.declared.command.Command.{Command}
+use Rattle.imap_grammar.specs.declared.command.Command.TheVariants as commands
+use Rattle.imap_grammar.specs.declared.command.ImapFault.{ImapFault}
+use Rattle.imap_session.specs.declared.standing.After.TheVariants.{Go}
+use Rattle.imap_session.specs.declared.standing.Selected.{Selected}
+use Rattle.imap_session.specs.Exchange.{Answer, Appending, Entered, Looked, Found, Counted, Altered, Expunged, Fed, Left, Refused, Starved, Event, Exchange, Put, Enter, Leave, Folder, Standing, Turn, closed, having, kept_behind, kept_tag, played, refusal_after, refused, saying, tagged}
+use Rattle.imap_session.specs.Commands.{closing, entering, folder_of, on_command, on_folder, on_found, on_read, opened, says, turn_behind, turn_of, turn_while, wanting}
+use Rattle.imap_session.specs.Store.{Met}
+use Rattle.imap_answers.specs.Answers.{all_flags, opening_text}
+use Rattle.laws_client.specs.ListTurns.{IsTag}
+use Rattle.laws_client.proofs.Tags.{Tagged, read_tagged}
+use Rattle.laws_client.proofs.Turns.{the_turn}
+use Rattle.laws_client.specs.Clients.{Asked, Entering, Leaving, Neither, asked, asked_by, begins, has_ok}
+use Rattle.laws_client.specs.Selecting.{RefusedSelectsNone}
+use Rattle.laws_client.proofs.RecordEntering.{Wrote, at_star, closed_line, mapped, only_done, only_refused, tagged_has, wanted, writes, wrote}
+use Rattle.laws_client.proofs.Moved.{Calls}
+use Rattle.laws_client.proofs.Selecting.{given_up, selected_stays}
+
+-- ---- the OK behind what is told of a mailbox that was entered
+
+or_true : (b : Bool) → (b || true) ≡ true
+or_true true = refl
+or_true false = refl
+
+-- a line has ended there, and so the tagged OK begins one
+behind_line : (at : Bool) (tag front rest : List ℕ) → has_ok true tag rest ≡ true → has_ok at tag (front ++ (13 ∷ 10 ∷ rest)) ≡ true
+behind_line at tag [] rest h =
+    ap (λ (b : Bool). (at && begins (tag ++ codes " OK ") (13 ∷ 10 ∷ rest)) || b) h ∙ or_true (at && begins (tag ++ codes " OK ") (13 ∷ 10 ∷ rest))
+behind_line at tag (c ∷ front) rest h =
+    ap (λ (b : Bool). (at && begins (tag ++ codes " OK ") (c ∷ (front ++ (13 ∷ 10 ∷ rest)))) || b) (behind_line (c == 10) tag front rest h)
+    ∙ or_true (at && begins (tag ++ codes " OK ") (c ∷ (front ++ (13 ∷ 10 ∷ rest))))
+
+abbrev but_its_end : Bool → List ℕ → Opening → List ℕ
+but_its_end read_only name o =
+    codes "* FLAGS (" ++ all_flags ++ codes ")\r\n* " ++ decimal o.count ++ codes " EXISTS\r\n" ++ codes "* OK [UIDVALIDITY " ++ decimal o.uidvalidity ++ codes "] UIDs valid\r\n"
+    ++ codes "* OK [UIDNEXT " ++ decimal o.uidnext ++ codes "] Predicted next UID\r\n" ++ codes "* OK [PERMANENTFLAGS (" ++ (if read_only then [] else all_flags) ++ codes ")] Flags kept\r\n"
+    ++ codes "* LIST () \"/\" " ++ name
+
+ok_behind : (tag words : List ℕ) (read_only : Bool) (name : List ℕ) (o : Opening) → has_ok true tag (tagged tag words) ≡ true → has_ok true tag (opening_text read_only name o ++ tagged tag words) ≡ true
+ok_behind tag words read_only name o h =
+    ap (has_ok true tag) (append_assoc (but_its_end read_only name o) (codes "\r\n") (tagged tag words)) ∙ behind_line true tag (but_its_end read_only name o) (tagged tag words) h
+
+told_ok : (tag words : List ℕ) (now : Standing) (read_only : Bool) (name : List ℕ) (o : Opening) (answers : List Answer) (turn : Turn) → has_ok true tag (tagged tag words) ≡ true
+    → played tag now (Put (opening_text read_only name o) (says words)) answers ≡ Some turn → has_ok true tag turn.bytes ≡ true
+told_ok tag words now read_only name o answers turn h e =
+    let m = mapped (saying (opening_text read_only name o)) (played tag now (says words) answers) turn e in
+    let bytes : turn.bytes ≡ opening_text read_only name o ++ tagged tag words =
+    ap (λ (s : Turn). s.bytes) (sym m.makes) ∙ ap (λ (b : List ℕ). opening_text read_only name o ++ b) (only_done tag words Go now answers m.more m.is).bytes in
+    ap (has_ok true tag) bytes ∙ ok_behind tag words read_only name o h
+
+opened_ok : (tag : List ℕ) (now : Standing) (read_only : Bool) (name : List ℕ) (o : Opening) (answers : List Answer) (turn : Turn) → IsTag tag
+    → played tag now (opened read_only name o) answers ≡ Some turn → has_ok true tag turn.bytes ≡ true
+opened_ok tag now true name o answers turn t e =
+    told_ok tag (codes "OK [READ-ONLY] EXAMINE completed") now true name o answers turn (tagged_has tag (codes "OK [READ-ONLY] EXAMINE completed") t) e
+opened_ok tag now false name o answers turn t e =
+    told_ok tag (codes "OK [READ-WRITE] SELECT completed") now false name o answers turn (tagged_has tag (codes "OK [READ-WRITE] SELECT completed") t) e
+
+-- ---- no OK, and no mailbox
+
+enters_none : (tag : List ℕ) (now : Standing) (read_only : Bool) (folder : Folder) (answers : List Answer) (turn : Turn) → IsTag tag → now.selected ≡ None
+    → played tag now (entering read_only folder) answers ≡ Some turn → has_ok true tag turn.bytes ≡ false → turn.standing.selected ≡ None
+enters_none tag now read_only folder [] turn t none e unsaid = absurd (none-some turn e)
+enters_none tag now read_only folder (Entered o ∷ more) turn t none e unsaid =
+    let next : Standing = record now { selected = Some (record { mailbox = folder.mailbox; read_only = read_only }) } in
+    let m = mapped (having (Enter folder.mailbox) (Entered o)) (played tag next (opened read_only folder.name o) more) turn e in
+    absurd (false≢true (sym unsaid ∙ ap (λ (s : Turn). has_ok true tag s.bytes) (sym m.makes) ∙ opened_ok tag next read_only folder.name o more m.more t m.is))
+enters_none tag now read_only folder (Refused fault ∷ []) turn t none e unsaid =
+    let m = mapped (having (Enter folder.mailbox) (Refused fault)) (Some (refused tag now fault)) turn e in
+    ap (λ (s : Turn). s.standing.selected) (sym m.makes) ∙ given_up tag now fault m.more m.is ∙ none
+enters_none tag now read_only folder (Refused fault ∷ b ∷ more) turn t none e unsaid = absurd (none-some turn e)
+enters_none tag now read_only folder (Looked a ∷ more) turn t none e unsaid = absurd (none-some turn e)
+enters_none tag now read_only folder (Found a ∷ more) turn t none e unsaid = absurd (none-some turn e)
+enters_none tag now read_only folder (Counted a ∷ more) turn t none e unsaid = absurd (none-some turn e)
+enters_none tag now read_only folder (Altered a ∷ more) turn t none e unsaid = absurd (none-some turn e)
+enters_none tag now read_only folder (Expunged a b c ∷ more) turn t none e unsaid = absurd (none-some turn e)
+enters_none tag now read_only folder (Fed a b ∷ more) turn t none e unsaid = absurd (none-some turn e)
+enters_none tag now read_only folder (Left a ∷ more) turn t none e unsaid = absurd (none-some turn e)
+enters_none tag now read_only folder (Starved a ∷ more) turn t none e unsaid = absurd (none-some turn e)
+
+named_none : (tag : List ℕ) (now : Standing) (read_only : Bool) (name : List ℕ) (folders : List Folder) (answers : List Answer) (turn : Turn) → IsTag tag → now.selected ≡ None
+    → played tag now (on_folder name folders (entering read_only)) answers ≡ Some turn → has_ok true tag turn.bytes ≡ false → turn.standing.selected ≡ None
+named_none tag now read_only name folders answers turn t none e unsaid = by (folder_of name folders) e
+  where
+    by : (found : Option Folder) → played tag now (on_found (entering read_only) (says (codes "NO [NONEXISTENT] No such mailbox")) found) answers ≡ Some turn → turn.standing.selected ≡ None
+    by None d = selected_stays tag now (says (codes "NO [NONEXISTENT] No such mailbox")) answers turn tt d ∙ none
+    by (Some folder) d = enters_none tag now read_only folder answers turn t none d unsaid
+
+wanted_none : (tag : List ℕ) (now : Standing) (read_only : Bool) (name : List ℕ) (folders : List Folder) (answers : List Answer) (turn : Turn) → IsTag tag → now.selected ≡ None
+    → played tag now (wanting (on_folder name folders (entering read_only))) answers ≡ Some turn → has_ok true tag turn.bytes ≡ false → turn.standing.selected ≡ None
+wanted_none tag now read_only name folders answers turn t none e unsaid = by (writes tag now [] (on_folder name folders (entering read_only)) answers turn e)
+  where
+    by : Wrote tag now [] (on_folder name folders (entering read_only)) turn → turn.standing.selected ≡ None
+    by (wanted only stays) = stays ∙ none
+    by (wrote rest p) =
+        ap (λ (s : Turn). s.standing.selected) (sym p.makes)
+        ∙ named_none tag now read_only name folders rest p.more t none p.is (ap (λ (s : Turn). has_ok true tag s.bytes) p.makes ∙ unsaid)
+
+-- the store refused to let the session leave the mailbox, and nothing else was asked of it
+record Kept (now : Standing) (turn : Turn) : Type 0 where
+  fault : MailFault
+  events : turn.events ≡ record { call = Leave false; answer = Refused fault } ∷ []
+  standing : turn.standing ≡ (closed now (refusal_after fault)).standing
+
+closing_none : (tag : List ℕ) (now : Standing) (read_only : Bool) (name : List ℕ) (folders : List Folder) (selected : Option Selected) (answers : List Answer) (turn : Turn) → IsTag tag → now.selected ≡ selected
+    → played tag now (closing selected (wanting (on_folder name folders (entering read_only)))) answers ≡ Some turn → has_ok true tag turn.bytes ≡ false → (turn.standing.selected ≡ None) ⊎ Kept now turn
+closing_none tag now read_only name folders None answers turn t is e unsaid = inl (wanted_none tag now read_only name folders answers turn t is e unsaid)
+closing_none tag now read_only name folders (Some selected) [] turn t is e unsaid = absurd (none-some turn e)
+closing_none tag now read_only name folders (Some selected) (Left gone ∷ more) turn t is e unsaid =
+    let next : Standing = record now { selected = None } in
+    let tail : Exchange = wanting (on_folder name folders (entering read_only)) in
+    let m = mapped (having (Leave false) (Left gone)) (played tag next (Put closed_line tail) more) turn e in
+    let p = mapped (saying closed_line) (played tag next tail more) m.more m.is in
+    let behind : has_ok true tag p.more.bytes ≡ false =
+    sym (at_star tag _ t) ∙ ap (λ (s : Turn). has_ok true tag s.bytes) p.makes ∙ ap (λ (s : Turn). has_ok true tag s.bytes) m.makes ∙ unsaid in
+    inl (ap (λ (s : Turn). s.standing.selected) (sym m.makes) ∙ ap (λ (s : Turn). s.standing.selected) (sym p.makes) ∙ wanted_none tag next read_only name folders more p.more t refl p.is behind)
+closing_none tag now read_only name folders (Some selected) (Refused fault ∷ []) turn t is e unsaid =
+    let m = mapped (having (Leave false) (Refused fault)) (Some (refused tag now fault)) turn e in
+    inr (record {
+      fault = fault;
+      events = ap (λ (s : Turn). s.events) (sym m.makes) ∙ ap (λ (es : List Event). record { call = Leave false; answer = Refused fault } ∷ es) (only_refused tag now fault m.more m.is).events;
+      standing = ap (λ (s : Turn). s.standing) (sym m.makes) ∙ ap (λ (s : Turn). s.standing) (sym (ap (the_turn m.more) m.is));
+    })
+closing_none tag now read_only name folders (Some selected) (Refused fault ∷ b ∷ more) turn t is e unsaid = absurd (none-some turn e)
+closing_none tag now read_only name folders (Some selected) (Entered a ∷ more) turn t is e unsaid = absurd (none-some turn e)
+closing_none tag now read_only name folders (Some selected) (Looked a ∷ more) turn t is e unsaid = absurd (none-some turn e)
+closing_none tag now read_only name folders (Some selected) (Found a ∷ more) turn t is e unsaid = absurd (none-some turn e)
+closing_none tag now read_only name folders (Some selected) (Counted a ∷ more) turn t is e unsaid = absurd (none-some turn e)
+closing_none tag now read_only name folders (Some selected) (Altered a ∷ more) turn t is e unsaid = absurd (none-some turn e)
+closing_none tag now read_only name folders (Some selected) (Expunged a b c ∷ more) turn t is e unsaid = absurd (none-some turn e)
+closing_none tag now read_only name folders (Some selected) (Fed a b ∷ more) turn t is e unsaid = absurd (none-some turn e)
+closing_none tag now read_only name folders (Some selected) (Starved a ∷ more) turn t is e unsaid = absurd (none-some turn e)
+
+-- ---- lines
+
+abbrev tag_of : Asked → List ℕ
+tag_of (Entering tag) = tag
+tag_of (Leaving tag) = tag
+tag_of Neither = []
+
+command_none : (now : Standing) (tag asks : List ℕ) (command : Command) (answers : List Answer) (turn : Turn) → IsTag tag → asked_by tag command ≡ Entering asks → played tag now (on_command now command) answers ≡ Some turn
+    → has_ok true asks turn.bytes ≡ false → (turn.standing.selected ≡ None) ⊎ Kept now turn
+command_none now tag asks (commands.Select name) answers turn t a e unsaid =
+    closing_none tag now false name now.folders now.selected answers turn t refl e (ap (λ (g : List ℕ). has_ok true g turn.bytes) (ap tag_of a) ∙ unsaid)
+command_none now tag asks (commands.Examine name) answers turn t a e unsaid =
+    closing_none tag now true name now.folders now.selected answers turn t refl e (ap (λ (g : List ℕ). has_ok true g turn.bytes) (ap tag_of a) ∙ unsaid)
+command_none now tag asks commands.Close answers turn t a e unsaid = absurd cc
+command_none now tag asks commands.Unselect answers turn t a e unsaid = absurd cc
+command_none now tag asks _ answers turn t a e unsaid = absurd cc
+
+read_none : (now : Standing) (r : Result (List ℕ × Command) ImapFault) (asks : List ℕ) (answers : List Answer) (turn : Turn) → Tagged r → asked r ≡ Entering asks → on_read now r answers ≡ Some turn
+    → has_ok true asks turn.bytes ≡ false → (turn.standing.selected ≡ None) ⊎ Kept now turn
+read_none now (Ok line) asks answers turn t a e unsaid = command_none now line.0 asks line.1 answers turn t a e unsaid
+read_none now (Err fault) asks answers turn t a e unsaid = absurd cc
+
+line_none : (now : Standing) (line asks : List ℕ) (answers : List Answer) (turn : Turn) → kept_tag now ≡ None → asked (read line) ≡ Entering asks → turn_of now line answers ≡ Some turn
+    → has_ok true asks turn.bytes ≡ false → (turn.standing.selected ≡ None) ⊎ Kept now turn
+line_none now line asks answers turn awake a e unsaid = by now.mailing.begun now.idling refl refl awake
+  where
+    by : (begun : Option Appending) (idling : Option (List ℕ)) → begun ≡ now.mailing.begun → idling ≡ now.idling → kept_behind begun idling ≡ None → (turn.standing.selected ≡ None) ⊎ Kept now turn
+    by (Some a) idling p q none = absurd (none-some a.tag (sym none))
+    by None (Some tag) p q none = absurd (none-some tag (sym none))
+    by None None p q none =
+        let first : turn_while now.idling now line answers ≡ Some turn = subst (λ (o : Option Appending). turn_behind o now line answers ≡ Some turn) (sym p) e in
+        let second : on_read now (read line) answers ≡ Some turn = subst (λ (o : Option (List ℕ)). turn_while o now line answers ≡ Some turn) (sym q) first in
+        read_none now (read line) asks answers turn (read_tagged line) a second unsaid
+
+-- ---- in a world: there who has selected a mailbox may leave it
+
+kept_ends : (k : Config) (events : List world.Event) (w : World) (n : ℕ) (now : Standing) (turn : Turn) (v : World) → IsWorld k events w → Kept now turn → Met (Calls k n) w turn.events v → turn.standing.ended ≡ true
+kept_ends k events w n now turn v is kept met = by kept.fault kept.standing (subst (λ (es : List Event). Met (Calls k n) w es v) kept.events met)
+  where
+    by : (fault : MailFault) → turn.standing ≡ (closed now (refusal_after fault)).standing → Met (Calls k n) w (record { call = Leave false; answer = Refused fault } ∷ []) v → turn.standing.ended ≡ true
+    by Stranger e m = ap (λ (s : Standing). s.ended) e
+    by Lapped e m = absurd m.1.1.1.2
+    by Spent e m =
+        let s = m.1.1.1.0 in
+        let full : most_changes < length (w.box s.mailbox).log + 0 = m.1.1.1.2 in
+        absurd (omega (arith, full, ((kept_always k events w is).boxes s.mailbox).room))
+    by NoMemory e m = absurd m.1.1.1.2
+
+pub refused_selects_none : RefusedSelectsNone
+refused_selects_none k events w n now line tag answers turn v is awake asks e met unsaid = by (line_none now line tag answers turn awake asks e unsaid)
+  where
+    by : (turn.standing.selected ≡ None) ⊎ Kept now turn → (turn.standing.selected ≡ None) ⊎ (turn.standing.ended ≡ true)
+    by (inl none) = inl none
+    by (inr kept) = inr (kept_ends k events w n now turn v is kept met)

@@ -1,0 +1,199 @@
+-- After an OK that came to no command, so to DONE or to the verdict on a message, what the session counts is what is there, where it has selected a mailbox.
+use Rattle.std.proofs.Common.{◌≡◌, ◌⊎◌, inl, inr, ℕ, Bool, true, false, List, [], ◌∷◌, ◌++◌, length, refl, sym, ap, ◌∙◌, subst, Option, Some, None}
+use Rattle.std.specs.Prelude.{codes, IfSome, ◌==◌, if◌then◌else◌}
+use Rattle.std.proofs.lemmas.Bool.{false≢true}
+use Rattle.std.proofs.lemmas.Option.{none-some}
+use Rattle.delivery_token.specs.declared.Verdict.{Verdict}
+use Rattle.delivery_token.specs.declared.Verdict.TheVariants as verdicts
+use Rattle.mailbox.specs.declared.clients.MailFault.{MailFault}
+use Rattle.world.specs.World.{Config, Event, IsWorld, Session, World}
+use Rattle.world.proofs.Kept.{Kept}
+use Rattle.imap_grammar.specs.Reading.{is_done}
+use Rattle.imap_grammar.specs.declared.command.Command.TheVariants as commands
+use Rattle.imap_session.specs.declared.standing.After.TheVariants.{Go}
+use Rattle.imap_session.specs.declared.standing.Selected.{Selected}
+use Rattle.imap_session.specs.Exchange.{Answer, Appending, Entered, Looked, Found, Counted, Altered, Expunged, Fed, Left, Refused, Starved, Count, Done, Feed, Sent, Standing, Turn, having, is_idling, kept_behind, kept_tag, played, refusal_text, refused}
+use Rattle.imap_session.specs.Commands.{appended_words, completed, on_idle_line, on_verdict, refused_words, says, showing, turn_behind, turn_of, turn_while, turn_with, unlimited, without_begun, without_sent}
+use Rattle.imap_session.specs.Store.{Met}
+use Rattle.laws_client.specs.Beliefs.{IsRight}
+use Rattle.laws_client.specs.Client.{Client, Known, knowing, reads}
+use Rattle.laws_client.specs.Talks.{Happening, Line, LongLine, Turned, Literal, Heard, leads_to}
+use Rattle.laws_client.proofs.IdleTags.{AreTagsOf}
+use Rattle.laws_client.proofs.Talking.{happening_keeps_so}
+use Rattle.laws_client.proofs.Turns.{the_turn}
+use Rattle.laws_client.specs.Appends.{EndsWith}
+use Rattle.laws_client.specs.Clients.{Answer as Answer_to, IsRightAbout, Told, Words, begins, hears, hears_all}
+use Rattle.laws_client.specs.Current.{IsCurrent}
+use Rattle.laws_client.specs.Lives.{IsSentFor, Lives, comes, others, turns}
+use Rattle.laws_client.specs.Selecting.{Known_selected}
+use Rattle.laws_client.specs.Sizes.{HasShortTexts, HasSmallNumbers}
+use Rattle.laws_client.specs.RecordTurns.{Stands, VerdictsArePrinted, told_line, told_of}
+use Rattle.laws_client.specs.Views.{messages_of, view_of}
+use Rattle.laws_client.proofs.RecordCurrent.{fed_or_refused}
+use Rattle.laws_client.proofs.RecordEntering.{mapped, only_done, only_refused}
+use Rattle.laws_client.proofs.LastLines.{Apart, IsWord, Spares, TurnFine, apart_tells_none, refusal_apart, silence_tells_none, tagged_apart}
+use Rattle.laws_client.proofs.LastRests.{long_line_apart, no_apart, rest_fine}
+use Rattle.laws_client.proofs.LastTurns.{IsFine, idle_fine}
+use Rattle.laws_client.proofs.Living.{hears_last, lives_known}
+use Rattle.laws_client.proofs.Moved.{Calls, short_met}
+use Rattle.laws_client.proofs.OkCurrent.{has_list}
+use Rattle.laws_client.proofs.Selecting.{knowing_is_selected}
+use Rattle.laws_client.proofs.RecordWorlds.{sound_always}
+
+-- ---- words that say OK
+
+starts_ok : List ℕ → Bool
+starts_ok words = begins (codes "OK ") words
+
+ok_spares : Spares starts_ok
+unfolding starts_ok
+ok_spares = record { no = λ rest. refl; bad = λ rest. refl }
+
+-- it ends with an OK
+abbrev pub SaysOk : List ℕ → Type 0
+SaysOk bytes = (tag : List ℕ) × (words : List ℕ) × EndsWith tag (codes "OK " ++ words) bytes
+
+never : (bytes : List ℕ) → Apart starts_ok bytes → SaysOk bytes → ⊥
+unfolding starts_ok
+never bytes p (tag, words, ends) = false≢true (sym (apart_tells_none starts_ok bytes p tag (codes "OK " ++ words) ends))
+
+never_silent : (bytes : List ℕ) → bytes ≡ [] → SaysOk bytes → ⊥
+unfolding starts_ok
+never_silent bytes e (tag, words, ends) = false≢true (sym (silence_tells_none starts_ok bytes e tag (codes "OK " ++ words) ends))
+
+never_fine : (bytes : List ℕ) → IsFine starts_ok bytes → SaysOk bytes → ⊥
+never_fine bytes (inl e) ok = never_silent bytes e ok
+never_fine bytes (inr p) ok = never bytes p ok
+
+never_turn : (o : Option Turn) (turn : Turn) → TurnFine starts_ok o → o ≡ Some turn → SaysOk turn.bytes → ⊥
+never_turn o turn p e ok = never_fine turn.bytes (subst (TurnFine starts_ok) e p) ok
+
+-- ---- turns
+
+fed_ok : (k : Config) (n : ℕ) (tag words : List ℕ) (now : Standing) (w : World) (answers : List Answer) (turn : Turn) (v : World) → Kept k w → IsWord tag → played tag now (Feed unlimited (Done words Go)) answers ≡ Some turn → Met (Calls k n) w turn.events v
+    → SaysOk turn.bytes → IsCurrent v n
+fed_ok k n tag words now w answers turn v K t e met ok = by (fed_or_refused k n tag words Go now w answers turn v K e met)
+  where
+    by : IsCurrent v n ⊎ ((fault : MailFault) × (turn.bytes ≡ refusal_text tag fault)) → IsCurrent v n
+    by (inl current) = current
+    by (inr (fault, bytes)) = absurd (never turn.bytes (subst (Apart starts_ok) (sym bytes) (refusal_apart starts_ok ok_spares tag t fault)) ok)
+
+-- the line that ends an IDLE
+idle_line_current : (k : Config) (n : ℕ) (tag line : List ℕ) (selected : Selected) (now : Standing) (w : World) (answers : List Answer) (turn : Turn) (v : World) → Kept k w → IsWord tag
+    → played tag now (on_idle_line (Some selected) line) answers ≡ Some turn → Met (Calls k n) w turn.events v → SaysOk turn.bytes → IsCurrent v n
+idle_line_current k n tag line selected now w answers turn v K t e met ok = by (is_done line) e
+  where
+    by : (b : Bool) → played tag now (if b then showing (Some selected) (completed commands.Idle) else says (codes "BAD Expected DONE")) answers ≡ Some turn → IsCurrent v n
+    by true e = fed_ok k n tag (codes "OK IDLE completed") now w answers turn v K t e met ok
+    by false e =
+        let d = only_done tag (codes "BAD Expected DONE") Go now answers turn e in
+        absurd (never turn.bytes (subst (Apart starts_ok) (sym d.bytes) (tagged_apart starts_ok tag (codes "BAD Expected DONE") t refl (ok_spares.bad (codes "Expected DONE")))) ok)
+
+-- the verdict on a message
+refused_ok : (tag : List ℕ) → IsWord tag → (call : _) (now : Standing) (fault : MailFault) (turn : Turn) → Some (having call (Refused fault) (refused tag now fault)) ≡ Some turn → SaysOk turn.bytes → ⊥
+refused_ok tag t call now fault turn e ok =
+    let only = only_refused tag now fault (refused tag now fault) refl in
+    never turn.bytes (subst (Apart starts_ok) (sym (sym (ap (λ (x : Turn). x.bytes) (ap (the_turn turn) e)) ∙ only.bytes)) (refusal_apart starts_ok ok_spares tag t fault)) ok
+
+stored_current : (k : Config) (n mailbox uid : ℕ) (tag : List ℕ) → IsWord tag → (selected : Selected) (now : Standing) (w : World) (answers : List Answer) (turn : Turn) (v : World) → Kept k w
+    → played tag now (on_verdict (Some selected) mailbox (verdicts.Stored uid)) answers ≡ Some turn → Met (Calls k n) w turn.events v → SaysOk turn.bytes → IsCurrent v n
+stored_current k n mailbox uid tag t selected now w [] turn v K e met ok = absurd (none-some turn e)
+stored_current k n mailbox uid tag t selected now w (Counted status ∷ more) turn v K e met ok =
+    let m = mapped (having (Count mailbox) (Counted status)) (played tag now (showing (Some selected) (says (appended_words status.uidvalidity uid))) more) turn e in
+    let first : Met (Calls k n) w (record { call = Count mailbox; answer = Counted status } ∷ m.more.events) v = subst (λ (x : Turn). Met (Calls k n) w x.events v) (sym m.makes) met in
+    let same : first.0 ≡ w = first.1.0 in
+    fed_ok k n tag (appended_words status.uidvalidity uid) now w more m.more v K t m.is (subst (λ (u : World). Met (Calls k n) u m.more.events v) same first.2)
+    (subst (λ (x : Turn). SaysOk x.bytes) (sym m.makes) ok)
+stored_current k n mailbox uid tag t selected now w (Refused fault ∷ []) turn v K e met ok = absurd (refused_ok tag t (Count mailbox) now fault turn e ok)
+stored_current k n mailbox uid tag t selected now w (Refused fault ∷ b ∷ more) turn v K e met ok = absurd (none-some turn e)
+stored_current k n mailbox uid tag t selected now w (Entered a ∷ more) turn v K e met ok = absurd (none-some turn e)
+stored_current k n mailbox uid tag t selected now w (Looked a ∷ more) turn v K e met ok = absurd (none-some turn e)
+stored_current k n mailbox uid tag t selected now w (Found a ∷ more) turn v K e met ok = absurd (none-some turn e)
+stored_current k n mailbox uid tag t selected now w (Altered a ∷ more) turn v K e met ok = absurd (none-some turn e)
+stored_current k n mailbox uid tag t selected now w (Expunged a b c ∷ more) turn v K e met ok = absurd (none-some turn e)
+stored_current k n mailbox uid tag t selected now w (Fed a b ∷ more) turn v K e met ok = absurd (none-some turn e)
+stored_current k n mailbox uid tag t selected now w (Left a ∷ more) turn v K e met ok = absurd (none-some turn e)
+stored_current k n mailbox uid tag t selected now w (Starved a ∷ more) turn v K e met ok = absurd (none-some turn e)
+
+verdict_current : (k : Config) (n mailbox : ℕ) (verdict : Verdict) (tag : List ℕ) → IsWord tag → (selected : Selected) (now : Standing) (w : World) (answers : List Answer) (turn : Turn) (v : World) → Kept k w
+    → played tag now (on_verdict (Some selected) mailbox verdict) answers ≡ Some turn → Met (Calls k n) w turn.events v → SaysOk turn.bytes → IsCurrent v n
+verdict_current k n mailbox (verdicts.Stored uid) tag t selected now w answers turn v K e met ok = stored_current k n mailbox uid tag t selected now w answers turn v K e met ok
+verdict_current k n mailbox (verdicts.Refused why) tag t selected now w answers turn v K e met ok =
+    let d = only_done tag (refused_words why) Go now answers turn e in
+    absurd (never turn.bytes (subst (Apart starts_ok) (sym d.bytes) (no_apart starts_ok ok_spares tag t why)) ok)
+
+-- a line that came to no command
+kept_current : (k : Config) (n : ℕ) (now : Standing) (line : List ℕ) (selected : Selected) (w : World) (answers : List Answer) (turn : Turn) (v : World) → Kept k w → AreTagsOf IsWord now → now.selected ≡ Some selected
+    → (tag : List ℕ) → kept_tag now ≡ Some tag → turn_of now line answers ≡ Some turn → Met (Calls k n) w turn.events v → SaysOk turn.bytes → IsCurrent v n
+kept_current k n now line selected w answers turn v K t there tag kept e met ok = behind now.mailing.begun refl
+  where
+    while : (idling : Option (List ℕ)) → now.idling ≡ idling → now.mailing.begun ≡ None → IsCurrent v n
+    while None is none =
+        absurd (none-some tag (sym is ∙ ap (λ (b : Option Appending). kept_behind b now.idling) (sym none) ∙ kept))
+    while (Some i) is none =
+        let first : turn_while now.idling now line answers ≡ Some turn = subst (λ (o : Option Appending). turn_behind o now line answers ≡ Some turn) none e in
+        let second : turn_while (Some i) now line answers ≡ Some turn = subst (λ (o : Option (List ℕ)). turn_while o now line answers ≡ Some turn) is first in
+        let third : played i (record now { idling = None }) (on_idle_line (Some selected) line) answers ≡ Some turn =
+        subst (λ (o : Option Selected). played i (record now { idling = None }) (on_idle_line o line) answers ≡ Some turn) there second in
+        idle_line_current k n i line selected (record now { idling = None }) w answers turn v K (subst (λ (o : Option (List ℕ)). IfSome o IsWord) is t.0) third met ok
+
+    behind : (begun : Option Appending) → now.mailing.begun ≡ begun → IsCurrent v n
+    behind None is = while now.idling refl is
+    behind (Some a) is =
+        let first : turn_behind (Some a) now line answers ≡ Some turn = subst (λ (o : Option Appending). turn_behind o now line answers ≡ Some turn) is e in
+        let word : IsWord a.tag = subst (λ (o : Option Appending). IfSome o (λ (x : Appending). IsWord x.tag)) is t.1 in
+        absurd (never_turn _ turn (rest_fine starts_ok ok_spares now.mailing a (length line == 0) a.tag word (without_begun now) answers) first ok)
+
+is_words : Told → List ℕ → Type 0
+is_words (Words bytes) b = bytes ≡ b
+is_words (Answer_to line bytes) b = ⊥
+
+-- whatever came to no command
+words_current : (k : Config) (n : ℕ) (now : Standing) (happening : Happening) (selected : Selected) (w : World) (turn : Turn) (v : World) (bytes : List ℕ) → Kept k w → AreTagsOf IsWord now → now.selected ≡ Some selected
+    → told_of now happening turn.bytes ≡ Words bytes → leads_to now happening ≡ Some turn → Met (Calls k n) w turn.events v → SaysOk turn.bytes → IsCurrent v n
+unfolding is_words
+words_current k n now (Line line answers) selected w turn v bytes K t there told e met ok = by (kept_tag now) refl
+  where
+    by : (o : Option (List ℕ)) → kept_tag now ≡ o → IsCurrent v n
+    by None is =
+        absurd (let x : is_words (Answer_to line turn.bytes) bytes = subst (λ (one : Told). is_words one bytes) (sym told ∙ ap (λ (o : Option (List ℕ)). told_line o line turn.bytes) is) refl in x)
+    by (Some tag) is = kept_current k n now line selected w answers turn v K t there tag is e met ok
+words_current k n now LongLine selected w turn v bytes K t there told e met ok =
+    absurd (never turn.bytes (subst (λ (x : Turn). Apart starts_ok x.bytes) (ap (the_turn turn) e) (long_line_apart starts_ok ok_spares now t)) ok)
+words_current k n now (Turned answers) selected w turn v bytes K t there told e met ok = absurd (never_turn _ turn (idle_fine starts_ok now.selected (is_idling now) now answers) e ok)
+words_current k n now (Literal kept literal) selected w turn v bytes K t there told e met ok = absurd (never_silent turn.bytes (sym (ap (λ (x : Turn). x.bytes) (ap (the_turn turn) e))) ok)
+words_current k n now (Heard verdict answers) selected w turn v bytes K t there told e met ok = by now.mailing.sent refl
+  where
+    by : (o : Option Sent) → now.mailing.sent ≡ o → IsCurrent v n
+    by None is = absurd (none-some turn (subst (λ (o : Option Sent). turn_with o now verdict answers ≡ Some turn) is e))
+    by (Some sent) is =
+        let first : turn_with (Some sent) now verdict answers ≡ Some turn = subst (λ (o : Option Sent). turn_with o now verdict answers ≡ Some turn) is e in
+        let second : played sent.tag (without_sent now) (on_verdict (Some selected) sent.append.mailbox verdict) answers ≡ Some turn =
+        subst (λ (o : Option Selected). played sent.tag (without_sent now) (on_verdict o sent.append.mailbox verdict) answers ≡ Some turn) there first in
+        verdict_current k n sent.append.mailbox verdict sent.tag (subst (λ (o : Option Sent). IfSome o (λ (s : Sent). IsWord s.tag)) is t.2) selected (without_sent now) w answers turn v K second met ok
+
+-- ---- in a life
+
+-- the tags that it keeps are words of tags all its life
+pub lives_words : (k : Config) (n : ℕ) (first : Standing) (began : World) {sent : List ℕ} {told : List Told} {now : Standing} {w : World} → AreTagsOf IsWord first → Lives k n first began sent told now w → AreTagsOf IsWord now
+lives_words k n first began t comes = t
+lives_words k n first began t (turns {now = now} lives happening bytes turn v sent printed e met) = happening_keeps_so IsWord (λ tag word. word) now happening turn (lives_words k n first began t lives) e
+lives_words k n first began t (others lives event v o step) = lives_words k n first began t lives
+
+-- a client that knows where it is, and reads such an OK, has a list of the mailbox as it is
+pub words_make_current : (k : Config) (events : List Event) (n : ℕ) (first : Standing) (began : World) (sent : List ℕ) (told : List Told) (now : Standing) (w : World) (client : Client) (happening : Happening) (came : List ℕ) (turn : Turn) (v : World)
+    (bytes : List ℕ) (s : Session) → HasSmallNumbers k → IsWorld k events began → HasShortTexts v → Stands first → AreTagsOf IsWord first → Lives k n first began sent told now w → hears_all None told ≡ Some client
+    → IsSentFor happening came → VerdictsArePrinted happening → leads_to now happening ≡ Some turn → Met (Calls k n) w turn.events v → told_of now happening turn.bytes ≡ Words bytes → bytes ≡ turn.bytes → SaysOk bytes → v.session n ≡ Some s
+    → (list : List Known) × (hears_all None (told ++ Words bytes ∷ []) ≡ Some (knowing (Some list))) × IsRight (messages_of (v.box s.mailbox)) list
+words_make_current k events n first began sent told now w client happening came turn v bytes s h is short stands words lives knows for printed e met told_is wrote ok at =
+    let short_w = short_met k n w turn.events v met short in
+    let S = sound_always k events began h is in
+    let before = lives_known k n first began h S stands lives short_w in
+    let after = lives_known k n first began h S stands (turns lives happening came turn v for printed e met) short in
+    let chosen : Known_selected (Some client) now = subst (λ (c : Option Client). Known_selected c now) knows (knowing_is_selected k n first began sent told now w lives) in
+    let current : view_of v n ≡ messages_of (v.box s.mailbox) =
+    words_current k n now happening chosen.0 w turn v bytes before.sound.kept (lives_words k n first began words lives) chosen.1 told_is e met (subst SaysOk wrote ok) s at in
+    let heard : hears_all None (told ++ Words bytes ∷ []) ≡ Some (reads client bytes) = hears_last None told (Words bytes) ∙ ap (λ (c : Option Client). hears c (Words bytes)) knows in
+    let right : IsRightAbout (view_of v n) (hears_all None (told ++ Words bytes ∷ [])) = subst (λ (one : Told). IsRightAbout (view_of v n) (hears_all None (told ++ one ∷ []))) told_is after.right in
+    let all : IsRightAbout (messages_of (v.box s.mailbox)) (hears_all None (told ++ Words bytes ∷ [])) = subst (λ (view : List ℕ). IsRightAbout view (hears_all None (told ++ Words bytes ∷ []))) current right in
+    has_list (messages_of (v.box s.mailbox)) (reads client bytes) (hears_all None (told ++ Words bytes ∷ [])) heard (subst (λ (c : Option Client). IsRightAbout (messages_of (v.box s.mailbox)) c) heard all)

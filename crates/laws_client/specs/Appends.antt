@@ -1,0 +1,162 @@
+-- What the answers to a client tell of the messages that it appended (RFC 9051, 6.3.12; RFC 4315, 3).
+use Rattle.std.specs.Prelude.{◌≡◌, ◌⊎◌, ◌==◌, ℕ, false, true, codes, drop, length, reverse, List, [], ◌∷◌, ◌++◌, AllPairs, Contains, filter_map, Ok, Option, Some, None, if◌then◌else◌}
+use Rattle.delivery_token.specs.Keys.{Below}
+use Rattle.delivery_token.specs.declared.CopyKey.{CopyKey}
+use Rattle.delivery_token.specs.declared.Job.{Job}
+use Rattle.delivery_token.specs.declared.Verdict.{Verdict}
+use Rattle.delivery_token.specs.declared.Verdict.TheVariants.{Stored, Refused}
+use Rattle.delivery_token.specs.declared.log.Noted.{Noted}
+use Rattle.mailbox.specs.declared.clients.MailFault.{MailFault}
+use Rattle.imap_grammar.specs.Bytes.{is_tag}
+use Rattle.imap_grammar.specs.Items.{is_word_of}
+use Rattle.line_io.specs.Wire.{crlf}
+use Rattle.imap_grammar.specs.Reading.{read}
+use Rattle.imap_grammar.specs.declared.command.Append.{Append}
+use Rattle.imap_grammar.specs.declared.command.Command.TheVariants as commands
+use Rattle.imap_session.specs.Commands.{appended_words, number_named, refused_words}
+use Rattle.imap_session.specs.Exchange.{Folder, Sent, refusal_text, tagged}
+use Rattle.imap_session.specs.Telling.{tells_uid}
+use Rattle.world.specs.Law.{StandsOnce, pairs}
+use Rattle.world.specs.World.{World}
+use Rattle.house_peers.specs.Folders.{folders_of}
+use Rattle.house_peers.specs.SeatedVisitor.{SeatedVisitor}
+use Rattle.house.specs.Scene.{Scene, empty_scene}
+use Rattle.house.specs.Setup.{Setup, session_seat}
+use Rattle.exactly_once.specs.Promise.{Entry, IsRecord}
+use Rattle.laws_client.specs.Clients.{Told, bytes_in}
+use Rattle.laws_client.specs.ClientRecords.{IsPrintable, KeepsUp, KeptUp, sent_by_then, serial_by_then, stays_by_then, user_by_then}
+
+-- ---- how an answer ends
+
+-- up to the first LF, without that
+abbrev pub before_lf : List ℕ → List ℕ
+before_lf [] = []
+before_lf (b ∷ bytes) = if b == 10 then [] else b ∷ before_lf bytes
+
+-- the last line, without the CRLF that ends it: what stands behind the LF before
+abbrev pub last_line : List ℕ → List ℕ
+last_line bytes = reverse (before_lf (drop 2 (reverse bytes)))
+
+-- The last line has these words behind this tag, which is one as a client may choose it (RFC 9051, 9). It is the last line alone: a text that a FETCH tells may have any line.
+pub record EndsWith (tag words bytes : List ℕ) : Type 0 where
+  pub chosen : is_word_of is_tag tag ≡ true
+  pub last : last_line bytes ≡ tag ++ codes " " ++ words
+
+-- it doesn't end in a line that tells a UID, whatever the tag
+abbrev pub TellsOfNone : List ℕ → Type 0
+TellsOfNone bytes = (tag words : List ℕ) → EndsWith tag words bytes → tells_uid words ≡ false
+
+-- ---- which message it was
+
+-- A client sent this message so, to a session with these mailboxes (RFC 9051, 6.3.12): an APPEND under its tag, which names its mailbox, with its flags; its text, as the literal that was
+-- announced; and the CRLF behind that.
+pub record IsSentAs (folders : List Folder) (sent : List ℕ) (message : Sent) : Type 0 where
+  pub front : List ℕ
+  pub line : List ℕ
+  pub behind : List ℕ
+  pub append : Append
+  pub reads : read line ≡ Ok (message.tag, commands.Append append)
+  pub named : number_named append.name folders ≡ Some message.append.mailbox
+  pub flags : message.append.flags ≡ append.flags
+  pub size : length message.append.text ≡ append.literal.size
+  pub whole : sent ≡ front ++ (line ++ crlf) ++ message.append.text ++ crlf ++ behind
+
+-- ---- what is said to a verdict
+
+-- Where the message was stored: the OK that tells its UID, behind this UIDVALIDITY, or one line, where the store refuses to count its mailbox or to show what is pending.
+-- Where it was refused: a NO.
+abbrev pub SaysVerdict : (uidvalidity : ℕ) (tag : List ℕ) → Verdict → List ℕ → Type 0
+SaysVerdict uidvalidity tag (Stored uid) bytes = EndsWith tag (appended_words uidvalidity uid) bytes ⊎ ((fault : MailFault) × (bytes ≡ refusal_text tag fault))
+SaysVerdict uidvalidity tag (Refused why) bytes = bytes ≡ tagged tag (refused_words why)
+
+-- the copy of a message, under this key
+abbrev pub copy_under : CopyKey → Sent → Job
+copy_under key message = record { key = key; mailbox = message.append.mailbox; text = message.append.text; flags = message.append.flags }
+
+-- Who appended: the session with this serial at a place, with these mailboxes, to which its client sent all this.
+pub record Author : Type 0 where
+  pub place : ℕ
+  pub serial : ℕ
+  pub folders : List Folder
+  pub sent : List ℕ
+
+-- These bytes were said to the verdict on a copy of this session.
+pub record AnswersNoted (k : Setup) (w : World) (author : Author) (bytes : List ℕ) (noted : Noted) : Type 0 where
+  -- it is a copy of that very session, and its seat has heard the verdict
+  pub seat : noted.key.seat ≡ session_seat k author.place
+  pub own : noted.key.serial ≡ author.serial
+  pub heard : Contains (w.heard noted.key.seat) noted
+  -- of a message that its client sent so, and they have the tag of that APPEND
+  pub message : Sent
+  pub number : noted.key.message ≡ message.append.message
+  pub came : IsSentAs author.folders author.sent message
+  pub chosen : is_word_of is_tag message.tag ≡ true
+  pub says : SaysVerdict k.config.uidvalidity message.tag noted.verdict bytes
+  -- a copy that was stored under a UID stands exactly once in the history of the mailbox that was named, under that UID, and with the text and the flags that were sent
+  pub stands : (uid : ℕ) → noted.verdict ≡ Stored uid → StandsOnce (pairs (w.box noted.mailbox).accepted) noted.key uid
+  pub stored : (uid : ℕ) → noted.verdict ≡ Stored uid → (noted.mailbox ≡ message.append.mailbox) × Contains (w.box noted.mailbox).accepted (copy_under noted.key message, uid)
+
+-- ---- all that a client was told
+
+-- an answer that was said to no verdict tells no UID
+abbrev pub IsAnswered : Setup → World → Author → List ℕ → Option Noted → Type 0
+IsAnswered k w author bytes None = TellsOfNone bytes
+IsAnswered k w author bytes (Some noted) = AnswersNoted k w author bytes noted
+
+-- beside each answer stands the verdict that it was said to, or none
+abbrev pub AreAnswered : Setup → World → Author → List Told → List (Option Noted) → Type 0
+AreAnswered k w author [] [] = Unit {0}
+AreAnswered k w author [] (verdict ∷ verdicts) = ⊥
+AreAnswered k w author (one ∷ told) [] = ⊥
+AreAnswered k w author (one ∷ told) (verdict ∷ verdicts) = IsAnswered k w author (bytes_in one) verdict × AreAnswered k w author told verdicts
+
+-- the same verdict, or none
+abbrev pub as_it_is : Option Noted → Option Noted
+as_it_is verdict = verdict
+
+-- These words, under this tag, are the OK for one copy of this session: of a message that its client sent under that tag. They tell the house's UIDVALIDITY and the UID under which it
+-- stands, once, as its seat has heard: in the mailbox that was named, with the text and the flags that were sent.
+pub record TellsKept (k : Setup) (w : World) (author : Author) (tag said : List ℕ) (noted : Noted) : Type 0 where
+  pub message : Sent
+  pub number : noted.key.message ≡ message.append.message
+  pub came : IsSentAs author.folders author.sent message
+  pub under : tag ≡ message.tag
+  pub uid : ℕ
+  pub words : said ≡ appended_words k.config.uidvalidity uid
+  pub seat : noted.key.seat ≡ session_seat k author.place
+  pub own : noted.key.serial ≡ author.serial
+  pub heard : Contains (w.heard noted.key.seat) noted
+  pub stored : noted.verdict ≡ Stored uid
+  pub once : StandsOnce (pairs (w.box noted.mailbox).accepted) noted.key uid
+  pub mailbox : noted.mailbox ≡ message.append.mailbox
+  pub copy : Contains (w.box noted.mailbox).accepted (copy_under noted.key message, uid)
+
+-- the session with this serial at a place, behind a record
+abbrev pub author_at : Setup → List Entry → (place serial : ℕ) → Author
+author_at k entries place serial = record { place = place; serial = serial; folders = folders_of k.directory (user_by_then place [] entries); sent = sent_by_then place [] entries }
+
+-- What is known of all that a session told its client: of the messages that it appended.
+pub record TellsOfAppends (k : Setup) (w : World) (author : Author) (told : List Told) : Type 0 where
+  -- the verdicts that its answers were said to, answer by answer
+  pub verdicts : List (Option Noted)
+  pub each : AreAnswered k w author told verdicts
+  -- on messages in the order in which they were appended, so none is told twice
+  pub in_order : AllPairs (λ a b. Below a.key b.key) (filter_map as_it_is verdicts)
+  -- So where an answer ends with `OK [APPENDUID ` behind any tag, that is for one copy of this session, which stands so;
+  pub kept : (before after : List Told) (one : Told) (tag words : List ℕ) → told ≡ before ++ one ∷ after → EndsWith tag words (bytes_in one) → tells_uid words ≡ true
+      → (noted : Noted) × TellsKept k w author tag words noted
+  -- and two such answers are for two copies, of which the first was appended first.
+  pub apart : (before mid after : List Told) (one two : Told) (tag words other_tag other_words : List ℕ) → told ≡ before ++ one ∷ (mid ++ two ∷ after) → EndsWith tag words (bytes_in one) → tells_uid words ≡ true
+      → EndsWith other_tag other_words (bytes_in two) → tells_uid other_words ≡ true
+      → (a : Noted) × (b : Noted) × TellsKept k w author tag words a × TellsKept k w author other_tag other_words b × Below a.key b.key
+
+-- Over whatever record of a house that was new, of whoever is there: it keeps up, and this is known of what it was told.
+abbrev pub AppendsAreTold : Type 0
+AppendsAreTold = (k : Setup) (entries : List Entry) (t : Scene) (place : ℕ) (v : SeatedVisitor) → IsPrintable k → IsRecord k entries (empty_scene k) t
+    → t.visitor place ≡ Some v → v.gone ≡ false → (keeps : KeepsUp k entries place v t) × TellsOfAppends k t.world (author_at k entries place v.serial) keeps.told
+
+-- And of a session that was let in there last, whose client isn't gone, and that has ended by itself, as by LOGOUT: behind all that happened since
+abbrev pub AppendsWereTold : Type 0
+AppendsWereTold = (k : Setup) (entries : List Entry) (t : Scene) (place : ℕ) → IsPrintable k → IsRecord k entries (empty_scene k) t
+    → stays_by_then place false entries ≡ true → t.visitor place ≡ None
+    → (kept : KeptUp k entries place t) × TellsOfAppends k t.world (author_at k entries place (serial_by_then place 0 (empty_scene k) entries)) kept.told

@@ -1,0 +1,51 @@
+-- What a client believes of flags, and when it is so.
+use Rattle.std.specs.Prelude.{◌≡◌, ℕ, ◌≤◌, List, length, take, Option, Some, option_map}
+use Rattle.change_ring.specs.declared.change.Change.{Change}
+use Rattle.change_ring.specs.declared.change.Flags.{Flags}
+use Rattle.change_ring.specs.Log.{Row, rows_of, view_at}
+use Rattle.cursor_set.specs.Lines.{flag_words}
+use Rattle.delivery_core.specs.Clients.{row_with}
+use Rattle.laws_client.specs.Beliefs.{Each}
+use Rattle.laws_client.specs.Client.{Known}
+
+-- Where a session is in its mailbox: what the mailbox has logged, and how many of these changes the session was shown.
+pub record Point : Type 0 where
+  pub log : List Change
+  pub cursor : ℕ
+
+-- the messages that the session counts
+abbrev pub counted : Point → List ℕ
+counted p = view_at p.log p.cursor
+
+-- the flags of a message after these changes, where it is there
+abbrev pub flags_at : ℕ → List Change → Option Flags
+flags_at uid log = option_map (λ (row : Row). row.flags) (row_with uid (rows_of log))
+
+-- These are the names of flags that the message had at some moment which isn't before the session's cursor. A client may know newer flags than those at the cursor, by its
+-- own STORE or a FETCH, and may then be told older ones first; but never such that are older than what it was shown.
+pub record FlagsOf (log : List Change) (cursor uid : ℕ) (names : List (List ℕ)) : Type 0 where
+  -- the moment, as the number of changes that were logged by then
+  pub moment : ℕ
+  pub since : cursor ≤ moment
+  pub until : moment ≤ length log
+  pub flags : Flags
+  pub had : flags_at uid (take moment log) ≡ Some flags
+  pub named : names ≡ flag_words flags
+
+-- what is known of a message's flags, where anything is, is so
+abbrev pub Believes : Point → ℕ → Known → Type 0
+Believes p uid message = (names : List (List ℕ)) → message.flags ≡ Some names → FlagsOf p.log p.cursor uid names
+
+-- the list is as long as what the session counts, and what is known of the flags of each message is so, whether its UID is known or not
+abbrev pub KnowsFlags : Point → List Known → Type 0
+KnowsFlags p list = Each (Believes p) (counted p) list
+
+-- these are the names of the flags that the message has after all these changes
+pub record HasNow (log : List Change) (uid : ℕ) (names : List (List ℕ)) : Type 0 where
+  pub flags : Flags
+  pub has : flags_at uid log ≡ Some flags
+  pub named : names ≡ flag_words flags
+
+-- what is known of a message's flags is what they are now
+abbrev pub BelievesNow : List Change → ℕ → Known → Type 0
+BelievesNow log uid message = (names : List (List ℕ)) → message.flags ≡ Some names → HasNow log uid names

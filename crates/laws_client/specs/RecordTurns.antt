@@ -1,0 +1,43 @@
+-- A turn of a session in a world, as its client hears it.
+use Rattle.std.specs.Prelude.{◌≡◌, ℕ, List, Option, Some, None}
+use Rattle.world.specs.World.{Config, Event, IsWorld, World}
+use Rattle.imap_session.specs.Exchange.{Call, Answer as StoreAnswer, Standing, Turn, kept_tag}
+use Rattle.imap_session.specs.Store.{Met}
+use Rattle.house.specs.Meets.{Meets}
+use Rattle.laws_client.specs.Client.{Client}
+use Rattle.laws_client.specs.Commands.{AreNames, IsPrinted}
+use Rattle.laws_client.specs.Talks.{Happening, Line, Heard, leads_to}
+use Rattle.laws_client.specs.ListTurns.{AreTags}
+use Rattle.laws_client.specs.Clients.{Answer, IsRightAbout, Told, Words, hears}
+use Rattle.laws_client.specs.Sizes.{HasShortTexts, HasSmallNumbers}
+use Rattle.laws_client.specs.Views.{view_of}
+
+-- a line ends an IDLE or stands behind a literal, under this tag, or it is a command
+abbrev pub told_line : Option (List ℕ) → (line bytes : List ℕ) → Told
+told_line None line bytes = Answer line bytes
+told_line (Some tag) line bytes = Words bytes
+
+abbrev pub told_of : Standing → Happening → List ℕ → Told
+told_of now (Line line answers) bytes = told_line (kept_tag now) line bytes
+told_of now happening bytes = Words bytes
+
+-- the UID in a verdict can be printed
+abbrev pub VerdictsArePrinted : Happening → Type 0
+VerdictsArePrinted (Heard verdict answers) = IsPrinted verdict
+VerdictsArePrinted happening = Unit {0}
+
+-- What a session knows that a client's list rests on: its tags are tags, and the names of its mailboxes stand in lines.
+pub record Stands (now : Standing) : Type 0 where
+  pub tags : AreTags now
+  pub names : AreNames now.folders
+
+-- Whatever happens, and whatever is refused on the way: a client that was right about what its session counts before a turn hears what is said in it, and is right about what the session counts then
+abbrev pub TurnIsKnown : Type 0
+TurnIsKnown = (k : Config) (events : List Event) (w : World) (n : ℕ) (now : Standing) (happening : Happening) (turn : Turn) (v : World) (client : Option Client)
+    → HasSmallNumbers k → IsWorld k events w → HasShortTexts v → Stands now → VerdictsArePrinted happening
+    → leads_to now happening ≡ Some turn → Met (λ (w : World) (call : Call) (answer : StoreAnswer) (v : World). Meets k n w call answer v) w turn.events v
+    → IsRightAbout (view_of w n) client → IsRightAbout (view_of v n) (hears client (told_of now happening turn.bytes))
+
+-- and the session stands as before
+abbrev pub StandsStill : Type 0
+StandsStill = (now : Standing) (happening : Happening) (turn : Turn) → Stands now → leads_to now happening ≡ Some turn → Stands turn.standing

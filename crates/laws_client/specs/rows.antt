@@ -1,0 +1,6 @@
+pub mod Rows
+pub mod TalkRows
+pub mod WholeRows
+pub mod ClientRows
+pub mod AnswerRows
+pub mod FlagRows

@@ -1,0 +1,77 @@
+-- How answers end, which numbers their last lines tell, and how a client cuts what it reads.
+use Rattle.std.specs.Prelude.{◌≡◌, ℕ, List, true, false, codes, [], ◌∷◌}
+use Rattle.imap_grammar.specs.Reading.{read}
+use Rattle.imap_session.specs.Exchange.{Sent}
+use Rattle.std.specs.Fmt.{digits}
+use Rattle.std.proofs.Common.{refl}
+use Rattle.imap_session.specs.Commands.{appended_words}
+use Rattle.imap_session.specs.Telling.{tells_uid}
+use Rattle.laws_client.specs.Appends.{EndsWith, IsSentAs, last_line}
+use Rattle.laws_client.specs.Clients.{Answer, Words}
+use Rattle.laws_client.specs.Cuts.{amid, between, cut_between, cuts, is_ended}
+
+-- ---- the last line
+
+-- what was pending is shown, and the message is stored under the UID 3
+its_last_line : last_line (codes "* 2 EXISTS\r\na1 OK [APPENDUID 7 3] APPEND completed\r\n") ≡ codes "a1 OK [APPENDUID 7 3] APPEND completed"
+its_last_line = refl
+
+one_line : last_line (codes "a1 OK NOOP completed\r\n") ≡ codes "a1 OK NOOP completed"
+one_line = refl
+
+says_nothing : last_line [] ≡ []
+says_nothing = refl
+
+told_so : EndsWith (codes "a1") (appended_words 7 3) (codes "* 2 EXISTS\r\na1 OK [APPENDUID 7 3] APPEND completed\r\n")
+unfolding digits
+told_so = record { chosen = refl; last = refl }
+
+-- a text that a FETCH tells has such a line; its last line is the OK of the FETCH
+not_within : last_line (codes "* 1 FETCH (BODY[] {38}\r\na1 OK [APPENDUID 7 3] APPEND completed)\r\na2 OK FETCH completed\r\n") ≡ codes "a2 OK FETCH completed"
+not_within = refl
+
+not_of_a_fetch : tells_uid (codes "OK FETCH completed") ≡ false
+not_of_a_fetch = refl
+
+-- ---- which message was sent
+
+abbrev a_message : (mailbox : ℕ) → (text : List ℕ) → Sent
+a_message mailbox text = record { tag = codes "a1"; append = record { message = 0; mailbox = mailbox; flags = record { answered = false; flagged = false; deleted = false; seen = true; draft = false }; text = text } }
+
+-- a client that may first have said something else, and goes on behind
+sent_so : IsSentAs (record { name = codes "INBOX"; mailbox = 4 } ∷ []) (codes "a0 NOOP\r\na1 APPEND INBOX (\\Seen) {3}\r\nx\r\n\r\na2 LOGOUT\r\n") (a_message 4 (codes "x\r\n"))
+unfolding read
+sent_so = record {
+  front = codes "a0 NOOP\r\n";
+  line = codes "a1 APPEND INBOX (\\Seen) {3}";
+  behind = codes "a2 LOGOUT\r\n";
+  append = record { name = codes "INBOX"; flags = record { answered = false; flagged = false; deleted = false; seen = true; draft = false }; literal = record { size = 3; waits = true } };
+  reads = refl;
+  named = refl;
+  flags = refl;
+  size = refl;
+  whole = refl;
+}
+
+-- ---- cuts
+
+-- an answer with a line that looks tagged, in a literal, and then one of which a line has begun
+a_literal : cuts (between [] []) (codes "* 1 FETCH (BODY[] {8}\r\nx OK\r\ny )\r\na2 OK FETCH completed\r\nb ")
+    ≡ amid (codes " b") (codes "b ") (codes "* 1 FETCH (BODY[] {8}\r\nx OK\r\ny )\r\na2 OK FETCH completed\r\n" ∷ [])
+a_literal = refl
+
+two_answers : cuts (between [] []) (codes "* 1 EXISTS\r\na OK NOOP completed\r\n+ idling\r\n* 2 EXISTS\r\nb OK IDLE completed\r\n")
+    ≡ between [] (codes "* 1 EXISTS\r\na OK NOOP completed\r\n" ∷ codes "+ idling\r\n* 2 EXISTS\r\nb OK IDLE completed\r\n" ∷ [])
+two_answers = refl
+
+-- a line in pieces
+in_pieces : cuts (cuts (between [] []) (codes "a OK NO")) (codes "OP completed\r\n") ≡ between [] (codes "a OK NOOP completed\r\n" ∷ [])
+in_pieces = refl
+
+-- an IDLE is one answer with what it is told meanwhile
+idle_is_open : is_ended (codes "+ idling\r\n") ≡ false
+idle_is_open = refl
+
+idle_is_one : cut_between [] [] (Answer (codes "b IDLE") (codes "+ idling\r\n") ∷ Words (codes "* 2 EXISTS\r\n") ∷ Words (codes "b OK IDLE completed\r\n") ∷ [])
+    ≡ between [] (codes "+ idling\r\n* 2 EXISTS\r\nb OK IDLE completed\r\n" ∷ [])
+idle_is_one = refl

@@ -1,0 +1,41 @@
+pub mod Cuts
+mod Counts
+pub mod ReplyFronts
+mod Asks
+mod Turned
+mod Steps
+mod Known
+pub mod Taken
+pub mod ReplyConcluding
+pub mod Connected
+pub mod Numbered
+pub mod Keyed
+mod ReplyRefuted
+mod Marked
+mod Seated
+mod Moving
+mod Histories
+mod Copies
+mod RecordFronts
+mod RecordJoined
+mod Printed
+mod Sessions
+mod Worlds
+mod Seats
+mod Scenes
+mod Happening
+mod RecordConcluding
+mod Names
+mod RecordRefuted
+mod Positions
+mod EntryLaws
+mod FateLaws
+mod Ledger
+mod Spoken
+mod AccountJoined
+mod Concluded
+mod Hosts
+mod Put
+mod AccountRefuted
+mod Worked
+mod Reported

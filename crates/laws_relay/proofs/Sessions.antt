@@ -1,0 +1,199 @@
+-- What a session's calls do to lanes and to what was heard: nothing.
+use Rattle.std.proofs.Common.{◌≡◌, ℕ, Bool, false, ◌+◌, List, [], ◌∷◌, refl, ap, ◌∙◌, Option}
+use Rattle.delivery_token.specs.declared.log.Noted.{Noted}
+use Rattle.mailbox.specs.Events.{in_set}
+use Rattle.mailbox.specs.declared.clients.MailFault.{MailFault}
+use Rattle.mailbox.specs.declared.clients.MailFault.TheVariants.{Stranger, Lapped, Spent, NoMemory}
+use Rattle.world.specs.World as world
+use Rattle.world.specs.World.{Config, World, Event, Put, PutEnd, Take, Deliver, Answer, Hear, Enter, Status, Read, Store, Expunge, Feed, Leave, Step, enter_no_memory, enter_spent, enters, leave_spent, leaves, mail_lapped, mail_no_memory, mail_spent, mails}
+use Rattle.imap_session.specs.Exchange as calls
+use Rattle.imap_session.specs.Exchange.{Call, Look, Read as ReadCall, Count, Alter, Expunge as ExpungeCall, Feed as FeedCall, Leave as LeaveCall, Enter as EnterCall, Entered, Looked, Found, Counted, Altered, Expunged, Fed, Left, Refused, Starved}
+use Rattle.imap_session.specs.Store.{Met}
+use Rattle.house.proofs.Carried.{speaks_carried}
+use Rattle.house.specs.Printing.{Speaks}
+use Rattle.house.specs.Scene.{LeavesMailbox, Parts, SessionGoes, SessionIdles, SessionTalks, lingers, parts, remains, talks}
+use Rattle.house.specs.Setup.{Setup, session_seat}
+use Rattle.house_peers.specs.SeatedVisitor.{SeatedVisitor}
+use Rattle.house.specs.Meets.{Meets, IsRefused, IsTurnedAway}
+
+-- ---- steps
+
+-- lanes and what was heard are the same
+abbrev pub Still : World → World → Type 0
+Still w v = (v.lane ≡ w.lane) × (v.heard ≡ w.heard)
+
+same_world : (w v : World) → v ≡ w → Still w v
+same_world w v e = (ap (λ (x : World). x.lane) e, ap (λ (x : World). x.heard) e)
+
+still_then : (w u v : World) → Still w u → Still u v → Still w v
+still_then w u v a b = (b.0 ∙ a.0, b.1 ∙ a.1)
+
+-- an event of a mailbox
+abbrev IsOfMail : Event → Type 0
+IsOfMail (Put p s c) = ⊥
+IsOfMail (PutEnd p s) = ⊥
+IsOfMail (Take s) = ⊥
+IsOfMail (Deliver s) = ⊥
+IsOfMail (Answer s) = ⊥
+IsOfMail (Hear p) = ⊥
+IsOfMail event = Unit {0}
+
+still_step : (k : Config) (w : World) (e : Event) (v : World) → IsOfMail e → Step k w e v → Still w v
+still_step k w (Put p s c) v h step = absurd h
+still_step k w (PutEnd p s) v h step = absurd h
+still_step k w (Take s) v h step = absurd h
+still_step k w (Deliver s) v h step = absurd h
+still_step k w (Answer s) v h step = absurd h
+still_step k w (Hear p) v h step = absurd h
+still_step k w (Enter n m) v h (enters there mailbox free more e) = rw e (refl, refl)
+still_step k w (Enter n m) v h (enter_spent there mailbox free more e) = rw e (refl, refl)
+still_step k w (Enter n m) v h (enter_no_memory there mailbox free more e) = rw e (refl, refl)
+still_step k w (Status m) v h e = rw e (refl, refl)
+still_step k w (Read n u mark) v h (x, there, mails b base logs e) = rw e (refl, refl)
+still_step k w (Read n u mark) v h (x, there, mail_lapped lapped e) = rw e (refl, refl)
+still_step k w (Read n u mark) v h (x, there, mail_spent base spent e) = rw e (refl, refl)
+still_step k w (Read n u mark) v h (x, there, mail_no_memory allocates base room e) = rw e (refl, refl)
+still_step k w (Store n u op) v h (x, there, mails b base logs e) = rw e (refl, refl)
+still_step k w (Store n u op) v h (x, there, mail_lapped lapped e) = rw e (refl, refl)
+still_step k w (Store n u op) v h (x, there, mail_spent base spent e) = rw e (refl, refl)
+still_step k w (Store n u op) v h (x, there, mail_no_memory allocates base room e) = rw e (refl, refl)
+still_step k w (Expunge n may_go) v h (x, there, mails b base logs e) = rw e (refl, refl)
+still_step k w (Expunge n may_go) v h (x, there, mail_lapped lapped e) = rw e (refl, refl)
+still_step k w (Expunge n may_go) v h (x, there, mail_spent base spent e) = rw e (refl, refl)
+still_step k w (Expunge n may_go) v h (x, there, mail_no_memory allocates base room e) = rw e (refl, refl)
+still_step k w (Feed n limit) v h (x, there, mails b base logs e) = rw e (refl, refl)
+still_step k w (Feed n limit) v h (x, there, mail_lapped lapped e) = rw e (refl, refl)
+still_step k w (Feed n limit) v h (x, there, mail_spent base spent e) = rw e (refl, refl)
+still_step k w (Feed n limit) v h (x, there, mail_no_memory allocates base room e) = rw e (refl, refl)
+still_step k w (Leave n removing) v h (x, there, leaves b logs e) = rw e (refl, refl)
+still_step k w (Leave n removing) v h (x, there, leave_spent spent e) = rw e (refl, refl)
+
+-- ---- calls
+
+was_refused : (k : Config) (n : ℕ) (w : World) (fault : MailFault) (why : Type 0) (v : World) → IsRefused n w fault why v → Still w v
+was_refused k n w Stranger why v m = same_world w v m.0
+was_refused k n w Lapped why v m = same_world w v m.0
+was_refused k n w Spent why v m = same_world w v m.0
+was_refused k n w NoMemory why v m = same_world w v m.0
+
+turned_away : (k : Config) (n m : ℕ) (w : World) (fault : MailFault) (v : World) → IsTurnedAway k n m w fault v → Still w v
+turned_away k n m w Stranger v t = same_world w v t.1
+turned_away k n m w Lapped v t = absurd t
+turned_away k n m w Spent v t = same_world w v t.1
+turned_away k n m w NoMemory v t = same_world w v t.1
+
+pub meets_still : (k : Config) (n : ℕ) (w : World) (call : Call) (answer : calls.Answer) (v : World) → Meets k n w call answer v → Still w v
+meets_still k n w (EnterCall i) (Entered opening) v m = still_step k w (world.Enter n i) v tt m.0
+meets_still k n w (EnterCall i) (Looked view) v m = absurd m
+meets_still k n w (EnterCall i) (Found row) v m = absurd m
+meets_still k n w (EnterCall i) (Counted status) v m = absurd m
+meets_still k n w (EnterCall i) (Altered flags) v m = absurd m
+meets_still k n w (EnterCall i) (Expunged view changes gone) v m = absurd m
+meets_still k n w (EnterCall i) (Fed view changes) v m = absurd m
+meets_still k n w (EnterCall i) (Left gone) v m = absurd m
+meets_still k n w (EnterCall i) (Starved j) v m = absurd m
+meets_still k n w (EnterCall i) (Refused fault) v m = turned_away k n i w fault v m
+meets_still k n w (Look by_uid set) (Entered opening) v m = absurd m
+meets_still k n w (Look by_uid set) (Looked view) v m = same_world w v m.0
+meets_still k n w (Look by_uid set) (Found row) v m = absurd m
+meets_still k n w (Look by_uid set) (Counted status) v m = absurd m
+meets_still k n w (Look by_uid set) (Altered flags) v m = absurd m
+meets_still k n w (Look by_uid set) (Expunged view changes gone) v m = absurd m
+meets_still k n w (Look by_uid set) (Fed view changes) v m = absurd m
+meets_still k n w (Look by_uid set) (Left gone) v m = absurd m
+meets_still k n w (Look by_uid set) (Starved j) v m = absurd m
+meets_still k n w (Look by_uid set) (Refused fault) v m = was_refused k n w fault _ v m
+meets_still k n w (ReadCall uid mark) (Entered opening) v m = absurd m
+meets_still k n w (ReadCall uid mark) (Looked view) v m = absurd m
+meets_still k n w (ReadCall uid mark) (Found row) v m = still_step k w (world.Read n uid mark) v tt m.0
+meets_still k n w (ReadCall uid mark) (Counted status) v m = absurd m
+meets_still k n w (ReadCall uid mark) (Altered flags) v m = absurd m
+meets_still k n w (ReadCall uid mark) (Expunged view changes gone) v m = absurd m
+meets_still k n w (ReadCall uid mark) (Fed view changes) v m = absurd m
+meets_still k n w (ReadCall uid mark) (Left gone) v m = absurd m
+meets_still k n w (ReadCall uid mark) (Starved j) v m = absurd m
+meets_still k n w (ReadCall uid mark) (Refused fault) v m = was_refused k n w fault _ v m
+meets_still k n w (Count i) (Entered opening) v m = absurd m
+meets_still k n w (Count i) (Looked view) v m = absurd m
+meets_still k n w (Count i) (Found row) v m = absurd m
+meets_still k n w (Count i) (Counted status) v m = same_world w v m.0
+meets_still k n w (Count i) (Altered flags) v m = absurd m
+meets_still k n w (Count i) (Expunged view changes gone) v m = absurd m
+meets_still k n w (Count i) (Fed view changes) v m = absurd m
+meets_still k n w (Count i) (Left gone) v m = absurd m
+meets_still k n w (Count i) (Starved j) v m = absurd m
+meets_still k n w (Count i) (Refused fault) v m = same_world w v m.0
+meets_still k n w (Alter uid op) (Entered opening) v m = absurd m
+meets_still k n w (Alter uid op) (Looked view) v m = absurd m
+meets_still k n w (Alter uid op) (Found row) v m = absurd m
+meets_still k n w (Alter uid op) (Counted status) v m = absurd m
+meets_still k n w (Alter uid op) (Altered flags) v m = still_step k w (world.Store n uid op) v tt m.0
+meets_still k n w (Alter uid op) (Expunged view changes gone) v m = absurd m
+meets_still k n w (Alter uid op) (Fed view changes) v m = absurd m
+meets_still k n w (Alter uid op) (Left gone) v m = absurd m
+meets_still k n w (Alter uid op) (Starved j) v m = absurd m
+meets_still k n w (Alter uid op) (Refused fault) v m = was_refused k n w fault _ v m
+meets_still k n w (ExpungeCall uids) (Entered opening) v m = absurd m
+meets_still k n w (ExpungeCall uids) (Looked view) v m = absurd m
+meets_still k n w (ExpungeCall uids) (Found row) v m = absurd m
+meets_still k n w (ExpungeCall uids) (Counted status) v m = absurd m
+meets_still k n w (ExpungeCall uids) (Altered flags) v m = absurd m
+meets_still k n w (ExpungeCall uids) (Expunged view changes gone) v m = still_step k w (world.Expunge n (in_set uids)) v tt m.0
+meets_still k n w (ExpungeCall uids) (Fed view changes) v m = absurd m
+meets_still k n w (ExpungeCall uids) (Left gone) v m = absurd m
+meets_still k n w (ExpungeCall uids) (Starved j) v m = absurd m
+meets_still k n w (ExpungeCall uids) (Refused fault) v m = was_refused k n w fault _ v m
+meets_still k n w (FeedCall limit) (Entered opening) v m = absurd m
+meets_still k n w (FeedCall limit) (Looked view) v m = absurd m
+meets_still k n w (FeedCall limit) (Found row) v m = absurd m
+meets_still k n w (FeedCall limit) (Counted status) v m = absurd m
+meets_still k n w (FeedCall limit) (Altered flags) v m = absurd m
+meets_still k n w (FeedCall limit) (Expunged view changes gone) v m = absurd m
+meets_still k n w (FeedCall limit) (Fed view changes) v m = still_step k w (world.Feed n limit) v tt m.0
+meets_still k n w (FeedCall limit) (Left gone) v m = absurd m
+meets_still k n w (FeedCall limit) (Starved j) v m = absurd m
+meets_still k n w (FeedCall limit) (Refused fault) v m = was_refused k n w fault _ v m
+meets_still k n w (LeaveCall remove) (Entered opening) v m = absurd m
+meets_still k n w (LeaveCall remove) (Looked view) v m = absurd m
+meets_still k n w (LeaveCall remove) (Found row) v m = absurd m
+meets_still k n w (LeaveCall remove) (Counted status) v m = absurd m
+meets_still k n w (LeaveCall remove) (Altered flags) v m = absurd m
+meets_still k n w (LeaveCall remove) (Expunged view changes gone) v m = absurd m
+meets_still k n w (LeaveCall remove) (Fed view changes) v m = absurd m
+meets_still k n w (LeaveCall remove) (Left gone) v m = still_step k w (world.Leave n remove) v tt m.0.0
+meets_still k n w (LeaveCall remove) (Starved j) v m = absurd m
+meets_still k n w (LeaveCall remove) (Refused fault) v m = was_refused k n w fault _ v m
+
+-- ---- turns
+
+speaks_still : (k : Config) (place : ℕ) (whole : Bool) (seat n : ℕ) (heard : List Noted) (w mid : World) (before after : SeatedVisitor) (printed : List ℕ)
+    → Speaks (Meets k place) whole seat n heard before w mid after printed → Still w mid
+speaks_still k place whole seat n heard w mid before after printed s =
+    (speaks_carried {S = World} {T = Unit {0}} (Meets k place) (λ a call answer b. Unit {0}) (λ v x. Still w v)
+    (λ old new call answer x step r. (tt, tt, still_then w old new r (meets_still k place old call answer new step)))
+    whole seat n heard before w mid after printed tt s (refl, refl)).2
+
+met_still : (k : Config) (place : ℕ) (w : World) (events : List calls.Event) (v : World) → Met (Meets k place) w events v → Still w v
+met_still k place w [] v e = same_world w v e
+met_still k place w (e ∷ es) v (mid, one, more) = still_then w mid v (meets_still k place w e.call e.answer mid one) (met_still k place mid es v more)
+
+pub leaves_still : (k : Setup) (place : ℕ) (w v : World) → LeavesMailbox k place w v → Still w v
+leaves_still k place w v l = meets_still k.config place w (calls.Leave false) l.0 v l.1
+
+parts_still : (k : Setup) (whole : Bool) (place : ℕ) (after : SeatedVisitor) (w v : World) (o : Option SeatedVisitor) → Parts k whole place after w v o → Still w v
+parts_still k whole place after w v o (parts ended said l e) = leaves_still k place w v l
+parts_still k whole place after w v o (remains on e f) = same_world w v e
+
+pub talks_still : (k : Setup) (whole : Bool) (place : ℕ) (heard : List Noted) (w : World) (before : SeatedVisitor) (v : World) (o : Option SeatedVisitor) (printed : List ℕ)
+    → SessionTalks k whole place heard w before v o printed → Still w v
+talks_still k whole place heard w before v o printed t =
+    still_then w t.mid v (speaks_still k.config place whole (session_seat k place) (place + 1) heard w t.mid before t.after printed t.speaks) (parts_still k whole place t.after t.mid v o t.left)
+
+pub goes_still : (k : Setup) (whole : Bool) (place : ℕ) (heard : List Noted) (w : World) (before : SeatedVisitor) (v : World) (o : Option SeatedVisitor) (printed : List ℕ)
+    → SessionGoes k whole place heard w before v o printed → Still w v
+goes_still k whole place heard w before v o printed (talks there t) = talks_still k whole place heard w before v o printed t
+goes_still k whole place heard w before v o printed (lingers gone l same silent) = same_world w v same
+
+pub idles_still : (k : Setup) (whole : Bool) (place : ℕ) (w : World) (before : SeatedVisitor) (v : World) (o : Option SeatedVisitor) (printed : List ℕ)
+    → SessionIdles k whole place w before v o printed → Still w v
+idles_still k whole place w before v o printed i = still_then w i.mid v (met_still k.config place w i.idles.turned.events i.mid i.idles.turned.met) (parts_still k whole place _ i.mid v o i.left)

@@ -1,0 +1,15 @@
+use Rattle.laws_relay.proofs.RecordConcluding as concluding
+use Rattle.laws_relay.proofs.Names as names
+use Rattle.laws_relay.proofs.record_laws.relays_may_conclude.Goals as goal
+
+pub returns-clause-recorded : goal.returns-clause-recorded
+returns-clause-recorded c = concluding.by_the_record
+
+pub returns-clause-played : goal.returns-clause-played
+returns-clause-played c = concluding.of_all_events
+
+pub returns-clause-scripted : goal.returns-clause-scripted
+returns-clause-scripted c = concluding.of_scripts
+
+pub returns-clause-settings : goal.returns-clause-settings
+returns-clause-settings c = names.settings_are_in_line

@@ -1,0 +1,16 @@
+pub mod Relay
+pub mod ReplyLaws
+pub mod Handed
+pub mod Fates
+pub mod Moments
+pub mod Conclusions
+pub mod Numbers
+pub mod Connections
+pub mod Concluded
+pub mod Record
+pub mod RecordLaws
+pub mod Entries
+pub mod Concluding
+pub mod AccountLaws
+pub mod Reports
+pub mod rows

@@ -1,0 +1,4 @@
+pub mod ReplyRows
+pub mod HandedRows
+pub mod RecordRows
+pub mod AccountRows

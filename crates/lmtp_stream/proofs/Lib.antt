@@ -1,3 +1,0 @@
-pub mod LastWords
-pub mod Taking
-pub mod Going

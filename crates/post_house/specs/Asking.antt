@@ -1,0 +1,91 @@
+-- What the words of a command line ask for: of each setting what is given for it, or what stands where nothing is.
+use Rattle.std.specs.Prelude.{◌≡◌, ℕ, List, [], Option, Some, None, codes, if◌then◌else◌, is_some, unwrap_or}
+use Rattle.std.specs.Str.Parse.{digits_value}
+use Rattle.clap.specs.Words.{Row, Text, all_of, first_of, subcommand_of}
+use Rattle.settings.specs.Settings.{IsInRange, words_of}
+use Rattle.settings.specs.declared.config.Config.{Config}
+use Rattle.serving.specs.declared.server.Uidvalidity.{Uidvalidity}
+use Rattle.serving.specs.declared.server.Uidvalidity.TheVariants.{Given, Default}
+use Rattle.post_house.specs.Words.{program}
+use Rattle.post_house.specs.declared.asked.Asked.{Asked}
+use Rattle.post_house.specs.declared.asked.Asked.TheVariants.{Script, Serve}
+
+-- with settings that are in their ranges
+abbrev pub IsAskedInRange : Asked → Type 0
+IsAskedInRange (Script config) = IsInRange config
+IsAskedInRange (Serve config uidvalidity) = IsInRange config
+
+-- ---- what is given for an option, by the rows of what clap found
+
+-- its text, or this where it isn't given
+abbrev pub text_given : List Row → (option default : Text) → Text
+text_given rows option default = unwrap_or (first_of option rows) default
+
+-- the number that these digits spell, or this where there are none
+abbrev pub number_or : Option Text → (default : ℕ) → ℕ
+number_or None default = default
+number_or (Some digits) default = digits_value 10 digits
+
+-- its number, or this where it isn't given
+abbrev pub number_given : List Row → (option : Text) → (default : ℕ) → ℕ
+number_given rows option default = number_or (first_of option rows) default
+
+-- the words of the mailboxes, in their order
+abbrev pub mailboxes_given : List Row → List Text
+mailboxes_given rows = unwrap_or (all_of (codes "MAILBOX") rows) []
+
+-- whether a UIDVALIDITY is given, of which a server doesn't warn then
+abbrev pub uidvalidity_given : List Row → Uidvalidity
+uidvalidity_given rows = if is_some (first_of (codes "uidvalidity") rows) then Given else Default
+
+-- ---- settings
+
+-- each setting of a house is what is given for it, or its default
+pub record AreHouseSettings (rows : List Row) (c : Config) : Type 0 where
+  pub host : c.host.items ≡ text_given rows (codes "host") (codes "mx.example.org")
+  pub domain : c.domain.items ≡ text_given rows (codes "domain") (codes "example.org")
+  pub mailboxes : words_of c ≡ mailboxes_given rows
+  pub shards : c.shards ≡ number_given rows (codes "shards") 1
+  pub depth : c.depth ≡ number_given rows (codes "depth") 64
+  pub ring : c.ring ≡ number_given rows (codes "ring") 2048
+  pub ring_max : c.ring_max ≡ number_given rows (codes "ring-max") 0
+  pub messages : c.messages ≡ number_given rows (codes "messages") 1024
+  pub max_message : c.max_message ≡ number_given rows (codes "max-message") 1048576
+  pub uidvalidity : c.uidvalidity ≡ number_given rows (codes "uidvalidity") 1
+  pub first_uid : c.first_uid ≡ number_given rows (codes "first-uid") 1
+
+-- and each of a server
+pub record AreServerSettings (rows : List Row) (c : Config) : Type 0 where
+  pub lmtp_port : c.lmtp_port ≡ number_given rows (codes "lmtp-port") 2424
+  pub imap_port : c.imap_port ≡ number_given rows (codes "imap-port") 14300
+  pub workers : c.workers ≡ number_given rows (codes "workers") 4
+  pub sessions : c.sessions ≡ number_given rows (codes "sessions") 2
+
+-- A script has none of these: they are the defaults.
+pub record AreServerDefaults (c : Config) : Type 0 where
+  pub lmtp_port : c.lmtp_port ≡ 2424
+  pub imap_port : c.imap_port ≡ 14300
+  pub workers : c.workers ≡ 4
+  pub sessions : c.sessions ≡ 2
+
+-- ---- what is asked for
+
+-- a script
+pub record AsksForScript (rows : List Row) (config : Config) : Type 0 where
+  pub house : AreHouseSettings rows config
+  pub server : AreServerDefaults config
+
+-- a server
+pub record AsksForServer (rows : List Row) (config : Config) (uidvalidity : Uidvalidity) : Type 0 where
+  pub house : AreHouseSettings rows config
+  pub server : AreServerSettings rows config
+  pub warned : uidvalidity ≡ uidvalidity_given rows
+
+-- Where clap found this subcommand with these rows, it is asked for, with the settings that these give.
+abbrev pub AsksBy : Option (Text × List Row) → Asked → Type 0
+AsksBy found (Script config) = (rows : List Row) × (found ≡ Some (codes "script", rows)) × AsksForScript rows config
+AsksBy found (Serve config uidvalidity) = (rows : List Row) × (found ≡ Some (codes "serve", rows)) × AsksForServer rows config uidvalidity
+
+-- These words, the first of which is the program's name, ask for that. What clap finds in them is said there (`subcommand_of`).
+abbrev pub AsksFor : List Text → Asked → Type 0
+AsksFor words asked = AsksBy (subcommand_of program words) asked

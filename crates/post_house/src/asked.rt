@@ -1,0 +1,362 @@
+//! What the words of a command line ask for, and the settings that they come to.
+
+ghost use Rattle.std.specs.Prelude.{◌≡◌, ◌<◌, [], codes, length, map, IfOk, MatchResult, OnOk, Some};
+ghost use Rattle.std.specs.Char.{is_ascii_digit};
+ghost use Rattle.std.specs.List.{list_all};
+ghost use Rattle.clap.specs.Words.{IsAmong, app_of, found_of, kind_of, rows_of, subcommand_rows_of};
+ghost use Rattle.settings.specs.Settings.{IsDefault, IsFrom, IsInRange};
+ghost use Rattle.post_house.specs.Asking.{AsksBy, AsksFor, AsksForScript, IsAskedInRange};
+ghost use Rattle.post_house.specs.Asking.{mailboxes_given, number_given, text_given, uidvalidity_given};
+ghost use Rattle.post_house.specs.Words as words_taken;
+
+use crate::options::{
+    DEPTH, FIRST_UID, Helps, IMAP_PORT, LMTP_PORT, MAX_MESSAGE, MESSAGES, NumberOption, RING,
+    RING_MAX, SESSIONS, SHARDS, UIDVALIDITY, WORKERS, command_line,
+};
+use clap::error::ErrorKind;
+use clap::{ArgMatches, Command, Error};
+use serving::Uidvalidity;
+use settings::Config;
+use std::alloc::{AllocError, Global};
+use std::convert::AsStr;
+
+/// What the words ask for.
+#[derive(Drop)]
+pub enum Asked {
+    /// A script from the input, on a house of these settings.
+    Script(Config),
+    /// A server with these settings.
+    Serve {
+        /// The settings, its ports and numbers of threads among them.
+        config: Config,
+        /// Whether the UIDVALIDITY among them was given, or is the default: of that the server warns.
+        uidvalidity: Uidvalidity,
+    },
+}
+
+/// What clap takes, and the program doesn't.
+#[derive(Drop)]
+enum Refused<'a> {
+    /// A number that is spelled with more than digits, as `+5`.
+    Spelling(&'static str, &'a str),
+    /// There is no mailbox.
+    NoMailbox,
+    /// There is no subcommand.
+    NothingToDo,
+    /// Memory was refused.
+    NoMemory,
+}
+
+impl<'a> From<AllocError> for Refused<'a> {
+    ghost use Rattle.post_house.specs.declared.asked.Refused.{Refused};
+
+    ghost from_gives = { λ _ refused. refused ≡ Refused.NoMemory };
+
+    fn from(_error: AllocError) -> Refused<'a> {
+        Refused::NoMemory
+    }
+}
+
+fn are_digits(text: &[u8]) -> bool
+    ensures { result ≡ list_all is_ascii_digit text.now }
+{
+    text.iter().all(|byte| byte.is_ascii_digit())
+}
+
+// The number that was given, or else its default.
+fn given<'a>(
+    matches: &ArgMatches<'a>,
+    option: NumberOption,
+    default: u64,
+) -> Result<u64, Refused<'a>>
+    requires { IsFrom option.number.least option.number.most default }
+    ensures range { IfOk result (IsFrom option.number.least option.number.most) }
+    ensures value { IfOk result (λ n. n ≡ number_given (rows_of (found_of matches.now)) option.name.now default) }
+{
+    let Some(text) = matches.get_str(option.name) else {
+        return Ok(default);
+    };
+    match text.parse::<u64>() {
+        Ok(value) if are_digits(text.as_bytes()) && option.number.allows(value) => Ok(value),
+        _ => Err(Refused::Spelling(option.name, text)),
+    }
+}
+
+// A name is set where one was given.
+fn set_name<'a>(
+    alloc: Global,
+    matches: &ArgMatches<'a>,
+    name: &str,
+    value: &mut Vec<u8>,
+) -> Result<(), AllocError>
+    ensures { OnOk result (value.new.items ≡ text_given (rows_of (found_of matches.now)) name.now value.old.items) }
+{
+    let Some(text) = matches.get_str(name) else {
+        return Ok(());
+    };
+    *value = Vec::from_slice(alloc, text.as_bytes())?;
+    Ok(())
+}
+
+// The bytes of each of these words.
+fn bytes_of<'a>(alloc: Global, words: &[&'a str]) -> Result<Vec<&'a [u8]>, AllocError>
+    ensures { IfOk result (λ bytes. map (λ word. word.now) bytes.items ≡ map (λ word. word.now) words.now) }
+{
+    let mut bytes = Vec::new(alloc);
+    for word in words {
+        bytes.push(word.as_bytes())?;
+    }
+    Ok(bytes)
+}
+
+// The words of the mailboxes.
+fn mailboxes_of<'a>(alloc: Global, matches: &ArgMatches<'a>) -> Result<Vec<&'a [u8]>, Refused<'a>>
+    ensures some { IfOk result (λ words. 0 < length words.items) }
+    ensures given { IfOk result (λ words. map (λ word. word.now) words.items ≡ mailboxes_given (rows_of (found_of matches.now))) }
+{
+    let Some(given) = matches.get_strs("MAILBOX") else {
+        return Err(Refused::NoMailbox);
+    };
+    let words = bytes_of(alloc, given)?;
+    if words.is_empty() {
+        return Err(Refused::NoMailbox);
+    }
+    Ok(words)
+}
+
+// The names that were given are set.
+fn set_names<'a>(
+    alloc: Global,
+    matches: &ArgMatches<'a>,
+    config: &mut Config,
+) -> Result<(), Refused<'a>>
+    requires { IsInRange config.old }
+    ensures range { IsInRange config.new }
+    ensures host { OnOk result (config.new.host.items ≡ text_given (rows_of (found_of matches.now)) (codes "host") config.old.host.items) }
+    ensures domain { OnOk result (config.new.domain.items ≡ text_given (rows_of (found_of matches.now)) (codes "domain") config.old.domain.items) }
+    ensures rest { config.new ≡ record config.old { host = config.new.host; domain = config.new.domain } }
+{
+    set_name(alloc, matches, "host", &mut config.host)?;
+    set_name(alloc, matches, "domain", &mut config.domain)?;
+    Ok(())
+}
+
+// The sizes that were given are set.
+fn set_sizes<'a>(matches: &ArgMatches<'a>, config: &mut Config) -> Result<(), Refused<'a>>
+    requires { IsInRange config.old }
+    ensures range { IsInRange config.new }
+    ensures shards { OnOk result (config.new.shards ≡ number_given (rows_of (found_of matches.now)) (codes "shards") config.old.shards) }
+    ensures depth { OnOk result (config.new.depth ≡ number_given (rows_of (found_of matches.now)) (codes "depth") config.old.depth) }
+    ensures messages { OnOk result (config.new.messages ≡ number_given (rows_of (found_of matches.now)) (codes "messages") config.old.messages) }
+    ensures max_message { OnOk result (config.new.max_message ≡ number_given (rows_of (found_of matches.now)) (codes "max-message") config.old.max_message) }
+    ensures rest { config.new ≡ record config.old { shards = config.new.shards; depth = config.new.depth; messages = config.new.messages; max_message = config.new.max_message } }
+{
+    config.shards = given(matches, SHARDS, u64::from(config.shards))? as u8;
+    config.depth = given(matches, DEPTH, config.depth as u64)? as usize;
+    config.messages = given(matches, MESSAGES, config.messages as u64)? as usize;
+    config.max_message = given(matches, MAX_MESSAGE, config.max_message as u64)? as usize;
+    Ok(())
+}
+
+// The windows' sizes that were given are set.
+fn set_windows<'a>(matches: &ArgMatches<'a>, config: &mut Config) -> Result<(), Refused<'a>>
+    requires { IsInRange config.old }
+    ensures range { IsInRange config.new }
+    ensures ring { OnOk result (config.new.ring ≡ number_given (rows_of (found_of matches.now)) (codes "ring") config.old.ring) }
+    ensures ring_max { OnOk result (config.new.ring_max ≡ number_given (rows_of (found_of matches.now)) (codes "ring-max") config.old.ring_max) }
+    ensures rest { config.new ≡ record config.old { ring = config.new.ring; ring_max = config.new.ring_max } }
+{
+    config.ring = given(matches, RING, config.ring as u64)? as usize;
+    config.ring_max = given(matches, RING_MAX, config.ring_max as u64)? as usize;
+    Ok(())
+}
+
+// The UIDs that were given are set.
+fn set_uids<'a>(matches: &ArgMatches<'a>, config: &mut Config) -> Result<(), Refused<'a>>
+    requires { IsInRange config.old }
+    ensures range { IsInRange config.new }
+    ensures uidvalidity { OnOk result (config.new.uidvalidity ≡ number_given (rows_of (found_of matches.now)) (codes "uidvalidity") config.old.uidvalidity) }
+    ensures first_uid { OnOk result (config.new.first_uid ≡ number_given (rows_of (found_of matches.now)) (codes "first-uid") config.old.first_uid) }
+    ensures rest { config.new ≡ record config.old { uidvalidity = config.new.uidvalidity; first_uid = config.new.first_uid } }
+{
+    config.uidvalidity = given(matches, UIDVALIDITY, u64::from(config.uidvalidity))? as u32;
+    config.first_uid = given(matches, FIRST_UID, u64::from(config.first_uid))? as u32;
+    Ok(())
+}
+
+// What a server alone is given is set.
+fn set_server<'a>(matches: &ArgMatches<'a>, config: &mut Config) -> Result<(), Refused<'a>>
+    requires { IsInRange config.old }
+    ensures range { IsInRange config.new }
+    ensures lmtp_port { OnOk result (config.new.lmtp_port ≡ number_given (rows_of (found_of matches.now)) (codes "lmtp-port") config.old.lmtp_port) }
+    ensures imap_port { OnOk result (config.new.imap_port ≡ number_given (rows_of (found_of matches.now)) (codes "imap-port") config.old.imap_port) }
+    ensures workers { OnOk result (config.new.workers ≡ number_given (rows_of (found_of matches.now)) (codes "workers") config.old.workers) }
+    ensures sessions { OnOk result (config.new.sessions ≡ number_given (rows_of (found_of matches.now)) (codes "sessions") config.old.sessions) }
+    ensures rest { config.new ≡ record config.old { lmtp_port = config.new.lmtp_port; imap_port = config.new.imap_port; workers = config.new.workers; sessions = config.new.sessions } }
+{
+    config.lmtp_port = given(matches, LMTP_PORT, u64::from(config.lmtp_port))? as u16;
+    config.imap_port = given(matches, IMAP_PORT, u64::from(config.imap_port))? as u16;
+    config.workers = given(matches, WORKERS, u64::from(config.workers))? as u8;
+    config.sessions = given(matches, SESSIONS, u64::from(config.sessions))? as u8;
+    Ok(())
+}
+
+// What either subcommand may be given is set.
+fn set_given<'a>(
+    alloc: Global,
+    matches: &ArgMatches<'a>,
+    config: &mut Config,
+) -> Result<(), Refused<'a>>
+    requires { IsInRange config.old }
+    ensures range { IsInRange config.new }
+    ensures given { OnOk result (IsDefault config.old (mailboxes_given (rows_of (found_of matches.now)))
+        → AsksForScript (rows_of (found_of matches.now)) config.new) }
+{
+    set_names(alloc, matches, config)?;
+    set_sizes(matches, config)?;
+    set_windows(matches, config)?;
+    set_uids(matches, config)?;
+    Ok(())
+}
+
+// The defaults, with the mailboxes of these words.
+fn defaults<'a>(alloc: Global, matches: &ArgMatches<'a>) -> Result<Config, Refused<'a>>
+    ensures range { IfOk result IsInRange }
+    ensures default { IfOk result (λ config. IsDefault config (mailboxes_given (rows_of (found_of matches.now)))) }
+{
+    let words = mailboxes_of(alloc, matches)?;
+    Ok(Config::new(alloc, &words)?)
+}
+
+// The settings that the options and words of either subcommand come to.
+fn settings_of<'a>(alloc: Global, matches: &ArgMatches<'a>) -> Result<Config, Refused<'a>>
+    ensures range { IfOk result IsInRange }
+    ensures given { IfOk result (AsksForScript (rows_of (found_of matches.now))) }
+{
+    let mut config = defaults(alloc, matches)?;
+    set_given(alloc, matches, &mut config)?;
+    Ok(config)
+}
+
+// Whether a UIDVALIDITY was given.
+fn uidvalidity_of<'a>(matches: &ArgMatches<'a>) -> Uidvalidity
+    ensures { result ≡ uidvalidity_given (rows_of (found_of matches.now)) }
+{
+    match matches.get_str(UIDVALIDITY.name) {
+        Some(_) => Uidvalidity::Given,
+        None => Uidvalidity::Default,
+    }
+}
+
+// What the options and words of `serve` ask for.
+fn server_of<'a>(alloc: Global, matches: &ArgMatches<'a>) -> Result<Asked, Refused<'a>>
+    ensures range { IfOk result IsAskedInRange }
+    ensures asks { IfOk result (AsksBy (Some (codes "serve", rows_of (found_of matches.now)))) }
+{
+    let mut config = settings_of(alloc, matches)?;
+    set_server(matches, &mut config)?;
+    Ok(Asked::Serve {
+        config,
+        uidvalidity: uidvalidity_of(matches),
+    })
+}
+
+// What the options and words of `script` ask for.
+fn script_of<'a>(alloc: Global, matches: &ArgMatches<'a>) -> Result<Asked, Refused<'a>>
+    ensures range { IfOk result IsAskedInRange }
+    ensures asks { IfOk result (AsksBy (Some (codes "script", rows_of (found_of matches.now)))) }
+{
+    let config = settings_of(alloc, matches)?;
+    Ok(Asked::Script(config))
+}
+
+// What the words ask for whose subcommand isn't `script`.
+fn served_in<'a>(alloc: Global, matches: &ArgMatches<'a>) -> Result<Asked, Refused<'a>>
+    ensures range { IfOk result IsAskedInRange }
+    ensures asks { IfOk result (AsksBy (subcommand_rows_of matches.now)) }
+{
+    let Some(serve) = matches.subcommand_matches("serve") else {
+        return Err(Refused::NothingToDo);
+    };
+    server_of(alloc, serve)
+}
+
+// What the words ask for, by their subcommand.
+fn asked_in<'a>(alloc: Global, matches: &ArgMatches<'a>) -> Result<Asked, Refused<'a>>
+    ensures range { IfOk result IsAskedInRange }
+    ensures asks { IfOk result (AsksBy (subcommand_rows_of matches.now)) }
+{
+    match matches.subcommand_matches("script") {
+        Some(script) => script_of(alloc, script),
+        None => served_in(alloc, matches),
+    }
+}
+
+// The mistake in a number that is spelled with more than digits.
+fn misspelled<'a>(
+    alloc: Global,
+    command: &mut Command<'a>,
+    name: &str,
+    text: &str,
+) -> Result<Error, AllocError>
+    ensures { IfOk result (λ e. kind_of e ≡ ErrorKind.ValueValidation) }
+{
+    let text = format!(in alloc; "invalid value '{text}' for '--{name}': only digits are read")?;
+    command.error(ErrorKind::ValueValidation, &text)
+}
+
+// What clap tells of a mistake that it didn't find itself.
+fn error_of<'a>(
+    alloc: Global,
+    command: &mut Command<'a>,
+    refused: Refused<'a>,
+) -> Result<Error, AllocError>
+    ensures { IfOk result (λ e. IsAmong (kind_of e) words_taken.own_faults) }
+{
+    match refused {
+        Refused::Spelling(name, text) => misspelled(alloc, command, name, text),
+        Refused::NoMailbox => {
+            command.error(ErrorKind::MissingRequiredArgument, "there is no mailbox")
+        }
+        Refused::NothingToDo => command.error(
+            ErrorKind::MissingSubcommand,
+            "there is nothing to do",
+        ),
+        Refused::NoMemory => Err(AllocError),
+    }
+}
+
+// What the words ask for, by this command.
+fn asked_by<'a, S: AsStr>(
+    alloc: Global,
+    mut command: Command<'a>,
+    words: &'a [S],
+) -> Result<Asked, Error>
+    requires { app_of command ≡ words_taken.program }
+    ensures range { IfOk result IsAskedInRange }
+    ensures asks { IfOk result (AsksFor (map S.text words.entry.now)) }
+    ensures answered { MatchResult result (λ asked. words_taken.faults_at (map S.text words.entry.now) ≡ [])
+        (λ e. words_taken.FailsWith (words_taken.faults_at (map S.text words.entry.now)) (kind_of e)) }
+{
+    let matches = command.try_get_matches_from_mut(words)?;
+    match asked_in(alloc, &matches) {
+        Ok(asked) => Ok(asked),
+        Err(refused) => Err(error_of(alloc, &mut command, refused)?),
+    }
+}
+
+/// What these words ask for, the first of which is the program's name: `script` or `serve`, options, mailboxes; each setting is what is
+/// given for it, or its default. Each number is in its range, and there is a mailbox; names are not looked at, nor whether the ports are
+/// right.
+///
+/// The error is clap's: a mistake in the words, a number that is out of its range or has other than digits, or a request for help; of
+/// kind `OutOfMemory` where memory is refused.
+pub fn asked_of<'a, S: AsStr>(alloc: Global, words: &'a [S]) -> Result<Asked, Error>
+    ensures range { IfOk result IsAskedInRange }
+    ensures asks { IfOk result (AsksFor (map S.text words.entry.now)) }
+    ensures answered { MatchResult result (λ asked. words_taken.faults_at (map S.text words.entry.now) ≡ [])
+        (λ e. words_taken.FailsWith (words_taken.faults_at (map S.text words.entry.now)) (kind_of e)) }
+{
+    let helps = Helps::new(alloc)?;
+    asked_by(alloc, command_line(alloc, &helps)?, words)
+}

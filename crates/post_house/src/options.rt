@@ -1,0 +1,287 @@
+//! Which options and words the command line has, with the help of each, as clap takes them. What they come to is told in `asked`.
+
+ghost use Rattle.std.specs.Prelude.{◌≡◌, ◌≤◌, ◌∷◌, [], IfOk, codes, false, length, map, true};
+ghost use Rattle.clap.specs.Words.{app_of, rule_of, shape_of};
+ghost use Rattle.clap.specs.declared.builder.command.Command.TheViews.{out-Command as fields_of};
+ghost use Rattle.post_house.specs.Words as words;
+ghost use Rattle.post_house.specs.inner.Words.{AreThere, HasMore, rule_for};
+
+use clap::builder::ValueParser;
+use clap::{Arg, ArgAction, Command};
+use settings::numbers::{self, Number};
+use settings::{DOMAIN, HOST};
+use std::alloc::{AllocError, Global};
+
+/// An option that sets a number. How far it may go, and its default, is the settings' to say.
+#[derive(Clone, Copy)]
+pub(crate) struct NumberOption {
+    pub(crate) name: &'static str,
+    help: &'static str,
+    pub(crate) number: Number,
+}
+
+pub(crate) const SHARDS: NumberOption = NumberOption {
+    name: "shards",
+    help: "Shards that keep the mailboxes",
+    number: numbers::SHARDS,
+};
+
+pub(crate) const DEPTH: NumberOption = NumberOption {
+    name: "depth",
+    help: "Entries that each shard's lane has room for",
+    number: numbers::DEPTH,
+};
+
+pub(crate) const RING: NumberOption = NumberOption {
+    name: "ring",
+    help: "Changes that each mailbox keeps, at least two for each message",
+    number: numbers::RING,
+};
+
+pub(crate) const RING_MAX: NumberOption = NumberOption {
+    name: "ring-max",
+    help: "Changes that each mailbox keeps at most, for clients that fall behind; 0 for no more than --ring",
+    number: numbers::RING_MAX,
+};
+
+pub(crate) const MESSAGES: NumberOption = NumberOption {
+    name: "messages",
+    help: "Messages that each mailbox may hold",
+    number: numbers::MESSAGES,
+};
+
+pub(crate) const MAX_MESSAGE: NumberOption = NumberOption {
+    name: "max-message",
+    help: "Bytes that a message's data may have",
+    number: numbers::MAX_MESSAGE,
+};
+
+pub(crate) const FIRST_UID: NumberOption = NumberOption {
+    name: "first-uid",
+    help: "The UID of each mailbox's first message",
+    number: numbers::FIRST_UID,
+};
+
+pub(crate) const UIDVALIDITY: NumberOption = NumberOption {
+    name: "uidvalidity",
+    help: "What each mailbox tells as its UIDVALIDITY; for a server one that grows from start to start",
+    number: numbers::UIDVALIDITY,
+};
+
+pub(crate) const LMTP_PORT: NumberOption = NumberOption {
+    name: "lmtp-port",
+    help: "The port that mail comes to, neither 25 nor a user's",
+    number: numbers::LMTP_PORT,
+};
+
+pub(crate) const IMAP_PORT: NumberOption = NumberOption {
+    name: "imap-port",
+    help: "The port of the first user's sessions; the others' follow",
+    number: numbers::IMAP_PORT,
+};
+
+pub(crate) const WORKERS: NumberOption = NumberOption {
+    name: "workers",
+    help: "Mail connections that are served at a time",
+    number: numbers::WORKERS,
+};
+
+pub(crate) const SESSIONS: NumberOption = NumberOption {
+    name: "sessions",
+    help: "Sessions of each user that are served at a time",
+    number: numbers::SESSIONS,
+};
+
+// What both subcommands may be given.
+const HOUSE_OPTIONS: &[NumberOption] = &[
+    SHARDS,
+    DEPTH,
+    RING,
+    RING_MAX,
+    MESSAGES,
+    MAX_MESSAGE,
+    UIDVALIDITY,
+    FIRST_UID,
+];
+
+// What `serve` may be given besides.
+const SERVER_OPTIONS: &[NumberOption] = &[LMTP_PORT, IMAP_PORT, WORKERS, SESSIONS];
+
+// The program's version, and the logic that its proofs were checked by, as `rt version` names it.
+const VERSION: &str = "0.2.0, proved with logic dac8208d650f15bf";
+
+// An option that sets a number. Its help says what it is for, how far it may go, and its default.
+fn option<'a>(alloc: Global, option: NumberOption, help: &'a str) -> Arg<'a>
+    ensures rule { rule_of result ≡ rule_for option }
+    ensures local { result.global ≡ false }
+{
+    Arg::new(alloc, option.name)
+        .long(option.name)
+        .help(help)
+        .action(ArgAction::Set)
+        .value_parser(ValueParser::unsigned(option.number.least, option.number.most))
+}
+
+// The help of each of these options.
+fn helps_of(alloc: Global, options: &[NumberOption]) -> Result<Vec<String>, AllocError>
+    ensures { IfOk result (λ helps. length helps.items ≡ length options.now) }
+{
+    let mut helps = Vec::new(alloc);
+    for option in options {
+        let number = option.number;
+        let help = format!(in alloc;
+            "{}: {} to {}, and {} where it is not given",
+            option.help, number.least, number.most, number.default
+        )?;
+        helps.push(help)?;
+    }
+    Ok(helps)
+}
+
+/// The help of all names and options. It is made before the command line, which borrows it.
+#[derive(Drop)]
+pub(crate) struct Helps {
+    names: Vec<String>,
+    house: Vec<String>,
+    server: Vec<String>,
+}
+
+impl Helps {
+    /// The help of each. An error where memory is refused.
+    pub(crate) fn new(alloc: Global) -> Result<Helps, AllocError>
+        ensures { IfOk result AreThere }
+    {
+        Ok(Helps {
+            names: name_helps(alloc)?,
+            house: helps_of(alloc, HOUSE_OPTIONS)?,
+            server: helps_of(alloc, SERVER_OPTIONS)?,
+        })
+    }
+}
+
+// A subcommand with these options besides.
+fn with_options<'a>(
+    alloc: Global,
+    subcommand: Command<'a>,
+    options: &[NumberOption],
+    helps: &'a [String],
+) -> Result<Command<'a>, AllocError>
+    requires { length options.now ≤ length helps.now }
+    ensures { IfOk result (HasMore (map rule_for options.now) subcommand.entry) }
+{
+    let mut subcommand = subcommand;
+    for index in 0..options.len() {
+        subcommand = subcommand.arg(option(alloc, options[index], &helps[index]))?;
+    }
+    Ok(subcommand)
+}
+
+// A name that may be set. Which names are right is the settings' to say.
+fn name<'a>(alloc: Global, name: &'static str, help: &'a str) -> Arg<'a>
+    ensures rule { rule_of result ≡ words.name_rule name.now }
+    ensures local { result.global ≡ false }
+{
+    Arg::new(alloc, name)
+        .long(name)
+        .help(help)
+        .action(ArgAction::Set)
+}
+
+// The help of the names that may be set: the host's, and the domain's.
+fn name_helps(alloc: Global) -> Result<Vec<String>, AllocError>
+    ensures { IfOk result (λ helps. length helps.items ≡ 2) }
+{
+    let mut helps = Vec::new(alloc);
+    helps.push(format!(in alloc;
+        "The name that the house greets with: {} where it is not given",
+        HOST
+    )?)?;
+    helps.push(format!(in alloc;
+        "The domain that mail comes for: {} where it is not given",
+        DOMAIN
+    )?)?;
+    Ok(helps)
+}
+
+// A subcommand with the names that may be set.
+fn with_names_of<'a>(
+    alloc: Global,
+    subcommand: Command<'a>,
+    helps: &'a [String],
+) -> Result<Command<'a>, AllocError>
+    requires { 2 ≤ length helps.now }
+    ensures { IfOk result (HasMore (words.name_rule (codes "host") ∷ words.name_rule (codes "domain") ∷ []) subcommand.entry) }
+{
+    subcommand
+        .arg(name(alloc, "host", &helps[0]))?
+        .arg(name(alloc, "domain", &helps[1]))
+}
+
+// The mailboxes, of which there is one at least.
+fn mailboxes<'a>(alloc: Global) -> Arg<'a>
+    ensures rule { rule_of result ≡ words.mailbox_rule }
+    ensures local { result.global ≡ false }
+{
+    Arg::new(alloc, "MAILBOX")
+        .help("A mailbox, `user` or `user/folder`")
+        .action(ArgAction::Append)
+        .num_args(1..)
+        .required(true)
+}
+
+// A subcommand with what both have: the options of a house, and its mailboxes.
+fn with_house<'a>(
+    alloc: Global,
+    subcommand: Command<'a>,
+    helps: &'a Helps,
+) -> Result<Command<'a>, AllocError>
+    requires { AreThere helps.now }
+    ensures { IfOk result (HasMore words.house_rules subcommand.entry) }
+{
+    let named = with_names_of(alloc, subcommand, &helps.names)?;
+    with_options(alloc, named, HOUSE_OPTIONS, &helps.house)?.arg(mailboxes(alloc))
+}
+
+// `script`, with its options and its mailboxes.
+fn script_line<'a>(alloc: Global, helps: &'a Helps) -> Result<Command<'a>, AllocError>
+    requires { AreThere helps.now }
+    ensures shape { IfOk result (λ c. shape_of c ≡ words.script) }
+    ensures local { IfOk result (λ c. (fields_of c).has_globals ≡ false) }
+{
+    let script = Command::new(alloc, "script").about(
+        "Runs a script from standard input on a house of its own",
+    );
+    with_house(alloc, script, helps)
+}
+
+// `serve`, with its options and its mailboxes.
+fn serve_line<'a>(alloc: Global, helps: &'a Helps) -> Result<Command<'a>, AllocError>
+    requires { AreThere helps.now }
+    ensures shape { IfOk result (λ c. shape_of c ≡ words.serve) }
+    ensures local { IfOk result (λ c. (fields_of c).has_globals ≡ false) }
+{
+    let serve = Command::new(alloc, "serve").about(
+        "Serves on the loopback address until standard input is at its end",
+    );
+    let housed = with_house(alloc, serve, helps)?;
+    with_options(alloc, housed, SERVER_OPTIONS, &helps.server)
+}
+
+// The program, with no subcommand yet.
+fn program<'a>(alloc: Global) -> Command<'a>
+    ensures { app_of result ≡ record words.program { top = record (words.program).top { is_leaf = true }; subs = [] } }
+{
+    Command::new(alloc, "post_house")
+        .about("Takes in mail for a few mailboxes")
+        .version(VERSION)
+        .subcommand_required(true)
+}
+
+// What the program takes: one of two subcommands.
+pub(crate) fn command_line<'a>(alloc: Global, helps: &'a Helps) -> Result<Command<'a>, AllocError>
+    requires { AreThere helps.now }
+    ensures { IfOk result (λ c. app_of c ≡ words.program) }
+{
+    let with_script = program(alloc).subcommand(script_line(alloc, helps)?)?;
+    with_script.subcommand(serve_line(alloc, helps)?)
+}

@@ -1,4 +1,0 @@
-pub mod Concluded
-pub mod Record
-pub mod Laws
-pub mod rows

@@ -1,9 +1,0 @@
-pub mod Relay
-pub mod Laws
-pub mod Handed
-pub mod Fates
-pub mod Moments
-pub mod Conclusions
-pub mod Numbers
-pub mod Connections
-pub mod rows

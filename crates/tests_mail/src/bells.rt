@@ -1,0 +1,68 @@
+//! The bell of a session. A ring that comes before anybody sleeps is kept, and each ring ends one sleep: whoever sleeps finds what was marked
+//! before the ring that woke it. A sleeper that wasn't woken would sleep for good.
+
+use std::alloc::AllocError;
+use std::sync::atomic::{AtomicBool, Ordering};
+use std::thread;
+use std::time::Duration;
+use workers_sync::{Sleeper, ring_each};
+
+// How long nothing is marked: a sleep that nothing has ended lasts longer.
+fn a_while() -> Duration {
+    Duration::from_millis(50)
+}
+
+#[test]
+fn a_session_that_idles_is_woken(rt: HostRuntime) -> Result<(), AllocError> {
+    let alloc = rt.alloc();
+    let sleeper = Sleeper::new(alloc)?;
+    let bell = sleeper.bell()?;
+    sleeper.idling()?.store(true, Ordering::SeqCst);
+    bell.ring();
+    let mark = AtomicBool::new(false);
+    let (runtime, marked) = (&rt, &mark);
+    let (found, ()) = thread::join(
+        &rt,
+        move || {
+            // The first ring was kept, and is heard once: what ends the second sleep is the second ring.
+            sleeper.sleep(runtime);
+            sleeper.sleep(runtime);
+            marked.load(Ordering::SeqCst)
+        },
+        || {
+            thread::sleep(&rt, a_while());
+            mark.store(true, Ordering::SeqCst);
+            bell.ring();
+        },
+    );
+    assert!(rt; found);
+    Ok(())
+}
+
+#[test]
+fn whoever_wakes_all_wakes_who_does_not_idle(rt: HostRuntime) -> Result<(), AllocError> {
+    let alloc = rt.alloc();
+    let sleeper = Sleeper::new(alloc)?;
+    let mut bells = Vec::new(alloc);
+    bells.push(sleeper.bell()?)?;
+    let mark = AtomicBool::new(false);
+    let (runtime, marked) = (&rt, &mark);
+    let (found, ()) = thread::join(
+        &rt,
+        move || {
+            sleeper.sleep(runtime);
+            marked.load(Ordering::SeqCst)
+        },
+        || {
+            // Nobody idles, so these rings are for nobody.
+            ring_each(&bells);
+            thread::sleep(&rt, a_while());
+            mark.store(true, Ordering::SeqCst);
+            for bell in &bells {
+                bell.wake();
+            }
+        },
+    );
+    assert!(rt; found);
+    Ok(())
+}

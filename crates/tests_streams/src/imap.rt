@@ -1,0 +1,760 @@
+//! Clients that are served over byte strings, by one thread and by three. What they are told is written
+//! in RFC 9051, 6.3.2, 6.4.5, 7.1.4, 7.1.5 and 7.4, and in RFC 2177.
+
+ghost use Rattle.std.specs.Prelude.{◌≡◌, false};
+
+use crate::stream_couriers::TestCourier;
+use change_ring::NO_FLAGS;
+use delivery_token::{CopyKey, Job, Text, Verdict};
+use imap_session::{After, Folder};
+use imap_stream::{Berth, Hush, Visit, VisitFault};
+use line_io::{Sink, Watched};
+use mailbox::{History, Limits, Mailbox, verdict_of};
+use session_thread::LockedStore;
+use std::alloc::{AllocError, Global};
+use std::io::{self, Error, ErrorKind, Read};
+use std::sync::atomic::{AtomicBool, AtomicU64, Ordering};
+use std::sync::{Arc, Mutex, Wait};
+use std::thread::{self, Threads, join};
+use workers_sync::{Actor, Courier, Gate, Lost, SessionBell, Sleeper};
+
+// Two changes are kept: a client that misses three has fallen behind.
+const SMALL: Limits = Limits {
+    messages: 8,
+    ring: 2,
+    ring_max: 0,
+};
+
+// So many turns a thread waits for another at most.
+const PATIENCE: u64 = 10_000_000;
+
+// A gate that counts how often it was asked: once for each event of the session.
+#[derive(Drop)]
+pub(crate) struct Tally {
+    asked: AtomicU64,
+}
+
+impl Tally {
+    pub(crate) fn new() -> Tally {
+        Tally {
+            asked: AtomicU64::new(0),
+        }
+    }
+}
+
+impl Gate for Tally {
+    fn pass(&self, _who: Actor, _number: u64) {
+        self.asked.fetch_add(1, Ordering::SeqCst);
+    }
+}
+
+// What happens while a client is served.
+#[derive(Drop)]
+pub(crate) struct Marks {
+    // The client waits while it idles.
+    waits: AtomicBool,
+    // It was shown a message.
+    pub(crate) told: AtomicBool,
+    // Its line was hushed.
+    hushed: AtomicBool,
+    // The watch is over.
+    over: AtomicBool,
+}
+
+impl Marks {
+    pub(crate) fn new() -> Marks {
+        Marks {
+            waits: AtomicBool::new(false),
+            told: AtomicBool::new(false),
+            hushed: AtomicBool::new(false),
+            over: AtomicBool::new(false),
+        }
+    }
+}
+
+impl Hush for Marks {
+    fn hush<R: Wait>(&self, _rt: &R) {
+        self.hushed.store(true, Ordering::SeqCst);
+    }
+}
+
+// Waits until the mark is set.
+fn wait_until(mark: &AtomicBool) {
+    for _ in 0..PATIENCE {
+        if mark.load(Ordering::SeqCst) {
+            return;
+        }
+        thread::yield_now();
+    }
+}
+
+// Takes what it is offered, and fails once its calls are used up. A struct with a `&mut` couldn't be handed on to
+// the visit, so the bytes stand under a lock.
+#[derive(Drop)]
+pub(crate) struct Wire<'a, R: Wait> {
+    rt: &'a R,
+    bytes: &'a Mutex<Vec<u8>>,
+    calls: usize,
+    pub(crate) has_failed: bool,
+    told: &'a AtomicBool,
+}
+
+impl<'a, R: Wait> Wire<'a, R> {
+    pub(crate) fn new(
+        rt: &'a R,
+        bytes: &'a Mutex<Vec<u8>>,
+        calls: usize,
+        told: &'a AtomicBool,
+    ) -> Wire<'a, R>
+        ensures { result.has_failed ≡ false }
+    {
+        Wire {
+            rt,
+            bytes,
+            calls,
+            has_failed: false,
+            told,
+        }
+    }
+}
+
+impl<R: Wait> Sink for Wire<'_, R> {
+    ghost failed = { λ s. s.has_failed };
+
+    fn offer(&mut self, bytes: &[u8]) -> Option<usize> {
+        if self.calls == 0 || !keep(self.rt, self.bytes, bytes) {
+            self.has_failed = true;
+            return None;
+        }
+        self.calls -= 1;
+        if bytes.starts_with(b"* 1 EXISTS") {
+            self.told.store(true, Ordering::SeqCst);
+        }
+        Some(bytes.len())
+    }
+}
+
+fn keep<R: Wait>(rt: &R, all: &Mutex<Vec<u8>>, bytes: &[u8]) -> bool {
+    all.lock(rt).extend_from_slice(bytes).is_ok()
+}
+
+// How a client idles.
+#[derive(Drop)]
+struct Nap {
+    // So many messages come meanwhile.
+    messages: u8,
+    // So many sends reach it.
+    sends: usize,
+    // What it says once it was shown a message. Where that is nothing, its read waits until its line
+    // is hushed.
+    says: &'static [u8],
+    // What it is told behind `OPENING`.
+    told: &'static [u8],
+}
+
+// A client that idles.
+#[derive(Drop)]
+struct Idler<'a> {
+    reads: u8,
+    marks: &'a Marks,
+    nap: &'a Nap,
+}
+
+impl Idler<'_> {
+    // Waits for what ends the nap.
+    fn wait(&self) {
+        self.marks.waits.store(true, Ordering::SeqCst);
+        if self.nap.says.is_empty() {
+            wait_until(&self.marks.hushed);
+        } else {
+            wait_until(&self.marks.told);
+        }
+    }
+}
+
+impl Read for Idler<'_> {
+    fn read(&mut self, buf: &mut [u8]) -> io::Result<usize> {
+        self.reads = self.reads.saturating_add(1);
+        let mut piece = match self.reads {
+            1 => b"a1 SELECT INBOX\r\na2 IDLE\r\n".as_slice(),
+            2 => {
+                self.wait();
+                self.nap.says
+            }
+            _ => b"".as_slice(),
+        };
+        piece.read(buf)
+    }
+}
+
+// A client whose stream is interrupted, and fails in the end.
+#[derive(Drop)]
+struct Clumsy {
+    reads: u8,
+}
+
+impl Read for Clumsy {
+    fn read(&mut self, buf: &mut [u8]) -> io::Result<usize> {
+        self.reads = self.reads.saturating_add(1);
+        let mut piece = b"a1 NOOP\r\n".as_slice();
+        match self.reads {
+            2 => piece.read(buf),
+            1 | 3 => Err(Error::from(ErrorKind::Interrupted)),
+            _ => Err(Error::from(ErrorKind::ConnectionReset)),
+        }
+    }
+}
+
+// A client that says something as the house stops.
+#[derive(Drop)]
+struct Late<'a> {
+    stop: &'a AtomicBool,
+}
+
+impl Read for Late<'_> {
+    fn read(&mut self, buf: &mut [u8]) -> io::Result<usize> {
+        self.stop.store(true, Ordering::SeqCst);
+        let mut piece = b"a1 NOOP\r\n".as_slice();
+        piece.read(buf)
+    }
+}
+
+fn copy(alloc: Global) -> Result<Job, AllocError> {
+    Ok(Job {
+        key: CopyKey {
+            seat: 0,
+            serial: 0,
+            message: 0,
+            recipient: 0,
+        },
+        mailbox: 0,
+        text: Text::new(Vec::from_slice(alloc, b"Return-Path: <s@a.example>\r\nhi\r\n")?)?,
+        flags: NO_FLAGS,
+    })
+}
+
+fn deliver<R: Wait>(rt: &R, mailboxes: &[Mutex<Mailbox>], job: &Job) -> bool {
+    match mailboxes.first() {
+        Some(lock) => matches!(
+            verdict_of(lock.lock(rt).deliver(job)),
+            Verdict::Stored { uid: _ }
+        ),
+        None => false,
+    }
+}
+
+// One mailbox, with a message or without.
+pub(crate) fn a_mailbox<R: Wait>(
+    rt: &R,
+    alloc: Global,
+    has_message: bool,
+) -> Result<Vec<Mutex<Mailbox>>, AllocError> {
+    let mut mailboxes = Vec::new(alloc);
+    mailboxes.push(Mutex::new(Mailbox::new(alloc, 0, 7, 1, SMALL, History::Kept)?))?;
+    let job = copy(alloc)?;
+    if has_message && !deliver(rt, &mailboxes, &job) {
+        return Err(AllocError);
+    }
+    Ok(mailboxes)
+}
+
+pub(crate) fn folders(alloc: Global) -> Result<Vec<Folder>, AllocError> {
+    let name = Vec::from_slice(alloc, b"INBOX")?;
+    let mut folders = Vec::new(alloc);
+    folders.push(Folder::new(name, 0))?;
+    Ok(folders)
+}
+
+// The courier of a session that takes no message: it is never asked.
+fn nobody<R: Wait>(rt: &R) -> TestCourier<'_, R> {
+    TestCourier::new(rt, &[], Some(Lost::Torn))
+}
+
+const GREETING: &[u8] = b"* PREAUTH IMAP4rev2 server ready\r\n";
+
+pub(crate) fn is_greeting_and(told: &[u8], rest: &[u8]) -> bool {
+    told.starts_with(GREETING) && &told[GREETING.len()..] == rest
+}
+
+// A visit to the first mailbox, of a client that may append messages of so many bytes, if any; none where it couldn't be greeted.
+pub(crate) fn open<'x, R: Wait>(
+    rt: &'x R,
+    alloc: Global,
+    mailboxes: &'x [Mutex<Mailbox>],
+    tally: &'x Tally,
+    most: Option<u32>,
+    wire: Wire<'x, R>,
+) -> Option<Visit<'x, R, Tally, Wire<'x, R>>>
+    requires { wire.has_failed ≡ false }
+{
+    let Ok(folders) = folders(alloc) else {
+        return None;
+    };
+    let store = LockedStore::new(rt, tally, 0, mailboxes, &[]);
+    match Visit::open(rt, alloc, store, folders, most, wire) {
+        Ok(visit) => Some(visit),
+        Err(_) => None,
+    }
+}
+
+// Whether the berth was free for the visit, and its client was attended.
+pub(crate) fn attend_one<'x, R: Wait, I: Read, C: Courier>(
+    rt: &'x R,
+    alloc: Global,
+    visit: Visit<'x, R, Tally, Wire<'x, R>>,
+    courier: &mut C,
+    input: &mut I,
+    buffer: &mut [u8],
+    stop: &AtomicBool,
+) -> bool
+    requires { C.ready courier.old }
+{
+    let Ok(idles) = Arc::new(alloc, AtomicBool::new(false)) else {
+        return false;
+    };
+    Berth::new(idles)
+        .attend(rt, alloc, visit, courier, input, buffer, stop)
+        .is_ok()
+}
+
+// Whether the client was greeted, and then served until its stream or its output ended.
+fn serve_over<'x, R: Wait, I: Read>(
+    rt: &'x R,
+    alloc: Global,
+    mailboxes: &'x [Mutex<Mailbox>],
+    tally: &'x Tally,
+    wire: Wire<'x, R>,
+    input: &mut I,
+    stop: &AtomicBool,
+) -> bool
+    requires { wire.has_failed ≡ false }
+{
+    match open(rt, alloc, mailboxes, tally, None, wire) {
+        Some(visit) => attend_one(rt, alloc, visit, &mut nobody(rt), input, &mut [0; 64], stop),
+        None => false,
+    }
+}
+
+// A client is served by one thread: what it was told, before its output failed after so many sends, and how many
+// events its session made.
+fn served<R: Wait, I: Read>(
+    rt: &R,
+    alloc: Global,
+    input: &mut I,
+    stop: &AtomicBool,
+    calls: usize,
+) -> Result<(Vec<u8>, u64), AllocError> {
+    let mailboxes = a_mailbox(rt, alloc, true)?;
+    let (tally, marks) = (Tally::new(), Marks::new());
+    let bytes = Mutex::new(Vec::new(alloc));
+    let wire = Wire::new(rt, &bytes, calls, &marks.told);
+    if !serve_over(rt, alloc, &mailboxes, &tally, wire, input, stop) {
+        return Err(AllocError);
+    }
+    Ok((bytes.into_inner(), tally.asked.load(Ordering::SeqCst)))
+}
+
+#[test]
+fn a_client_reads_a_message(rt: HostRuntime) -> Result<(), AllocError> {
+    let mut input = b"a1 SELECT INBOX\r\na2 FETCH 1 BODY.PEEK[]\r\na3 NO".as_slice();
+    let stop = AtomicBool::new(false);
+    let (told, events) = served(&rt, rt.alloc(), &mut input, &stop, 9)?;
+    let wanted = b"* PREAUTH IMAP4rev2 server ready\r\n\
+          * FLAGS (\\Answered \\Flagged \\Deleted \\Seen \\Draft)\r\n\
+          * 1 EXISTS\r\n\
+          * OK [UIDVALIDITY 7] UIDs valid\r\n\
+          * OK [UIDNEXT 2] Predicted next UID\r\n\
+          * OK [PERMANENTFLAGS (\\Answered \\Flagged \\Deleted \\Seen \\Draft)] Flags kept\r\n\
+          * LIST () \"/\" INBOX\r\n\
+          a1 OK [READ-WRITE] SELECT completed\r\n\
+          * 1 FETCH (BODY[] {32}\r\n\
+          Return-Path: <s@a.example>\r\n\
+          hi\r\n\
+          )\r\n\
+          a2 OK FETCH completed\r\n";
+    assert_eq!(rt; told.as_slice(), wanted.as_slice());
+    // It entered the mailbox, read a message, and left.
+    assert_eq!(rt; events, 3);
+    Ok(())
+}
+
+#[test]
+fn a_stream_that_fails_ends_the_visit(rt: HostRuntime) -> Result<(), AllocError> {
+    let stop = AtomicBool::new(false);
+    let (told, _events) = served(&rt, rt.alloc(), &mut Clumsy { reads: 0 }, &stop, 9)?;
+    let wanted = b"* PREAUTH IMAP4rev2 server ready\r\na1 OK NOOP completed\r\n";
+    assert_eq!(rt; told.as_slice(), wanted.as_slice());
+    Ok(())
+}
+
+#[test]
+fn a_house_that_stops_dismisses_its_clients(rt: HostRuntime) -> Result<(), AllocError> {
+    let stop = AtomicBool::new(false);
+    let (told, _events) = served(&rt, rt.alloc(), &mut Late { stop: &stop }, &stop, 9)?;
+    let wanted = b"* PREAUTH IMAP4rev2 server ready\r\n* BYE Shutting down\r\n";
+    assert_eq!(rt; told.as_slice(), wanted.as_slice());
+    // So does one that comes too late.
+    let mut input = b"a1 NOOP\r\n".as_slice();
+    let (told, _events) = served(&rt, rt.alloc(), &mut input, &stop, 9)?;
+    assert_eq!(rt; told.as_slice(), wanted.as_slice());
+    Ok(())
+}
+
+#[test]
+fn a_session_leaves_where_its_output_fails(rt: HostRuntime) -> Result<(), AllocError> {
+    let stop = AtomicBool::new(false);
+    let mut input = b"a1 SELECT INBOX\r\na2 NOOP\r\n".as_slice();
+    let (told, events) = served(&rt, rt.alloc(), &mut input, &stop, 1)?;
+    assert_eq!(rt;
+        told.as_slice(),
+        b"* PREAUTH IMAP4rev2 server ready\r\n".as_slice()
+    );
+    // It entered the mailbox, was shown what NOOP shows, and left.
+    assert_eq!(rt; events, 3);
+    Ok(())
+}
+
+// The thread that serves the client; then the watch is over.
+fn attend<'a, R: Wait>(
+    rt: &R,
+    alloc: Global,
+    berth: &Berth<'a, R, Tally, Wire<'a, R>>,
+    visit: Visit<'a, R, Tally, Wire<'a, R>>,
+    marks: &Marks,
+    nap: &Nap,
+    bell: &SessionBell,
+) -> bool {
+    let mut idler = Idler {
+        reads: 0,
+        marks,
+        nap,
+    };
+    let mut buffer = [0; 64];
+    let never = AtomicBool::new(false);
+    let is_done = berth
+        .attend(
+            rt,
+            alloc,
+            visit,
+            &mut nobody(rt),
+            &mut idler,
+            &mut buffer,
+            &never,
+        )
+        .is_ok();
+    marks.over.store(true, Ordering::SeqCst);
+    bell.wake();
+    is_done
+}
+
+// The thread that delivers so many messages while the client waits, and rings then.
+fn bring<R: Wait>(
+    rt: &R,
+    mailboxes: &[Mutex<Mailbox>],
+    job: &Job,
+    count: u8,
+    marks: &Marks,
+    bell: &SessionBell,
+) -> bool {
+    wait_until(&marks.waits);
+    let mut are_stored = true;
+    for _ in 0..count {
+        are_stored &= deliver(rt, mailboxes, job);
+    }
+    bell.ring();
+    are_stored
+}
+
+// A berth whose client idles, and what those share who are about it.
+#[derive(Drop)]
+struct Scene<'a, R: Wait> {
+    mailboxes: &'a [Mutex<Mailbox>],
+    tally: &'a Tally,
+    job: &'a Job,
+    marks: &'a Marks,
+    nap: &'a Nap,
+    berth: Berth<'a, R, Tally, Wire<'a, R>>,
+    bell: SessionBell,
+}
+
+// The three threads of the berth: whether the client was served, and the messages brought.
+fn serve_idler<'a, R: Threads + Wait + Sync>(
+    rt: &'a R,
+    alloc: Global,
+    scene: &Scene<'a, R>,
+    visit: Visit<'a, R, Tally, Wire<'a, R>>,
+    sleeper: Sleeper,
+) -> bool {
+    let Scene {
+        mailboxes,
+        job,
+        marks,
+        nap,
+        berth,
+        bell,
+        ..
+    } = scene;
+    let (_watched, (is_done, are_stored)) = join(
+        rt,
+        move || berth.keep_watch(rt, &sleeper, &marks.over, *marks),
+        move || {
+            join(
+                rt,
+                move || attend(rt, alloc, berth, visit, marks, nap, bell),
+                move || bring(rt, mailboxes, job, nap.messages, marks, bell),
+            )
+        },
+    );
+    is_done && are_stored
+}
+
+fn idle_in<'a, R: Threads + Wait + Sync>(
+    rt: &'a R,
+    alloc: Global,
+    scene: &Scene<'a, R>,
+    bytes: &'a Mutex<Vec<u8>>,
+    sleeper: Sleeper,
+) -> bool {
+    let wire = Wire::new(rt, bytes, scene.nap.sends, &scene.marks.told);
+    match open(rt, alloc, scene.mailboxes, scene.tally, None, wire) {
+        Some(visit) => serve_idler(rt, alloc, scene, visit, sleeper),
+        None => false,
+    }
+}
+
+// Whether a client that idles so was served to its end, and its line was hushed where it said nothing.
+fn idle_through<'x, R: Threads + Wait + Sync>(
+    rt: &'x R,
+    alloc: Global,
+    bytes: &'x Mutex<Vec<u8>>,
+    nap: &'x Nap,
+) -> Result<bool, AllocError> {
+    let mailboxes = a_mailbox(rt, alloc, false)?;
+    let job = copy(alloc)?;
+    let sleeper = Sleeper::new(alloc)?;
+    let idling = sleeper.idling()?;
+    let bell = sleeper.bell()?;
+    let tally = Tally::new();
+    let marks = Marks::new();
+    let scene = Scene {
+        mailboxes: &mailboxes,
+        tally: &tally,
+        job: &job,
+        marks: &marks,
+        nap,
+        berth: Berth::new(idling),
+        bell,
+    };
+    let is_served = idle_in(rt, alloc, &scene, bytes, sleeper);
+    Ok(is_served && marks.hushed.load(Ordering::SeqCst) == nap.says.is_empty())
+}
+
+const OPENING: &[u8] = b"* PREAUTH IMAP4rev2 server ready\r\n\
+      * FLAGS (\\Answered \\Flagged \\Deleted \\Seen \\Draft)\r\n\
+      * 0 EXISTS\r\n\
+      * OK [UIDVALIDITY 7] UIDs valid\r\n\
+      * OK [UIDNEXT 1] Predicted next UID\r\n\
+      * OK [PERMANENTFLAGS (\\Answered \\Flagged \\Deleted \\Seen \\Draft)] Flags kept\r\n\
+      * LIST () \"/\" INBOX\r\n\
+      a1 OK [READ-WRITE] SELECT completed\r\n\
+      + idling\r\n";
+
+fn is_opening_and(told: &[u8], rest: &[u8]) -> bool {
+    told.starts_with(OPENING) && &told[OPENING.len()..] == rest
+}
+
+// Whether a client that idles so is served to its end and told what it is to be told.
+fn naps_well<R: Threads + Wait + Sync>(
+    rt: &R,
+    alloc: Global,
+    nap: &Nap,
+) -> Result<bool, AllocError> {
+    let told = Mutex::new(Vec::new(alloc));
+    let is_served = idle_through(rt, alloc, &told, nap)?;
+    Ok(is_served && is_opening_and(&told.into_inner(), nap.told))
+}
+
+#[test]
+fn an_idling_client_is_shown_a_message(rt: HostRuntime) -> Result<(), AllocError> {
+    let nap = Nap {
+        messages: 1,
+        sends: 9,
+        says: b"DONE\r\na3 LOGOUT\r\na4 NOOP\r\n",
+        told: b"* 1 EXISTS\r\n\
+          a2 OK IDLE completed\r\n\
+          * BYE Logging out\r\n\
+          a3 OK LOGOUT completed\r\n",
+    };
+    assert!(rt; naps_well(&rt, rt.alloc(), &nap)?);
+    Ok(())
+}
+
+#[test]
+fn an_idling_client_that_falls_behind_is_let_go(rt: HostRuntime) -> Result<(), AllocError> {
+    let nap = Nap {
+        messages: 3,
+        sends: 9,
+        says: b"",
+        told: b"* BYE Too many changes were missed\r\n",
+    };
+    assert!(rt; naps_well(&rt, rt.alloc(), &nap)?);
+    Ok(())
+}
+
+#[test]
+fn an_idling_client_that_cannot_be_shown_is_let_go(rt: HostRuntime) -> Result<(), AllocError> {
+    // The greeting is sent, and the answers to its first piece.
+    let nap = Nap {
+        messages: 1,
+        sends: 2,
+        says: b"",
+        told: b"",
+    };
+    assert!(rt; naps_well(&rt, rt.alloc(), &nap)?);
+    Ok(())
+}
+
+// What a visit answers to a piece, to a look behind it, and as it is dismissed.
+type Answers = (
+    Result<After, VisitFault>,
+    Result<After, VisitFault>,
+    Result<(), VisitFault>,
+);
+
+// None where it isn't as told whether the client idles.
+fn answers<'x, R: Wait>(
+    rt: &'x R,
+    alloc: Global,
+    visit: &mut Visit<'x, R, Tally, Wire<'x, R>>,
+    piece: &[u8],
+) -> Option<Answers> {
+    let idles = AtomicBool::new(false);
+    let heard = visit.hear(alloc, &mut nobody(rt), piece, &idles);
+    if idles.load(Ordering::SeqCst) != (heard == Ok(After::Idle)) {
+        return None;
+    }
+    let looked = visit.look();
+    let dismissed = visit.dismiss();
+    let _ = visit.leave();
+    Some((heard, looked, dismissed))
+}
+
+struct Case {
+    piece: &'static [u8],
+    // So many sends reach the client.
+    sends: usize,
+    // None where the client couldn't be greeted.
+    wanted: Option<Answers>,
+    told: &'static [u8],
+}
+
+const CASES: &[Case] = &[
+    Case {
+        piece: b"",
+        sends: 0,
+        wanted: None,
+        told: b"",
+    },
+    Case {
+        piece: b"a1 NOOP\r\na2",
+        sends: 3,
+        wanted: Some((Ok(After::Go), Ok(After::Go), Ok(()))),
+        told: b"* PREAUTH IMAP4rev2 server ready\r\na1 OK NOOP completed\r\n* BYE Shutting down\r\n",
+    },
+    Case {
+        piece: b"a1 SELECT INBOX\r\na2 LOGOUT\r\na3 NOOP\r\n",
+        sends: 1,
+        wanted: Some((Err(VisitFault::Write), Ok(After::Bye), Ok(()))),
+        told: b"* PREAUTH IMAP4rev2 server ready\r\n",
+    },
+    Case {
+        piece: b"a1 LOGOUT\r\na2 NOOP\r\n",
+        sends: 3,
+        wanted: Some((Ok(After::Bye), Ok(After::Bye), Ok(()))),
+        told: b"* PREAUTH IMAP4rev2 server ready\r\n* BYE Logging out\r\na1 OK LOGOUT completed\r\n",
+    },
+    Case {
+        piece: b"a1 IDLE\r\n",
+        sends: 2,
+        wanted: Some((Ok(After::Idle), Ok(After::Idle), Err(VisitFault::Write))),
+        told: b"* PREAUTH IMAP4rev2 server ready\r\n+ idling\r\n",
+    },
+];
+
+fn is_as_wanted<R: Wait>(rt: &R, alloc: Global, mailboxes: &[Mutex<Mailbox>], case: &Case) -> bool {
+    let told = Mutex::new(Vec::new(alloc));
+    let (tally, marks) = (Tally::new(), Marks::new());
+    let wire = Wire::new(rt, &told, case.sends, &marks.told);
+    let answered = match open(rt, alloc, mailboxes, &tally, None, wire) {
+        Some(mut visit) => answers(rt, alloc, &mut visit, case.piece),
+        None => None,
+    };
+    answered == case.wanted && told.into_inner().as_slice() == case.told
+}
+
+#[test]
+fn each_call_says_what_came_of_it(rt: HostRuntime) -> Result<(), AllocError> {
+    let mailboxes = a_mailbox(&rt, rt.alloc(), true)?;
+    for (number, case) in CASES.iter().enumerate() {
+        assert!(rt;
+            is_as_wanted(&rt, rt.alloc(), &mailboxes, case),
+            "case {number}"
+        );
+    }
+    Ok(())
+}
+
+// A writer is a sink too, which tells its bytes.
+fn greeted<R: Wait>(rt: &R, alloc: Global, told: &mut Vec<u8>) -> Result<bool, AllocError> {
+    let mailboxes = a_mailbox(rt, alloc, false)?;
+    let tally = Tally::new();
+    let store = LockedStore::new(rt, &tally, 0, &mailboxes, &[]);
+    let visit = Visit::open(rt, alloc, store, folders(alloc)?, None, Watched::new(told));
+    Ok(visit.is_ok())
+}
+
+#[test]
+fn a_client_is_greeted(rt: HostRuntime) -> Result<(), AllocError> {
+    let mut told = Vec::new(rt.alloc());
+    assert!(rt; greeted(&rt, rt.alloc(), &mut told)?);
+    assert_eq!(rt;
+        told.as_slice(),
+        b"* PREAUTH IMAP4rev2 server ready\r\n".as_slice()
+    );
+    Ok(())
+}
+
+// Whether some client was told that its command was refused memory.
+fn tells_of_memory(told: &[u8]) -> bool {
+    for start in 0..told.len() {
+        if told[start..].starts_with(b" NO Out of memory\r\n") {
+            return true;
+        }
+    }
+    false
+}
+
+// To be tried with each allocation refused: what was told is a beginning of this, unless a command was refused
+// memory, which its client is told.
+#[test]
+fn memory_may_be_refused(rt: HostRuntime) {
+    let mut input = b"a1 NOOP\r\na2 EXAMINE INBOX\r\na3 FETCH 1 BODY.PEEK[]\r\n".as_slice();
+    let stop = AtomicBool::new(false);
+    let wanted = b"* PREAUTH IMAP4rev2 server ready\r\n\
+          a1 OK NOOP completed\r\n\
+          * FLAGS (\\Answered \\Flagged \\Deleted \\Seen \\Draft)\r\n\
+          * 1 EXISTS\r\n\
+          * OK [UIDVALIDITY 7] UIDs valid\r\n\
+          * OK [UIDNEXT 2] Predicted next UID\r\n\
+          * OK [PERMANENTFLAGS ()] Flags kept\r\n\
+          * LIST () \"/\" INBOX\r\n\
+          a2 OK [READ-ONLY] EXAMINE completed\r\n\
+          * 1 FETCH (BODY[] {32}\r\n\
+          Return-Path: <s@a.example>\r\n\
+          hi\r\n\
+          )\r\n\
+          a3 OK FETCH completed\r\n";
+    if let Ok((told, _events)) = served(&rt, rt.alloc(), &mut input, &stop, 9) {
+        assert!(rt; wanted.starts_with(told.as_slice()) || tells_of_memory(&told));
+    }
+}

@@ -1,0 +1,750 @@
+//! Connections over readers and sinks of a test, with one lane and one channel: in one piece and byte by byte, pipelined, broken off on
+//! either side, and shut at each position where the house may stop.
+
+ghost use Rattle.std.specs.Prelude.{◌≡◌, ◌<◌, ◌≤◌, ◌∷◌, [], Some, IfSome, IfOk, OnOk, length, vec_len, vec_capacity};
+ghost use Rattle.shard_queue.specs.Permits.{IsConsumer, IsProducer, number_of};
+ghost use Rattle.shard_queue.specs.Reply.{IsReceiver, IsSender};
+ghost use Rattle.lane_work.specs.Permits.{AreInForce};
+
+use delivery_token::{Job, Noted, Verdict};
+use envelope::Directory;
+use lane_work::{Desk, Ending, LanePermit, Office, Summons, TalkFault, Unkept, converse};
+use line_io::Sink;
+use shard_queue::{
+    ConsumerPermit, Ended, ProducerPermit, ReceiverPermit, ReplyChannel, SenderPermit, ShardQueue,
+    Taken,
+};
+use std::alloc::{AllocError, Global};
+use std::io::{Error, ErrorKind, Read, Result as IoResult};
+use std::sync::atomic::{AtomicBool, Ordering};
+use std::sync::{Mutex, Wait};
+use workers_sync::{Actor, Gate, Pace};
+
+// No read and no copy has this number.
+const NEVER: usize = 1000;
+
+const GREETING: &[u8] = b"220 mx.example.org LMTP ready\r\n";
+
+const EXTENSIONS: &[u8] =
+    b"250-mx.example.org\r\n250-PIPELINING\r\n250-ENHANCEDSTATUSCODES\r\n250 8BITMIME\r\n";
+
+const SENDER: &[u8] = b"250 2.1.0 Sender OK\r\n";
+
+const RECIPIENT: &[u8] = b"250 2.1.5 Recipient OK\r\n";
+
+const START: &[u8] = b"354 Start mail input\r\n";
+
+const DELIVERED: &[u8] = b"250 2.1.5 Delivered\r\n";
+
+const BYE: &[u8] = b"221 2.0.0 Bye\r\n";
+
+const SHUTTING: &[u8] = b"421 4.3.2 Shutting down\r\n";
+
+const ENVELOPE: &[u8] =
+    b"LHLO c.example\r\nMAIL FROM:<s@a.example>\r\nRCPT TO:<alice@example.org>\r\nDATA\r\n";
+
+const MESSAGE: &[u8] =
+    b"LHLO c.example\r\nMAIL FROM:<s@a.example>\r\nRCPT TO:<alice@example.org>\r\nDATA\r\nhi\r\n.\r\n";
+
+const WHOLE: &[u8] =
+    b"LHLO c.example\r\nMAIL FROM:<s@a.example>\r\nRCPT TO:<alice@example.org>\r\nDATA\r\nhi\r\n.\r\nQUIT\r\nNOOP\r\n";
+
+const TWO: &[u8] =
+    b"LHLO c.example\r\nMAIL FROM:<s@a.example>\r\nRCPT TO:<alice@example.org>\r\nRCPT TO:<bob@example.org>\r\nDATA\r\nhi\r\n.\r\nMAIL FROM:<>\r\nRCPT TO:<bob@example.org>\r\nDATA\r\n..\r\n.\r\nQUIT\r\n";
+
+// A shard's consumer that serves where it is summoned: each copy is stored.
+struct Clerk<'a> {
+    lane: &'a ShardQueue<Job>,
+    channel: &'a ReplyChannel<Noted>,
+    permit: ConsumerPermit<Job>,
+    sender: SenderPermit<Noted>,
+    ghost takes: { IsConsumer lane.now permit },
+    ghost answers: { IsSender channel.now sender },
+}
+
+impl<'a> Clerk<'a> {
+    fn serve<R: Wait>(&mut self, rt: &R) {
+        for _ in rt.forever() {
+            match self.lane.take_as(rt, &mut self.permit) {
+                Taken::Item(_, job) => {
+                    let noted = Noted {
+                        key: job.key,
+                        mailbox: job.mailbox,
+                        verdict: Verdict::Stored { uid: 1 },
+                    };
+                    let _ = self.channel.send_as(rt, &mut self.sender, noted);
+                }
+                Taken::End(_) => {}
+                Taken::Empty => return,
+            }
+        }
+    }
+}
+
+// The clerk behind its lock, who may set the mark of the house's end as it is summoned.
+struct Counter<'a> {
+    clerk: Mutex<Clerk<'a>>,
+    stop: &'a AtomicBool,
+    stops: bool,
+}
+
+impl<'a> Summons for Counter<'a> {
+    fn summon<R: Wait>(&self, rt: &R, _shard: usize) {
+        if self.stops {
+            self.stop.store(true, Ordering::SeqCst);
+        }
+        let mut held = self.clerk.lock(rt);
+        held.serve(rt);
+    }
+}
+
+// All pass.
+#[derive(Drop)]
+struct Open;
+
+impl Gate for Open {
+    fn pass(&self, _who: Actor, _number: u64) {}
+}
+
+// Gives these pieces, one a read or in parts, and then ends or fails. The first read is interrupted.
+#[derive(Drop)]
+struct Pieces<'a> {
+    pieces: &'a [&'a [u8]],
+    piece: usize,
+    offset: usize,
+    reads: usize,
+    fails: bool,
+    stop: &'a AtomicBool,
+    stops_at: usize,
+}
+
+impl<'a> Read for Pieces<'a> {
+    fn read(&mut self, buf: &mut [u8]) -> IoResult<usize> {
+        self.reads = self.reads.saturating_add(1);
+        if self.reads == 1 {
+            return Err(Error::from(ErrorKind::Interrupted));
+        }
+        if self.reads == self.stops_at {
+            self.stop.store(true, Ordering::SeqCst);
+        }
+        let Some(piece) = self.pieces.get(self.piece) else {
+            if self.fails {
+                return Err(Error::from(ErrorKind::ConnectionReset));
+            }
+            return Ok(0);
+        };
+        let rest = piece.get(self.offset..).unwrap_or(b"");
+        let count = rest.len().min(buf.len());
+        buf[..count].copy_from_slice(&rest[..count]);
+        self.offset = self.offset.saturating_add(count);
+        if self.offset >= piece.len() {
+            self.piece = self.piece.saturating_add(1);
+            self.offset = 0;
+        }
+        Ok(count)
+    }
+}
+
+// Takes so many bytes, five at most a call, and then fails.
+#[derive(Drop)]
+struct Taking {
+    bytes: Vec<u8>,
+    room: usize,
+    has_failed: bool,
+}
+
+impl Sink for Taking {
+    ghost taken = { λ s. Some s.bytes.items };
+
+    ghost failed = { λ s. s.has_failed };
+
+    fn offer(&mut self, bytes: &[u8]) -> Option<usize> {
+        let n = bytes.len().min(self.room).min(5);
+        if n > 0 && self.bytes.extend_from_slice(&bytes[..n]).is_ok() {
+            self.room -= n;
+            Some(n)
+        } else {
+            self.has_failed = true;
+            None
+        }
+    }
+}
+
+// A connection, and what comes of it.
+struct Case {
+    pieces: &'static [&'static [u8]],
+    // how many bytes are read at once at most
+    buffer: usize,
+    // whether the reader fails behind the pieces
+    fails: bool,
+    // at which read the house stops; the first is interrupted
+    stops_at: usize,
+    // whether it stops as a copy is put
+    stops_at_put: bool,
+    // how many bytes the sink takes
+    room: usize,
+    want: Result<Ending, TalkFault>,
+    replies: &'static [&'static [u8]],
+}
+
+const PLAIN: Case = Case {
+    pieces: &[MESSAGE],
+    buffer: 64,
+    fails: false,
+    stops_at: NEVER,
+    stops_at_put: false,
+    room: 5000,
+    want: Ok(Ending::Gone),
+    replies: &[GREETING, EXTENSIONS, SENDER, RECIPIENT, START, DELIVERED],
+};
+
+const CASES: &[Case] = &[
+    PLAIN,
+    // byte by byte
+    Case { buffer: 1, ..PLAIN },
+    // an end between two pieces
+    Case {
+        pieces: &[ENVELOPE, b"hi\r\n.\r", b"\n"],
+        ..PLAIN
+    },
+    // nothing behind QUIT is taken
+    Case {
+        pieces: &[WHOLE],
+        buffer: 200,
+        want: Ok(Ending::Quit),
+        replies: &[
+            GREETING, EXTENSIONS, SENDER, RECIPIENT, START, DELIVERED, BYE,
+        ],
+        ..PLAIN
+    },
+    // two messages in one burst, the first for two recipients
+    Case {
+        pieces: &[TWO],
+        buffer: 300,
+        want: Ok(Ending::Quit),
+        replies: &[
+            GREETING, EXTENSIONS, SENDER, RECIPIENT, RECIPIENT, START, DELIVERED, DELIVERED,
+            SENDER, RECIPIENT, START, DELIVERED, BYE,
+        ],
+        ..PLAIN
+    },
+    // the same byte by byte
+    Case {
+        pieces: &[TWO],
+        buffer: 1,
+        want: Ok(Ending::Quit),
+        replies: &[
+            GREETING, EXTENSIONS, SENDER, RECIPIENT, RECIPIENT, START, DELIVERED, DELIVERED,
+            SENDER, RECIPIENT, START, DELIVERED, BYE,
+        ],
+        ..PLAIN
+    },
+    // a peer that says nothing
+    Case {
+        pieces: &[],
+        replies: &[GREETING],
+        ..PLAIN
+    },
+    // the reader fails behind a message, within data, and at once
+    Case {
+        fails: true,
+        want: Err(TalkFault::Read),
+        ..PLAIN
+    },
+    Case {
+        pieces: &[ENVELOPE, b"hi\r\n"],
+        fails: true,
+        want: Err(TalkFault::Read),
+        replies: &[GREETING, EXTENSIONS, SENDER, RECIPIENT, START],
+        ..PLAIN
+    },
+    Case {
+        pieces: &[],
+        fails: true,
+        want: Err(TalkFault::Read),
+        replies: &[GREETING],
+        ..PLAIN
+    },
+    // the sink fails in the greeting, in the middle of the replies, and at their last byte
+    Case {
+        room: 7,
+        want: Err(TalkFault::Write),
+        ..PLAIN
+    },
+    Case {
+        buffer: 200,
+        room: 150,
+        want: Err(TalkFault::Write),
+        ..PLAIN
+    },
+    Case {
+        pieces: &[],
+        room: 30,
+        want: Err(TalkFault::Write),
+        replies: &[GREETING],
+        ..PLAIN
+    },
+    // the house stops before the first bytes come, and then the sink fails
+    Case {
+        stops_at: 2,
+        want: Ok(Ending::Stopped),
+        replies: &[GREETING, SHUTTING],
+        ..PLAIN
+    },
+    Case {
+        stops_at: 2,
+        room: 40,
+        want: Err(TalkFault::Write),
+        replies: &[GREETING, SHUTTING],
+        ..PLAIN
+    },
+    // within a begun line
+    Case {
+        pieces: &[b"LHLO c.ex", b"ample\r\n"],
+        stops_at: 3,
+        want: Ok(Ending::Stopped),
+        replies: &[GREETING, SHUTTING],
+        ..PLAIN
+    },
+    // within data: no word and no copy
+    Case {
+        pieces: &[ENVELOPE, b"hi\r\n.\r\n"],
+        buffer: 200,
+        stops_at: 3,
+        want: Ok(Ending::Stopped),
+        replies: &[GREETING, EXTENSIONS, SENDER, RECIPIENT, START],
+        ..PLAIN
+    },
+    // behind a message that was put by then, whose verdicts are told; what stands behind it is dropped
+    Case {
+        pieces: &[TWO],
+        buffer: 300,
+        stops_at_put: true,
+        want: Ok(Ending::Stopped),
+        replies: &[
+            GREETING, EXTENSIONS, SENDER, RECIPIENT, RECIPIENT, START, DELIVERED, DELIVERED,
+            SHUTTING,
+        ],
+        ..PLAIN
+    },
+    Case {
+        buffer: 200,
+        stops_at_put: true,
+        want: Ok(Ending::Stopped),
+        replies: &[
+            GREETING, EXTENSIONS, SENDER, RECIPIENT, START, DELIVERED, SHUTTING,
+        ],
+        ..PLAIN
+    },
+    // whoever stops the house shuts the side that is read
+    Case {
+        pieces: &[],
+        stops_at: 2,
+        want: Ok(Ending::Stopped),
+        replies: &[GREETING, SHUTTING],
+        ..PLAIN
+    },
+];
+
+// Whether the sink has the front of the replies, as far as it had room.
+fn has_front(bytes: &[u8], replies: &[&[u8]], room: usize) -> bool {
+    let mut at = 0usize;
+    for reply in replies {
+        for byte in *reply {
+            if at == room {
+                return bytes.len() == at;
+            }
+            if bytes.get(at) != Some(byte) {
+                return false;
+            }
+            at = at.saturating_add(1);
+        }
+    }
+    bytes.len() == at
+}
+
+// Plays the connection of a case, and answers whether it came as it was to come.
+fn talk<R: Wait, S: Summons>(
+    rt: &R,
+    alloc: Global,
+    office: &Office,
+    summons: &S,
+    channel: &ReplyChannel<Noted>,
+    desk: &mut Desk,
+    stop: &AtomicBool,
+    case: &Case,
+) -> Result<bool, AllocError>
+    requires permits { AreInForce office.now.directory office.now.lanes.items desk.old.number desk.old.permits.items }
+    requires receiver { IsReceiver channel.now desk.old.receiver }
+    requires lanes { office.now.directory.shards ≡ length office.now.lanes.items }
+    requires host { length office.now.host.items < 256 }
+    ensures { length desk.new.permits.items ≡ length office.now.lanes.items }
+{
+    let mut input = Pieces {
+        pieces: case.pieces,
+        piece: 0,
+        offset: 0,
+        reads: 0,
+        fails: case.fails,
+        stop,
+        stops_at: case.stops_at,
+    };
+    let mut output = Taking {
+        bytes: Vec::new(alloc),
+        room: case.room,
+        has_failed: false,
+    };
+    let mut out = Vec::from_slice(alloc, b"what stood there before")?;
+    let mut buffer = [0u8; 300];
+    let most = case.buffer.clamp(1, 300);
+    let gate = Open;
+    let mut pace = Pace::new(&gate, Actor::Worker(0));
+    let mut book = Unkept;
+    let came = converse(
+        rt,
+        alloc,
+        &mut pace,
+        office,
+        summons,
+        channel,
+        desk,
+        &mut book,
+        7,
+        &mut input,
+        &mut output,
+        stop,
+        &mut buffer[..most],
+        &mut out,
+    );
+    Ok(came == case.want && has_front(output.bytes.as_slice(), case.replies, case.room))
+}
+
+// The same with a clerk who serves the lane.
+fn with_clerk<R: Wait>(
+    rt: &R,
+    alloc: Global,
+    office: &Office,
+    lane: &ShardQueue<Job>,
+    channel: &ReplyChannel<Noted>,
+    desk: &mut Desk,
+    permit: ConsumerPermit<Job>,
+    sender: SenderPermit<Noted>,
+    case: &Case,
+) -> (
+    ConsumerPermit<Job>,
+    SenderPermit<Noted>,
+    Result<bool, AllocError>,
+)
+    requires permits { AreInForce office.now.directory office.now.lanes.items desk.old.number desk.old.permits.items }
+    requires receiver { IsReceiver channel.now desk.old.receiver }
+    requires lanes { office.now.directory.shards ≡ length office.now.lanes.items }
+    requires host { length office.now.host.items < 256 }
+    requires takes { IsConsumer lane.now permit }
+    requires answers { IsSender channel.now sender }
+    ensures { length desk.new.permits.items ≡ length office.now.lanes.items }
+{
+    let stop = AtomicBool::new(false);
+    let counter = Counter {
+        clerk: Mutex::new(Clerk {
+            lane,
+            channel,
+            permit,
+            sender,
+        }),
+        stop: &stop,
+        stops: case.stops_at_put,
+    };
+    let told = talk(rt, alloc, office, &counter, channel, desk, &stop, case);
+    let Counter {
+        clerk,
+        stop: _,
+        stops: _,
+    } = counter;
+    let Clerk {
+        lane: _,
+        channel: _,
+        permit,
+        sender,
+    } = clerk.into_inner();
+    (permit, sender, told)
+}
+
+fn directory(alloc: Global) -> Option<Directory>
+    ensures { IfSome result (λ d. d.shards ≡ 1) }
+{
+    Directory::new(alloc, &[b"example.org"], &[b"alice", b"bob"], 1).ok()
+}
+
+// The permits of one lane and one channel, each with one that puts and one that takes.
+struct Permits {
+    lane: ShardQueue<Job>,
+    producer: ProducerPermit<Job>,
+    permit: ConsumerPermit<Job>,
+    channel: ReplyChannel<Noted>,
+    sender: SenderPermit<Noted>,
+    receiver: ReceiverPermit<Noted>,
+}
+
+fn make_permits(alloc: Global) -> Result<Permits, AllocError>
+    ensures producer { IfOk result (λ s. IsProducer s.lane s.producer × (number_of s.producer ≡ 0)) }
+    ensures permit { IfOk result (λ s. IsConsumer s.lane s.permit) }
+    ensures sender { IfOk result (λ s. IsSender s.channel s.sender) }
+    ensures receiver { IfOk result (λ s. IsReceiver s.channel s.receiver) }
+{
+    let (lane, mut hand, permit) = ShardQueue::new(alloc, 4, 1)?;
+    let (channel, mut senders, receiver) = match ReplyChannel::new(alloc, 4, 1) {
+        Ok(made) => made,
+        Err(e) => {
+            lane.abandon(hand, Vec::new(alloc), permit);
+            return Err(e);
+        }
+    };
+    let sender = senders.remove(0);
+    senders.destroy_empty();
+    let producer = hand.remove(0);
+    hand.destroy_empty();
+    Ok(Permits {
+        lane,
+        producer,
+        permit,
+        channel,
+        sender,
+        receiver,
+    })
+}
+
+// Lists with room for one, of the lanes and of the permits, before and after.
+struct Room {
+    lanes: Vec<ShardQueue<Job>>,
+    hand: Vec<LanePermit>,
+    live: Vec<ProducerPermit<Job>>,
+    ended: Vec<Ended<Job>>,
+    back: Vec<SenderPermit<Noted>>,
+}
+
+fn no_room(alloc: Global) -> Room
+    ensures { (result.lanes.items ≡ []) × (result.hand.items ≡ []) × (result.live.items ≡ []) × (result.ended.items ≡ []) × (result.back.items ≡ []) }
+{
+    Room {
+        lanes: Vec::new(alloc),
+        hand: Vec::new(alloc),
+        live: Vec::new(alloc),
+        ended: Vec::new(alloc),
+        back: Vec::new(alloc),
+    }
+}
+
+fn spend_room(room: Room)
+    requires { (room.lanes.items ≡ []) × (room.hand.items ≡ []) × (room.live.items ≡ []) × (room.ended.items ≡ []) × (room.back.items ≡ []) }
+{
+    let Room {
+        lanes,
+        hand,
+        live,
+        ended,
+        back,
+    } = room;
+    lanes.destroy_empty();
+    hand.destroy_empty();
+    live.destroy_empty();
+    ended.destroy_empty();
+    back.destroy_empty();
+}
+
+fn reserve(room: &mut Room) -> Result<(), AllocError>
+    requires { (room.old.lanes.items ≡ []) × (room.old.hand.items ≡ []) × (room.old.live.items ≡ []) × (room.old.ended.items ≡ []) ×
+        (room.old.back.items ≡ []) }
+    ensures empty { (room.new.lanes.items ≡ []) × (room.new.hand.items ≡ []) × (room.new.live.items ≡ []) × (room.new.ended.items ≡ []) ×
+        (room.new.back.items ≡ []) }
+    ensures room { OnOk result ((1 ≤ vec_capacity room.new.lanes) × (1 ≤ vec_capacity room.new.hand) × (1 ≤ vec_capacity room.new.live) ×
+        (1 ≤ vec_capacity room.new.ended) × (1 ≤ vec_capacity room.new.back)) }
+{
+    room.lanes.reserve(1)?;
+    room.hand.reserve(1)?;
+    room.live.reserve(1)?;
+    room.ended.reserve(1)?;
+    room.back.reserve(1)?;
+    Ok(())
+}
+
+fn make_room(alloc: Global) -> Result<Room, AllocError>
+    ensures empty { IfOk result (λ r. (r.lanes.items ≡ []) × (r.hand.items ≡ []) × (r.live.items ≡ []) × (r.ended.items ≡ []) × (r.back.items ≡ [])) }
+    ensures room { IfOk result (λ r. (1 ≤ vec_capacity r.lanes) × (1 ≤ vec_capacity r.hand) × (1 ≤ vec_capacity r.live) ×
+        (1 ≤ vec_capacity r.ended) × (1 ≤ vec_capacity r.back)) }
+{
+    let mut room = no_room(alloc);
+    match reserve(&mut room) {
+        Ok(()) => Ok(room),
+        Err(e) => {
+            spend_room(room);
+            Err(e)
+        }
+    }
+}
+
+// The permit of a desk goes to those that may put still, or to what is left of the others.
+fn sort(
+    desk_permits: Vec<LanePermit>,
+    live: &mut Vec<ProducerPermit<Job>>,
+    ended: &mut Vec<Ended<Job>>,
+)
+    requires permits { vec_len desk_permits ≡ 1 }
+    requires live { vec_len live.old < vec_capacity live.old }
+    requires ended { vec_len ended.old < vec_capacity ended.old }
+{
+    let mut permits = desk_permits;
+    match permits.remove(0) {
+        LanePermit::Live(permit) => live.push_reserved(permit),
+        LanePermit::Over(left) => ended.push_reserved(left),
+    }
+    permits.destroy_empty();
+}
+
+// What comes back when the connection is over.
+struct Back {
+    live: Vec<ProducerPermit<Job>>,
+    ended: Vec<Ended<Job>>,
+    senders: Vec<SenderPermit<Noted>>,
+}
+
+// What is left goes.
+fn spend(
+    office: Office,
+    desk: Desk,
+    channel: ReplyChannel<Noted>,
+    permit: ConsumerPermit<Job>,
+    back: Back,
+    alloc: Global,
+)
+    requires lanes { vec_len office.lanes ≡ 1 }
+    requires permits { vec_len desk.permits ≡ 1 }
+    requires room { (vec_len back.live < vec_capacity back.live) × (vec_len back.ended < vec_capacity back.ended) }
+{
+    let Office {
+        directory: _,
+        host: _,
+        max_message: _,
+        mut lanes,
+        closings: _,
+    } = office;
+    let Desk {
+        number: _,
+        permits,
+        receiver,
+        ends: _,
+    } = desk;
+    let Back {
+        mut live,
+        mut ended,
+        senders,
+    } = back;
+    sort(permits, &mut live, &mut ended);
+    let lane = lanes.remove(0);
+    lanes.destroy_empty();
+    lane.abandon(live, ended, permit);
+    channel.abandon(senders, Vec::new(alloc), receiver);
+}
+
+// The desk of the one producer, which has heard nothing yet.
+fn desk_of(permits: Vec<LanePermit>, receiver: ReceiverPermit<Noted>) -> Desk
+    ensures { (result.number ≡ 0) × (result.permits ≡ permits) × (result.receiver ≡ receiver) }
+{
+    Desk {
+        number: 0,
+        permits,
+        receiver,
+        ends: 0,
+    }
+}
+
+// A case is played in a house of these permits.
+fn play_in<R: Wait>(
+    rt: &R,
+    alloc: Global,
+    directory: Directory,
+    host: Vec<u8>,
+    room: Room,
+    permits: Permits,
+    case: &Case,
+) -> Result<bool, AllocError>
+    requires shards { directory.shards ≡ 1 }
+    requires host { vec_len host < 256 }
+    requires empty { (room.lanes.items ≡ []) × (room.hand.items ≡ []) × (room.live.items ≡ []) × (room.ended.items ≡ []) × (room.back.items ≡ []) }
+    requires room { (1 ≤ vec_capacity room.lanes) × (1 ≤ vec_capacity room.hand) × (1 ≤ vec_capacity room.live) ×
+        (1 ≤ vec_capacity room.ended) × (1 ≤ vec_capacity room.back) }
+    requires producer { IsProducer permits.lane permits.producer × (number_of permits.producer ≡ 0) }
+    requires permit { IsConsumer permits.lane permits.permit }
+    requires sender { IsSender permits.channel permits.sender }
+    requires receiver { IsReceiver permits.channel permits.receiver }
+{
+    let Room {
+        mut lanes,
+        mut hand,
+        live,
+        ended,
+        back: mut senders,
+    } = room;
+    let Permits {
+        lane,
+        producer,
+        permit,
+        channel,
+        sender,
+        receiver,
+    } = permits;
+    lanes.push_reserved(lane);
+    hand.push_reserved(LanePermit::Live(producer));
+    let office = Office {
+        directory,
+        host,
+        max_message: 100,
+        lanes,
+        closings: Vec::new(alloc),
+    };
+    let mut desk = desk_of(hand, receiver);
+    let served = &office.lanes[0];
+    let (permit, sender, told) = with_clerk(
+        rt, alloc, &office, served, &channel, &mut desk, permit, sender, case,
+    );
+    senders.push_reserved(sender);
+    let back = Back {
+        live,
+        ended,
+        senders,
+    };
+    spend(office, desk, channel, permit, back, alloc);
+    told
+}
+
+// A case is played in a house of its own.
+fn play<R: Wait>(rt: &R, alloc: Global, case: &Case) -> Result<bool, AllocError> {
+    let Some(directory) = directory(alloc) else {
+        return Err(AllocError);
+    };
+    let host = Vec::from_slice(alloc, b"mx.example.org")?;
+    let room = make_room(alloc)?;
+    let permits = match make_permits(alloc) {
+        Ok(permits) => permits,
+        Err(e) => {
+            spend_room(room);
+            return Err(e);
+        }
+    };
+    play_in(rt, alloc, directory, host, room, permits, case)
+}
+
+// The first case that doesn't come as it is to come.
+fn first_other<R: Wait>(rt: &R, alloc: Global) -> Result<Option<usize>, AllocError> {
+    for position in 0..CASES.len() {
+        if !play(rt, alloc, &CASES[position])? {
+            return Ok(Some(position));
+        }
+    }
+    Ok(None)
+}
+
+#[test]
+fn each_connection_comes_as_it_is_to_come(rt: HostRuntime) -> Result<(), AllocError> {
+    assert_eq!(rt; first_other(&rt, rt.alloc())?, None);
+    Ok(())
+}

@@ -1,0 +1,664 @@
+//! Sessions that read what another thread delivers, their gate and their bells. What they are shown is
+//! written in RFC 9051, 6.3.2, 6.4.5 and 7.4.
+
+use crate::thread_couriers::{TestCourier, Way};
+use change_ring::{FlagOp, Flags, NO_FLAGS};
+use delivery_token::{CopyKey, Job, Text, Verdict};
+use imap_grammar::{Command, read_line};
+use imap_session::{Folder, ImapConnection, Store};
+use mailbox::{History, Limits, MailFault, Mailbox, verdict_of};
+use session_thread::{LockedStore, Step, depart, live, takes_more};
+use std::alloc::{AllocError, Global};
+use std::mem;
+use std::sync::atomic::{AtomicBool, AtomicU64, Ordering};
+use std::sync::{Mutex, Wait};
+use std::thread::{self, Threads, join};
+use workers_sync::{Actor, Gate, Lost, SessionBell, Sleeper, ring_each};
+
+const SMALL: Limits = Limits {
+    messages: 8,
+    ring: 16,
+    ring_max: 0,
+};
+
+// So many turns a thread waits for another at most.
+const PATIENCE: u64 = 10_000_000;
+
+// Lets the actor `first` pass. A session is held until a copy was delivered, a consumer until the session has selected: it then asks to pass
+// for the second time.
+#[derive(Drop)]
+struct Order {
+    first: Actor,
+    delivered: AtomicBool,
+    selected: AtomicBool,
+}
+
+impl Order {
+    fn new(first: Actor) -> Order {
+        Order {
+            first,
+            delivered: AtomicBool::new(false),
+            selected: AtomicBool::new(false),
+        }
+    }
+}
+
+// Waits until the mark is set.
+fn wait_until(mark: &AtomicBool) {
+    for _ in 0..PATIENCE {
+        if mark.load(Ordering::SeqCst) {
+            return;
+        }
+        thread::yield_now();
+    }
+}
+
+impl Gate for Order {
+    fn pass(&self, who: Actor, number: u64) {
+        if who == Actor::Session(0) && number == 1 {
+            self.selected.store(true, Ordering::SeqCst);
+        }
+        if who == self.first {
+            return;
+        }
+        match who {
+            Actor::Session(_) => wait_until(&self.delivered),
+            Actor::Consumer(_) => wait_until(&self.selected),
+            Actor::Worker(_) => {}
+        }
+    }
+}
+
+pub(crate) fn two_mailboxes(alloc: Global) -> Result<Vec<Mutex<Mailbox>>, AllocError> {
+    let mut mailboxes = Vec::new(alloc);
+    mailboxes.push(Mutex::new(Mailbox::new(alloc, 0, 7, 1, SMALL, History::Kept)?))?;
+    mailboxes.push(Mutex::new(Mailbox::new(alloc, 1, 8, 1, SMALL, History::Kept)?))?;
+    Ok(mailboxes)
+}
+
+pub(crate) fn folders(alloc: Global) -> Result<Vec<Folder>, AllocError> {
+    let name = Vec::from_slice(alloc, b"INBOX")?;
+    let mut folders = Vec::new(alloc);
+    folders.push(Folder::new(name, 0))?;
+    Ok(folders)
+}
+
+pub(crate) fn saying(alloc: Global, steps: &mut Vec<Step>, bytes: &[u8]) -> Result<(), AllocError> {
+    steps.push(Step::Say(Vec::from_slice(alloc, bytes)?))?;
+    Ok(())
+}
+
+fn copy(alloc: Global) -> Result<Job, AllocError> {
+    Ok(Job {
+        key: CopyKey {
+            seat: 0,
+            serial: 0,
+            message: 0,
+            recipient: 0,
+        },
+        mailbox: 0,
+        text: Text::new(Vec::from_slice(alloc, b"Return-Path: <s@a.example>\r\nhi\r\n")?)?,
+        flags: NO_FLAGS,
+    })
+}
+
+// Whether a copy was delivered to the mailbox behind this lock.
+fn has_stored<R: Wait>(rt: &R, lock: &Mutex<Mailbox>, job: &Job) -> bool {
+    matches!(
+        verdict_of(lock.lock(rt).deliver(job)),
+        Verdict::Stored { uid: _ }
+    )
+}
+
+// What a consumer does with a copy: one event of the mailbox under its lock, and then the bells of its user.
+fn deliver<R: Wait>(
+    rt: &R,
+    mailboxes: &[Mutex<Mailbox>],
+    order: &Order,
+    bells: &[SessionBell],
+    job: &Job,
+) -> bool {
+    order.pass(Actor::Consumer(0), 0);
+    let Some(mailbox) = mailboxes.first() else {
+        return false;
+    };
+    let is_stored = has_stored(rt, mailbox, job);
+    order.delivered.store(true, Ordering::SeqCst);
+    ring_each(bells);
+    is_stored
+}
+
+fn session<R: Wait>(
+    rt: &R,
+    alloc: Global,
+    mailboxes: &[Mutex<Mailbox>],
+    order: &Order,
+    bells: &[SessionBell],
+    steps: &[Step],
+) -> Option<Vec<u8>> {
+    let Ok(folders) = folders(alloc) else {
+        return None;
+    };
+    let mut said = Vec::new(alloc);
+    let mut store = LockedStore::new(rt, order, 0, mailboxes, bells);
+    // It takes no message, so nobody is asked to carry one.
+    let mut courier = TestCourier::new(rt, mailboxes, Way::Loses(Lost::Torn));
+    let lived = live(
+        alloc,
+        &mut store,
+        &mut courier,
+        folders,
+        None,
+        steps,
+        PATIENCE,
+        &mut said,
+    );
+    match lived {
+        Ok(()) => Some(said),
+        Err(_) => None,
+    }
+}
+
+// The bells of a user whose one session idles.
+fn bells_of(alloc: Global, bell: &Sleeper) -> Result<Vec<SessionBell>, AllocError> {
+    bell.idling()?.store(true, Ordering::SeqCst);
+    let mut bells = Vec::new(alloc);
+    bells.push(bell.bell()?)?;
+    Ok(bells)
+}
+
+// What the session says beside the thread that delivers a copy; none where that isn't stored.
+fn run_in<R: Threads + Wait + Sync>(
+    rt: &R,
+    alloc: Global,
+    order: &Order,
+    mailboxes: &[Mutex<Mailbox>],
+    job: &Job,
+    bells: &[SessionBell],
+    steps: &[Step],
+) -> Option<Vec<u8>> {
+    let (is_stored, said) = join(
+        rt,
+        || deliver(rt, mailboxes, order, bells, job),
+        || session(rt, alloc, mailboxes, order, bells, steps),
+    );
+    if is_stored { said } else { None }
+}
+
+fn run_both<R: Threads + Wait + Sync>(
+    rt: &R,
+    alloc: Global,
+    order: &Order,
+    steps: &[Step],
+) -> Result<Option<Vec<u8>>, AllocError> {
+    let mailboxes = two_mailboxes(alloc)?;
+    let job = copy(alloc)?;
+    let bell = Sleeper::new(alloc)?;
+    let bells = bells_of(alloc, &bell)?;
+    Ok(run_in(rt, alloc, order, &mailboxes, &job, &bells, steps))
+}
+
+// Whether the session says this and no more.
+fn says<R: Threads + Wait + Sync>(
+    rt: &R,
+    alloc: Global,
+    first: Actor,
+    steps: &[Step],
+    wanted: &[u8],
+) -> Result<bool, AllocError> {
+    match run_both(rt, alloc, &Order::new(first), steps)? {
+        Some(said) => Ok(said.as_slice() == wanted),
+        None => Ok(false),
+    }
+}
+
+// Selects a mailbox and fetches a message.
+fn fetching(alloc: Global) -> Result<Vec<Step>, AllocError> {
+    let mut steps = Vec::new(alloc);
+    saying(alloc, &mut steps, b"a1 SELECT INBOX\r\n")?;
+    saying(alloc, &mut steps, b"a2 FETCH 1 BODY.PEEK[]\r\n")?;
+    Ok(steps)
+}
+
+const FETCHED: &[u8] = b"* PREAUTH IMAP4rev2 server ready\r\n\
+      * FLAGS (\\Answered \\Flagged \\Deleted \\Seen \\Draft)\r\n\
+      * 1 EXISTS\r\n\
+      * OK [UIDVALIDITY 7] UIDs valid\r\n\
+      * OK [UIDNEXT 2] Predicted next UID\r\n\
+      * OK [PERMANENTFLAGS (\\Answered \\Flagged \\Deleted \\Seen \\Draft)] Flags kept\r\n\
+      * LIST () \"/\" INBOX\r\n\
+      a1 OK [READ-WRITE] SELECT completed\r\n\
+      * 1 FETCH (BODY[] {32}\r\n\
+      Return-Path: <s@a.example>\r\n\
+      hi\r\n\
+      )\r\n\
+      a2 OK FETCH completed\r\n";
+
+#[test]
+fn threads_text(rt: HostRuntime) -> Result<(), AllocError> {
+    let steps = fetching(rt.alloc())?;
+    let first = Actor::Consumer(0);
+    assert!(rt; says(&rt, rt.alloc(), first, &steps, FETCHED)?);
+    Ok(())
+}
+
+// Awaits a change before it is in a mailbox, while it idles there, and behind its end.
+fn awaiting(alloc: Global) -> Result<Vec<Step>, AllocError> {
+    let mut steps = Vec::new(alloc);
+    steps.push(Step::Await(1))?;
+    saying(alloc, &mut steps, b"a1 EXAMINE INBOX\r\na2 IDLE\r\n")?;
+    steps.push(Step::Await(1))?;
+    saying(alloc, &mut steps, b"DONE\r\na3 LOGOUT\r\na4 NOOP\r\n")?;
+    steps.push(Step::Await(2))?;
+    saying(alloc, &mut steps, b"a5 NOOP\r\n")?;
+    Ok(steps)
+}
+
+const AWAITED: &[u8] = b"* PREAUTH IMAP4rev2 server ready\r\n\
+      * FLAGS (\\Answered \\Flagged \\Deleted \\Seen \\Draft)\r\n\
+      * 0 EXISTS\r\n\
+      * OK [UIDVALIDITY 7] UIDs valid\r\n\
+      * OK [UIDNEXT 1] Predicted next UID\r\n\
+      * OK [PERMANENTFLAGS ()] Flags kept\r\n\
+      * LIST () \"/\" INBOX\r\n\
+      a1 OK [READ-ONLY] EXAMINE completed\r\n\
+      + idling\r\n\
+      * 1 EXISTS\r\n\
+      a2 OK IDLE completed\r\n\
+      * BYE Logging out\r\n\
+      a3 OK LOGOUT completed\r\n";
+
+#[test]
+fn an_idling_session_awaits_a_message(rt: HostRuntime) -> Result<(), AllocError> {
+    let steps = awaiting(rt.alloc())?;
+    let first = Actor::Session(0);
+    assert!(rt; says(&rt, rt.alloc(), first, &steps, AWAITED)?);
+    Ok(())
+}
+
+// A session that sleeps until its bell rings, and is then shown what is new.
+fn sleep_and_look<R: Wait>(
+    rt: &R,
+    alloc: Global,
+    mailboxes: &[Mutex<Mailbox>],
+    order: &Order,
+    bells: &[SessionBell],
+    bell: Sleeper,
+) -> Option<Vec<u8>> {
+    let mut said = Vec::new(alloc);
+    let mut store = LockedStore::new(rt, order, 0, mailboxes, bells);
+    if store.enter(0).is_err() || store.feed(64, &mut said).is_err() {
+        return None;
+    }
+    bell.sleep(rt);
+    let fed = store.feed(64, &mut said);
+    if fed.is_err() || store.shown() != 1 {
+        return None;
+    }
+    Some(said)
+}
+
+// What the session says that one thread wakes as it delivers a copy; none where that isn't stored.
+fn ring_in<R: Threads + Wait + Sync>(
+    rt: &R,
+    alloc: Global,
+    mailboxes: &[Mutex<Mailbox>],
+    job: &Job,
+    bells: &[SessionBell],
+    bell: Sleeper,
+) -> Option<Vec<u8>> {
+    let order = Order::new(Actor::Session(0));
+    let held = &order;
+    let (said, is_stored) = join(
+        rt,
+        move || sleep_and_look(rt, alloc, mailboxes, held, bells, bell),
+        || deliver(rt, mailboxes, held, bells, job),
+    );
+    if is_stored { said } else { None }
+}
+
+fn ring_once<R: Threads + Wait + Sync>(
+    rt: &R,
+    alloc: Global,
+    mailboxes: &[Mutex<Mailbox>],
+) -> Result<Option<Vec<u8>>, AllocError> {
+    let job = copy(alloc)?;
+    let bell = Sleeper::new(alloc)?;
+    let bells = bells_of(alloc, &bell)?;
+    Ok(ring_in(rt, alloc, mailboxes, &job, &bells, bell))
+}
+
+fn is_woken<R: Threads + Wait + Sync>(rt: &R, alloc: Global) -> Result<bool, AllocError> {
+    let mailboxes = two_mailboxes(alloc)?;
+    match ring_once(rt, alloc, &mailboxes)? {
+        Some(said) => Ok(said.as_slice() == b"* 1 EXISTS\r\n".as_slice()),
+        None => Ok(false),
+    }
+}
+
+#[test]
+fn a_bell_wakes_a_session(rt: HostRuntime) -> Result<(), AllocError> {
+    assert!(rt; is_woken(&rt, rt.alloc())?);
+    Ok(())
+}
+
+// A gate that counts how often it was asked.
+#[derive(Drop)]
+pub(crate) struct Tally {
+    asked: AtomicU64,
+}
+
+impl Tally {
+    pub(crate) fn new() -> Tally {
+        Tally {
+            asked: AtomicU64::new(0),
+        }
+    }
+
+    pub(crate) fn asked(&self) -> u64 {
+        self.asked.load(Ordering::SeqCst)
+    }
+}
+
+impl Gate for Tally {
+    fn pass(&self, _who: Actor, _number: u64) {
+        self.asked.fetch_add(1, Ordering::SeqCst);
+    }
+}
+
+const FLAGGED: Flags = Flags {
+    answered: false,
+    flagged: true,
+    deleted: false,
+    seen: false,
+    draft: false,
+};
+
+const DELETED: Flags = Flags {
+    answered: false,
+    flagged: false,
+    deleted: true,
+    seen: false,
+    draft: false,
+};
+
+// Two mailboxes, the first with one message.
+fn with_a_message<R: Wait>(rt: &R, alloc: Global) -> Result<Vec<Mutex<Mailbox>>, AllocError> {
+    let mailboxes = two_mailboxes(alloc)?;
+    let job = copy(alloc)?;
+    match mailboxes.first() {
+        Some(lock) if has_stored(rt, lock, &job) => Ok(mailboxes),
+        _ => Err(AllocError),
+    }
+}
+
+// Whether a session can look at its view.
+fn has_chosen<R: Wait>(store: &LockedStore<'_, R, Tally>, alloc: Global) -> Option<bool> {
+    let Ok((_tag, command)) = read_line(b"a UID FETCH 1:* UID") else {
+        return None;
+    };
+    match command {
+        Command::Fetch(fetch) => Some(store.choose(alloc, &fetch.set, true).is_ok()),
+        _ => None,
+    }
+}
+
+// Each call of a session that is in no mailbox, or of one that isn't there: all are refused.
+fn calls_outside<R: Wait>(
+    store: &mut LockedStore<'_, R, Tally>,
+    alloc: Global,
+    out: &mut Vec<u8>,
+) -> bool {
+    store.enter(2).is_err()
+        && has_chosen(store, alloc) == Some(false)
+        && store.read(1, false).is_err()
+        && store.status(2).is_err()
+        && store.store(1, FlagOp::Insert(FLAGGED)).is_err()
+        && store.expunge(None, out).is_err()
+        && store.feed(64, out).is_err()
+        && store.leave(true).is_err()
+}
+
+// Each call of a session that enters a mailbox and leaves it: a look, and seven events.
+fn calls_inside<R: Wait>(
+    store: &mut LockedStore<'_, R, Tally>,
+    alloc: Global,
+    out: &mut Vec<u8>,
+) -> bool {
+    store.enter(0).is_ok()
+        && has_chosen(store, alloc) == Some(true)
+        && store.read(1, false).is_ok()
+        && store.status(0).is_ok()
+        && store.store(1, FlagOp::Insert(FLAGGED)).is_ok()
+        && store.expunge(None, out).is_ok()
+        && store.feed(64, out).is_ok()
+        && store.leave(false).is_ok()
+}
+
+// How many messages two mailboxes tell, and with which UIDVALIDITY.
+fn counted<R: Wait>(store: &mut LockedStore<'_, R, Tally>) -> Option<(usize, u32, usize, u32)> {
+    let (Ok(first), Ok(second)) = (store.status(0), store.status(1)) else {
+        return None;
+    };
+    Some((
+        first.messages,
+        first.uidvalidity,
+        second.messages,
+        second.uidvalidity,
+    ))
+}
+
+// A session that logs more changes than the window has, and is shown each itself.
+fn change_much<R: Wait>(store: &mut LockedStore<'_, R, Tally>, out: &mut Vec<u8>) -> bool {
+    for _ in 0..9 {
+        let set = store.store(1, FlagOp::Insert(FLAGGED));
+        let unset = store.store(1, FlagOp::Remove(FLAGGED));
+        if set.is_err() || unset.is_err() || store.feed(64, out).is_err() {
+            return false;
+        }
+    }
+    true
+}
+
+// How often a session asked to pass that lapsed: as it entered, and as it was refused.
+fn passes_of_one_that_lapsed<R: Wait>(
+    rt: &R,
+    alloc: Global,
+    mailboxes: &[Mutex<Mailbox>],
+) -> Option<u64> {
+    let (others, tally) = (Tally::new(), Tally::new());
+    let mut out = Vec::new(alloc);
+    let mut other = LockedStore::new(rt, &others, 0, mailboxes, &[]);
+    let mut store = LockedStore::new(rt, &tally, 1, mailboxes, &[]);
+    if store.enter(0).is_err() || other.enter(0).is_err() || !change_much(&mut other, &mut out) {
+        return None;
+    }
+    match store.read(1, false) {
+        Err(MailFault::Lapped) => Some(tally.asked()),
+        _ => None,
+    }
+}
+
+#[test]
+fn each_event_asks_to_pass(rt: HostRuntime) -> Result<(), AllocError> {
+    let alloc = rt.alloc();
+    let mailboxes = with_a_message(&rt, alloc)?;
+    let tally = Tally::new();
+    let mut out = Vec::new(alloc);
+    let mut store = LockedStore::new(&rt, &tally, 0, &mailboxes, &[]);
+    assert!(rt; calls_outside(&mut store, alloc, &mut out));
+    assert_eq!(rt; tally.asked(), 0);
+    assert!(rt; calls_inside(&mut store, alloc, &mut out));
+    assert_eq!(rt; tally.asked(), 7);
+    assert_eq!(rt; passes_of_one_that_lapsed(&rt, alloc, &mailboxes), Some(2));
+    Ok(())
+}
+
+// Nothing but this says that the lock at a number is the one that is taken.
+#[test]
+fn each_call_takes_the_lock_of_its_mailbox(rt: HostRuntime) -> Result<(), AllocError> {
+    let alloc = rt.alloc();
+    let mailboxes = with_a_message(&rt, alloc)?;
+    let tally = Tally::new();
+    let mut store = LockedStore::new(&rt, &tally, 0, &mailboxes, &[]);
+    assert_eq!(rt; counted(&mut store), Some((1, 7, 0, 8)));
+    assert_eq!(rt; store.enter(1).map(|opening| opening.uidvalidity), Ok(8));
+    assert_eq!(rt; store.store(1, FlagOp::Insert(FLAGGED)), Ok(None));
+    assert_eq!(rt; store.leave(false), Ok(0));
+    assert_eq!(rt; store.enter(0).map(|opening| opening.uidvalidity), Ok(7));
+    assert_eq!(rt; store.store(1, FlagOp::Insert(FLAGGED)), Ok(Some(FLAGGED)));
+    Ok(())
+}
+
+// The bell is rung behind each call that logged a change: else the test sleeps for good.
+fn wakes_each_time<R: Wait>(
+    rt: &R,
+    alloc: Global,
+    mailboxes: &[Mutex<Mailbox>],
+    bells: &[SessionBell],
+    bell: &Sleeper,
+) -> bool {
+    let tally = Tally::new();
+    let mut out = Vec::new(alloc);
+    let mut store = LockedStore::new(rt, &tally, 0, mailboxes, bells);
+    if store.enter(0).is_err() || store.read(1, true).is_err() {
+        return false;
+    }
+    bell.sleep(rt);
+    if store.store(1, FlagOp::Insert(DELETED)).is_err() {
+        return false;
+    }
+    bell.sleep(rt);
+    let gone = store.expunge(None, &mut out);
+    bell.sleep(rt);
+    gone == Ok(1)
+}
+
+fn rings_each_time<R: Wait>(
+    rt: &R,
+    alloc: Global,
+    mailboxes: &[Mutex<Mailbox>],
+) -> Result<bool, AllocError> {
+    let bell = Sleeper::new(alloc)?;
+    let bells = bells_of(alloc, &bell)?;
+    Ok(wakes_each_time(rt, alloc, mailboxes, &bells, &bell))
+}
+
+#[test]
+fn a_change_rings_the_users_bells(rt: HostRuntime) -> Result<(), AllocError> {
+    let mailboxes = with_a_message(&rt, rt.alloc())?;
+    assert!(rt; rings_each_time(&rt, rt.alloc(), &mailboxes)?);
+    Ok(())
+}
+
+// Each mailbox stands behind the other's lock then.
+fn exchange<R: Wait>(rt: &R, mailboxes: &[Mutex<Mailbox>]) {
+    if let [first, second] = mailboxes {
+        mem::swap(&mut *first.lock(rt), &mut *second.lock(rt));
+    }
+}
+
+// A session looks at the number of the mailbox that it finds: neither SELECT nor STATUS takes another for it.
+#[test]
+fn another_mailbox_is_not_taken_for_the_one_that_was_asked_for(
+    rt: HostRuntime,
+) -> Result<(), AllocError> {
+    let alloc = rt.alloc();
+    let mailboxes = with_a_message(&rt, alloc)?;
+    let tally = Tally::new();
+    let mut store = LockedStore::new(&rt, &tally, 0, &mailboxes, &[]);
+    exchange(&rt, &mailboxes);
+    assert_eq!(rt; store.enter(0), Err(MailFault::Stranger));
+    assert_eq!(rt; store.status(1), Err(MailFault::Stranger));
+    exchange(&rt, &mailboxes);
+    assert!(rt; store.enter(0).is_ok());
+    exchange(&rt, &mailboxes);
+    assert_eq!(rt; depart(&mut store), Err(Lost::Torn));
+    exchange(&rt, &mailboxes);
+    assert_eq!(rt; depart(&mut store), Ok(()));
+    assert_eq!(rt; depart(&mut store), Ok(()));
+    Ok(())
+}
+
+// What a session is told by a line, which it has selected INBOX for, once another mailbox stands behind its lock; and whether it has
+// ended then.
+fn told_by_another<R: Wait>(
+    rt: &R,
+    alloc: Global,
+    mailboxes: &[Mutex<Mailbox>],
+    line: &[u8],
+) -> Result<(Vec<u8>, bool), AllocError> {
+    let tally = Tally::new();
+    let mut said = Vec::new(alloc);
+    let mut store = LockedStore::new(rt, &tally, 0, mailboxes, &[]);
+    let mut connection = ImapConnection::new(alloc, folders(alloc)?, None)?;
+    let _ = connection.take(alloc, b"a1 SELECT INBOX\r\n", &mut store, &mut said);
+    if !takes_more(&connection) {
+        return Err(AllocError);
+    }
+    said.clear();
+    exchange(rt, mailboxes);
+    let _ = connection.take(alloc, line, &mut store, &mut said);
+    exchange(rt, mailboxes);
+    let has_ended = connection.has_ended();
+    let _ = store.leave(false);
+    Ok((said, has_ended))
+}
+
+// RFC 9051, 7.1.5: a server that is about to close the connection says BYE.
+#[test]
+fn a_session_of_another_mailbox_is_told_so_and_ends(rt: HostRuntime) -> Result<(), AllocError> {
+    let alloc = rt.alloc();
+    let mailboxes = with_a_message(&rt, alloc)?;
+    for line in [
+        b"a2 NOOP\r\n".as_slice(),
+        b"a2 FETCH 1 FLAGS\r\n",
+        b"a2 STORE 1 FLAGS (\\Seen)\r\n",
+        b"a2 EXPUNGE\r\n",
+    ] {
+        let (said, has_ended) = told_by_another(&rt, alloc, &mailboxes, line)?;
+        assert_eq!(rt; said.as_slice(), b"* BYE Internal fault\r\n".as_slice());
+        assert!(rt; has_ended);
+    }
+    Ok(())
+}
+
+// The handle of a mailbox is a stranger to each call on another, and still its own mailbox's afterwards.
+// Whether each call with a handle of another mailbox is a stranger's.
+fn is_a_stranger<R: Wait>(
+    store: &mut LockedStore<'_, R, Tally>,
+    alloc: Global,
+    out: &mut Vec<u8>,
+) -> bool {
+    has_chosen(store, alloc) == Some(false)
+        && store.read(1, true).err() == Some(MailFault::Stranger)
+        && store.store(1, FlagOp::Insert(FLAGGED)) == Err(MailFault::Stranger)
+        && store.expunge(None, out) == Err(MailFault::Stranger)
+        && store.feed(64, out) == Err(MailFault::Stranger)
+        && store.leave(true) == Err(MailFault::Stranger)
+        && out.is_empty()
+}
+
+// Whether it is so while another mailbox stands behind its lock, and no longer.
+fn is_a_stranger_meanwhile<R: Wait>(rt: &R, alloc: Global, mailboxes: &[Mutex<Mailbox>]) -> bool {
+    let tally = Tally::new();
+    let mut store = LockedStore::new(rt, &tally, 0, mailboxes, &[]);
+    if store.enter(0).is_err() {
+        return false;
+    }
+    exchange(rt, mailboxes);
+    let is_refused = is_a_stranger(&mut store, alloc, &mut Vec::new(alloc));
+    exchange(rt, mailboxes);
+    is_refused
+        && store.store(1, FlagOp::Insert(FLAGGED)) == Ok(Some(FLAGGED))
+        && store.leave(false) == Ok(0)
+}
+
+#[test]
+fn a_handle_of_another_mailbox_is_a_stranger_to_each_call(
+    rt: HostRuntime,
+) -> Result<(), AllocError> {
+    let mailboxes = with_a_message(&rt, rt.alloc())?;
+    assert!(rt; is_a_stranger_meanwhile(&rt, rt.alloc(), &mailboxes));
+    Ok(())
+}

@@ -1,0 +1,247 @@
+//! Clients that append messages, over couriers that bring a verdict, or none. What they are told is
+//! written in RFC 9051, 6.3.12, and in RFC 4315, 3.
+
+ghost use Rattle.std.specs.Prelude.{◌≡◌, false};
+
+use crate::imap::{Marks, Tally, Wire, a_mailbox, attend_one, is_greeting_and, open};
+use change_ring::Flags;
+use delivery_token::{CopyKey, Job, Text, Verdict};
+use imap_session::After;
+use imap_stream::{Visit, VisitFault};
+use mailbox::{Mailbox, verdict_of};
+use std::alloc::{AllocError, Global};
+use std::sync::atomic::AtomicBool;
+use std::sync::{Mutex, Wait};
+use workers_sync::{Courier, Gate, Lost, Pace};
+
+// The most bytes of a message.
+const MOST: u32 = 64;
+
+// A courier that delivers each message into its mailbox, or loses it.
+#[derive(Drop)]
+pub(crate) struct TestCourier<'a, R: Wait> {
+    rt: &'a R,
+    mailboxes: &'a [Mutex<Mailbox>],
+    loses: Option<Lost>,
+    // So many messages were given to it.
+    asked: u32,
+}
+
+impl<'a, R: Wait> TestCourier<'a, R> {
+    pub(crate) fn new(
+        rt: &'a R,
+        mailboxes: &'a [Mutex<Mailbox>],
+        loses: Option<Lost>,
+    ) -> TestCourier<'a, R> {
+        TestCourier {
+            rt,
+            mailboxes,
+            loses,
+            asked: 0,
+        }
+    }
+
+    // The verdict of the mailbox, which is asked as a consumer would.
+    fn deliver(&self, job: &Job) -> Result<Verdict, Lost> {
+        let Some(lock) = self.mailboxes.get(usize::from(job.mailbox)) else {
+            return Err(Lost::Torn);
+        };
+        Ok(verdict_of(lock.lock(self.rt).deliver(job)))
+    }
+}
+
+impl<R: Wait> Courier for TestCourier<'_, R> {
+    ghost ready = { λ c. Unit };
+
+    ghost carried = { λ c done. Unit };
+
+    ghost kept = { λ first now. Unit };
+
+    fn carry<G: Gate>(
+        &mut self,
+        pace: &mut Pace<'_, G>,
+        message: u32,
+        mailbox: u8,
+        text: &Text,
+        flags: Flags,
+    ) -> Result<Verdict, Lost> {
+        self.asked = self.asked.saturating_add(1);
+        pace.pass();
+        if let Some(why) = self.loses {
+            return Err(why);
+        }
+        let Ok(text) = text.copy() else {
+            return Err(Lost::NoMemory);
+        };
+        self.deliver(&Job {
+            key: CopyKey {
+                seat: 0,
+                serial: 0,
+                message,
+                recipient: 0,
+            },
+            mailbox,
+            text,
+            flags,
+        })
+    }
+}
+
+type Answers = (Result<After, VisitFault>, Result<After, VisitFault>);
+
+struct Case {
+    loses: Option<Lost>,
+    // The client's bytes, in two pieces.
+    first: &'static [u8],
+    second: &'static [u8],
+    // What the visit answers to each, and how many messages it gave to its courier.
+    wanted: Option<(Answers, u32)>,
+    // What is said behind the greeting.
+    told: &'static [u8],
+}
+
+const CASES: &[Case] = &[
+    // What stands behind a message in the same piece is answered behind its verdict.
+    Case {
+        loses: None,
+        first: b"a1 APPEND INBOX {5+}\r\nhello\r\na2 NOOP\r\n",
+        second: b"a3 LOGOUT\r\n",
+        wanted: Some(((Ok(After::Go), Ok(After::Bye)), 1)),
+        told: b"a1 OK [APPENDUID 7 1] APPEND completed\r\n\
+          a2 OK NOOP completed\r\n\
+          * BYE Logging out\r\n\
+          a3 OK LOGOUT completed\r\n",
+    },
+    // The literal is cut.
+    Case {
+        loses: None,
+        first: b"a1 APPEND INBOX (\\Seen) {5+}\r\nhe",
+        second: b"llo\r\na2 IDLE\r\n",
+        wanted: Some(((Ok(After::Literal(3)), Ok(After::Idle)), 1)),
+        told: b"a1 OK [APPENDUID 7 1] APPEND completed\r\n+ idling\r\n",
+    },
+    // Where no verdict comes, what was said before is sent, and the visit is over.
+    Case {
+        loses: Some(Lost::Torn),
+        first: b"a1 NOOP\r\na2 APPEND INBOX {1+}\r\nx\r\na3 NOOP\r\n",
+        second: b"a4 NOOP\r\n",
+        wanted: Some(((Err(VisitFault::Torn), Ok(After::Bye)), 1)),
+        told: b"a1 OK NOOP completed\r\n",
+    },
+    Case {
+        loses: Some(Lost::NoMemory),
+        first: b"a1 NOOP\r\na2 APPEND INBOX {1+}\r\nx\r\na3 NOOP\r\n",
+        second: b"a4 NOOP\r\n",
+        wanted: Some(((Err(VisitFault::NoMemory), Ok(After::Bye)), 1)),
+        told: b"a1 OK NOOP completed\r\n",
+    },
+];
+
+// What a visit answers to two pieces.
+fn answers<R: Wait>(
+    alloc: Global,
+    visit: &mut Visit<'_, R, Tally, Wire<'_, R>>,
+    courier: &mut TestCourier<'_, R>,
+    case: &Case,
+) -> Answers {
+    let idles = AtomicBool::new(false);
+    let first = visit.hear(alloc, courier, case.first, &idles);
+    let second = visit.hear(alloc, courier, case.second, &idles);
+    let _ = visit.leave();
+    (first, second)
+}
+
+// The same, and how many messages it gave to its courier.
+fn visited<'x, R: Wait>(
+    rt: &'x R,
+    alloc: Global,
+    mailboxes: &'x [Mutex<Mailbox>],
+    case: &Case,
+    tally: &'x Tally,
+    wire: Wire<'x, R>,
+) -> Option<(Answers, u32)>
+    requires { wire.has_failed ≡ false }
+{
+    let mut courier = TestCourier::new(rt, mailboxes, case.loses);
+    let Some(mut visit) = open(rt, alloc, mailboxes, tally, Some(MOST), wire) else {
+        return None;
+    };
+    let answered = answers(alloc, &mut visit, &mut courier, case);
+    Some((answered, courier.asked))
+}
+
+fn is_as_wanted<R: Wait>(rt: &R, alloc: Global, case: &Case) -> Result<bool, AllocError> {
+    let mailboxes = a_mailbox(rt, alloc, false)?;
+    let told = Mutex::new(Vec::new(alloc));
+    let (tally, marks) = (Tally::new(), Marks::new());
+    let wire = Wire::new(rt, &told, 9, &marks.told);
+    let answered = visited(rt, alloc, &mailboxes, case, &tally, wire);
+    Ok(answered == case.wanted && is_greeting_and(&told.into_inner(), case.told))
+}
+
+#[test]
+fn a_visit_answers_verdicts(rt: HostRuntime) -> Result<(), AllocError> {
+    for (number, case) in CASES.iter().enumerate() {
+        assert!(rt; is_as_wanted(&rt, rt.alloc(), case)?, "case {number}");
+    }
+    Ok(())
+}
+
+// Attends a client that sends these bytes, which are read in pieces of 16: how many messages it gave to its
+// courier; none where the berth wasn't free.
+fn attend<'x, R: Wait>(
+    rt: &'x R,
+    alloc: Global,
+    mailboxes: &'x [Mutex<Mailbox>],
+    loses: Option<Lost>,
+    bytes: &[u8],
+    visit: Visit<'x, R, Tally, Wire<'x, R>>,
+) -> Option<u32> {
+    let mut courier = TestCourier::new(rt, mailboxes, loses);
+    let (mut input, never) = (bytes, AtomicBool::new(false));
+    let is_done = attend_one(
+        rt,
+        alloc,
+        visit,
+        &mut courier,
+        &mut input,
+        &mut [0; 16],
+        &never,
+    );
+    if is_done { Some(courier.asked) } else { None }
+}
+
+// Whether a client that sends these bytes is told this, and that many messages are carried.
+fn is_attended<R: Wait>(
+    rt: &R,
+    alloc: Global,
+    loses: Option<Lost>,
+    bytes: &[u8],
+    carried: u32,
+    rest: &[u8],
+) -> Result<bool, AllocError> {
+    let mailboxes = a_mailbox(rt, alloc, false)?;
+    let told = Mutex::new(Vec::new(alloc));
+    let (tally, marks) = (Tally::new(), Marks::new());
+    let wire = Wire::new(rt, &told, 9, &marks.told);
+    let asked = match open(rt, alloc, &mailboxes, &tally, Some(MOST), wire) {
+        Some(visit) => attend(rt, alloc, &mailboxes, loses, bytes, visit),
+        None => None,
+    };
+    Ok(asked == Some(carried) && is_greeting_and(&told.into_inner(), rest))
+}
+
+#[test]
+fn a_berth_attends_a_client_that_appends(rt: HostRuntime) -> Result<(), AllocError> {
+    let bytes =
+        b"a1 APPEND INBOX {5+}\r\nhello\r\na2 APPEND INBOX {3}\r\nabc\r\na3 LOGOUT\r\na4 NOOP\r\n";
+    let told = b"a1 OK [APPENDUID 7 1] APPEND completed\r\n\
+          + ready\r\n\
+          a2 OK [APPENDUID 7 2] APPEND completed\r\n\
+          * BYE Logging out\r\n\
+          a3 OK LOGOUT completed\r\n";
+    assert!(rt; is_attended(&rt, rt.alloc(), None, bytes, 2, told)?);
+    // Nothing more is read once no verdict came.
+    assert!(rt; is_attended(&rt, rt.alloc(), Some(Lost::Torn), bytes, 1, b"")?);
+    Ok(())
+}

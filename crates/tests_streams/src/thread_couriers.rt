@@ -1,0 +1,312 @@
+//! Sessions whose clients append messages, over couriers that bring a verdict, or none. What they are
+//! told is written in RFC 9051, 6.3.12 and 7.1, and in RFC 4315, 3.
+
+use crate::sessions::{Tally, folders, saying, two_mailboxes};
+use change_ring::Flags;
+use delivery_token::{CopyKey, Job, Refusal, Text, Verdict};
+use imap_session::Store;
+use mailbox::{MailFault, Mailbox, verdict_of};
+use session_thread::{LockedStore, Step, live};
+use std::alloc::{AllocError, Global};
+use std::sync::{Mutex, Wait};
+use workers_sync::{Courier, Gate, Lost, Pace};
+
+// What a test's courier does with each message.
+#[derive(Clone, Copy)]
+pub(crate) enum Way {
+    // It delivers it into its mailbox, in one event.
+    Delivers,
+    // It says that its shard is full.
+    Refuses,
+    // It brings no verdict.
+    Loses(Lost),
+}
+
+// A courier that goes straight to the mailboxes.
+#[derive(Drop)]
+pub(crate) struct TestCourier<'a, R: Wait> {
+    rt: &'a R,
+    mailboxes: &'a [Mutex<Mailbox>],
+    way: Way,
+    // So many messages were given to it, each with the next number.
+    asked: u32,
+    are_in_order: bool,
+}
+
+impl<'a, R: Wait> TestCourier<'a, R> {
+    pub(crate) fn new(rt: &'a R, mailboxes: &'a [Mutex<Mailbox>], way: Way) -> TestCourier<'a, R> {
+        TestCourier {
+            rt,
+            mailboxes,
+            way,
+            asked: 0,
+            are_in_order: true,
+        }
+    }
+
+    // The verdict of the mailbox, which is asked as a consumer would.
+    fn deliver(
+        &self,
+        message: u32,
+        mailbox: u8,
+        text: &Text,
+        flags: Flags,
+    ) -> Result<Verdict, Lost> {
+        let Ok(text) = text.copy() else {
+            return Err(Lost::NoMemory);
+        };
+        let job = Job {
+            key: CopyKey {
+                seat: 0,
+                serial: 0,
+                message,
+                recipient: 0,
+            },
+            mailbox,
+            text,
+            flags,
+        };
+        let Some(lock) = self.mailboxes.get(usize::from(mailbox)) else {
+            return Err(Lost::Torn);
+        };
+        Ok(verdict_of(lock.lock(self.rt).deliver(&job)))
+    }
+}
+
+impl<R: Wait> Courier for TestCourier<'_, R> {
+    ghost ready = { λ c. Unit };
+
+    ghost carried = { λ c done. Unit };
+
+    ghost kept = { λ first now. Unit };
+
+    fn carry<G: Gate>(
+        &mut self,
+        pace: &mut Pace<'_, G>,
+        message: u32,
+        mailbox: u8,
+        text: &Text,
+        flags: Flags,
+    ) -> Result<Verdict, Lost> {
+        self.are_in_order = self.are_in_order && message == self.asked;
+        self.asked = self.asked.saturating_add(1);
+        pace.pass();
+        match self.way {
+            Way::Delivers => self.deliver(message, mailbox, text, flags),
+            Way::Refuses => Ok(Verdict::Refused(Refusal::Full)),
+            Way::Loses(why) => Err(why),
+        }
+    }
+}
+
+// How a session came to its end.
+#[derive(Clone, Copy, PartialEq, Eq)]
+struct Ending {
+    lived: Result<(), Lost>,
+    // So many messages were carried.
+    carried: u32,
+    // So often it was asked to pass, for the courier's events too.
+    passes: u64,
+}
+
+struct Case {
+    // The most bytes of a message.
+    most: Option<u32>,
+    way: Way,
+    pieces: &'static [&'static [u8]],
+    // What is said behind the greeting.
+    told: &'static [u8],
+    ending: Ending,
+}
+
+const CASES: &[Case] = &[
+    // What stands behind a message in the same piece is answered behind its verdict.
+    Case {
+        most: Some(64),
+        way: Way::Delivers,
+        pieces: &[b"a1 APPEND INBOX {5+}\r\nhello\r\na2 NOOP\r\na3"],
+        told: b"a1 OK [APPENDUID 7 1] APPEND completed\r\na2 OK NOOP completed\r\n",
+        ending: Ending {
+            lived: Ok(()),
+            carried: 1,
+            passes: 2,
+        },
+    },
+    // A literal is asked for, its bytes come in two pieces, and the message has its flags.
+    Case {
+        most: Some(64),
+        way: Way::Delivers,
+        pieces: &[
+            b"a1 APPEND INBOX (\\Seen \\Flagged) {5}\r\n",
+            b"hel",
+            b"lo\r\na2 EXAMINE INBOX\r\na3 FETCH 1 (FLAGS BODY.PEEK[])\r\n",
+        ],
+        told: b"+ ready\r\n\
+          a1 OK [APPENDUID 7 1] APPEND completed\r\n\
+          * FLAGS (\\Answered \\Flagged \\Deleted \\Seen \\Draft)\r\n\
+          * 1 EXISTS\r\n\
+          * OK [UIDVALIDITY 7] UIDs valid\r\n\
+          * OK [UIDNEXT 2] Predicted next UID\r\n\
+          * OK [PERMANENTFLAGS ()] Flags kept\r\n\
+          * LIST () \"/\" INBOX\r\n\
+          a2 OK [READ-ONLY] EXAMINE completed\r\n\
+          * 1 FETCH (FLAGS (\\Flagged \\Seen) BODY[] {5}\r\n\
+          hello)\r\n\
+          a3 OK FETCH completed\r\n",
+        ending: Ending {
+            lived: Ok(()),
+            carried: 1,
+            passes: 5,
+        },
+    },
+    // Two messages in one piece: each verdict is answered before the next message is taken, and nothing
+    // behind LOGOUT is.
+    Case {
+        most: Some(64),
+        way: Way::Delivers,
+        pieces: &[
+            b"a1 SELECT INBOX\r\n",
+            b"a2 APPEND INBOX {1+}\r\nx\r\na3 APPEND INBOX {1+}\r\ny\r\na4 LOGOUT\r\na5 APPEND INBOX {1+}\r\nz\r\n",
+        ],
+        told: b"* FLAGS (\\Answered \\Flagged \\Deleted \\Seen \\Draft)\r\n\
+          * 0 EXISTS\r\n\
+          * OK [UIDVALIDITY 7] UIDs valid\r\n\
+          * OK [UIDNEXT 1] Predicted next UID\r\n\
+          * OK [PERMANENTFLAGS (\\Answered \\Flagged \\Deleted \\Seen \\Draft)] Flags kept\r\n\
+          * LIST () \"/\" INBOX\r\n\
+          a1 OK [READ-WRITE] SELECT completed\r\n\
+          * 1 EXISTS\r\n\
+          a2 OK [APPENDUID 7 1] APPEND completed\r\n\
+          * 2 EXISTS\r\n\
+          a3 OK [APPENDUID 7 2] APPEND completed\r\n\
+          * BYE Logging out\r\n\
+          a4 OK LOGOUT completed\r\n",
+        ending: Ending {
+            lived: Ok(()),
+            carried: 2,
+            passes: 8,
+        },
+    },
+    Case {
+        most: Some(64),
+        way: Way::Refuses,
+        pieces: &[b"a1 APPEND INBOX {1+}\r\nx\r\na2 NOOP\r\n"],
+        told: b"a1 NO Shard full\r\na2 OK NOOP completed\r\n",
+        ending: Ending {
+            lived: Ok(()),
+            carried: 1,
+            passes: 1,
+        },
+    },
+    // Nothing is said of a message on which no verdict comes, nor of what stands behind it.
+    Case {
+        most: Some(64),
+        way: Way::Loses(Lost::Torn),
+        pieces: &[
+            b"a1 EXAMINE INBOX\r\na2 APPEND INBOX {1+}\r\nx\r\na3 NOOP\r\n",
+            b"a4 NOOP\r\n",
+        ],
+        told: b"* FLAGS (\\Answered \\Flagged \\Deleted \\Seen \\Draft)\r\n\
+          * 0 EXISTS\r\n\
+          * OK [UIDVALIDITY 7] UIDs valid\r\n\
+          * OK [UIDNEXT 1] Predicted next UID\r\n\
+          * OK [PERMANENTFLAGS ()] Flags kept\r\n\
+          * LIST () \"/\" INBOX\r\n\
+          a1 OK [READ-ONLY] EXAMINE completed\r\n",
+        ending: Ending {
+            lived: Err(Lost::Torn),
+            carried: 1,
+            passes: 3,
+        },
+    },
+    Case {
+        most: Some(64),
+        way: Way::Loses(Lost::NoMemory),
+        pieces: &[b"a1 NOOP\r\na2 APPEND INBOX {1+}\r\nx\r\na3 NOOP\r\n"],
+        told: b"a1 OK NOOP completed\r\n",
+        ending: Ending {
+            lived: Err(Lost::NoMemory),
+            carried: 1,
+            passes: 1,
+        },
+    },
+    // Where no message is taken its bytes are dropped, and nobody is asked to carry it.
+    Case {
+        most: None,
+        way: Way::Delivers,
+        pieces: &[b"a1 APPEND INBOX {5+}\r\nhello\r\na2 NOOP\r\n"],
+        told: b"a1 NO [CANNOT] Not offered here\r\na2 OK NOOP completed\r\n",
+        ending: Ending {
+            lived: Ok(()),
+            carried: 0,
+            passes: 0,
+        },
+    },
+];
+
+fn steps_of(alloc: Global, pieces: &[&[u8]]) -> Result<Vec<Step>, AllocError> {
+    let mut steps = Vec::new(alloc);
+    for piece in pieces {
+        saying(alloc, &mut steps, piece)?;
+    }
+    Ok(steps)
+}
+
+// How a session ends that lives through these steps; none where its courier was given a message out of
+// order, or its mailbox wasn't left.
+fn ending_of<R: Wait>(
+    rt: &R,
+    alloc: Global,
+    mailboxes: &[Mutex<Mailbox>],
+    case: &Case,
+    steps: &[Step],
+    said: &mut Vec<u8>,
+) -> Option<Ending> {
+    let Ok(folders) = folders(alloc) else {
+        return None;
+    };
+    let tally = Tally::new();
+    let mut courier = TestCourier::new(rt, mailboxes, case.way);
+    let mut store = LockedStore::new(rt, &tally, 0, mailboxes, &[]);
+    let lived = live(
+        alloc,
+        &mut store,
+        &mut courier,
+        folders,
+        case.most,
+        steps,
+        0,
+        said,
+    );
+    let passes = tally.asked();
+    if !courier.are_in_order || store.leave(false) != Err(MailFault::Stranger) {
+        return None;
+    }
+    Some(Ending {
+        lived,
+        carried: courier.asked,
+        passes,
+    })
+}
+
+const GREETING: &[u8] = b"* PREAUTH IMAP4rev2 server ready\r\n";
+
+fn is_greeting_and(told: &[u8], rest: &[u8]) -> bool {
+    told.starts_with(GREETING) && &told[GREETING.len()..] == rest
+}
+
+fn is_as_wanted<R: Wait>(rt: &R, alloc: Global, case: &Case) -> Result<bool, AllocError> {
+    let mailboxes = two_mailboxes(alloc)?;
+    let steps = steps_of(alloc, case.pieces)?;
+    let mut said = Vec::new(alloc);
+    let ending = ending_of(rt, alloc, &mailboxes, case, &steps, &mut said);
+    Ok(ending == Some(case.ending) && is_greeting_and(&said, case.told))
+}
+
+#[test]
+fn a_message_is_carried_before_anything_more_is_taken(rt: HostRuntime) -> Result<(), AllocError> {
+    for (number, case) in CASES.iter().enumerate() {
+        assert!(rt; is_as_wanted(&rt, rt.alloc(), case)?, "case {number}");
+    }
+    Ok(())
+}

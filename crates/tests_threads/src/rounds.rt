@@ -1,0 +1,666 @@
+//! A whole round: three workers in threads of their own, who put copies for three mailboxes on two
+//! lanes and make the clerks' steps; then all lanes are closed.
+
+ghost use Rattle.std.specs.Prelude.{◌≡◌, ◌<◌, ◌≤◌, ◌+◌, ℕ, [], All, IfOk, Some, length, map, vec_len, vec_capacity};
+ghost use Rattle.std.specs.Mem.{manually_drop_value};
+ghost use Rattle.std.specs.Thread.{IsSync};
+ghost use Rattle.shard_queue.specs.Reply.{IsReceiver};
+ghost use Rattle.shard_queue.specs.Permits.{IsProducer, number_of};
+ghost use Rattle.lane_work.specs.Permits.{ArePermits, IsPermit, permit_number};
+ghost use Rattle.lane_work.specs.Rooms.{AreRooms};
+ghost use Rattle.lane_work.specs.LanePermits.{AreConsumers, EndedRows};
+ghost use Rattle.house_floor.specs.Crew.{AllAt, IsCrew, IsPost, IsStand};
+ghost use Rattle.house_floor.specs.Opening.{AreBaskets};
+ghost use Rattle.tests_threads.specs.inner.Rounds.{AreSomeones, IsOwnPost};
+ghost use Rattle.tests_threads.specs.declared.rounds.Left.{Left};
+
+use change_ring::NO_FLAGS;
+use clerks::{
+    Clerk, Clerks, Dismissed, Hall, Staff, Unhindered, dismiss_all, hire_all, stand_down,
+};
+use delivery_token::{CopyKey, Job, Noted, Text, Verdict};
+use envelope::Directory;
+use house_floor::{Baskets, Crew, Floor, Opened, Post, Sizes, Stand, open};
+use lane_work::{
+    Closing, Consumed, Depot, Desk, LanePermit, Office, close_lanes, collect, end_all, spend_lists,
+};
+use mailbox::{History, Limits, Mailbox};
+use shard_queue::{
+    Closed, ConsumerPermit, Ended, Entry, Full, ProducerPermit, ReceiverPermit, ReplyChannel,
+    SenderEnded, ShardQueue,
+};
+use std::alloc::{AllocError, AllocGlobal, Global};
+use std::marker::Brand;
+use std::mem::ManuallyDrop;
+use std::process::Abort;
+use std::sync::{Mutex, Wait};
+use std::test::Fail;
+use std::thread;
+use std::thread::Threads;
+use workers_sync::{Actor, Pace};
+
+const WORKERS: u8 = 3;
+
+const COPIES: u8 = 16;
+
+const MAILBOXES: u8 = 3;
+
+// What a worker leaves: its ended permits, its end of its channel, and how many copies were stored.
+struct Left {
+    ended: Vec<Ended<Job>>,
+    receiver: ReceiverPermit<Noted>,
+    stored: usize,
+}
+
+fn packed<T>(value: T) -> ManuallyDrop<T>
+    ensures { manually_drop_value result ≡ value }
+{
+    unsafe { ManuallyDrop::new_unchecked(value) }
+}
+
+fn job_of(alloc: Global, seat: u8, serial: u8) -> Result<Job, AllocError> {
+    let key = CopyKey {
+        seat,
+        serial: u64::from(serial),
+        message: 0,
+        recipient: 0,
+    };
+    Ok(Job {
+        key,
+        mailbox: serial % MAILBOXES,
+        text: Text::new(Vec::new(alloc))?,
+        flags: NO_FLAGS,
+    })
+}
+
+// Puts a copy on a lane. Whether there was room.
+fn put_on<R: Wait>(
+    rt: &R,
+    lane: &ShardQueue<Job>,
+    permit: &mut ProducerPermit<Job>,
+    job: Job,
+) -> bool
+    requires { IsProducer lane.now permit.old }
+    ensures { IsProducer lane.now permit.new × (number_of permit.new ≡ number_of permit.old) }
+{
+    match lane.put_as(rt, permit, job) {
+        Ok(()) => true,
+        Err(Full(_)) => false,
+    }
+}
+
+// The same with a permit that may be over: then nothing is put.
+fn put_at<R: Wait>(rt: &R, lane: &ShardQueue<Job>, permit: &mut LanePermit, job: Job) -> bool
+    requires { IsPermit lane.now permit.old }
+    ensures { IsPermit lane.now permit.new × (permit_number permit.new ≡ permit_number permit.old) }
+{
+    match permit {
+        LanePermit::Live(live) => put_on(rt, lane, live, job),
+        LanePermit::Over(_) => false,
+    }
+}
+
+// The same, on the lane of the copy's mailbox. The number of its shard, where there was room.
+fn put_copy<R: Wait>(
+    rt: &R,
+    office: &Office,
+    permits: &mut Vec<LanePermit>,
+    number: u8,
+    job: Job,
+) -> Option<usize>
+    requires permits { ArePermits office.now.lanes.items number permits.old.items }
+    requires lanes { office.now.directory.shards ≡ length office.now.lanes.items }
+    ensures { ArePermits office.now.lanes.items number permits.new.items }
+{
+    let shard = office.directory.shard_of(job.mailbox);
+    let was_put = put_at(rt, &office.lanes[shard], &mut permits[shard], job);
+    if was_put { Some(shard) } else { None }
+}
+
+// Makes a copy, and puts it. The number of its shard, where there was memory and room.
+fn put_next<R: Wait>(
+    rt: &R,
+    floor: &Floor,
+    permits: &mut Vec<LanePermit>,
+    number: u8,
+    serial: u8,
+) -> Option<usize>
+    requires permits { ArePermits floor.now.office.lanes.items number permits.old.items }
+    requires lanes { floor.now.office.directory.shards ≡ length floor.now.office.lanes.items }
+    ensures { ArePermits floor.now.office.lanes.items number permits.new.items }
+{
+    let Ok(job) = job_of(floor.alloc, number, serial) else {
+        return None;
+    };
+    put_copy(rt, &floor.office, permits, number, job)
+}
+
+// Whether the next verdict that waits tells that a copy was stored.
+fn hears_stored<R: Wait>(
+    rt: &R,
+    channel: &ReplyChannel<Noted>,
+    receiver: &mut ReceiverPermit<Noted>,
+) -> bool
+    requires { IsReceiver channel.now receiver.old }
+    ensures { IsReceiver channel.now receiver.new }
+{
+    match channel.recv_as(rt, receiver) {
+        Entry::Item(_, noted) => matches!(noted.verdict, Verdict::Stored { uid: _ }),
+        Entry::End(_) => false,
+    }
+}
+
+// Puts each of its copies, helps, and hears the verdict. How many were stored.
+fn put_all<H: Hall, R: Wait>(
+    rt: &R,
+    floor: &Floor,
+    clerks: &[Mutex<Clerk<H>>],
+    channel: &ReplyChannel<Noted>,
+    desk: &mut Desk,
+) -> usize
+    requires lanes { H.lanes ≡ Some floor.now.office.lanes.items }
+    requires depot { H.depot ≡ Some floor.now.depot }
+    requires shards { floor.now.office.directory.shards ≡ length floor.now.office.lanes.items }
+    requires permits { ArePermits floor.now.office.lanes.items desk.old.number desk.old.permits.items }
+    requires receiver { IsReceiver channel.now desk.old.receiver }
+    ensures number { desk.new.number ≡ desk.old.number }
+    ensures permits { ArePermits floor.now.office.lanes.items desk.old.number desk.new.permits.items }
+{
+    let help = Clerks::new(clerks, &floor.office.lanes, &floor.depot, &Unhindered);
+    let number = desk.number;
+    let mut stored = 0usize;
+    for serial in 0..COPIES {
+        if let Some(shard) = put_next(rt, floor, &mut desk.permits, number, serial) {
+            help.help(rt, shard);
+            if hears_stored(rt, channel, &mut desk.receiver) {
+                stored = stored.saturating_add(1);
+            }
+        }
+    }
+    stored
+}
+
+// A worker's whole life.
+fn labour<H: Hall, R: Wait + Abort>(
+    rt: &R,
+    floor: &Floor,
+    clerks: &[Mutex<Clerk<H>>],
+    parcel: ManuallyDrop<Post>,
+) -> ManuallyDrop<Left>
+    requires lanes { H.lanes ≡ Some floor.now.office.lanes.items }
+    requires depot { H.depot ≡ Some floor.now.depot }
+    requires shards { floor.now.office.directory.shards ≡ length floor.now.office.lanes.items }
+    requires post { IsOwnPost floor.now (manually_drop_value parcel) }
+    ensures { AreSomeones floor.now.office.lanes.items (manually_drop_value {X = Left} result).ended.items }
+{
+    let Post { mut desk, room } = ManuallyDrop::into_inner(parcel);
+    let position = usize::from(desk.number);
+    let channel = floor.depot.channels.get(position).expect(rt, "a channel");
+    let stored = put_all(rt, floor, clerks, channel, &mut desk);
+    let Desk {
+        number,
+        permits,
+        receiver,
+        ends: _,
+    } = desk;
+    let mut pace = Pace::new(&Unhindered, Actor::Worker(number));
+    let help = Clerks::new(clerks, &floor.office.lanes, &floor.depot, &Unhindered);
+    let ended = end_all(rt, &mut pace, &floor.office, &help, number, permits, room);
+    packed(Left {
+        ended,
+        receiver,
+        stored,
+    })
+}
+
+// The posts, for a closure to hold.
+fn pack_all(
+    floor: &Floor,
+    mut posts: Vec<Post>,
+    mut parcels: Vec<ManuallyDrop<Post>>,
+) -> Vec<ManuallyDrop<Post>>
+    requires posts { AllAt (IsPost floor.now) 0 posts.items }
+    requires room { (parcels.items ≡ []) × (vec_len posts ≤ vec_capacity parcels) }
+    ensures posts { All (λ p. IsOwnPost floor.now (manually_drop_value p)) result.items }
+    ensures count { vec_len result ≡ vec_len posts }
+{
+    while let Some(post) = posts.pop() {
+        parcels.push_reserved(packed(post));
+    }
+    posts.destroy_empty();
+    parcels
+}
+
+// The clerks' ends of the lanes, in their order; what is left of their senders is spent with the
+// channels.
+fn part(
+    mut consumed: Vec<Consumed>,
+    mut permits: Vec<ConsumerPermit<Job>>,
+    hands: &mut Vec<Vec<SenderEnded<Noted>>>,
+) -> Vec<ConsumerPermit<Job>>
+    requires permits { (permits.items ≡ []) × (vec_len consumed ≤ vec_capacity permits) }
+    requires hands { vec_len hands.old + vec_len consumed ≤ vec_capacity hands.old }
+    ensures permits { result.items ≡ map (λ c. c.permit) consumed.items }
+    ensures hands { vec_len hands.new ≡ vec_len hands.old + vec_len consumed }
+{
+    for done in 0..consumed.len() {
+        let Consumed {
+            permit,
+            senders,
+            taken: _,
+            kept: _,
+            torn: _,
+        } = consumed.remove(0);
+        permits.push_reserved(permit);
+        hands.push_reserved(senders);
+    }
+    consumed.destroy_empty();
+    permits
+}
+
+// What a round comes to.
+#[derive(Drop)]
+struct Round {
+    // Whether all lanes could be closed.
+    closed: bool,
+    // How many copies were told as stored.
+    told: usize,
+    // The copies that the mailboxes accepted.
+    accepted: Vec<CopyKey>,
+}
+
+// Collects what is left of the workers' permits, and how many copies were told as stored.
+fn collect_all(
+    floor: &Floor,
+    mut left: Vec<ManuallyDrop<Left>>,
+    lists: &mut Vec<Vec<Ended<Job>>>,
+    receivers: &mut Vec<ReceiverPermit<Noted>>,
+) -> usize
+    requires ended { All (λ l. AreSomeones floor.now.office.lanes.items (manually_drop_value {X = Left} l).ended.items) left.items }
+    requires lists { EndedRows floor.now.office.lanes.items (map (λ v. v.items) lists.old.items) }
+    requires count { vec_len lists.old ≡ length floor.now.office.lanes.items }
+    requires room { All (λ v. vec_len v + vec_len left ≤ vec_capacity v) lists.old.items }
+    requires receivers { vec_len receivers.old + vec_len left ≤ vec_capacity receivers.old }
+    ensures lists { EndedRows floor.now.office.lanes.items (map (λ v. v.items) lists.new.items) }
+    ensures receivers { vec_len receivers.new ≡ vec_len receivers.old + vec_len left }
+{
+    let mut told = 0usize;
+    while let Some(parcel) = left.pop() {
+        let Left {
+            ended,
+            receiver,
+            stored,
+        } = ManuallyDrop::into_inner(parcel);
+        collect(lists, ended);
+        receivers.push_reserved(receiver);
+        told = told.saturating_add(stored);
+    }
+    told
+}
+
+// Spends the channels with all that is left of their permits.
+fn spend_channels(
+    alloc: Global,
+    mut channels: Vec<ReplyChannel<Noted>>,
+    mut hands: Vec<Vec<SenderEnded<Noted>>>,
+    mut receivers: Vec<ReceiverPermit<Noted>>,
+)
+    requires hands { vec_len hands ≤ vec_len channels }
+    requires receivers { vec_len receivers ≡ vec_len channels }
+{
+    while let Some(channel) = channels.pop() {
+        let ended = hands.pop().unwrap_or_else(|| Vec::new(alloc));
+        channel.abandon(Vec::new(alloc), ended, receivers.remove(0));
+    }
+    channels.destroy_empty();
+    hands.destroy_empty();
+    receivers.destroy_empty();
+}
+
+// The keys of all copies that the mailboxes accepted.
+fn accepted_by_all(
+    alloc: Global,
+    mailboxes: Vec<Mutex<Mailbox>>,
+) -> Result<Vec<CopyKey>, AllocError> {
+    let mut keys = Vec::new(alloc);
+    for lock in mailboxes {
+        let mailbox = lock.into_inner();
+        for entry in mailbox.accepted() {
+            keys.push(entry.0)?;
+        }
+    }
+    Ok(keys)
+}
+
+// Each worker's life in a thread of its own.
+fn work_all<H: Hall + Send, T: Threads + Wait + Sync + Abort>(
+    rt: &T,
+    floor: &Floor,
+    clerks: &[Mutex<Clerk<H>>],
+    parcels: Vec<ManuallyDrop<Post>>,
+) -> Vec<ManuallyDrop<Left>>
+    requires lanes { H.lanes ≡ Some floor.now.office.lanes.items }
+    requires depot { H.depot ≡ Some floor.now.depot }
+    requires shards { floor.now.office.directory.shards ≡ length floor.now.office.lanes.items }
+    requires posts { All (λ p. IsOwnPost floor.now (manually_drop_value p)) parcels.items }
+    ensures left { All (λ l. AreSomeones floor.now.office.lanes.items (manually_drop_value {X = Left} l).ended.items) result.items }
+    ensures count { vec_len result ≡ vec_len parcels }
+{
+    thread::map_vec(
+        rt,
+        parcels,
+        &|parcel| labour::<H, T>(rt, floor, clerks, parcel),
+    )
+    .expect(rt, "memory")
+}
+
+// A clerk is hired for each stand, and each worker's life is led. The clerks, and what the workers leave.
+fn work_off<H: Hall + Send, T: Threads + Wait + Sync + Abort>(
+    rt: &T,
+    floor: &Floor,
+    stands: Vec<Stand>,
+    posts: Vec<Post>,
+) -> (Staff<H>, Vec<ManuallyDrop<Left>>)
+    requires lanes { H.lanes ≡ Some floor.now.office.lanes.items }
+    requires depot { H.depot ≡ Some floor.now.depot }
+    requires shards { floor.now.office.directory.shards ≡ length floor.now.office.lanes.items }
+    requires stands { AllAt (IsStand floor.now) 0 stands.items × (vec_len stands ≡ length floor.now.office.lanes.items) }
+    requires posts { AllAt (IsPost floor.now) 0 posts.items }
+    ensures clerks { vec_len result.0.clerks ≡ length floor.now.office.lanes.items }
+    ensures rooms { AreRooms (length floor.now.office.lanes.items) (length floor.now.depot.channels.items) result.0.rooms }
+    ensures stands { result.0.stands.items ≡ [] }
+    ensures left { All (λ l. AreSomeones floor.now.office.lanes.items (manually_drop_value {X = Left} l).ended.items) result.1.items }
+    ensures count { vec_len result.1 ≡ vec_len posts }
+{
+    let alloc = floor.alloc;
+    let staff = Staff::<H>::with_room(alloc, floor.office.lanes.len()).expect(rt, "memory");
+    let staff = hire_all(floor, stands, staff);
+    let parcels = Vec::with_capacity(alloc, posts.len()).expect(rt, "memory");
+    let parcels = pack_all(floor, posts, parcels);
+    let left = work_all::<H, T>(rt, floor, &staff.clerks, parcels);
+    (staff, left)
+}
+
+// What the clerks leave, each of whom stood in its place.
+fn dismiss<H: Hall, T: Wait + Abort>(
+    rt: &T,
+    floor: &Floor,
+    staff: Staff<H>,
+    room: Vec<Consumed>,
+) -> Vec<Consumed>
+    requires lanes { H.lanes ≡ Some floor.now.office.lanes.items }
+    requires depot { H.depot ≡ Some floor.now.depot }
+    requires clerks { vec_len staff.clerks ≡ length floor.now.office.lanes.items }
+    requires rooms { AreRooms (length floor.now.office.lanes.items) (length floor.now.depot.channels.items) staff.rooms }
+    requires stands { staff.stands.items ≡ [] }
+    requires room { (room.items ≡ []) × (length floor.now.office.lanes.items ≤ vec_capacity room) }
+    ensures count { vec_len result ≡ length floor.now.office.lanes.items }
+    ensures permits { AreConsumers floor.now.office.lanes.items (map (λ c. c.permit) result.items) }
+{
+    let Dismissed { consumed, in_order } = dismiss_all(rt, &Unhindered, floor, staff, room);
+    if !in_order {
+        panic!(rt; "a clerk stood at another's position")
+    }
+    consumed
+}
+
+// Closes the lanes and spends the channels. Whether all lanes could be closed, and the mailboxes.
+fn close_all(
+    floor: Floor,
+    lists: Vec<Vec<Ended<Job>>>,
+    permits: Vec<ConsumerPermit<Job>>,
+    closed: Vec<Closed<Job>>,
+    hands: Vec<Vec<SenderEnded<Noted>>>,
+    receivers: Vec<ReceiverPermit<Noted>>,
+) -> (bool, Vec<Mutex<Mailbox>>)
+    requires lists { EndedRows floor.office.lanes.items (map (λ v. v.items) lists.items) }
+    requires permits { AreConsumers floor.office.lanes.items permits.items }
+    requires closed { (closed.items ≡ []) × (length floor.office.lanes.items ≤ vec_capacity closed) }
+    requires hands { vec_len hands ≤ length floor.depot.channels.items }
+    requires receivers { vec_len receivers ≡ length floor.depot.channels.items }
+{
+    let Floor {
+        office,
+        depot,
+        bells: _,
+        turns: _,
+        alloc,
+    } = floor;
+    let Office {
+        directory: _,
+        host: _,
+        max_message: _,
+        lanes,
+        closings: _,
+    } = office;
+    let Depot {
+        mailboxes,
+        channels,
+        sessions: _,
+    } = depot;
+    let are_closed = close_lanes(alloc, lanes, lists, permits, closed).is_some();
+    spend_channels(alloc, channels, hands, receivers);
+    (are_closed, mailboxes)
+}
+
+// The whole round over a house that was opened.
+fn run_in<H: Hall + Send, T: Threads + Wait + Sync + Abort>(
+    rt: &T,
+    floor: Floor,
+    crew: Crew,
+    baskets: Baskets,
+) -> Round
+    requires lanes { H.lanes ≡ Some floor.office.lanes.items }
+    requires depot { H.depot ≡ Some floor.depot }
+    requires shards { floor.office.directory.shards ≡ length floor.office.lanes.items }
+    requires few { length floor.office.lanes.items ≤ length floor.depot.channels.items }
+    requires crew { IsCrew floor (length floor.depot.channels.items) crew }
+    requires baskets { AreBaskets (length floor.depot.channels.items) (length floor.office.lanes.items) baskets }
+{
+    let alloc = floor.alloc;
+    let Crew {
+        stands,
+        posts,
+        consumed,
+        worked,
+        unmanned,
+    } = crew;
+    worked.destroy_empty();
+    unmanned.destroy_empty();
+    let Baskets {
+        hands,
+        mut lists,
+        mut sender_hands,
+        sender_lists,
+        consumers,
+        mut receivers,
+        replies: _,
+        logs: _,
+        taken: _,
+        lanes,
+        channels: _,
+        spares,
+    } = baskets;
+    hands.destroy_empty();
+    spend_lists(sender_lists);
+    spares.spend();
+    let (staff, left) = work_off::<H, T>(rt, &floor, stands, posts);
+    let told = collect_all(&floor, left, &mut lists, &mut receivers);
+    let consumed = dismiss(rt, &floor, staff, consumed);
+    let permits = part(consumed, consumers, &mut sender_hands);
+    let (closed, mailboxes) = close_all(floor, lists, permits, lanes, sender_hands, receivers);
+    let accepted = accepted_by_all(alloc, mailboxes).expect(rt, "memory");
+    Round {
+        closed,
+        told,
+        accepted,
+    }
+}
+
+// Whether no key stands there twice.
+fn each_once(keys: &[CopyKey]) -> bool {
+    for (position, key) in keys.iter().enumerate() {
+        if keys[position + 1..].contains(key) {
+            return false;
+        }
+    }
+    true
+}
+
+const LIMITS: Limits = Limits {
+    messages: 100,
+    ring: 16,
+    ring_max: 0,
+};
+
+// How large its parts are. Nobody closes a shard before the end.
+fn sizes<'a>(closings: &'a [Vec<Closing>]) -> Sizes<'a>
+    ensures host { length result.host.now < 256 }
+    ensures sizes { (result.producers ≡ 3) × (result.depth ≡ 4) × (0 < result.limits.ring) }
+{
+    Sizes {
+        host: b"mx.example.org",
+        max_message: 1000,
+        producers: WORKERS,
+        depth: 4,
+        uidvalidity: 7,
+        first_uid: 1,
+        limits: LIMITS,
+        history: History::Kept,
+        turns: 10,
+        closings,
+    }
+}
+
+// Three mailboxes on two shards.
+fn directory(alloc: Global) -> Result<Directory, Fail>
+    ensures { IfOk result (λ d. d.shards ≡ 2) }
+{
+    let Ok(directory) = Directory::new(
+        alloc,
+        &[b"example.org".as_slice()],
+        &[
+            b"alice".as_slice(),
+            b"alice/Work".as_slice(),
+            b"bob".as_slice(),
+        ],
+        2,
+    ) else {
+        return Err(Fail::new("directory"));
+    };
+    Ok(directory)
+}
+
+#[test]
+fn each_copy_is_stored_once_and_all_lanes_close(rt: HostRuntime) -> Result<(), Fail> {
+    let alloc = rt.alloc();
+    let directory = directory(alloc)?;
+    let Opened {
+        floor,
+        crew,
+        baskets,
+        sleepers: _,
+    } = open(alloc, directory, sizes(&[]), &[])?;
+    let round = run_in::<Brand, HostRuntime>(&rt, floor, crew, baskets);
+    let copies = usize::from(WORKERS) * usize::from(COPIES);
+    assert!(&rt; round.closed);
+    assert!(&rt; round.told == copies);
+    assert!(&rt; round.accepted.len() == copies);
+    assert!(&rt; each_once(&round.accepted));
+    Ok(())
+}
+
+fn help_once<H: Hall, T: Wait>(rt: &T, floor: &Floor, clerks: &[Mutex<Clerk<H>>], shard: usize)
+    requires lanes { H.lanes ≡ Some floor.now.office.lanes.items }
+    requires depot { H.depot ≡ Some floor.now.depot }
+{
+    let help = Clerks::new(clerks, &floor.office.lanes, &floor.depot, &Unhindered);
+    help.help(rt, shard);
+}
+
+// Helps on so many shards from the first on, in a thread for each. How many threads there were.
+fn help_each<H: Hall + Send, T: Threads + Wait + Sync>(
+    rt: &T,
+    floor: &Floor,
+    clerks: &[Mutex<Clerk<H>>],
+    shards: usize,
+) -> usize
+    requires lanes { H.lanes ≡ Some floor.now.office.lanes.items }
+    requires depot { H.depot ≡ Some floor.now.depot }
+{
+    thread::scope(
+        thread::scope_env(),
+        rt,
+        |scope| -> usize
+            requires { IsSync T.row × (H.lanes ≡ Some floor.now.office.lanes.items) × (H.depot ≡ Some floor.now.depot) }
+        {
+            let mut made = 0usize;
+            for shard in 0..shards {
+                let started = scope.spawn(
+                    move || -> ()
+                        requires { IsSync T.row × (H.lanes ≡ Some floor.now.office.lanes.items) × (H.depot ≡ Some floor.now.depot) }
+                    { help_once::<H, T>(rt, floor, clerks, shard) },
+                );
+                if started.is_ok() {
+                    made = made.saturating_add(1);
+                }
+            }
+            made
+        },
+    )
+}
+
+// Hires clerks who find nothing to do, and stands them down: the number of the last one's shard, and
+// how many stands there are again.
+fn idle_in<H: Hall + Send, T: Threads + Wait + Sync + Abort>(
+    rt: &T,
+    floor: &Floor,
+    stands: Vec<Stand>,
+) -> (u8, Vec<Stand>)
+    requires lanes { H.lanes ≡ Some floor.now.office.lanes.items }
+    requires depot { H.depot ≡ Some floor.now.depot }
+    requires some { 0 < length floor.now.office.lanes.items }
+    requires stands { AllAt (IsStand floor.now) 0 stands.items × (vec_len stands ≡ length floor.now.office.lanes.items) }
+{
+    let staff = Staff::<H>::with_room(floor.alloc, stands.len()).expect(rt, "memory");
+    let staff = hire_all(floor, stands, staff);
+    // The third shard isn't there.
+    let threads = help_each(rt, floor, &staff.clerks, 3);
+    assert!(rt; threads == 3);
+    let shard = shard_behind(rt, &staff.clerks[staff.clerks.len() - 1]);
+    (shard, stand_down(floor, staff))
+}
+
+fn shard_behind<H: Hall, T: Wait>(rt: &T, lock: &Mutex<Clerk<H>>) -> u8 {
+    let clerk = lock.lock(rt);
+    clerk.shard()
+}
+
+#[test]
+fn clerks_with_nothing_to_do_are_stood_down(rt: HostRuntime) -> Result<(), Fail> {
+    let alloc = rt.alloc();
+    let directory = directory(alloc)?;
+    let Opened {
+        floor,
+        crew,
+        baskets,
+        sleepers: _,
+    } = open(alloc, directory, sizes(&[]), &[])?;
+    let Crew {
+        stands,
+        posts,
+        consumed,
+        worked,
+        unmanned,
+    } = crew;
+    let (shard, stands) = idle_in::<Brand, HostRuntime>(&rt, &floor, stands);
+    let count = stands.len();
+    // A house whose permits haven't ended can't be closed, and is left where it is.
+    let _floor = packed(floor);
+    let _baskets = packed(baskets);
+    let _stands = packed(stands);
+    let _posts = packed(posts);
+    let _lists = packed((consumed, worked, unmanned));
+    assert!(&rt; (shard, count) == (1, 2));
+    Ok(())
+}
