@@ -90,7 +90,10 @@ impl Block {
     /// Writes the change in the cell of another.
     pub(crate) fn set(&mut self, index: usize, change: Change)
         requires { index < length self.old.written }
-        ensures { self.new ≡ record self.old { written = take index self.old.written ++ change ∷ drop (index + 1) self.old.written } }
+        ensures { self.new ≡ record self.old {
+          written = take index self.old.written ++ change
+              ∷ drop (index + 1) self.old.written;
+        } }
     {
         self.cells.write(self.base, index, change);
     }
@@ -141,7 +144,8 @@ impl Block {
     pub(crate) fn laid_from(&self, start: usize, capacity: usize) -> Result<Block, AllocError>
         requires start { start ≤ length self.now.written }
         requires capacity { length self.now.written ≤ capacity }
-        ensures { IfOk result (λ b. b ≡ record { written = around start self.now.written; capacity = capacity }) }
+        ensures { IfOk result (λ b.
+            b ≡ record { written = around start self.now.written; capacity = capacity }) }
     {
         let mut laid = Block::make(self.alloc, capacity)?;
         let (from, before) = self.slices(start);

@@ -61,7 +61,8 @@ pub(crate) fn allocate<T, A: Allocator>(
     capacity: usize,
 ) -> Result<(Base<T>, Cells<T, A>), AllocError>
     requires { FitsInBlock T.row capacity }
-    ensures { IfOk result (λ r. (r.1.at ≡ r.0.ptr) × (r.1.capacity ≡ capacity) × (r.1.written ≡ []) × (r.1.alloc ≡ alloc.now)) }
+    ensures { IfOk result (λ r. (r.1.at ≡ r.0.ptr) × (r.1.capacity ≡ capacity) × (r.1.written ≡ [])
+        × (r.1.alloc ≡ alloc.now)) }
 {
     match alloc.allocate(capacity * size_of::<T>(), align_of::<T>()) {
         Ok(block) => {
@@ -81,7 +82,8 @@ pub(crate) fn deallocate<T, A: Allocator>(
     capacity: usize,
     cells: Cells<T, A>,
 )
-    requires { (cells.at ≡ base.ptr) × (cells.capacity ≡ capacity) × (cells.alloc ≡ alloc.now) × (length cells.written ≤ capacity) }
+    requires { (cells.at ≡ base.ptr) × (cells.capacity ≡ capacity) × (cells.alloc ≡ alloc.now)
+        × (length cells.written ≤ capacity) }
 {
     let Cells { mark: _ } = cells;
     unsafe {
@@ -103,7 +105,8 @@ pub(crate) fn grow<T, A: Allocator>(
     more: usize,
     cells: &mut Cells<T, A>,
 ) -> Result<Base<T>, AllocError>
-    requires { (cells.old.at ≡ base.ptr) × (cells.old.capacity ≡ capacity) × (cells.old.alloc ≡ alloc.now) × (length cells.old.written ≡ used)
+    requires { (cells.old.at ≡ base.ptr) × (cells.old.capacity ≡ capacity)
+        × (cells.old.alloc ≡ alloc.now) × (length cells.old.written ≡ used)
         × (used ≤ capacity) × (capacity ≤ more) × FitsInBlock T.row more }
     ensures ok { IfOk result (λ b. cells.new ≡ record cells.old { at = b.ptr; capacity = more }) }
     ensures err { OnErr result (cells.new ≡ cells.old) }
@@ -118,16 +121,22 @@ impl<T, A: Allocator> Cells<T, A> {
     /// Writes the first cell that isn't written, or one that is. What was there is forgotten, so
     /// this is for plain data.
     pub(crate) fn write(&mut self, base: Base<T>, index: usize, item: T)
-        requires { (base.ptr ≡ self.old.at) × (index ≤ length self.old.written) × (index < self.old.capacity) }
-        ensures { self.new ≡ record self.old { written = take index self.old.written ++ item ∷ drop (index + 1) self.old.written } }
+        requires { (base.ptr ≡ self.old.at) × (index ≤ length self.old.written)
+            × (index < self.old.capacity) }
+        ensures { self.new ≡ record self.old {
+          written = take index self.old.written ++ item
+              ∷ drop (index + 1) self.old.written;
+        } }
     {
         unsafe { base.ptr.add(index).write(item) }
     }
 
     /// What is written from the cell `from` on, and what is written before it.
     pub(crate) fn slices(&self, base: Base<T>, used: usize, from: usize) -> (&[T], &[T])
-        requires { (base.ptr ≡ self.now.at) × (length self.now.written ≡ used) × (used ≤ self.now.capacity) × (from ≤ used) }
-        ensures { (result.0.now ≡ drop from self.now.written) × (result.1.now ≡ take from self.now.written) }
+        requires { (base.ptr ≡ self.now.at) × (length self.now.written ≡ used)
+            × (used ≤ self.now.capacity) × (from ≤ used) }
+        ensures { (result.0.now ≡ drop from self.now.written)
+            × (result.1.now ≡ take from self.now.written) }
     {
         unsafe {
             (

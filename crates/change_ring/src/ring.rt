@@ -53,7 +53,8 @@ impl ChangeRing {
         // There is room for one change at least, and no more than it may grow to.
         requires nonempty { 0 < capacity }
         requires within { capacity ≤ max }
-        ensures { IfOk result (λ r. r ≡ record { base = 0; changes = []; capacity = capacity; max = max }) }
+        ensures { IfOk result (λ r.
+            r ≡ record { base = 0; changes = []; capacity = capacity; max = max }) }
     {
         ChangeRing::starting_at(alloc, 0, capacity, max)
     }
@@ -71,7 +72,8 @@ impl ChangeRing {
         requires within { capacity ≤ max }
         // No log numbers more than 2^62 changes.
         requires small { base ≤ 2 ^ 62 }
-        ensures { IfOk result (λ r. r ≡ record { base = base; changes = []; capacity = capacity; max = max }) }
+        ensures { IfOk result (λ r.
+            r ≡ record { base = base; changes = []; capacity = capacity; max = max }) }
     {
         let block = Block::make(alloc, capacity)?;
         Ok(ChangeRing {
@@ -118,15 +120,19 @@ impl ChangeRing {
         ensures err { OnErr result (self.new ≡ self.old) }
 
         // What is handed back comes first, and the change goes last.
-        ensures window { IfOk result (λ lost. option_to_list lost ++ self.new.changes ≡ self.old.changes ++ change ∷ []) }
-        ensures base { IfOk result (λ lost. self.new.base ≡ self.old.base + length (option_to_list lost)) }
+        ensures window { IfOk result (λ lost. option_to_list lost ++ self.new.changes
+            ≡ self.old.changes ++ change ∷ []) }
+        ensures base { IfOk result (λ lost.
+            self.new.base ≡ self.old.base + length (option_to_list lost)) }
         // It has the room that it had, or, where it was full and handed nothing back, twice as much, up to its most.
         ensures capacity { IfOk result (λ lost. self.new.capacity ≡ capacity_after self.old lost) }
         ensures max { self.new.max ≡ self.old.max }
 
         // Only a full ring hands a change back, and it grows only to keep what is wanted.
-        ensures full { IfOk result (λ lost. IsSome lost → length self.old.changes ≡ self.old.capacity) }
-        ensures wanted { OnOk result (self.old.capacity < self.new.capacity → keep_from ≤ self.old.base) }
+        ensures full { IfOk result (λ lost. IsSome lost
+            → length self.old.changes ≡ self.old.capacity) }
+        ensures wanted { OnOk result (self.old.capacity < self.new.capacity
+            → keep_from ≤ self.old.base) }
 
         // It has no more changes than fit.
         ensures within { OnOk result (length self.new.changes ≤ self.new.capacity) }
@@ -142,7 +148,8 @@ impl ChangeRing {
     fn make_room(&mut self, keep_from: u64)
         ensures same { self.new ≡ record self.old { capacity = self.new.capacity } }
         ensures capacity { (self.new.capacity ≡ self.old.capacity)
-            ⊎ ((length self.old.changes ≡ self.old.capacity) × (keep_from ≤ self.old.base) × (self.old.capacity < self.new.capacity)
+            ⊎ ((length self.old.changes ≡ self.old.capacity) × (keep_from ≤ self.old.base)
+            × (self.old.capacity < self.new.capacity)
             × (self.new.capacity ≡ min (2 * self.old.capacity) self.old.max)) }
     {
         let held = self.block.used();
@@ -155,7 +162,8 @@ impl ChangeRing {
     // Logs a change with no growth.
     fn put(&mut self, change: Change) -> Option<Change>
         requires { total self.old < 2 ^ 62 }
-        ensures window { option_to_list result ++ self.new.changes ≡ self.old.changes ++ change ∷ [] }
+        ensures window { option_to_list result ++ self.new.changes
+            ≡ self.old.changes ++ change ∷ [] }
         ensures base { self.new.base ≡ self.old.base + length (option_to_list result) }
         ensures capacity { self.new.capacity ≡ self.old.capacity }
         ensures max { self.new.max ≡ self.old.max }
@@ -181,7 +189,8 @@ impl ChangeRing {
         requires { self.old.capacity < self.old.max }
         ensures same { self.new ≡ record self.old { capacity = self.new.capacity } }
         ensures capacity { (self.new.capacity ≡ self.old.capacity)
-            ⊎ ((self.old.capacity < self.new.capacity) × (self.new.capacity ≡ min (2 * self.old.capacity) self.old.max)) }
+            ⊎ ((self.old.capacity < self.new.capacity)
+            × (self.new.capacity ≡ min (2 * self.old.capacity) self.old.max)) }
     {
         let held = self.block.capacity();
         let capacity = if held <= self.max - held {
@@ -202,7 +211,8 @@ impl ChangeRing {
         requires more { self.old.capacity < capacity }
         requires most { capacity ≤ self.old.max }
         ensures same { self.new ≡ record self.old { capacity = self.new.capacity } }
-        ensures capacity { (self.new.capacity ≡ self.old.capacity) ⊎ (self.new.capacity ≡ capacity) }
+        ensures capacity { (self.new.capacity ≡ self.old.capacity)
+            ⊎ (self.new.capacity ≡ capacity) }
     {
         let Ok(block) = self.block.laid_from(self.start, capacity) else {
             return;

@@ -61,12 +61,18 @@ impl<H: Hall> Clerk<H> {
     /// The clerk of a shard whose stall was dealt and never worked at.
     pub fn new(stall: Stall) -> Clerk<H>
         // The stall is one of the hall's: it has the consumer's permit of its lane there, and a sender's on each channel of its depot.
-        requires lane { (lanes : List (ShardQueue Job)) → H.lanes ≡ Some lanes → IsOnLane lanes stall }
-        requires senders { (depot : Depot) → H.depot ≡ Some depot → AreSenders depot.channels.items stall.shard stall.senders.items }
+        requires lane { (lanes : List (ShardQueue Job)) → H.lanes ≡ Some lanes
+            → IsOnLane lanes stall }
+        requires senders { (depot : Depot) → H.depot ≡ Some depot
+            → AreSenders depot.channels.items stall.shard stall.senders.items }
 
         // It has taken nothing, and sent nothing.
         requires fresh { (got stall.permit ≡ []) × All (λ s. sent_on s ≡ []) stall.senders.items }
-        ensures { result ≡ record { shard = stall.shard; took = []; seen = take_seen stall.permit } }
+        ensures { result ≡ record {
+          shard = stall.shard;
+          took = [];
+          seen = take_seen stall.permit;
+        } }
     {
         Clerk {
             stall,
@@ -94,7 +100,8 @@ impl<H: Hall> Clerk<H> {
         requires depot { H.depot ≡ Some depot.now }
         ensures shard { self.new.shard ≡ self.old.shard }
         ensures took { IsStartOf self.old.took self.new.took }
-        ensures empty { result ≡ false → (lane : ShardQueue Job) → slice_get lanes.now self.new.shard ≡ Some lane
+        ensures empty { result ≡ false → (lane : ShardQueue Job)
+            → slice_get lanes.now self.new.shard ≡ Some lane
             → WasEmpty (producers_of lane) (capacity_of lane) self.new.took self.new.seen }
     {
         let lane = &lanes[usize::from(self.stall.shard)];
@@ -154,7 +161,8 @@ impl<H: Hall> Clerk<H> {
         requires room { (room.items ≡ []) × (length depot.now.channels.items ≤ vec_capacity room) }
 
         // It leaves what a consumer leaves that had sent nothing before, of its lane in the hall.
-        ensures consumed { (lanes : List (ShardQueue Job)) → H.lanes ≡ Some lanes → (lane : ShardQueue Job) → slice_get lanes self.shard ≡ Some lane
+        ensures consumed { (lanes : List (ShardQueue Job)) → H.lanes ≡ Some lanes
+            → (lane : ShardQueue Job) → slice_get lanes self.shard ≡ Some lane
             → IsConsumed lane depot.now self.shard [] result }
 
         // Its permit has taken what the clerk had; nothing is kept of it, and there is what is left of a sender for each channel.
@@ -185,8 +193,10 @@ impl<H: Hall> Clerk<H> {
 
         // The stall has taken what the clerk had, and its permits are still those of its hall.
         ensures took { (got result.permit ≡ self.took) × (take_seen result.permit ≡ self.seen) }
-        ensures lane { (lanes : List (ShardQueue Job)) → H.lanes ≡ Some lanes → IsOnLane lanes result }
-        ensures senders { (depot : Depot) → H.depot ≡ Some depot → AreSenders depot.channels.items self.shard result.senders.items }
+        ensures lane { (lanes : List (ShardQueue Job)) → H.lanes ≡ Some lanes
+            → IsOnLane lanes result }
+        ensures senders { (depot : Depot) → H.depot ≡ Some depot
+            → AreSenders depot.channels.items self.shard result.senders.items }
     {
         let Clerk {
             stall,

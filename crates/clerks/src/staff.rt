@@ -39,9 +39,11 @@ pub struct Dismissed {
 impl<H: Hall> Staff<H> {
     /// Nobody, with room for so many. An error where memory is refused; nothing is left then.
     pub fn with_room(alloc: Global, shards: usize) -> Result<Staff<H>, AllocError>
-        ensures clerks { IfOk result (λ s. (s.clerks.items ≡ []) × (shards ≤ vec_capacity s.clerks)) }
+        ensures clerks { IfOk result (λ s. (s.clerks.items ≡ [])
+            × (shards ≤ vec_capacity s.clerks)) }
         ensures rooms { IfOk result (λ s. (s.rooms.items ≡ []) × (shards ≤ vec_capacity s.rooms)) }
-        ensures stands { IfOk result (λ s. (s.stands.items ≡ []) × (shards ≤ vec_capacity s.stands)) }
+        ensures stands { IfOk result (λ s. (s.stands.items ≡ [])
+            × (shards ≤ vec_capacity s.stands)) }
     {
         let clerks = Vec::with_capacity(alloc, shards)?;
         let Ok(rooms) = Vec::with_capacity(alloc, shards) else {
@@ -71,7 +73,8 @@ fn hire<H: Hall>(
     requires depot { H.depot ≡ Some floor.now.depot }
     requires there { position < length floor.now.office.lanes.items }
     requires stand { IsStand floor.now position stand }
-    ensures { (result.1.items ≡ []) × (length floor.now.depot.channels.items ≤ vec_capacity result.1) }
+    ensures { (result.1.items ≡ [])
+        × (length floor.now.depot.channels.items ≤ vec_capacity result.1) }
 {
     let Stand { stall, room } = stand;
     (Mutex::new(Clerk::new(stall)), room)
@@ -84,15 +87,19 @@ pub fn hire_all<H: Hall>(floor: &Floor, mut stands: Vec<Stand>, mut staff: Staff
     requires depot { H.depot ≡ Some floor.now.depot }
 
     // There is a stand for each shard, at its number, which has taken nothing and sent nothing.
-    requires stands { AllAt (IsStand floor.now) 0 stands.items × (vec_len stands ≡ length floor.now.office.lanes.items) }
+    requires stands { AllAt (IsStand floor.now) 0 stands.items
+        × (vec_len stands ≡ length floor.now.office.lanes.items) }
 
     // Nobody is hired yet, and there is room for all.
-    requires clerks { (staff.clerks.items ≡ []) × (length floor.now.office.lanes.items ≤ vec_capacity staff.clerks) }
-    requires rooms { (staff.rooms.items ≡ []) × (length floor.now.office.lanes.items ≤ vec_capacity staff.rooms) }
+    requires clerks { (staff.clerks.items ≡ [])
+        × (length floor.now.office.lanes.items ≤ vec_capacity staff.clerks) }
+    requires rooms { (staff.rooms.items ≡ [])
+        × (length floor.now.office.lanes.items ≤ vec_capacity staff.rooms) }
 
     // There is a clerk for each lane, and for each an empty list with room for what is left of all its senders.
     ensures clerks { vec_len result.clerks ≡ length floor.now.office.lanes.items }
-    ensures rooms { AreRooms (length floor.now.office.lanes.items) (length floor.now.depot.channels.items) result.rooms }
+    ensures rooms { AreRooms (length floor.now.office.lanes.items)
+        (length floor.now.depot.channels.items) result.rooms }
     ensures stands { result.stands ≡ staff.stands }
 {
     for position in 0..floor.office.lanes.len() {
@@ -114,7 +121,8 @@ fn dismiss<H: Hall, R: Wait, G: Gate>(
 ) -> (u8, Consumed)
     requires lanes { H.lanes ≡ Some floor.now.office.lanes.items }
     requires depot { H.depot ≡ Some floor.now.depot }
-    requires room { (room.items ≡ []) × (length floor.now.depot.channels.items ≤ vec_capacity room) }
+    requires room { (room.items ≡ [])
+        × (length floor.now.depot.channels.items ≤ vec_capacity room) }
     ensures service { IsService floor.now.office.lanes.items floor.now.depot result.0 result.1 }
     ensures count { vec_len result.1.senders ≡ length floor.now.depot.channels.items }
     ensures none { (result.1.taken.items ≡ []) × (result.1.kept ≡ false) }
@@ -142,18 +150,25 @@ pub fn dismiss_all<H: Hall, R: Wait, G: Gate>(
 
     // There is a clerk for each lane, and for each an empty list with room for what is left of all its senders.
     requires clerks { vec_len staff.clerks ≡ length floor.now.office.lanes.items }
-    requires rooms { AreRooms (length floor.now.office.lanes.items) (length floor.now.depot.channels.items) staff.rooms }
+    requires rooms { AreRooms (length floor.now.office.lanes.items)
+        (length floor.now.depot.channels.items) staff.rooms }
     requires stands { staff.stands.items ≡ [] }
-    requires consumed { (consumed.items ≡ []) × (length floor.now.office.lanes.items ≤ vec_capacity consumed) }
+    requires consumed { (consumed.items ≡ [])
+        × (length floor.now.office.lanes.items ≤ vec_capacity consumed) }
     ensures count { vec_len result.consumed ≡ length floor.now.office.lanes.items }
 
     // Where they stood in order: the i-th left what a consumer of shard i leaves, and at one moment nothing waited on its lane.
-    ensures services { result.in_order ≡ true → AllAt (IsService floor.now.office.lanes.items floor.now.depot) 0 result.consumed.items }
-    ensures permits { result.in_order ≡ true → AreConsumers floor.now.office.lanes.items (map (λ c. c.permit) result.consumed.items) }
-    ensures hands { result.in_order ≡ true → AreSenderEndedHands floor.now.depot.channels.items 0 (map (λ c. c.senders.items) result.consumed.items) }
+    ensures services { result.in_order ≡ true
+        → AllAt (IsService floor.now.office.lanes.items floor.now.depot) 0 result.consumed.items }
+    ensures permits { result.in_order ≡ true
+        → AreConsumers floor.now.office.lanes.items (map (λ c. c.permit) result.consumed.items) }
+    ensures hands { result.in_order ≡ true
+        → AreSenderEndedHands floor.now.depot.channels.items 0 (map (λ c.
+        c.senders.items) result.consumed.items) }
 
     // In whatever order, each left what is left of a sender for each channel, and kept no copy.
-    ensures senders { All (λ c. vec_len c.senders ≡ length floor.now.depot.channels.items) result.consumed.items }
+    ensures senders { All (λ c. vec_len c.senders
+        ≡ length floor.now.depot.channels.items) result.consumed.items }
     ensures none { All (λ c. (c.taken.items ≡ []) × (c.kept ≡ false)) result.consumed.items }
 {
     let Staff {
@@ -176,7 +191,8 @@ pub fn dismiss_all<H: Hall, R: Wait, G: Gate>(
 // The stand of the clerk behind a lock, with the room that was there.
 fn leave_stand<H: Hall>(clerk: Mutex<Clerk<H>>, room: Vec<SenderEnded<Noted>>) -> Stand
     requires room { room.items ≡ [] }
-    ensures senders { (depot : Depot) → H.depot ≡ Some depot → vec_len result.stall.senders ≡ length depot.channels.items }
+    ensures senders { (depot : Depot) → H.depot ≡ Some depot
+        → vec_len result.stall.senders ≡ length depot.channels.items }
     ensures room { result.room.items ≡ [] }
 {
     let clerk = clerk.into_inner();
@@ -194,12 +210,15 @@ pub fn stand_down<H: Hall>(floor: &Floor, staff: Staff<H>) -> Vec<Stand>
 
     // There is a clerk for each lane, and for each an empty list with room for what is left of all its senders.
     requires clerks { vec_len staff.clerks ≡ length floor.now.office.lanes.items }
-    requires rooms { AreRooms (length floor.now.office.lanes.items) (length floor.now.depot.channels.items) staff.rooms }
-    requires stands { (staff.stands.items ≡ []) × (length floor.now.office.lanes.items ≤ vec_capacity staff.stands) }
+    requires rooms { AreRooms (length floor.now.office.lanes.items)
+        (length floor.now.depot.channels.items) staff.rooms }
+    requires stands { (staff.stands.items ≡ [])
+        × (length floor.now.office.lanes.items ≤ vec_capacity staff.stands) }
     ensures count { vec_len result ≡ length floor.now.office.lanes.items }
 
     // Each has a sender for each channel, and nothing lies in its room.
-    ensures stands { All (λ s. (vec_len s.stall.senders ≡ length floor.now.depot.channels.items) × (s.room.items ≡ [])) result.items }
+    ensures stands { All (λ s. (vec_len s.stall.senders ≡ length floor.now.depot.channels.items)
+        × (s.room.items ≡ [])) result.items }
 {
     let Staff {
         mut clerks,

@@ -35,14 +35,17 @@ pub(crate) fn take_turn<R: Wait, G: Gate>(
 ) -> Turn
     requires permit { IsConsumer lane.now stall.old.permit }
     requires senders { AreSenders depot.now.channels.items stall.old.shard stall.old.senders.items }
-    requires answered { HaveAnswered (length depot.now.mailboxes.items) (length depot.now.channels.items) stall.old.shard
+    requires answered { HaveAnswered (length depot.now.mailboxes.items)
+        (length depot.now.channels.items) stall.old.shard
         (got stall.old.permit) [] (map sent_on stall.old.senders.items) }
     ensures shard { stall.new.shard ≡ stall.old.shard }
     ensures permit { IsConsumer lane.now stall.new.permit }
     ensures senders { AreSenders depot.now.channels.items stall.old.shard stall.new.senders.items }
-    ensures answered { HaveAnswered (length depot.now.mailboxes.items) (length depot.now.channels.items) stall.old.shard
+    ensures answered { HaveAnswered (length depot.now.mailboxes.items)
+        (length depot.now.channels.items) stall.old.shard
         (got stall.new.permit) [] (map sent_on stall.new.senders.items) }
-    ensures turned { Turned (length depot.now.mailboxes.items) (length depot.now.channels.items) lane.now stall.old.permit result stall.new.permit }
+    ensures turned { Turned (length depot.now.mailboxes.items) (length depot.now.channels.items)
+        lane.now stall.old.permit result stall.new.permit }
 {
     pace.pass();
     match lane.take_as(rt, &mut stall.permit) {

@@ -93,8 +93,10 @@ impl Leaving {
         requires before { before ≡ below index self.old.gone.items }
         requires counts { All (λ other. other ≢ index) self.old.gone.items }
         ensures gone { AreIn self.new.gone.items view.new.items }
-        ensures counted { counted self.new.gone.items view.new.items ≡ remove (counted self.old.gone.items view.old.items) (index - before) }
-        ensures rising { (later : List ℕ) → IsStrictlyIncreasing (view.old.items ++ later) → IsStrictlyIncreasing (view.new.items ++ later) }
+        ensures counted { counted self.new.gone.items view.new.items
+            ≡ remove (counted self.old.gone.items view.old.items) (index - before) }
+        ensures rising { (later : List ℕ) → IsStrictlyIncreasing (view.old.items ++ later)
+            → IsStrictlyIncreasing (view.new.items ++ later) }
         ensures len { vec_len view.new ≤ vec_len view.old }
         ensures capacity { vec_capacity view.new ≡ vec_capacity view.old }
     {
@@ -115,10 +117,12 @@ impl Leaving {
 
         // What counts is what did before, without this UID; the indices that are gone still lie in the view and rise.
         ensures gone { AreIn self.new.gone.items view.new.items }
-        ensures counted { counted self.new.gone.items view.new.items ≡ without uid (counted self.old.gone.items view.old.items) }
+        ensures counted { counted self.new.gone.items view.new.items
+            ≡ without uid (counted self.old.gone.items view.old.items) }
 
         // Where the view rose, with any UIDs that are still to come behind it, it does so still.
-        ensures rising { (later : List ℕ) → IsStrictlyIncreasing (view.old.items ++ later) → IsStrictlyIncreasing (view.new.items ++ later) }
+        ensures rising { (later : List ℕ) → IsStrictlyIncreasing (view.old.items ++ later)
+            → IsStrictlyIncreasing (view.new.items ++ later) }
 
         // The answer is the position that the message had among the UIDs that counted.
         ensures position { result ≡ position uid (counted self.old.gone.items view.old.items) }
@@ -176,7 +180,8 @@ fn index_near(view: &[u32], uid: u32, near: usize) -> usize
 // Whether a UID of a view stands right behind the index `near`: it does where one message after
 // another is told of.
 fn is_next(view: &[u32], uid: u32, near: usize) -> bool
-    ensures { (result ≡ true) ↔ ((near + 1 < length view.now) × (slice_index view.now (near + 1) ≡ uid)) }
+    ensures { (result ≡ true)
+        ↔ ((near + 1 < length view.now) × (slice_index view.now (near + 1) ≡ uid)) }
 {
     near < view.len().saturating_sub(1) && view[near + 1] == uid
 }

@@ -43,7 +43,8 @@ fn put_number(number: usize, out: &mut Vec<u8>)
 fn put_flag(set: bool, word: &[u8], first: bool, out: &mut Vec<u8>) -> bool
     requires { vec_len out.old + 1 + length word.now ≤ vec_capacity out.old }
     ensures first { result ≡ (first && not set) }
-    ensures items { out.new.items ≡ out.old.items ++ (if set then (if first then word.now else 32 ∷ word.now) else []) }
+    ensures items { out.new.items
+        ≡ out.old.items ++ (if set then (if first then word.now else 32 ∷ word.now) else []) }
     ensures len { vec_len out.new ≤ vec_len out.old + 1 + length word.now }
     ensures capacity { vec_capacity out.old ≤ vec_capacity out.new }
 {
@@ -112,10 +113,13 @@ fn show_change(change: Change, leaving: &mut Leaving, view: &mut Vec<u32>, out: 
     requires out_room { vec_len out.old + LINE_ROOM ≤ vec_capacity out.old }
 
     ensures gone { AreIn leaving.new.gone.items view.new.items }
-    ensures view { counted leaving.new.gone.items view.new.items ≡ shown (counted leaving.old.gone.items view.old.items) change }
-    ensures rising { (later : List Change) → IsStrictlyIncreasing (view.old.items ++ added (change ∷ later))
+    ensures view { counted leaving.new.gone.items view.new.items
+        ≡ shown (counted leaving.old.gone.items view.old.items) change }
+    ensures rising { (later : List Change)
+        → IsStrictlyIncreasing (view.old.items ++ added (change ∷ later))
         → IsStrictlyIncreasing (view.new.items ++ added later) }
-    ensures text { out.new.items ≡ out.old.items ++ line (counted leaving.old.gone.items view.old.items) change }
+    ensures text { out.new.items
+        ≡ out.old.items ++ line (counted leaving.old.gone.items view.old.items) change }
 
     ensures view_len { vec_len view.new ≤ vec_len view.old + 1 }
     ensures view_capacity { vec_capacity view.old ≤ vec_capacity view.new }

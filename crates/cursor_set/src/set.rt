@@ -77,8 +77,10 @@ impl Cursor {
         requires legal { IsLegalOn self.old.view.items (first.now ++ rest.now) }
         requires small { self.old.at + length (first.now ++ rest.now) < 2 ^ 64 }
         requires counted { length first.now + length rest.now < 2 ^ 64 }
-        ensures cursor { OnOk result (open_of self.new ≡ after_showing (first.now ++ rest.now) (open_of self.old)) }
-        ensures text { OnOk result (out.new.items ≡ out.old.items ++ lines self.old.view.items (first.now ++ rest.now)) }
+        ensures cursor { OnOk result (open_of self.new
+            ≡ after_showing (first.now ++ rest.now) (open_of self.old)) }
+        ensures text { OnOk result (out.new.items
+            ≡ out.old.items ++ lines self.old.view.items (first.now ++ rest.now)) }
         ensures err { OnErr result (open_of self.new ≡ open_of self.old) }
         ensures err_text { OnErr result (out.new.items ≡ out.old.items) }
         ensures nothing { length (first.now ++ rest.now) ≡ 0 → IsOk result }
@@ -105,13 +107,17 @@ fn show_in(
     rest: &[Change],
     out: &mut Vec<u8>,
 ) -> Result<(), AllocError>
-    requires legal { (c : Cursor) → get slots.old slot ≡ Some c → IsLegalOn c.view.items (first.now ++ rest.now) }
-    requires small { (c : Cursor) → get slots.old slot ≡ Some c → c.at + length (first.now ++ rest.now) < 2 ^ 64 }
+    requires legal { (c : Cursor) → get slots.old slot ≡ Some c
+        → IsLegalOn c.view.items (first.now ++ rest.now) }
+    requires small { (c : Cursor) → get slots.old slot ≡ Some c
+        → c.at + length (first.now ++ rest.now) < 2 ^ 64 }
     requires counted { length first.now + length rest.now < 2 ^ 64 }
     ensures cursor { OnOk result (option_map open_of (get slots.new slot)
-        ≡ option_map (λ c. after_showing (first.now ++ rest.now) (open_of c)) (get slots.old slot)) }
+        ≡ option_map (λ c. after_showing (first.now
+        ++ rest.now) (open_of c)) (get slots.old slot)) }
     ensures others { (other : ℕ) → other ≢ slot → get slots.new other ≡ get slots.old other }
-    ensures text { OnOk result (IfSome (get slots.old slot) (λ c. out.new.items ≡ out.old.items ++ lines c.view.items (first.now ++ rest.now))) }
+    ensures text { OnOk result (IfSome (get slots.old slot) (λ c.
+        out.new.items ≡ out.old.items ++ lines c.view.items (first.now ++ rest.now))) }
     ensures err { OnErr result (opened slots.new.slots ≡ opened slots.old.slots) }
     ensures err_text { OnErr result (out.new.items ≡ out.old.items) }
     ensures nothing { length (first.now ++ rest.now) ≡ 0 → IsOk result }
@@ -127,7 +133,8 @@ fn show_in(
 fn lend_next(ring: &ChangeRing, at: u64, limit: usize) -> (&[Change], &[Change])
     requires kept { ring.now.base ≤ at }
     requires logged { at ≤ total ring.now }
-    ensures changes { result.0.now ++ result.1.now ≡ next_changes ring.now at (min limit (total ring.now - at)) }
+    ensures changes { result.0.now ++ result.1.now
+        ≡ next_changes ring.now at (min limit (total ring.now - at)) }
     ensures count { length result.0.now + length result.1.now ≡ min limit (total ring.now - at) }
     ensures small { at + (length result.0.now + length result.1.now) ≤ 2 ^ 62 }
 {
@@ -155,7 +162,8 @@ fn lower(least: Option<u64>, number: u64) -> u64
 
 // The least number of a cursor in these slots that isn't below base.
 fn least_in(slots: &Slab<Cursor>, base: u64) -> Option<u64>
-    ensures none { IfNone result (All (λ number. number < base) (map (λ c. c.at) (values slots.now))) }
+    ensures none { IfNone result (All (λ number.
+        number < base) (map (λ c. c.at) (values slots.now))) }
     ensures least { IfSome result (IsLeastFrom base (map (λ c. c.at) (values slots.now))) }
 {
     let mut least = None;
@@ -212,7 +220,8 @@ impl CursorSet {
         // A serial is left for it, as `can_open` tells.
         requires { self.old.next < 2 ^ 64 - 1 }
         // The handle has the serial that was due and stands at the number `at`; the slot was vacant.
-        ensures handle { IfOk result (λ handle. (handle.number ≡ self.old.number) × (handle.serial ≡ self.old.next) × (handle.at ≡ at)) }
+        ensures handle { IfOk result (λ handle. (handle.number ≡ self.old.number)
+            × (handle.serial ≡ self.old.next) × (handle.at ≡ at)) }
         ensures vacant { IfOk result (λ handle. in_slot self.old handle.slot ≡ None) }
 
         // The new cursor is in its slot, and no other slot has changed; the next cursor gets the next serial.
@@ -252,7 +261,8 @@ impl CursorSet {
 
     /// The UIDs that a client counts, in their order. Stranger where the handle has no cursor here.
     pub fn view(&self, handle: &CursorHandle) -> Result<&[u32], Stranger>
-        ensures ok { IfOk result (λ view. option_map (λ o. o.view) (held self.now handle.now) ≡ Some view.now) }
+        ensures ok { IfOk result (λ view. option_map (λ o. o.view) (held self.now handle.now)
+            ≡ Some view.now) }
         ensures stranger { IsErr result ↔ (held self.now handle.now ≡ None) }
     {
         match self.find(handle) {
@@ -271,7 +281,8 @@ impl CursorSet {
         ensures next { self.new.next ≡ self.old.next }
 
         // After an error the handle comes back, it had no cursor here, and nothing has changed.
-        ensures stranger { IfErr result (λ back. (back ≡ handle) × (held self.old handle ≡ None) × (self.new ≡ self.old)) }
+        ensures stranger { IfErr result (λ back. (back ≡ handle) × (held self.old handle ≡ None)
+            × (self.new ≡ self.old)) }
     {
         if self.find(&handle).is_none() {
             return Err(handle);
@@ -304,25 +315,33 @@ impl CursorSet {
         out: &mut Vec<u8>,
     ) -> Result<usize, FeedFault>
         // What is pending for the handle's cursor, if it isn't lapped, is within the log and legal on what its client counts.
-        requires known { (o : Open) → held self.old handle.old ≡ Some o → ring.now.base ≤ handle.old.at →
-            (handle.old.at ≤ total ring.now) × IsLegalOn o.view (changes_from handle.old.at ring.now) }
+        requires known { (o : Open) → held self.old handle.old ≡ Some o
+            → ring.now.base ≤ handle.old.at →
+            (handle.old.at ≤ total ring.now)
+            × IsLegalOn o.view (changes_from handle.old.at ring.now) }
 
         // Stranger exactly where the handle has no cursor here, Lapped exactly where it has and the next change was overwritten.
         ensures stranger { (result ≡ Err FeedFault.Stranger) ↔ (held self.old handle.old ≡ None) }
-        ensures lapped { (result ≡ Err FeedFault.Lapped) ↔ (IsSome (held self.old handle.old) × (handle.old.at < ring.now.base)) }
+        ensures lapped { (result ≡ Err FeedFault.Lapped)
+            ↔ (IsSome (held self.old handle.old) × (handle.old.at < ring.now.base)) }
         // NoMemory comes only where there is something to show. After an error nothing has changed, nor was anything written.
-        ensures memory { (result ≡ Err FeedFault.NoMemory) → 0 < min limit (total ring.now - handle.old.at) }
-        ensures err { OnErr result ((self.new ≡ self.old) × (handle.new ≡ handle.old) × (out.new.items ≡ out.old.items)) }
+        ensures memory { (result ≡ Err FeedFault.NoMemory)
+            → 0 < min limit (total ring.now - handle.old.at) }
+        ensures err { OnErr result ((self.new ≡ self.old) × (handle.new ≡ handle.old)
+            × (out.new.items ≡ out.old.items)) }
 
         // It shows as many as are pending, up to `limit`: their lines, as the client counts, go behind `out`.
         ensures count { IfOk result (λ n. n ≡ min limit (total ring.now - handle.old.at)) }
         ensures shown { IfOk result (λ n. IfSome (held self.old handle.old) (λ o.
-            out.new.items ≡ out.old.items ++ lines o.view (next_changes ring.now handle.old.at n))) }
+            out.new.items ≡ out.old.items
+            ++ lines o.view (next_changes ring.now handle.old.at n))) }
 
         // Handle and cursor go on by as many, the view is what the changes make of it, and no other slot has changed.
-        ensures handle { IfOk result (λ n. handle.new ≡ record handle.old { at = handle.old.at + n }) }
+        ensures handle { IfOk result (λ n.
+            handle.new ≡ record handle.old { at = handle.old.at + n }) }
         ensures moved { IfOk result (λ n. Updates self.old self.new handle.old.slot
-            (option_map (after_showing (next_changes ring.now handle.old.at n)) (held self.old handle.old))) }
+            (option_map (after_showing (next_changes ring.now handle.old.at n))
+            (held self.old handle.old))) }
         // The serial of the next cursor stays, and `out` keeps its room or has more.
         ensures next { self.new.next ≡ self.old.next }
         ensures room { vec_capacity out.old ≤ vec_capacity out.new }

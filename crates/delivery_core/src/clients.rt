@@ -35,22 +35,30 @@ impl DeliveryCore {
         // Stranger exactly where no mailbox is entered; Spent never; NoMemory only where there is something to show.
         ensures stranger { (result ≡ Err MailFault.Stranger) ↔ (client_of self.old session ≡ None) }
         ensures spent { result ≢ Err MailFault.Spent }
-        ensures memory { result ≡ Err MailFault.NoMemory → 0 < length (take limit (pending_for self.old session)) }
+        ensures memory { result ≡ Err MailFault.NoMemory
+            → 0 < length (take limit (pending_for self.old session)) }
 
         // With a mailbox entered: from each world for which it stood, the event leads to one for which it stands, and the answer is true.
         ensures event { IsSome (client_of self.old session) → (k : Config) →
-            Does k self.old (Feed session limit) session (Feeds limit out.old.items out.new.items result) self.new }
+            Does k self.old (Feed session limit) session
+            (Feeds limit out.old.items out.new.items result) self.new }
         // After Ok: for each world for which it stood it stands for one where the session was shown these changes, and nothing else changed.
-        ensures done { OnOk result ((k : Config) → Makes k self.old session (λ b s. take limit (pending b s)) (λ b. []) self.new) }
+        ensures done { OnOk result ((k : Config)
+            → Makes k self.old session (λ b s. take limit (pending b s)) (λ b. []) self.new) }
         // The lines of these changes go behind `out`, and the session counts the UIDs that they leave.
-        ensures shown { IfOk result (λ n. Sees self.old self.new session (take n (pending_for self.old session)) out.old.items out.new.items) }
+        ensures shown { IfOk result (λ n.
+            Sees self.old self.new session (take n (pending_for self.old session)) out.old.items
+            out.new.items) }
         // The answer is how many, `limit` or, where that is less, all that it was behind; it is behind by as many less.
-        ensures count { IfOk result (λ n. (n ≤ limit) × (length (take n (pending_for self.old session)) ≡ n)) }
-        ensures less { IfOk result (λ n. (n ≡ min limit (behind self.old session)) × (behind self.new session + n ≡ behind self.old session)) }
+        ensures count { IfOk result (λ n. (n ≤ limit)
+            × (length (take n (pending_for self.old session)) ≡ n)) }
+        ensures less { IfOk result (λ n. (n ≡ min limit (behind self.old session))
+            × (behind self.new session + n ≡ behind self.old session)) }
 
         // Nothing between seats and mailboxes has changed, no mailbox has other settings, and there are as many of each.
         ensures rest { SameDelivery self.old self.new }
-        ensures same { OnOk result ((m : ℕ) (d : Mailbox) → SameMailbox (slice_index_or self.old.boxes m d) (slice_index_or self.new.boxes m d)) }
+        ensures same { OnOk result ((m : ℕ) (d : Mailbox)
+            → SameMailbox (slice_index_or self.old.boxes m d) (slice_index_or self.new.boxes m d)) }
         ensures counts { SameCounts self.old self.new }
         // `out` keeps its room or has more.
         ensures room { vec_capacity out.old ≤ vec_capacity out.new }
@@ -84,13 +92,17 @@ impl DeliveryCore {
 
         // With a mailbox entered: from each world for which it stood, the event leads to one for which it stands, and the answer is true.
         ensures event { IsSome (client_of self.old session) → (k : Config) →
-            Does k self.old (Read session uid mark_seen) session (Reads mark_seen uid result) self.new }
+            Does k self.old (Read session uid mark_seen) session (Reads mark_seen uid result)
+            self.new }
         // After Ok: for each world for which it stood it stands for one where at most \Seen was logged, if asked for, and nothing else changed.
-        ensures done { OnOk result ((k : Config) → Makes k self.old session (λ b s. []) (λ b. seen_logged mark_seen (rows_of b.log) uid) self.new) }
+        ensures done { OnOk result ((k : Config)
+            → Makes k self.old session (λ b s. []) (λ b.
+            seen_logged mark_seen (rows_of b.log) uid) self.new) }
 
         // Nothing between seats and mailboxes has changed, no mailbox has other settings, and there are as many of each.
         ensures rest { SameDelivery self.old self.new }
-        ensures same { OnOk result ((m : ℕ) (d : Mailbox) → SameMailbox (slice_index_or self.old.boxes m d) (slice_index_or self.new.boxes m d)) }
+        ensures same { OnOk result ((m : ℕ) (d : Mailbox)
+            → SameMailbox (slice_index_or self.old.boxes m d) (slice_index_or self.new.boxes m d)) }
         ensures counts { SameCounts self.old self.new }
 
         // After an error nothing has changed.
@@ -119,14 +131,17 @@ impl DeliveryCore {
         ensures event { IsSome (client_of self.old session) → (k : Config) →
             Does k self.old (Store session uid op) session (Alters uid op result) self.new }
         // After Ok: for each world for which it stood it stands for one where the flags are logged, if they are others, and nothing else changed.
-        ensures done { OnOk result ((k : Config) → Makes k self.old session (λ b s. []) (λ b. flags_logged (rows_of b.log) uid op) self.new) }
+        ensures done { OnOk result ((k : Config)
+            → Makes k self.old session (λ b s. []) (λ b.
+            flags_logged (rows_of b.log) uid op) self.new) }
 
         // No session is shown anything: clients and view stay.
         ensures clients { self.new.clients ≡ self.old.clients }
         ensures view { view_of self.new session ≡ view_of self.old session }
         // Nothing between seats and mailboxes has changed, no mailbox has other settings, and there are as many of each.
         ensures rest { SameDelivery self.old self.new }
-        ensures same { OnOk result ((m : ℕ) (d : Mailbox) → SameMailbox (slice_index_or self.old.boxes m d) (slice_index_or self.new.boxes m d)) }
+        ensures same { OnOk result ((m : ℕ) (d : Mailbox)
+            → SameMailbox (slice_index_or self.old.boxes m d) (slice_index_or self.new.boxes m d)) }
         ensures counts { SameCounts self.old self.new }
 
         // After an error nothing has changed.
@@ -155,21 +170,29 @@ impl DeliveryCore {
     ) -> Result<usize, MailFault>
         // Stranger exactly where no mailbox is entered; NoMemory only where something is pending.
         ensures stranger { (result ≡ Err MailFault.Stranger) ↔ (client_of self.old session ≡ None) }
-        ensures memory { result ≡ Err MailFault.NoMemory → 0 < length (pending_for self.old session) }
+        ensures memory { result ≡ Err MailFault.NoMemory
+            → 0 < length (pending_for self.old session) }
 
         // With a mailbox entered: from each world for which it stood, the event leads to one for which it stands, and the answer is true.
         ensures event { IsSome (client_of self.old session) → (k : Config) →
-            Does k self.old (Expunge session (in_set (option_map (λ uids. uids.now) uids.entry))) session
-            (Expunges (in_set (option_map (λ uids. uids.now) uids.entry)) out.old.items out.new.items result) self.new }
+            Does k self.old (Expunge session (in_set (option_map (λ uids.
+            uids.now) uids.entry))) session
+            (Expunges (in_set (option_map (λ uids.
+            uids.now) uids.entry)) out.old.items out.new.items result) self.new }
         // After Ok: for each world for which it stood it stands for one where all pending was shown and what goes logged, and nothing else changed.
-        ensures done { OnOk result ((k : Config) → Makes k self.old session (λ b s. pending b s) (λ b.
-            removals (in_set (option_map (λ uids. uids.now) uids.entry)) (rows_of b.log)) self.new) }
+        ensures done { OnOk result ((k : Config)
+            → Makes k self.old session (λ b s. pending b s) (λ b.
+            removals (in_set (option_map (λ uids.
+            uids.now) uids.entry)) (rows_of b.log)) self.new) }
         // The lines of all that was pending go behind `out`, and the session counts the UIDs that they leave.
-        ensures shown { OnOk result (Sees self.old self.new session (pending_for self.old session) out.old.items out.new.items) }
+        ensures shown { OnOk result
+            (Sees self.old self.new session (pending_for self.old session) out.old.items
+            out.new.items) }
 
         // Nothing between seats and mailboxes has changed, no mailbox has other settings, and there are as many of each.
         ensures rest { SameDelivery self.old self.new }
-        ensures same { OnOk result ((m : ℕ) (d : Mailbox) → SameMailbox (slice_index_or self.old.boxes m d) (slice_index_or self.new.boxes m d)) }
+        ensures same { OnOk result ((m : ℕ) (d : Mailbox)
+            → SameMailbox (slice_index_or self.old.boxes m d) (slice_index_or self.new.boxes m d)) }
         ensures counts { SameCounts self.old self.new }
         // `out` keeps its room or has more.
         ensures room { vec_capacity out.old ≤ vec_capacity out.new }
@@ -196,21 +219,27 @@ impl DeliveryCore {
     /// no serial left for a cursor, else NoMemory; nothing is then changed.
     pub fn enter(&mut self, session: u8, mailbox: u8) -> Result<Opening, MailFault>
         // Stranger exactly where there is no such session or mailbox, or the session has entered one already; Lapped never.
-        ensures stranger { (result ≡ Err MailFault.Stranger) ↔ ((length self.old.clients ≤ session) ⊎
+        ensures stranger { (result ≡ Err MailFault.Stranger)
+            ↔ ((length self.old.clients ≤ session) ⊎
             (IsSome (client_of self.old session) ⊎ (length self.old.boxes ≤ mailbox))) }
         ensures lapsed { result ≢ Err MailFault.Lapped }
         // Spent only where the mailbox has no serial left for a cursor.
-        ensures spent { result ≡ Err MailFault.Spent → (d : Mailbox) → 2 ^ 64 - 1 ≤ (slice_index_or self.old.boxes mailbox d).cursors.next }
+        ensures spent { result ≡ Err MailFault.Spent → (d : Mailbox)
+            → 2 ^ 64 - 1 ≤ (slice_index_or self.old.boxes mailbox d).cursors.next }
 
         // Unless Stranger: from each world for which it stood, the event leads to one for which it stands, and the answer is true.
-        ensures event { result ≢ Err MailFault.Stranger → (k : Config) → Enters k self.old session mailbox result self.new }
+        ensures event { result ≢ Err MailFault.Stranger → (k : Config)
+            → Enters k self.old session mailbox result self.new }
         // The session is in this mailbox now, and is told its UIDVALIDITY.
-        ensures entered { OnOk result (option_map (λ client. client.mailbox) (client_of self.new session) ≡ Some mailbox) }
-        ensures validity { IfOk result (λ opening. (d : Mailbox) → opening.uidvalidity ≡ (slice_index_or self.old.boxes mailbox d).uidvalidity) }
+        ensures entered { OnOk result (option_map (λ client.
+            client.mailbox) (client_of self.new session) ≡ Some mailbox) }
+        ensures validity { IfOk result (λ opening. (d : Mailbox)
+            → opening.uidvalidity ≡ (slice_index_or self.old.boxes mailbox d).uidvalidity) }
 
         // Nothing between seats and mailboxes has changed, no mailbox has other settings, and there are as many of each.
         ensures rest { SameDelivery self.old self.new }
-        ensures same { OnOk result ((m : ℕ) (d : Mailbox) → SameMailbox (slice_index_or self.old.boxes m d) (slice_index_or self.new.boxes m d)) }
+        ensures same { OnOk result ((m : ℕ) (d : Mailbox)
+            → SameMailbox (slice_index_or self.old.boxes m d) (slice_index_or self.new.boxes m d)) }
         ensures counts { SameCounts self.old self.new }
 
         // After an error nothing has changed.
@@ -241,7 +270,8 @@ impl DeliveryCore {
     pub fn leave(&mut self, session: u8, remove: bool) -> Result<usize, MailFault>
         // Stranger exactly where no mailbox is entered; the only other fault is Spent.
         ensures stranger { (result ≡ Err MailFault.Stranger) ↔ (client_of self.old session ≡ None) }
-        ensures faults { IfErr result (λ fault. (fault ≡ MailFault.Stranger) ⊎ (fault ≡ MailFault.Spent)) }
+        ensures faults { IfErr result (λ fault. (fault ≡ MailFault.Stranger)
+            ⊎ (fault ≡ MailFault.Spent)) }
 
         // With a mailbox entered: from each world for which it stood, the event leads to one for which it stands, and the answer is true.
         ensures event { IsSome (client_of self.old session) → (k : Config) →
@@ -251,7 +281,8 @@ impl DeliveryCore {
 
         // Nothing between seats and mailboxes has changed, no mailbox has other settings, and there are as many of each.
         ensures rest { SameDelivery self.old self.new }
-        ensures same { OnOk result ((m : ℕ) (d : Mailbox) → SameMailbox (slice_index_or self.old.boxes m d) (slice_index_or self.new.boxes m d)) }
+        ensures same { OnOk result ((m : ℕ) (d : Mailbox)
+            → SameMailbox (slice_index_or self.old.boxes m d) (slice_index_or self.new.boxes m d)) }
         ensures counts { SameCounts self.old self.new }
 
         // After an error nothing has changed.
@@ -304,9 +335,11 @@ impl DeliveryCore {
     /// Whether a session entered a mailbox and was shown all that is in its log: then a feed has nothing
     /// to show it. It takes no memory.
     pub fn is_up_to_date(&self, session: u8) -> bool
-        ensures counted { (result ≡ true) ↔ (IsSome (client_of self.now session) × (behind self.now session ≡ 0)) }
+        ensures counted { (result ≡ true)
+            ↔ (IsSome (client_of self.now session) × (behind self.now session ≡ 0)) }
         ensures log { result ≡ true → (k : Config) (w : World) → StandsFor k self.now w →
-            Selected w session (λ s. ((w.box s.mailbox).base ≤ s.cursor) × (pending (w.box s.mailbox) s ≡ [])) }
+            Selected w session (λ s. ((w.box s.mailbox).base ≤ s.cursor)
+            × (pending (w.box s.mailbox) s ≡ [])) }
     {
         let place = usize::from(session);
         if place >= self.clients.len() {
@@ -323,9 +356,11 @@ impl DeliveryCore {
         // None exactly where the mailbox is not there.
         ensures there { IsSome result ↔ (mailbox < length self.now.boxes) }
         // In each world for which it stands, the counts are those of its log, and the size is that of the texts as they were accepted.
-        ensures status { IfSome result (λ status. (k : Config) (w : World) → StandsFor k self.now w → IsStatus k (w.box mailbox) status) }
+        ensures status { IfSome result (λ status. (k : Config) (w : World) → StandsFor k self.now w
+            → IsStatus k (w.box mailbox) status) }
         // The UIDVALIDITY is the mailbox's.
-        ensures validity { IfSome result (λ status. (d : Mailbox) → status.uidvalidity ≡ (slice_index_or self.now.boxes mailbox d).uidvalidity) }
+        ensures validity { IfSome result (λ status. (d : Mailbox)
+            → status.uidvalidity ≡ (slice_index_or self.now.boxes mailbox d).uidvalidity) }
     {
         let number = usize::from(mailbox);
         if number >= self.boxes.len() {

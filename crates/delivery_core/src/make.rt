@@ -92,7 +92,8 @@ pub fn new_boxes(
     requires { 0 < limits.ring }
     ensures count { IfOk result (λ v. length v.items ≡ count) }
     // Each has its position as its number, these settings, and an empty log.
-    ensures each { IfOk result (λ v. EachAt (λ m b. IsNewBox m uidvalidity first_uid limits.messages limits.ring
+    ensures each { IfOk result (λ v.
+        EachAt (λ m b. IsNewBox m uidvalidity first_uid limits.messages limits.ring
         (max limits.ring limits.ring_max) b) v.items) }
 {
     let mut boxes = Vec::new(alloc);

@@ -99,7 +99,8 @@ fn is_ended(seat: u8, lane: &PlainLane<Job>) -> bool
 
 // Delivers a copy to a mailbox.
 fn deliver_to(mailbox: &mut Mailbox, job: &Job) -> Verdict
-    ensures delivers { (k : Config) (w : Box) → StandsForBox k mailbox.old w → BoxDelivers k w job.now result mailbox.new }
+    ensures delivers { (k : Config) (w : Box) → StandsForBox k mailbox.old w
+        → BoxDelivers k w job.now result mailbox.new }
     ensures same { SameMailbox mailbox.old mailbox.new }
     ensures cursors { mailbox.new.cursors ≡ mailbox.old.cursors }
 {
@@ -126,7 +127,12 @@ fn put_in(
     text: &Text,
     flags: Flags,
 ) -> Option<Refusal>
-    ensures { LanePuts lane.old key.seat (record { key = key; mailbox = mailbox; text = text.now; flags = flags }) lane.new result }
+    ensures { LanePuts lane.old key.seat (record {
+      key = key;
+      mailbox = mailbox;
+      text = text.now;
+      flags = flags;
+    }) lane.new result }
 {
     if !lane.is_live(key.seat) {
         return Some(Refusal::Shut);
@@ -177,17 +183,20 @@ impl DeliveryCore {
         // A window has room for one change at least.
         requires { 0 < settings.limits.ring }
         // It stands for the world in which nothing has happened yet.
-        ensures stands { IfOk result (λ h. (k : Config) → IsFor k settings → StandsFor k h empty_world) }
+        ensures stands { IfOk result (λ h. (k : Config) → IsFor k settings
+            → StandsFor k h empty_world) }
         // There are as many of each as the settings say.
         ensures seats { IfOk result (λ h. length h.replies ≡ settings.seats) }
         ensures shards { IfOk result (λ h. length h.lanes ≡ settings.shards) }
         ensures mailboxes { IfOk result (λ h. length h.boxes ≡ settings.mailboxes) }
         // Each mailbox is new, with these settings; no session has entered one, and each seat begins with its least key.
         ensures boxes { IfOk result (λ h. EachAt
-            (λ m b. IsNewBox m settings.uidvalidity settings.first_uid settings.limits.messages settings.limits.ring
+            (λ m b. IsNewBox m settings.uidvalidity settings.first_uid settings.limits.messages
+            settings.limits.ring
             (max settings.limits.ring settings.limits.ring_max) b) h.boxes) }
         ensures clients { IfOk result (λ h. h.clients ≡ replicate settings.sessions None) }
-        ensures next { IfOk result (λ h. (p : ℕ) (d : CopyKey) → p < settings.seats → slice_index_or h.next p d ≡ first_key p) }
+        ensures next { IfOk result (λ h. (p : ℕ) (d : CopyKey) → p < settings.seats
+            → slice_index_or h.next p d ≡ first_key p) }
     {
         Ok(DeliveryCore {
             lanes: new_lanes(alloc, settings.shards, settings.depth, settings.seats)?,
@@ -254,12 +263,14 @@ impl DeliveryCore {
         ensures next { OnOk result (self.new.next ≡ slice_set self.old.next key.seat (past key)) }
 
         // An error only where the seat's log had no room for a note.
-        ensures memory { OnErr result ((d : WorkerLog) → (slice_index_or self.old.heard key.seat d).spare ≡ 0) }
+        ensures memory { OnErr result ((d : WorkerLog)
+            → (slice_index_or self.old.heard key.seat d).spare ≡ 0) }
         // Shut exactly where the seat had put its end into that lane.
         ensures shut { IfOk result (λ why. (why ≡ Some Refusal.Shut) ↔
             (is_ended key.seat (lane_of self.old (mailbox % length self.old.lanes)) ≡ true)) }
         // The seat has heard of a refusal, where there was one; nobody has heard anything else.
-        ensures heard { IfOk result (λ why. Hears self.old self.new key.seat (heard_at_once key mailbox why)) }
+        ensures heard { IfOk result (λ why.
+            Hears self.old self.new key.seat (heard_at_once key mailbox why)) }
 
         // Mailboxes and clients stay, and there are as many of each.
         ensures boxes { self.new.boxes ≡ self.old.boxes }
@@ -315,10 +326,13 @@ impl DeliveryCore {
     /// shard or seat is not there, and Nothing where it has ended there already or the lane is full.
     pub fn end(&mut self, seat: u8, shard: u8) -> Result<(), Fault>
         // After Ok: from each world for which it stood, the event leads to one for which it stands.
-        ensures follows { OnOk result ((k : Config) → Follows k self.old (PutEnd seat shard ∷ []) self.new) }
+        ensures follows { OnOk result ((k : Config)
+            → Follows k self.old (PutEnd seat shard ∷ []) self.new) }
         // Nobody exactly where shard or seat is not there; Nothing only where the event would change nothing.
-        ensures nobody { (result ≡ Err Fault.Nobody) ↔ ((length self.old.lanes ≤ shard) ⊎ (length self.old.replies ≤ seat)) }
-        ensures changes_nothing { result ≡ Err Fault.Nothing → (k : Config) → ChangesNothing k self.old (PutEnd seat shard) }
+        ensures nobody { (result ≡ Err Fault.Nobody)
+            ↔ ((length self.old.lanes ≤ shard) ⊎ (length self.old.replies ≤ seat)) }
+        ensures changes_nothing { result ≡ Err Fault.Nothing → (k : Config)
+            → ChangesNothing k self.old (PutEnd seat shard) }
 
         // After Ok the end waits behind all that waited: the seat had put none there, and there was room.
         ensures ends { OnOk result (Ends self.old self.new seat shard) }
@@ -354,10 +368,12 @@ impl DeliveryCore {
     /// not there, and Nothing where its hand is not empty or nothing waits.
     pub fn take(&mut self, shard: u8) -> Result<(), Fault>
         // After Ok: from each world for which it stood, the event leads to one for which it stands.
-        ensures follows { OnOk result ((k : Config) → Follows k self.old (Take shard ∷ []) self.new) }
+        ensures follows { OnOk result ((k : Config)
+            → Follows k self.old (Take shard ∷ []) self.new) }
         // Nobody exactly where the shard is not there; Nothing only where the event would change nothing.
         ensures nobody { (result ≡ Err Fault.Nobody) ↔ (length self.old.lanes ≤ shard) }
-        ensures changes_nothing { result ≡ Err Fault.Nothing → (k : Config) → ChangesNothing k self.old (Take shard) }
+        ensures changes_nothing { result ≡ Err Fault.Nothing → (k : Config)
+            → ChangesNothing k self.old (Take shard) }
 
         // No seat has heard anything, and the keys stay; mailboxes and clients too, and there are as many of each.
         ensures heard { self.new.heard ≡ self.old.heard }
@@ -391,16 +407,19 @@ impl DeliveryCore {
     /// the verdict. Nobody where the shard is not there, and Nothing where it has no copy in hand.
     pub fn deliver(&mut self, shard: u8) -> Result<(), Fault>
         // After Ok: from each world for which it stood, the event leads to one for which it stands.
-        ensures follows { OnOk result ((k : Config) → Follows k self.old (Deliver shard ∷ []) self.new) }
+        ensures follows { OnOk result ((k : Config)
+            → Follows k self.old (Deliver shard ∷ []) self.new) }
         // Nobody exactly where the shard is not there; Nothing only where the event would change nothing.
         ensures nobody { (result ≡ Err Fault.Nobody) ↔ (length self.old.lanes ≤ shard) }
-        ensures changes_nothing { result ≡ Err Fault.Nothing → (k : Config) → ChangesNothing k self.old (Deliver shard) }
+        ensures changes_nothing { result ≡ Err Fault.Nothing → (k : Config)
+            → ChangesNothing k self.old (Deliver shard) }
 
         // No seat has heard anything, and the keys stay; so do all cursors, the settings of mailboxes and the clients.
         ensures heard { self.new.heard ≡ self.old.heard }
         ensures next { self.new.next ≡ self.old.next }
         ensures cursors { cursors_of self.new.boxes ≡ cursors_of self.old.boxes }
-        ensures same { OnOk result ((m : ℕ) (d : Mailbox) → SameMailbox (slice_index_or self.old.boxes m d) (slice_index_or self.new.boxes m d)) }
+        ensures same { OnOk result ((m : ℕ) (d : Mailbox)
+            → SameMailbox (slice_index_or self.old.boxes m d) (slice_index_or self.new.boxes m d)) }
         ensures clients { self.new.clients ≡ self.old.clients }
         ensures counts { SameCounts self.old self.new }
         // After Ok less is left to do than before: so such events come to an end.
@@ -434,10 +453,12 @@ impl DeliveryCore {
     /// shard is not there, and Nothing where it has no verdict in hand or the reply lane is full.
     pub fn answer(&mut self, shard: u8) -> Result<(), Fault>
         // After Ok: from each world for which it stood, the event leads to one for which it stands.
-        ensures follows { OnOk result ((k : Config) → Follows k self.old (Answer shard ∷ []) self.new) }
+        ensures follows { OnOk result ((k : Config)
+            → Follows k self.old (Answer shard ∷ []) self.new) }
         // Nobody exactly where the shard is not there; Nothing only where the event would change nothing.
         ensures nobody { (result ≡ Err Fault.Nobody) ↔ (length self.old.lanes ≤ shard) }
-        ensures changes_nothing { result ≡ Err Fault.Nothing → (k : Config) → ChangesNothing k self.old (Answer shard) }
+        ensures changes_nothing { result ≡ Err Fault.Nothing → (k : Config)
+            → ChangesNothing k self.old (Answer shard) }
 
         // No seat has heard anything, and the keys stay; mailboxes and clients too, and there are as many of each.
         ensures heard { self.new.heard ≡ self.old.heard }
@@ -476,12 +497,15 @@ impl DeliveryCore {
     /// note and gets none.
     pub fn hear(&mut self, seat: u8) -> Result<Noted, HearFault>
         // After Ok: from each world for which it stood, the event leads to one for which it stands.
-        ensures follows { OnOk result ((k : Config) → Follows k self.old (Hear seat ∷ []) self.new) }
+        ensures follows { OnOk result ((k : Config)
+            → Follows k self.old (Hear seat ∷ []) self.new) }
         // Nobody exactly where the seat is not there.
         ensures nobody { (result ≡ Err HearFault.Nobody) ↔ (length self.old.replies ≤ seat) }
         // NoMemory only where the seat's log had no room for a note; Nothing only where the event would change nothing.
-        ensures memory { result ≡ Err HearFault.NoMemory → (d : WorkerLog) → (slice_index_or self.old.heard seat d).spare ≡ 0 }
-        ensures changes_nothing { result ≡ Err HearFault.Nothing → (k : Config) → ChangesNothing k self.old (Hear seat) }
+        ensures memory { result ≡ Err HearFault.NoMemory → (d : WorkerLog)
+            → (slice_index_or self.old.heard seat d).spare ≡ 0 }
+        ensures changes_nothing { result ≡ Err HearFault.Nothing → (k : Config)
+            → ChangesNothing k self.old (Hear seat) }
 
         // The seat has noted the verdict behind all that it had heard, and no other seat has heard anything.
         ensures heard { IfOk result (λ noted. Hears self.old self.new seat (noted ∷ [])) }
@@ -520,8 +544,10 @@ impl DeliveryCore {
         // None exactly where the mailbox is not there.
         ensures there { IsSome result ↔ (mailbox < length self.now.boxes) }
         // The number is that of the oldest change that is kept, and the two slices, one behind the other, are all that are kept.
-        ensures base { IfSome result (λ t. (d : Mailbox) → t.0 ≡ (slice_index_or self.now.boxes mailbox d).window.base) }
-        ensures changes { IfSome result (λ t. (d : Mailbox) → t.1.now ++ t.2.now ≡ (slice_index_or self.now.boxes mailbox d).window.changes) }
+        ensures base { IfSome result (λ t. (d : Mailbox)
+            → t.0 ≡ (slice_index_or self.now.boxes mailbox d).window.base) }
+        ensures changes { IfSome result (λ t. (d : Mailbox)
+            → t.1.now ++ t.2.now ≡ (slice_index_or self.now.boxes mailbox d).window.changes) }
     {
         let at = usize::from(mailbox);
         if at >= self.boxes.len() {
@@ -534,7 +560,8 @@ impl DeliveryCore {
     /// where it is not there.
     pub fn accepted(&self, mailbox: u8) -> Option<&[(CopyKey, u32)]>
         ensures there { IsSome result ↔ (mailbox < length self.now.boxes) }
-        ensures accepted { IfSome result (λ a. (d : Mailbox) → a.now ≡ (slice_index_or self.now.boxes mailbox d).accepted) }
+        ensures accepted { IfSome result (λ a. (d : Mailbox)
+            → a.now ≡ (slice_index_or self.now.boxes mailbox d).accepted) }
     {
         let at = usize::from(mailbox);
         if at >= self.boxes.len() {

@@ -74,7 +74,8 @@ impl WorkerLog {
         requires { 1 ≤ self.old.spare }
         // The note goes last, behind all others, and takes one place of the room.
         ensures seat { self.new.seat ≡ self.old.seat }
-        ensures notes { self.new.notes ≡ self.old.notes ++ record { key = key; mailbox = mailbox; verdict = verdict } ∷ [] }
+        ensures notes { self.new.notes
+            ≡ self.old.notes ++ record { key = key; mailbox = mailbox; verdict = verdict } ∷ [] }
         ensures spare { self.new.spare + 1 ≡ self.old.spare }
     {
         self.notes.push_reserved(Noted {

@@ -82,10 +82,13 @@ impl Verdicts {
     pub fn next_copy<'k, 'a>(&self, message: Submitted<'k, 'a>) -> Option<NextCopy<'a>>
         // None only where no copy is due: each was put. Else the answer is the first that is.
         ensures none { result ≡ None → due
-            (copies message.entry.keys.now message.entry.mailboxes.now message.entry.text.now message.entry.flags) self.now.slots ≡ [] }
+            (copies message.entry.keys.now message.entry.mailboxes.now message.entry.text.now
+            message.entry.flags) self.now.slots ≡ [] }
         ensures some { IfSome result (λ c. (others : List Job)
-            × (due (copies message.entry.keys.now message.entry.mailboxes.now message.entry.text.now message.entry.flags) self.now.slots
-            ≡ record { key = c.key; mailbox = c.mailbox; text = c.text.now; flags = c.flags } ∷ others)) }
+            × (due (copies message.entry.keys.now message.entry.mailboxes.now message.entry.text.now
+            message.entry.flags) self.now.slots
+            ≡ record { key = c.key; mailbox = c.mailbox; text = c.text.now; flags = c.flags }
+            ∷ others)) }
     {
         let position = self.slots.len();
         if position >= message.keys.len() || position >= message.mailboxes.len() {
@@ -128,10 +131,12 @@ impl Verdicts {
         // No verdict that was known has changed.
         ensures fills { Fills self.old.slots self.new.slots }
         // After true the verdict is filled in, at the position of its copy, where none was known; after false nothing has changed.
-        ensures noted { result ≡ true → FillsIn keys.now mailboxes.now noted.now self.old.slots self.new.slots }
+        ensures noted { result ≡ true
+            → FillsIn keys.now mailboxes.now noted.now self.old.slots self.new.slots }
         ensures same { result ≡ false → self.new.slots ≡ self.old.slots }
         // False only where the verdict is on no copy that was put and is still awaited.
-        ensures passes { result ≡ false → IsStillAwaited keys.now mailboxes.now self.old.slots noted.now → ⊥ }
+        ensures passes { result ≡ false
+            → IsStillAwaited keys.now mailboxes.now self.old.slots noted.now → ⊥ }
         // There is room for as many copies as before.
         ensures room { self.new.most ≡ self.old.most }
     {
@@ -157,7 +162,8 @@ impl Verdicts {
     pub fn are_known(&self, count: usize) -> bool
         // True exactly where so many copies were put and the verdict on each is known.
         ensures known { result ≡ true → (vs : List Verdict) × AreKnown count self.now.slots vs }
-        ensures unknown { result ≡ false → (vs : List Verdict) → AreKnown count self.now.slots vs → ⊥ }
+        ensures unknown { result ≡ false → (vs : List Verdict) → AreKnown count self.now.slots vs
+            → ⊥ }
     {
         self.slots.len() == count && are_all_there(&self.slots)
     }
@@ -168,7 +174,8 @@ impl Verdicts {
     pub fn known(&self, count: usize) -> Result<Option<Vec<Verdict>>, AllocError>
         // Some has the verdict on each copy, of which so many were put; None only where there are no such verdicts.
         ensures known { IfOk result (λ o. IfSome o (λ vs. AreKnown count self.now.slots vs.items)) }
-        ensures unknown { result ≡ Ok None → (vs : List Verdict) → AreKnown count self.now.slots vs → ⊥ }
+        ensures unknown { result ≡ Ok None → (vs : List Verdict) → AreKnown count self.now.slots vs
+            → ⊥ }
         // An error only where each verdict is known.
         ensures asks { OnErr result ((vs : List Verdict) × AreKnown count self.now.slots vs) }
     {

@@ -47,7 +47,8 @@ impl Buffer {
     ///
     /// Errors: `AllocError` where memory for them and for a short text was refused.
     pub(crate) fn begin_behind(&mut self, parts: &[&[u8]]) -> Result<(), AllocError>
-        ensures { OnOk result (self.new ≡ record { front = flat_map (λ part. part.now) parts.now; bytes = [] }) }
+        ensures { OnOk result (self.new
+            ≡ record { front = flat_map (λ part. part.now) parts.now; bytes = [] }) }
     {
         self.bytes.clear();
         self.start = 0;
@@ -61,7 +62,8 @@ impl Buffer {
     ///
     /// Errors: `AllocError` where memory was refused; nothing was added.
     pub(crate) fn push(&mut self, byte: u8) -> Result<(), AllocError>
-        ensures ok { OnOk result (self.new ≡ record self.old { bytes = self.old.bytes ++ byte ∷ [] }) }
+        ensures ok { OnOk result (self.new
+            ≡ record self.old { bytes = self.old.bytes ++ byte ∷ [] }) }
         ensures err { OnErr result (self.new ≡ self.old) }
     {
         self.bytes.push(byte)?;
@@ -89,7 +91,8 @@ impl Buffer {
     ///
     /// Errors: `AllocError` where memory was refused; nothing was added.
     pub(crate) fn extend(&mut self, run: &[u8], most: usize) -> Result<(), AllocError>
-        ensures ok { OnOk result (self.new ≡ record self.old { bytes = self.old.bytes ++ run.now }) }
+        ensures ok { OnOk result (self.new
+            ≡ record self.old { bytes = self.old.bytes ++ run.now }) }
         ensures err { OnErr result (self.new ≡ self.old) }
     {
         self.make_room(run.len(), most);

@@ -81,7 +81,8 @@ impl Collector {
     /// Adds a byte, or notes why it can't.
     pub(crate) fn add(&mut self, byte: u8)
         ensures max { self.new.max ≡ self.old.max }
-        ensures collects { (text : List ℕ) → Collects self.old text → Collects self.new (text ++ byte ∷ []) }
+        ensures collects { (text : List ℕ) → Collects self.old text
+            → Collects self.new (text ++ byte ∷ []) }
         ensures behind { (front : List ℕ) → IsBehind self.old front → IsBehind self.new front }
     {
         self.has_nul |= byte == 0;
@@ -98,7 +99,8 @@ impl Collector {
     /// Adds bytes at once, as [`Collector::add`] adds each.
     pub(crate) fn add_run(&mut self, run: &[u8])
         ensures max { self.new.max ≡ self.old.max }
-        ensures collects { (text : List ℕ) → Collects self.old text → Collects self.new (text ++ run.now) }
+        ensures collects { (text : List ℕ) → Collects self.old text
+            → Collects self.new (text ++ run.now) }
         ensures behind { (front : List ℕ) → IsBehind self.old front → IsBehind self.new front }
     {
         self.has_nul |= has_nul(run);
@@ -126,8 +128,10 @@ impl Collector {
 
     /// What comes of the text, if this is all of it.
     pub(crate) fn outcome(&self) -> Outcome
-        ensures cases { (text : List ℕ) → Collects self.now text → IsOutcome result self.now.max text }
-        ensures whole { result ≡ Outcome.Ok → (text : List ℕ) → Collects self.now text → self.now.bytes ≡ text }
+        ensures cases { (text : List ℕ) → Collects self.now text
+            → IsOutcome result self.now.max text }
+        ensures whole { result ≡ Outcome.Ok → (text : List ℕ) → Collects self.now text
+            → self.now.bytes ≡ text }
         ensures memory { result ≡ Outcome.Ok → self.now.no_memory ≡ false }
     {
         if self.has_nul {

@@ -63,7 +63,8 @@ fn after_two(first: u8, second: u8) -> Context
 pub(crate) fn context_behind(run: &[u8]) -> Context
     ensures none { length run.now ≡ 0 → result ≡ Context.Inside }
     ensures one { length run.now ≡ 1 → result ≡ after (slice_index run.now 0) }
-    ensures more { (n : ℕ) → length run.now ≡ n + 2 → result ≡ after_two (slice_index run.now n) (slice_index run.now (n + 1)) }
+    ensures more { (n : ℕ) → length run.now ≡ n + 2
+        → result ≡ after_two (slice_index run.now n) (slice_index run.now (n + 1)) }
 {
     match run.len() {
         0 => Context::Inside,

@@ -9,7 +9,8 @@ use std::alloc::AllocError;
 
 /// Appends a byte, or with a dot before it both.
 fn append(byte: u8, is_dotted: bool, out: &mut Vec<u8>) -> Result<(), AllocError>
-    ensures ok { OnOk result (out.new.items ≡ out.old.items ++ (if is_dotted then 46 ∷ byte ∷ [] else byte ∷ [])) }
+    ensures ok { OnOk result (out.new.items
+        ≡ out.old.items ++ (if is_dotted then 46 ∷ byte ∷ [] else byte ∷ [])) }
     ensures err { OnErr result (out.new.items ≡ out.old.items) }
 {
     out.reserve(2)?;

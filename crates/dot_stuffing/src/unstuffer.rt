@@ -15,7 +15,8 @@ use std::marker::Model;
 fn before_dot(finder: &Finder<'_>, piece: &[u8]) -> usize
     requires { finder.now ≡ 13 ∷ 10 ∷ 46 ∷ [] }
     ensures within { result ≤ length piece.now }
-    ensures none { (k : ℕ) → k + 2 < result → slice_index piece.now k ≡ 13 → slice_index piece.now (k + 1) ≡ 10
+    ensures none { (k : ℕ) → k + 2 < result → slice_index piece.now k ≡ 13
+        → slice_index piece.now (k + 1) ≡ 10
         → slice_index piece.now (k + 2) ≡ 46 → ⊥ }
 {
     match finder.find(piece) {
@@ -87,7 +88,8 @@ impl Unstuffer {
         ensures some_used { result.what ≢ Progress.More → 0 < result.used }
         ensures max { self.new.collected.max ≡ self.old.collected.max }
         // What the text is to stand behind stays.
-        ensures behind { (front : List ℕ) → IsBehind self.old.collected front → IsBehind self.new.collected front }
+        ensures behind { (front : List ℕ) → IsBehind self.old.collected front
+            → IsBehind self.new.collected front }
         // It has an outcome exactly where the data ended, and it is the one that is told.
         ensures outcome { self.new.outcome ≡ outcome_of result.what }
         // Whatever came before, in whatever pieces: after Done it is whole data with the bytes used, and the outcome is that of its text.
@@ -120,7 +122,8 @@ impl Unstuffer {
     /// stand behind.
     pub fn text(self) -> Vec<u8>
         requires { self.outcome ≡ Some Outcome.Ok }
-        ensures { (front : List ℕ) → IsBehind self.collected front → result.items ≡ front ++ self.collected.bytes }
+        ensures { (front : List ℕ) → IsBehind self.collected front
+            → result.items ≡ front ++ self.collected.bytes }
     {
         self.collector.into_bytes()
     }
@@ -132,9 +135,11 @@ impl Unstuffer {
         requires finder { finder.now ≡ 13 ∷ 10 ∷ 46 ∷ [] }
         ensures within { result ≤ length piece.now }
         ensures max { self.new.collected.max ≡ self.old.collected.max }
-        ensures behind { (front : List ℕ) → IsBehind self.old.collected front → IsBehind self.new.collected front }
+        ensures behind { (front : List ℕ) → IsBehind self.old.collected front
+            → IsBehind self.new.collected front }
         ensures outcome { self.new.outcome ≡ None }
-        ensures stands { (wire : List ℕ) → StandsFor self.old wire → StandsFor self.new (wire ++ take result piece.now) }
+        ensures stands { (wire : List ℕ) → StandsFor self.old wire
+            → StandsFor self.new (wire ++ take result piece.now) }
     {
         let Context::Inside = self.context else {
             return 0;
@@ -149,9 +154,11 @@ impl Unstuffer {
     fn step(&mut self, byte: u8) -> Progress
         requires { self.old.outcome ≡ None }
         ensures max { self.new.collected.max ≡ self.old.collected.max }
-        ensures behind { (front : List ℕ) → IsBehind self.old.collected front → IsBehind self.new.collected front }
+        ensures behind { (front : List ℕ) → IsBehind self.old.collected front
+            → IsBehind self.new.collected front }
         ensures outcome { self.new.outcome ≡ outcome_of result }
-        ensures data { (wire : List ℕ) → StandsFor self.old wire → Tells result self.new wire (byte ∷ []) }
+        ensures data { (wire : List ℕ) → StandsFor self.old wire
+            → Tells result self.new wire (byte ∷ []) }
     {
         match step_from(self.context, byte) {
             Next::Silent(context) => {

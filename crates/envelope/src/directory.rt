@@ -324,15 +324,18 @@ impl Directory {
     ) -> Result<Directory, DirectoryFault>
         requires { 0 < shards }
         // After Ok nothing is wrong with the names, and the mailboxes are those of the words, in their order.
-        ensures homes { IfOk result (λ d. words_read (texts domains.now) (texts mailboxes.now) ≡ Ok d.homes) }
+        ensures homes { IfOk result (λ d. words_read (texts domains.now) (texts mailboxes.now)
+            ≡ Ok d.homes) }
         ensures domains { IfOk result (λ d. d.domains ≡ texts domains.now) }
         ensures shards { IfOk result (λ d. d.shards ≡ shards) }
         // No shard is shut.
         ensures shut { IfOk result (λ d. d.shut ≡ none_shut shards) }
         // Where something is wrong with the names that is the answer: too many words first, then the domains, then word by word.
-        ensures fault { IfErr (words_read (texts domains.now) (texts mailboxes.now)) (λ fault. result ≡ Err fault) }
+        ensures fault { IfErr (words_read (texts domains.now) (texts mailboxes.now)) (λ fault.
+            result ≡ Err fault) }
         // Where nothing is wrong with the names it is made, or refused as NoMemory.
-        ensures made { IsOk (words_read (texts domains.now) (texts mailboxes.now)) → IsOkUnless result DirectoryFault.NoMemory }
+        ensures made { IsOk (words_read (texts domains.now) (texts mailboxes.now))
+            → IsOkUnless result DirectoryFault.NoMemory }
     {
         if let Some(fault) = fault_of(domains, mailboxes) {
             return Err(fault);
@@ -419,7 +422,8 @@ impl Directory {
     /// The folder of a mailbox, or nothing for a user's INBOX.
     pub fn folder_of(&self, mailbox: u8) -> Option<&[u8]>
         requires { mailbox < length self.now.homes }
-        ensures { IfSome (slice_get self.now.homes mailbox) (λ home. option_copied result ≡ home.folder) }
+        ensures { IfSome (slice_get self.now.homes mailbox) (λ home. option_copied result
+            ≡ home.folder) }
     {
         let home = &self.homes[mailbox as usize];
         match &home.folder {

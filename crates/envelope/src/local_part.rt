@@ -37,7 +37,8 @@ impl<'a> LocalValue<'a> {
 
     /// The first byte of the value and what follows it.
     pub fn split_first(self) -> Option<(u8, LocalValue<'a>)>
-        ensures { MatchOption result (value_left self.entry ≡ []) (λ x. value_left self.entry ≡ x.0 ∷ value_left x.1) }
+        ensures { MatchOption result (value_left self.entry ≡ []) (λ x. value_left self.entry
+            ≡ x.0 ∷ value_left x.1) }
     {
         let is_quoted = self.is_quoted;
         let (byte, spelled) = match self.spelled {

@@ -23,7 +23,8 @@ pub struct Word<'a> {
 
 /// What stands past the byte at this position, where there is one.
 fn past(index: usize, bytes: &[u8]) -> Option<&[u8]>
-    ensures { option_copied result ≡ (if nat_lt index (length bytes.now) then Some (drop (index + 1) bytes.now) else None) }
+    ensures { option_copied result
+        ≡ (if nat_lt index (length bytes.now) then Some (drop (index + 1) bytes.now) else None) }
 {
     if index < bytes.len() {
         Some(&bytes[index + 1..])
@@ -59,7 +60,8 @@ impl<'a> Word<'a> {
 
     /// Whether one of the words names this mailbox, in upper or lower case.
     fn is_among(self, words: &[&[u8]]) -> bool
-        ensures { result ≡ list_any (is_home (word_home self.entry)) (map home_of (texts words.now)) }
+        ensures { result ≡ list_any (is_home (word_home self.entry))
+            (map home_of (texts words.now)) }
     {
         words.iter().any(|word| self.is_same(Word::cut(word)))
     }

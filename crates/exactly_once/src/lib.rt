@@ -21,7 +21,8 @@ pub use replay::play;
 /// close; and what a session was shown since its SELECT is exactly the mailbox's changes up to its cursor, in order. And nothing was
 /// printed but the replies of connections and whole lines of sessions, each at an event of its own.
 pub fn exactly_once_delivery()
-    ensures { (k : Setup) (events : List Event) (s : Scene) (printed : List ℕ) → Happened k events (empty_scene k) s printed →
+    ensures { (k : Setup) (events : List Event) (s : Scene) (printed : List ℕ)
+        → Happened k events (empty_scene k) s printed →
         ExactlyOnce k events s printed }
 {}
 

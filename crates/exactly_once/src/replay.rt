@@ -14,7 +14,8 @@ use std::alloc::AllocError;
 fn try_event(house: &mut House, event: Event<'_>, out: &mut Vec<u8>) -> Result<(), AllocError>
     ensures tried { OnOk result ((k : Setup) (s : Scene) → StandsFor k house.old s →
         TriedFrom k (event.entry ∷ []) house.old s house.new out.old.items out.new.items) }
-    ensures wanting { OnErr result (FollowsInPart house.old event.entry house.new out.old.items out.new.items) }
+    ensures wanting { OnErr result
+        (FollowsInPart house.old event.entry house.new out.old.items out.new.items) }
 {
     match house.step(event, out) {
         Ok(()) => Ok(()),
@@ -45,7 +46,8 @@ pub fn play(house: &mut House, events: &[Event<'_>], out: &mut Vec<u8>) -> Resul
         TriedInPart k events.now house.old s house.new out.old.items out.new.items) }
 
     // In a house that was new, also after an error: some of the events happened, in their order, and what was printed is exactly-once delivery.
-    ensures once { (k : Setup) → StandsFor k house.old (empty_scene k) → CameOnce k events.now house.new out.old.items out.new.items }
+    ensures once { (k : Setup) → StandsFor k house.old (empty_scene k)
+        → CameOnce k events.now house.new out.old.items out.new.items }
 {
     for event in events {
         try_event(house, *event, out)?;

@@ -83,10 +83,12 @@ fn caller_goes_on(
     out: &mut Vec<u8>,
 ) -> Result<(), AllocError>
     ensures less { caller_effort occupant.new ≤ caller_effort occupant.old }
-    ensures ok { OnOk result ((k : Terms) (seat : ℕ) (next : CopyKey) (heard : List Noted) (b : spec.Caller) →
+    ensures ok { OnOk result
+        ((k : Terms) (seat : ℕ) (next : CopyKey) (heard : List Noted) (b : spec.Caller) →
         IsOf k number seat directory.now → StandsForMaybe k seat next heard occupant.old (Some b) →
         CallerWentOn k true seat next heard b occupant.new out.old.items out.new.items) }
-    ensures err { OnErr result ((k : Terms) (seat : ℕ) (next : CopyKey) (heard : List Noted) (b : spec.Caller) →
+    ensures err { OnErr result
+        ((k : Terms) (seat : ℕ) (next : CopyKey) (heard : List Noted) (b : spec.Caller) →
         IsOf k number seat directory.now → StandsForMaybe k seat next heard occupant.old (Some b) →
         CallerWentOn k false seat next heard b occupant.new out.old.items out.new.items) }
     ensures asks { OnErr result (IfSome occupant.old (λ h. h.gone ≡ false)) }
@@ -111,7 +113,8 @@ fn opened(
     piece: &[u8],
 ) -> Result<HouseConnection, AllocError>
     requires { length limits.host.now < 256 }
-    ensures { IfOk result (λ h. (k : Terms) (next : CopyKey) (heard : List Noted) → k.host ≡ limits.entry.host.now →
+    ensures { IfOk result (λ h. (k : Terms) (next : CopyKey) (heard : List Noted)
+        → k.host ≡ limits.entry.host.now →
         k.max_message ≡ limits.entry.max_message
         → AtLeast next (record { seat = seat; serial = serial; message = 0; recipient = 0 })
         → StandsForConnection k seat next heard h (more_waits (greeted k seat serial) piece.now)) }
@@ -178,9 +181,12 @@ fn put_next(
 ) -> Result<Option<Refusal>, HouseFault>
     ensures nobody { (result ≡ Err HouseFault.Nobody) ↔ (occupant.now ≡ None) }
     ensures busy { result ≢ Err HouseFault.Busy }
-    ensures nothing { result ≡ Err HouseFault.Nothing → (h : HouseConnection) × (occupant.now ≡ Some h) × MayNotPut core.old (due h) }
-    ensures memory { result ≡ Err HouseFault.NoMemory → (h : HouseConnection) × (occupant.now ≡ Some h) × CannotNote core.old (due h) }
-    ensures puts { IfOk result (λ why. (h : HouseConnection) × (occupant.now ≡ Some h) × PutsNext core.old (due h) core.new why) }
+    ensures nothing { result ≡ Err HouseFault.Nothing
+        → (h : HouseConnection) × (occupant.now ≡ Some h) × MayNotPut core.old (due h) }
+    ensures memory { result ≡ Err HouseFault.NoMemory
+        → (h : HouseConnection) × (occupant.now ≡ Some h) × CannotNote core.old (due h) }
+    ensures puts { IfOk result (λ why. (h : HouseConnection) × (occupant.now ≡ Some h)
+        × PutsNext core.old (due h) core.new why) }
     ensures load { OnOk result (load core.new ≤ load core.old + 4) }
     ensures refused { OnErr result (core.new ≡ core.old) }
 {
@@ -206,7 +212,8 @@ fn caller_notes_put(occupant: &mut Option<HouseConnection>, why: Option<Refusal>
 
 // The caller at a seat hears a verdict.
 fn caller_hears(occupant: &mut Option<HouseConnection>, noted: &Noted)
-    ensures { MatchOption occupant.old (occupant.new ≡ None) (λ h. IsSomeAnd occupant.new (HearsVerdict h noted.now)) }
+    ensures { MatchOption occupant.old (occupant.new
+        ≡ None) (λ h. IsSomeAnd occupant.new (HearsVerdict h noted.now)) }
 {
     if let Some(caller) = occupant {
         caller.hear(noted);
@@ -217,10 +224,15 @@ impl House {
     // Bytes came for a connection that stands at its seat.
     fn receive(&mut self, connection: u8, piece: &[u8], out: &mut Vec<u8>) -> Result<(), HouseFault>
         requires there { IsRead self.old connection }
-        ensures follows { OnOk result (Follows self.old (events.Bytes connection piece.entry) self.new out.old.items out.new.items) }
+        ensures follows { OnOk result
+            (Follows self.old (events.Bytes connection piece.entry) self.new out.old.items
+            out.new.items) }
         ensures only { IfErr result (λ e. e ≡ HouseFault.NoMemory) }
-        ensures no_memory { OnErr result (FollowsInPart self.old (events.Bytes connection piece.entry) self.new out.old.items out.new.items) }
-        ensures asks { OnErr result (MayWant (events.Bytes connection piece.entry) self.old self.new) }
+        ensures no_memory { OnErr result
+            (FollowsInPart self.old (events.Bytes connection piece.entry) self.new out.old.items
+            out.new.items) }
+        ensures asks { OnErr result
+            (MayWant (events.Bytes connection piece.entry) self.old self.new) }
     {
         let occupant = &mut self.callers[index_of(connection)];
         append_to_caller(occupant, piece)?;
@@ -241,10 +253,15 @@ impl House {
     // Bytes came for a connection at whose seat nobody stands: one is opened first, with the seat's next serial.
     fn welcome(&mut self, connection: u8, piece: &[u8], out: &mut Vec<u8>) -> Result<(), HouseFault>
         requires vacant { IsOpen self.old connection }
-        ensures follows { OnOk result (Follows self.old (events.Bytes connection piece.entry) self.new out.old.items out.new.items) }
+        ensures follows { OnOk result
+            (Follows self.old (events.Bytes connection piece.entry) self.new out.old.items
+            out.new.items) }
         ensures only { IfErr result (λ e. e ≡ HouseFault.NoMemory) }
-        ensures no_memory { OnErr result (FollowsInPart self.old (events.Bytes connection piece.entry) self.new out.old.items out.new.items) }
-        ensures asks { OnErr result (MayWant (events.Bytes connection piece.entry) self.old self.new) }
+        ensures no_memory { OnErr result
+            (FollowsInPart self.old (events.Bytes connection piece.entry) self.new out.old.items
+            out.new.items) }
+        ensures asks { OnErr result
+            (MayWant (events.Bytes connection piece.entry) self.old self.new) }
     {
         let seat = index_of(connection);
         let serial = self.serials[seat];
@@ -269,15 +286,20 @@ impl House {
     // A connection puts the next copy of its message.
     fn put_of_connection(&mut self, connection: u8, out: &mut Vec<u8>) -> Result<(), HouseFault>
         requires seat { HasSeat self.old connection }
-        ensures follows { OnOk result (Follows self.old (events.Put connection) self.new out.old.items out.new.items) }
+        ensures follows { OnOk result
+            (Follows self.old (events.Put connection) self.new out.old.items out.new.items) }
         ensures effort { OnOk result (MakesLess (events.Put connection) self.old self.new) }
         ensures marks { self.new.directory ≡ self.old.directory }
         ensures nobody { (result ≡ Err HouseFault.Nobody) ↔ IsEmptySeat self.old connection }
         ensures busy { result ≢ Err HouseFault.Busy }
-        ensures changes_nothing { result ≡ Err HouseFault.Nothing → ChangesNothing self.old (events.Put connection) }
-        ensures no_memory { result ≡ Err HouseFault.NoMemory → FollowsInPart self.old (events.Put connection) self.new out.old.items out.new.items }
-        ensures asks { result ≡ Err HouseFault.NoMemory → MayWant (events.Put connection) self.old self.new }
-        ensures refused { result ≢ Err HouseFault.NoMemory → OnErr result ((self.new ≡ self.old) × (out.new.items ≡ out.old.items)) }
+        ensures changes_nothing { result ≡ Err HouseFault.Nothing
+            → ChangesNothing self.old (events.Put connection) }
+        ensures no_memory { result ≡ Err HouseFault.NoMemory
+            → FollowsInPart self.old (events.Put connection) self.new out.old.items out.new.items }
+        ensures asks { result ≡ Err HouseFault.NoMemory
+            → MayWant (events.Put connection) self.old self.new }
+        ensures refused { result ≢ Err HouseFault.NoMemory
+            → OnErr result ((self.new ≡ self.old) × (out.new.items ≡ out.old.items)) }
     {
         let seat = index_of(connection);
         let why = put_next(&mut self.store.core, &self.callers[seat])?;
@@ -291,15 +313,20 @@ impl House {
     fn hear_of_connection(&mut self, connection: u8, out: &mut Vec<u8>) -> Result<(), HouseFault>
         requires seat { HasSeat self.old connection }
         requires lane { connection ≤ length self.old.core.replies }
-        ensures follows { OnOk result (Follows self.old (events.Hear connection) self.new out.old.items out.new.items) }
+        ensures follows { OnOk result
+            (Follows self.old (events.Hear connection) self.new out.old.items out.new.items) }
         ensures effort { OnOk result (MakesLess (events.Hear connection) self.old self.new) }
         ensures marks { self.new.directory ≡ self.old.directory }
         ensures nobody { (result ≡ Err HouseFault.Nobody) ↔ IsEmptySeat self.old connection }
         ensures busy { result ≢ Err HouseFault.Busy }
-        ensures changes_nothing { result ≡ Err HouseFault.Nothing → ChangesNothing self.old (events.Hear connection) }
-        ensures no_memory { result ≡ Err HouseFault.NoMemory → FollowsInPart self.old (events.Hear connection) self.new out.old.items out.new.items }
-        ensures asks { result ≡ Err HouseFault.NoMemory → MayWant (events.Hear connection) self.old self.new }
-        ensures refused { result ≢ Err HouseFault.NoMemory → OnErr result ((self.new ≡ self.old) × (out.new.items ≡ out.old.items)) }
+        ensures changes_nothing { result ≡ Err HouseFault.Nothing
+            → ChangesNothing self.old (events.Hear connection) }
+        ensures no_memory { result ≡ Err HouseFault.NoMemory
+            → FollowsInPart self.old (events.Hear connection) self.new out.old.items out.new.items }
+        ensures asks { result ≡ Err HouseFault.NoMemory
+            → MayWant (events.Hear connection) self.old self.new }
+        ensures refused { result ≢ Err HouseFault.NoMemory
+            → OnErr result ((self.new ≡ self.old) × (out.new.items ≡ out.old.items)) }
     {
         let seat = index_of(connection);
         if self.callers[seat].is_none() {
@@ -319,12 +346,14 @@ impl House {
 
     // A shard's consumer takes what waits at the front of its lane.
     fn take(&mut self, shard: u8) -> Result<(), HouseFault>
-        ensures follows { OnOk result ((k : Setup) (s : scene.Scene) (old : List ℕ) → StandsFor k self.old s →
+        ensures follows { OnOk result ((k : Setup) (s : scene.Scene) (old : List ℕ)
+            → StandsFor k self.old s →
             Led k true s (events.Take shard) self.new old old) }
         ensures effort { OnOk result (MakesLess (events.Take shard) self.old self.new) }
         ensures marks { self.new.directory ≡ self.old.directory }
         ensures nobody { (result ≡ Err HouseFault.Nobody) ↔ IsNobody self.old (events.Take shard) }
-        ensures changes_nothing { result ≡ Err HouseFault.Nothing → ChangesNothing self.old (events.Take shard) }
+        ensures changes_nothing { result ≡ Err HouseFault.Nothing
+            → ChangesNothing self.old (events.Take shard) }
         ensures only { IfErr result (λ e. (e ≡ HouseFault.Nobody) ⊎ (e ≡ HouseFault.Nothing)) }
         ensures refused { OnErr result (self.new ≡ self.old) }
     {
@@ -336,12 +365,15 @@ impl House {
 
     // The copy in a shard's hand is delivered, or refused.
     fn deliver(&mut self, shard: u8) -> Result<(), HouseFault>
-        ensures follows { OnOk result ((k : Setup) (s : scene.Scene) (old : List ℕ) → StandsFor k self.old s →
+        ensures follows { OnOk result ((k : Setup) (s : scene.Scene) (old : List ℕ)
+            → StandsFor k self.old s →
             Led k true s (events.Deliver shard) self.new old old) }
         ensures effort { OnOk result (MakesLess (events.Deliver shard) self.old self.new) }
         ensures marks { self.new.directory ≡ self.old.directory }
-        ensures nobody { (result ≡ Err HouseFault.Nobody) ↔ IsNobody self.old (events.Deliver shard) }
-        ensures changes_nothing { result ≡ Err HouseFault.Nothing → ChangesNothing self.old (events.Deliver shard) }
+        ensures nobody { (result ≡ Err HouseFault.Nobody)
+            ↔ IsNobody self.old (events.Deliver shard) }
+        ensures changes_nothing { result ≡ Err HouseFault.Nothing
+            → ChangesNothing self.old (events.Deliver shard) }
         ensures only { IfErr result (λ e. (e ≡ HouseFault.Nobody) ⊎ (e ≡ HouseFault.Nothing)) }
         ensures refused { OnErr result (self.new ≡ self.old) }
     {
@@ -353,12 +385,15 @@ impl House {
 
     // The verdict in a shard's hand goes into the reply lane of the copy's seat.
     fn answer(&mut self, shard: u8) -> Result<(), HouseFault>
-        ensures follows { OnOk result ((k : Setup) (s : scene.Scene) (old : List ℕ) → StandsFor k self.old s →
+        ensures follows { OnOk result ((k : Setup) (s : scene.Scene) (old : List ℕ)
+            → StandsFor k self.old s →
             Led k true s (events.Answer shard) self.new old old) }
         ensures effort { OnOk result (MakesLess (events.Answer shard) self.old self.new) }
         ensures marks { self.new.directory ≡ self.old.directory }
-        ensures nobody { (result ≡ Err HouseFault.Nobody) ↔ IsNobody self.old (events.Answer shard) }
-        ensures changes_nothing { result ≡ Err HouseFault.Nothing → ChangesNothing self.old (events.Answer shard) }
+        ensures nobody { (result ≡ Err HouseFault.Nobody)
+            ↔ IsNobody self.old (events.Answer shard) }
+        ensures changes_nothing { result ≡ Err HouseFault.Nothing
+            → ChangesNothing self.old (events.Answer shard) }
         ensures only { IfErr result (λ e. (e ≡ HouseFault.Nobody) ⊎ (e ≡ HouseFault.Nothing)) }
         ensures refused { OnErr result (self.new ≡ self.old) }
     {
@@ -378,7 +413,8 @@ impl House {
     /// connection or session goes on from there; bytes that came with it were taken up or weren't there at all.
     pub fn step(&mut self, event: Event<'_>, out: &mut Vec<u8>) -> Result<(), HouseFault>
         // From each scene for which the house stood, an event that happened leads to one for which it stands; `out` gets what it prints.
-        ensures follows { OnOk result (Follows self.old event.entry self.new out.old.items out.new.items) }
+        ensures follows { OnOk result
+            (Follows self.old event.entry self.new out.old.items out.new.items) }
 
         // A put, take, delivery, answer, hearing or end that happened leaves less to do, an idle turn less for its session: so settling ends.
         ensures effort { OnOk result (MakesLess (event.entry) self.old self.new) }
@@ -393,17 +429,20 @@ impl House {
         ensures busy { (result ≡ Err HouseFault.Busy) ↔ IsBusy self.old event.entry }
 
         // Nothing comes only where the event would change and print nothing, and to none that comes from outside but an idle turn.
-        ensures changes_nothing { result ≡ Err HouseFault.Nothing → ChangesNothing self.old event.entry }
+        ensures changes_nothing { result ≡ Err HouseFault.Nothing
+            → ChangesNothing self.old event.entry }
         ensures finds_nothing { result ≡ Err HouseFault.Nothing → MayFindNothing event.entry }
 
         // From each such scene the event was cut short, or nothing happened, and the house stands for what came of it.
-        ensures no_memory { result ≡ Err HouseFault.NoMemory → FollowsInPart self.old event.entry self.new out.old.items out.new.items }
+        ensures no_memory { result ≡ Err HouseFault.NoMemory
+            → FollowsInPart self.old event.entry self.new out.old.items out.new.items }
 
         // No take, delivery, answer, end, close, leave or vanishing is refused so; the others only as `MayWant` says.
         ensures asks { result ≡ Err HouseFault.NoMemory → MayWant event.entry self.old self.new }
 
         // A refusal but for memory leaves the house and `out` as they were.
-        ensures refused { result ≢ Err HouseFault.NoMemory → OnErr result ((self.new ≡ self.old) × (out.new.items ≡ out.old.items)) }
+        ensures refused { result ≢ Err HouseFault.NoMemory
+            → OnErr result ((self.new ≡ self.old) × (out.new.items ≡ out.old.items)) }
     {
         match event {
             Event::Bytes(connection, piece) => self.bytes(connection, piece, out),
@@ -438,14 +477,21 @@ impl House {
 
     // Bytes came from the peer of a connection.
     fn bytes(&mut self, connection: u8, piece: &[u8], out: &mut Vec<u8>) -> Result<(), HouseFault>
-        ensures follows { OnOk result (Follows self.old (events.Bytes connection piece.entry) self.new out.old.items out.new.items) }
-        ensures nobody { (result ≡ Err HouseFault.Nobody) ↔ IsNobody self.old (events.Bytes connection piece.entry) }
-        ensures busy { (result ≡ Err HouseFault.Busy) ↔ IsBusy self.old (events.Bytes connection piece.entry) }
+        ensures follows { OnOk result
+            (Follows self.old (events.Bytes connection piece.entry) self.new out.old.items
+            out.new.items) }
+        ensures nobody { (result ≡ Err HouseFault.Nobody)
+            ↔ IsNobody self.old (events.Bytes connection piece.entry) }
+        ensures busy { (result ≡ Err HouseFault.Busy)
+            ↔ IsBusy self.old (events.Bytes connection piece.entry) }
         ensures nothing { result ≢ Err HouseFault.Nothing }
         ensures no_memory { result ≡ Err HouseFault.NoMemory →
-            FollowsInPart self.old (events.Bytes connection piece.entry) self.new out.old.items out.new.items }
-        ensures asks { result ≡ Err HouseFault.NoMemory → MayWant (events.Bytes connection piece.entry) self.old self.new }
-        ensures refused { result ≢ Err HouseFault.NoMemory → OnErr result ((self.new ≡ self.old) × (out.new.items ≡ out.old.items)) }
+            FollowsInPart self.old (events.Bytes connection piece.entry) self.new out.old.items
+            out.new.items }
+        ensures asks { result ≡ Err HouseFault.NoMemory
+            → MayWant (events.Bytes connection piece.entry) self.old self.new }
+        ensures refused { result ≢ Err HouseFault.NoMemory
+            → OnErr result ((self.new ≡ self.old) × (out.new.items ≡ out.old.items)) }
     {
         if self.has_no_seat(connection) {
             return Err(HouseFault::Nobody);
@@ -465,8 +511,10 @@ impl House {
 
     // The peer of a connection is gone.
     fn vanish(&mut self, connection: u8, out: &mut Vec<u8>) -> Result<(), HouseFault>
-        ensures follows { OnOk result (Follows self.old (events.Vanish connection) self.new out.old.items out.new.items) }
-        ensures nobody { (result ≡ Err HouseFault.Nobody) ↔ IsNobody self.old (events.Vanish connection) }
+        ensures follows { OnOk result
+            (Follows self.old (events.Vanish connection) self.new out.old.items out.new.items) }
+        ensures nobody { (result ≡ Err HouseFault.Nobody)
+            ↔ IsNobody self.old (events.Vanish connection) }
         ensures busy { (result ≡ Err HouseFault.Busy) ↔ IsBusy self.old (events.Vanish connection) }
         ensures nothing { result ≢ Err HouseFault.Nothing }
         ensures memory { result ≢ Err HouseFault.NoMemory }
@@ -498,7 +546,8 @@ impl House {
 
     // A shard is marked as shut, where it wasn't.
     fn close(&mut self, shard: u8) -> Result<(), HouseFault>
-        ensures follows { OnOk result ((k : Setup) (s : scene.Scene) (old : List ℕ) → StandsFor k self.old s →
+        ensures follows { OnOk result ((k : Setup) (s : scene.Scene) (old : List ℕ)
+            → StandsFor k self.old s →
             Led k true s (events.Close shard) self.new old old) }
         ensures effort { OnOk result (MakesLess (events.Close shard) self.old self.new) }
         ensures nobody { (result ≡ Err HouseFault.Nobody) ↔ IsNobody self.old (events.Close shard) }
@@ -518,12 +567,15 @@ impl House {
 
     // A seat puts its end into a shard's lane.
     fn end(&mut self, number: u8, shard: u8) -> Result<(), HouseFault>
-        ensures follows { OnOk result ((k : Setup) (s : scene.Scene) (old : List ℕ) → StandsFor k self.old s →
+        ensures follows { OnOk result ((k : Setup) (s : scene.Scene) (old : List ℕ)
+            → StandsFor k self.old s →
             Led k true s (events.End number shard) self.new old old) }
         ensures marks { self.new.directory ≡ self.old.directory }
-        ensures nobody { (result ≡ Err HouseFault.Nobody) ↔ IsNobody self.old (events.End number shard) }
+        ensures nobody { (result ≡ Err HouseFault.Nobody)
+            ↔ IsNobody self.old (events.End number shard) }
         ensures busy { result ≢ Err HouseFault.Busy }
-        ensures changes_nothing { result ≡ Err HouseFault.Nothing → ChangesNothing self.old (events.End number shard) }
+        ensures changes_nothing { result ≡ Err HouseFault.Nothing
+            → ChangesNothing self.old (events.End number shard) }
         ensures memory { result ≢ Err HouseFault.NoMemory }
         ensures effort { OnOk result (MakesLess (events.End number shard) self.old self.new) }
         ensures refused { OnErr result (self.new ≡ self.old) }
@@ -542,15 +594,20 @@ impl House {
 
     // A connection or a session puts the next copy of its message.
     fn put(&mut self, number: u8, out: &mut Vec<u8>) -> Result<(), HouseFault>
-        ensures follows { OnOk result (Follows self.old (events.Put number) self.new out.old.items out.new.items) }
+        ensures follows { OnOk result
+            (Follows self.old (events.Put number) self.new out.old.items out.new.items) }
         ensures effort { OnOk result (MakesLess (events.Put number) self.old self.new) }
         ensures marks { self.new.directory ≡ self.old.directory }
         ensures nobody { (result ≡ Err HouseFault.Nobody) ↔ IsNobody self.old (events.Put number) }
         ensures busy { result ≢ Err HouseFault.Busy }
-        ensures changes_nothing { result ≡ Err HouseFault.Nothing → ChangesNothing self.old (events.Put number) }
-        ensures no_memory { result ≡ Err HouseFault.NoMemory → FollowsInPart self.old (events.Put number) self.new out.old.items out.new.items }
-        ensures asks { result ≡ Err HouseFault.NoMemory → MayWant (events.Put number) self.old self.new }
-        ensures refused { result ≢ Err HouseFault.NoMemory → OnErr result ((self.new ≡ self.old) × (out.new.items ≡ out.old.items)) }
+        ensures changes_nothing { result ≡ Err HouseFault.Nothing
+            → ChangesNothing self.old (events.Put number) }
+        ensures no_memory { result ≡ Err HouseFault.NoMemory
+            → FollowsInPart self.old (events.Put number) self.new out.old.items out.new.items }
+        ensures asks { result ≡ Err HouseFault.NoMemory
+            → MayWant (events.Put number) self.old self.new }
+        ensures refused { result ≢ Err HouseFault.NoMemory
+            → OnErr result ((self.new ≡ self.old) × (out.new.items ≡ out.old.items)) }
     {
         if self.has_no_number(number) {
             return Err(HouseFault::Nobody);
@@ -563,15 +620,20 @@ impl House {
 
     // A connection or a session hears the verdict at the front of its reply lane.
     fn hear(&mut self, number: u8, out: &mut Vec<u8>) -> Result<(), HouseFault>
-        ensures follows { OnOk result (Follows self.old (events.Hear number) self.new out.old.items out.new.items) }
+        ensures follows { OnOk result
+            (Follows self.old (events.Hear number) self.new out.old.items out.new.items) }
         ensures effort { OnOk result (MakesLess (events.Hear number) self.old self.new) }
         ensures marks { self.new.directory ≡ self.old.directory }
         ensures nobody { (result ≡ Err HouseFault.Nobody) ↔ IsNobody self.old (events.Hear number) }
         ensures busy { result ≢ Err HouseFault.Busy }
-        ensures changes_nothing { result ≡ Err HouseFault.Nothing → ChangesNothing self.old (events.Hear number) }
-        ensures no_memory { result ≡ Err HouseFault.NoMemory → FollowsInPart self.old (events.Hear number) self.new out.old.items out.new.items }
-        ensures asks { result ≡ Err HouseFault.NoMemory → MayWant (events.Hear number) self.old self.new }
-        ensures refused { result ≢ Err HouseFault.NoMemory → OnErr result ((self.new ≡ self.old) × (out.new.items ≡ out.old.items)) }
+        ensures changes_nothing { result ≡ Err HouseFault.Nothing
+            → ChangesNothing self.old (events.Hear number) }
+        ensures no_memory { result ≡ Err HouseFault.NoMemory
+            → FollowsInPart self.old (events.Hear number) self.new out.old.items out.new.items }
+        ensures asks { result ≡ Err HouseFault.NoMemory
+            → MayWant (events.Hear number) self.old self.new }
+        ensures refused { result ≢ Err HouseFault.NoMemory
+            → OnErr result ((self.new ≡ self.old) × (out.new.items ≡ out.old.items)) }
     {
         if self.has_no_number(number) {
             return Err(HouseFault::Nobody);

@@ -53,14 +53,21 @@ fn turn_at(
 ) -> Result<(), AllocError>
     requires counted { 0 < number }
     requires idles { IfSome place.old (λ p. MayIdle p (number - 1) store.old.core) }
-    ensures ok { OnOk result ((k : Setup) (next : CopyKey) (heard : List Noted) (w : World) (b : spec.SeatedVisitor) →
-        core.StandsFor k.config store.old.core w → StandsForSomebody (session_seat k (number - 1)) next heard place.old (Some b) →
-        PlaceIdled k true (number - 1) next heard w b store.old.core place.new store.new.core out.old.items out.new.items) }
+    ensures ok { OnOk result
+        ((k : Setup) (next : CopyKey) (heard : List Noted) (w : World) (b : spec.SeatedVisitor) →
+        core.StandsFor k.config store.old.core w
+        → StandsForSomebody (session_seat k (number - 1)) next heard place.old (Some b) →
+        PlaceIdled k true (number
+        - 1) next heard w b store.old.core place.new store.new.core out.old.items out.new.items) }
     ensures less { OnOk result (IfSome place.old (λ p.
-        turns_left place.new (behind store.new.core (number - 1)) < turns_left (Some p) (behind store.old.core (number - 1)))) }
-    ensures err { OnErr result ((k : Setup) (next : CopyKey) (heard : List Noted) (w : World) (b : spec.SeatedVisitor) →
-        core.StandsFor k.config store.old.core w → StandsForSomebody (session_seat k (number - 1)) next heard place.old (Some b) →
-        PlaceIdledInPart k (number - 1) next heard w b store.old.core place.new store.new.core out.old.items out.new.items) }
+        turns_left place.new (behind store.new.core (number - 1))
+        < turns_left (Some p) (behind store.old.core (number - 1)))) }
+    ensures err { OnErr result
+        ((k : Setup) (next : CopyKey) (heard : List Noted) (w : World) (b : spec.SeatedVisitor) →
+        core.StandsFor k.config store.old.core w
+        → StandsForSomebody (session_seat k (number - 1)) next heard place.old (Some b) →
+        PlaceIdledInPart k (number
+        - 1) next heard w b store.old.core place.new store.new.core out.old.items out.new.items) }
 {
     let Some(visitor) = place else {
         return Ok(());
@@ -77,14 +84,20 @@ fn turn_at(
 impl House {
     // A session that idles is shown what is pending.
     pub(crate) fn idle(&mut self, session: u8, out: &mut Vec<u8>) -> Result<(), HouseFault>
-        ensures follows { OnOk result (Follows self.old (events.Idle session) self.new out.old.items out.new.items) }
+        ensures follows { OnOk result
+            (Follows self.old (events.Idle session) self.new out.old.items out.new.items) }
         ensures effort { OnOk result (MakesLess (events.Idle session) self.old self.new) }
-        ensures nobody { (result ≡ Err HouseFault.Nobody) ↔ IsNobody self.old (events.Idle session) }
+        ensures nobody { (result ≡ Err HouseFault.Nobody)
+            ↔ IsNobody self.old (events.Idle session) }
         ensures busy { (result ≡ Err HouseFault.Busy) ↔ IsBusy self.old (events.Idle session) }
-        ensures changes_nothing { result ≡ Err HouseFault.Nothing → ChangesNothing self.old (events.Idle session) }
-        ensures no_memory { result ≡ Err HouseFault.NoMemory → FollowsInPart self.old (events.Idle session) self.new out.old.items out.new.items }
-        ensures asks { result ≡ Err HouseFault.NoMemory → MayWant (events.Idle session) self.old self.new }
-        ensures refused { result ≢ Err HouseFault.NoMemory → OnErr result ((self.new ≡ self.old) × (out.new.items ≡ out.old.items)) }
+        ensures changes_nothing { result ≡ Err HouseFault.Nothing
+            → ChangesNothing self.old (events.Idle session) }
+        ensures no_memory { result ≡ Err HouseFault.NoMemory
+            → FollowsInPart self.old (events.Idle session) self.new out.old.items out.new.items }
+        ensures asks { result ≡ Err HouseFault.NoMemory
+            → MayWant (events.Idle session) self.old self.new }
+        ensures refused { result ≢ Err HouseFault.NoMemory
+            → OnErr result ((self.new ≡ self.old) × (out.new.items ≡ out.old.items)) }
     {
         if self.has_no_place(session) {
             return Err(HouseFault::Nobody);
@@ -106,9 +119,11 @@ impl House {
     // A session that idles is shown what is pending, until nothing is.
     fn idle_out(&mut self, session: u8, out: &mut Vec<u8>) -> Result<(), AllocError>
         ensures ok { OnOk result (Goes (λ k. IsAmong k (events.Idle session)) (λ k s t printed.
-            Stint k (events.Idle session ∷ []) s t printed) self.old out.old.items self.new out.new.items) }
+            Stint k (events.Idle session
+            ∷ []) s t printed) self.old out.old.items self.new out.new.items) }
         ensures err { OnErr result (Wants (λ k. IsAmong k (events.Idle session)) (λ k s t printed.
-            StintBreaksOff k (events.Idle session ∷ []) s t printed) self.old out.old.items self.new out.new.items) }
+            StintBreaksOff k (events.Idle session
+            ∷ []) s t printed) self.old out.old.items self.new out.new.items) }
     {
         loop {
             match self.step(Event::Idle(session), out) {
@@ -124,9 +139,11 @@ impl House {
     // Each session that idles is shown what is pending.
     pub(crate) fn idle_all(&mut self, out: &mut Vec<u8>) -> Result<(), AllocError>
         ensures ok { OnOk result (Goes (λ k. Unit {0}) (λ k s t printed.
-            Stints k (idle_turns k.config.sessions) s t printed) self.old out.old.items self.new out.new.items) }
+            Stints k (idle_turns k.config.sessions) s t printed) self.old out.old.items self.new
+            out.new.items) }
         ensures err { OnErr result (Wants (λ k. Unit {0}) (λ k s t printed.
-            StintsBreakOff k (idle_turns k.config.sessions) s t printed) self.old out.old.items self.new out.new.items) }
+            StintsBreakOff k (idle_turns k.config.sessions) s t printed) self.old out.old.items
+            self.new out.new.items) }
     {
         let sessions = self.visitors.len() as u8;
         for place in 0..sessions {

@@ -58,14 +58,17 @@ impl House {
         requires { IsInRange config.now }
 
         // It stands for the empty scene of these settings: nobody is there, nothing has happened, no shard is shut.
-        ensures stands { IfOk result (λ h. StandsFor (setup_of config.now) h (empty_scene (setup_of config.now))) }
+        ensures stands { IfOk result (λ h.
+            StandsFor (setup_of config.now) h (empty_scene (setup_of config.now))) }
 
         // Where something is wrong, the first fault that holds is the error, or NoMemory.
-        ensures fault { IfSome (config_fault config.now) (λ fault. (result ≡ Err fault) ⊎ (result ≡ Err ConfigFault.NoMemory)) }
+        ensures fault { IfSome (config_fault config.now) (λ fault. (result ≡ Err fault)
+            ⊎ (result ≡ Err ConfigFault.NoMemory)) }
 
         // Each mailbox is empty, with the settings' UIDs, room and window.
         ensures mailboxes { IfOk result (λ h. EachAt (λ m b.
-            IsNewBox m config.now.uidvalidity config.now.first_uid config.now.messages config.now.ring
+            IsNewBox m config.now.uidvalidity config.now.first_uid config.now.messages
+            config.now.ring
             (max config.now.ring config.now.ring_max) b) h.core.boxes) }
 
         // Where nothing is wrong, there is one, unless memory is refused.

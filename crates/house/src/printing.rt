@@ -62,7 +62,8 @@ fn print_session(
     number: u8,
     out: &mut Vec<u8>,
 ) -> Result<(), AllocError>
-    ensures ok { OnOk result ((visitor.new ≡ with_place (with_all_said visitor.old.place) visitor.old) ×
+    ensures ok { OnOk result ((visitor.new
+        ≡ with_place (with_all_said visitor.old.place) visitor.old) ×
         (out.new.items ≡ out.old.items ++ marked of_session number visitor.old.place.unsaid)) }
     ensures err { OnErr result ((visitor.new ≡ visitor.old) × (out.new.items ≡ out.old.items)) }
     ensures words { OnErr result (0 < length visitor.new.place.unsaid) }
@@ -80,12 +81,15 @@ pub(crate) fn proceed(
     out: &mut Vec<u8>,
 ) -> Result<What, AllocError>
     ensures less { line_effort caller.new ≤ line_effort caller.old }
-    ensures ok { IfOk result (λ what. (k : Terms) (seat : ℕ) (next : CopyKey) (heard : List Noted) (b : connection.Caller) →
+    ensures ok { IfOk result (λ what.
+        (k : Terms) (seat : ℕ) (next : CopyKey) (heard : List Noted) (b : connection.Caller) →
         IsOf k number seat directory.now → StandsForConnection k seat next heard caller.old b →
         ConnectionWent k true seat next heard b what caller.new out.old.items out.new.items) }
-    ensures err { OnErr result ((k : Terms) (seat : ℕ) (next : CopyKey) (heard : List Noted) (b : connection.Caller) →
+    ensures err { OnErr result
+        ((k : Terms) (seat : ℕ) (next : CopyKey) (heard : List Noted) (b : connection.Caller) →
         IsOf k number seat directory.now → StandsForConnection k seat next heard caller.old b →
-        ConnectionWent k false seat next heard b whats.More caller.new out.old.items out.new.items) }
+        ConnectionWent k false seat next heard b whats.More caller.new out.old.items
+        out.new.items) }
     ensures asks { OnErr result (caller.old.gone ≡ false) }
     ensures works { OnErr result (HasWork caller.old ⊎ (0 < length caller.new.unsaid)) }
 {
@@ -110,13 +114,18 @@ pub(crate) fn go_on(
     ensures less { seat_effort visitor.new ≤ seat_effort visitor.old }
     ensures delivery { SameDelivery store.old.core store.new.core }
     ensures gone { visitor.new.gone ≡ false }
-    ensures ok { OnOk result ((seat : ℕ) (next : CopyKey) (heard : List Noted) (v : session.SeatedVisitor) →
+    ensures ok { OnOk result
+        ((seat : ℕ) (next : CopyKey) (heard : List Noted) (v : session.SeatedVisitor) →
         StandsForSeated seat next heard visitor.old v
-        → WentOn Serves true seat number next heard v store.old store.new out.old.items out.new.items visitor.new) }
-    ensures err { OnErr result ((seat : ℕ) (next : CopyKey) (heard : List Noted) (v : session.SeatedVisitor) →
+        → WentOn Serves true seat number next heard v store.old store.new out.old.items
+        out.new.items visitor.new) }
+    ensures err { OnErr result
+        ((seat : ℕ) (next : CopyKey) (heard : List Noted) (v : session.SeatedVisitor) →
         StandsForSeated seat next heard visitor.old v
-        → WentOn Serves false seat number next heard v store.old store.new out.old.items out.new.items visitor.new) }
-    ensures works { OnErr result (seated.HasWork visitor.old ⊎ (0 < length visitor.new.place.unsaid)) }
+        → WentOn Serves false seat number next heard v store.old store.new out.old.items
+        out.new.items visitor.new) }
+    ensures works { OnErr result (seated.HasWork visitor.old
+        ⊎ (0 < length visitor.new.place.unsaid)) }
 {
     let Ok(()) = visitor.proceed(alloc, store) else {
         let _ = print_session(visitor, number, out);
@@ -134,13 +143,18 @@ pub(crate) fn take_turn(
 ) -> Result<usize, AllocError>
     requires there { visitor.old.gone ≡ false }
     ensures gone { visitor.new.gone ≡ false }
-    ensures ok { IfOk result (λ count. (seat : ℕ) (next : CopyKey) (heard : List Noted) (v : session.SeatedVisitor) →
+    ensures ok { IfOk result (λ count.
+        (seat : ℕ) (next : CopyKey) (heard : List Noted) (v : session.SeatedVisitor) →
         StandsForSeated seat next heard visitor.old v
-        → Idled Serves true seat number count next heard v store.old store.new out.old.items out.new.items visitor.new) }
-    ensures session { IfOk result (λ count. HadTurn Serves visitor.old.place store.old store.new count visitor.new.place) }
-    ensures err { OnErr result ((seat : ℕ) (next : CopyKey) (heard : List Noted) (v : session.SeatedVisitor) →
+        → Idled Serves true seat number count next heard v store.old store.new out.old.items
+        out.new.items visitor.new) }
+    ensures session { IfOk result (λ count.
+        HadTurn Serves visitor.old.place store.old store.new count visitor.new.place) }
+    ensures err { OnErr result
+        ((seat : ℕ) (next : CopyKey) (heard : List Noted) (v : session.SeatedVisitor) →
         StandsForSeated seat next heard visitor.old v
-        → IdledInPart Serves seat number next heard v store.old store.new out.old.items out.new.items visitor.new) }
+        → IdledInPart Serves seat number next heard v store.old store.new out.old.items
+        out.new.items visitor.new) }
 {
     let count = visitor.idle_turn(store)?;
     print_session(visitor, number, out)?;

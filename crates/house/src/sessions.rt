@@ -52,12 +52,20 @@ fn visitor_talks(
     requires there { is_left place.old ≡ false }
     ensures less { visitor_effort place.new ≤ visitor_effort place.old }
     ensures delivery { SameDelivery store.old.core store.new.core }
-    ensures ok { OnOk result ((k : Setup) (next : CopyKey) (heard : List NotedSpec) (w : World) (b : spec.SeatedVisitor) →
-        core.StandsFor k.config store.old.core w → StandsForSomebody (session_seat k (number - 1)) next heard place.old (Some b) →
-        PlaceTalked k true (number - 1) next heard w b place.new store.new.core out.old.items out.new.items) }
-    ensures err { OnErr result ((k : Setup) (next : CopyKey) (heard : List NotedSpec) (w : World) (b : spec.SeatedVisitor) →
-        core.StandsFor k.config store.old.core w → StandsForSomebody (session_seat k (number - 1)) next heard place.old (Some b) →
-        PlaceTalked k false (number - 1) next heard w b place.new store.new.core out.old.items out.new.items) }
+    ensures ok { OnOk result
+        ((k : Setup) (next : CopyKey) (heard : List NotedSpec) (w : World)
+        (b : spec.SeatedVisitor) →
+        core.StandsFor k.config store.old.core w
+        → StandsForSomebody (session_seat k (number - 1)) next heard place.old (Some b) →
+        PlaceTalked k true (number
+        - 1) next heard w b place.new store.new.core out.old.items out.new.items) }
+    ensures err { OnErr result
+        ((k : Setup) (next : CopyKey) (heard : List NotedSpec) (w : World)
+        (b : spec.SeatedVisitor) →
+        core.StandsFor k.config store.old.core w
+        → StandsForSomebody (session_seat k (number - 1)) next heard place.old (Some b) →
+        PlaceTalked k false (number
+        - 1) next heard w b place.new store.new.core out.old.items out.new.items) }
     ensures works { OnErr result (VisitorWants place.old place.new) }
 {
     let Some(visitor) = place else {
@@ -76,7 +84,8 @@ fn visitor_talks(
 fn visitor_lingers(place: &mut Option<SeatedSession>)
     ensures less { visitor_effort place.new ≤ visitor_effort place.old }
     ensures who { (seat : ℕ) (next : CopyKey) (heard : List NotedSpec) (b : spec.SeatedVisitor) →
-        StandsForSomebody seat next heard place.old (Some b) → HasLingered seat next heard b place.new }
+        StandsForSomebody seat next heard place.old (Some b)
+        → HasLingered seat next heard b place.new }
 {
     let Some(visitor) = place else {
         return;
@@ -97,12 +106,20 @@ fn visitor_goes_on(
     requires counted { 0 < number }
     ensures less { visitor_effort place.new ≤ visitor_effort place.old }
     ensures delivery { SameDelivery store.old.core store.new.core }
-    ensures ok { OnOk result ((k : Setup) (next : CopyKey) (heard : List NotedSpec) (w : World) (b : spec.SeatedVisitor) →
-        core.StandsFor k.config store.old.core w → StandsForSomebody (session_seat k (number - 1)) next heard place.old (Some b) →
-        PlaceVisited k true (number - 1) next heard w b place.new store.new.core out.old.items out.new.items) }
-    ensures err { OnErr result ((k : Setup) (next : CopyKey) (heard : List NotedSpec) (w : World) (b : spec.SeatedVisitor) →
-        core.StandsFor k.config store.old.core w → StandsForSomebody (session_seat k (number - 1)) next heard place.old (Some b) →
-        PlaceVisited k false (number - 1) next heard w b place.new store.new.core out.old.items out.new.items) }
+    ensures ok { OnOk result
+        ((k : Setup) (next : CopyKey) (heard : List NotedSpec) (w : World)
+        (b : spec.SeatedVisitor) →
+        core.StandsFor k.config store.old.core w
+        → StandsForSomebody (session_seat k (number - 1)) next heard place.old (Some b) →
+        PlaceVisited k true (number
+        - 1) next heard w b place.new store.new.core out.old.items out.new.items) }
+    ensures err { OnErr result
+        ((k : Setup) (next : CopyKey) (heard : List NotedSpec) (w : World)
+        (b : spec.SeatedVisitor) →
+        core.StandsFor k.config store.old.core w
+        → StandsForSomebody (session_seat k (number - 1)) next heard place.old (Some b) →
+        PlaceVisited k false (number
+        - 1) next heard w b place.new store.new.core out.old.items out.new.items) }
 {
     if is_left(place) {
         visitor_lingers(place);
@@ -119,8 +136,10 @@ fn admitted(
     folders: Vec<Folder>,
     max_message: u32,
 ) -> Result<SeatedSession, AllocError>
-    ensures { IfOk result (λ p. (p.gone ≡ false) × ((next : CopyKey) (heard : List NotedSpec) → AtLeast next (first_of seat serial) →
-        StandsForSeated seat next heard p (spec.seated_greeted serial (Some max_message) folders.items))) }
+    ensures { IfOk result (λ p. (p.gone ≡ false)
+        × ((next : CopyKey) (heard : List NotedSpec) → AtLeast next (first_of seat serial) →
+        StandsForSeated seat next heard p
+        (spec.seated_greeted serial (Some max_message) folders.items))) }
 {
     SeatedSession::open(alloc, seat, serial, folders, Some(max_message))
 }
@@ -153,9 +172,12 @@ fn put_next(
 ) -> Result<Option<Refusal>, HouseFault>
     ensures nobody { (result ≡ Err HouseFault.Nobody) ↔ (place.now ≡ None) }
     ensures busy { result ≢ Err HouseFault.Busy }
-    ensures nothing { result ≡ Err HouseFault.Nothing → (p : SeatedSession) × (place.now ≡ Some p) × MayNotPut core.old (due p) }
-    ensures memory { result ≡ Err HouseFault.NoMemory → (p : SeatedSession) × (place.now ≡ Some p) × CannotNote core.old (due p) }
-    ensures puts { IfOk result (λ why. (p : SeatedSession) × (place.now ≡ Some p) × PutsNext core.old (due p) core.new why) }
+    ensures nothing { result ≡ Err HouseFault.Nothing
+        → (p : SeatedSession) × (place.now ≡ Some p) × MayNotPut core.old (due p) }
+    ensures memory { result ≡ Err HouseFault.NoMemory
+        → (p : SeatedSession) × (place.now ≡ Some p) × CannotNote core.old (due p) }
+    ensures puts { IfOk result (λ why. (p : SeatedSession) × (place.now ≡ Some p)
+        × PutsNext core.old (due p) core.new why) }
     ensures load { OnOk result (load core.new ≤ load core.old + 4) }
     ensures refused { OnErr result (core.new ≡ core.old) }
 {
@@ -181,7 +203,8 @@ fn visitor_notes_put(place: &mut Option<SeatedSession>, why: Option<Refusal>)
 
 // The session at a place hears a verdict.
 fn visitor_hears(place: &mut Option<SeatedSession>, noted: &Noted)
-    ensures { MatchOption place.old (place.new ≡ None) (λ p. IsSomeAnd place.new (HearsVerdict p noted.now)) }
+    ensures { MatchOption place.old (place.new
+        ≡ None) (λ p. IsSomeAnd place.new (HearsVerdict p noted.now)) }
 {
     if let Some(visitor) = place {
         visitor.hear(noted);
@@ -207,9 +230,13 @@ impl House {
     // A user opens a session at a place where nobody is, with the serial that is next there.
     fn admit(&mut self, session: u8, user: &[u8], out: &mut Vec<u8>) -> Result<(), HouseFault>
         requires free { CanEnter self.old session user.now }
-        ensures follows { OnOk result (Follows self.old (events.Enter session user.entry) self.new out.old.items out.new.items) }
+        ensures follows { OnOk result
+            (Follows self.old (events.Enter session user.entry) self.new out.old.items
+            out.new.items) }
         ensures only { IfErr result (λ e. e ≡ HouseFault.NoMemory) }
-        ensures no_memory { OnErr result (FollowsInPart self.old (events.Enter session user.entry) self.new out.old.items out.new.items) }
+        ensures no_memory { OnErr result
+            (FollowsInPart self.old (events.Enter session user.entry) self.new out.old.items
+            out.new.items) }
     {
         let place = index_of(session);
         let seat = self.session_seat(session);
@@ -231,13 +258,19 @@ impl House {
         user: &[u8],
         out: &mut Vec<u8>,
     ) -> Result<(), HouseFault>
-        ensures follows { OnOk result (Follows self.old (events.Enter session user.entry) self.new out.old.items out.new.items) }
-        ensures nobody { (result ≡ Err HouseFault.Nobody) ↔ IsNobody self.old (events.Enter session user.entry) }
-        ensures busy { (result ≡ Err HouseFault.Busy) ↔ IsBusy self.old (events.Enter session user.entry) }
+        ensures follows { OnOk result
+            (Follows self.old (events.Enter session user.entry) self.new out.old.items
+            out.new.items) }
+        ensures nobody { (result ≡ Err HouseFault.Nobody)
+            ↔ IsNobody self.old (events.Enter session user.entry) }
+        ensures busy { (result ≡ Err HouseFault.Busy)
+            ↔ IsBusy self.old (events.Enter session user.entry) }
         ensures nothing { result ≢ Err HouseFault.Nothing }
         ensures no_memory { result ≡ Err HouseFault.NoMemory →
-            FollowsInPart self.old (events.Enter session user.entry) self.new out.old.items out.new.items }
-        ensures refused { result ≢ Err HouseFault.NoMemory → OnErr result ((self.new ≡ self.old) × (out.new.items ≡ out.old.items)) }
+            FollowsInPart self.old (events.Enter session user.entry) self.new out.old.items
+            out.new.items }
+        ensures refused { result ≢ Err HouseFault.NoMemory
+            → OnErr result ((self.new ≡ self.old) × (out.new.items ≡ out.old.items)) }
     {
         if self.has_no_place(session) || !has_user(&self.directory, user) {
             return Err(HouseFault::Nobody);
@@ -255,9 +288,13 @@ impl House {
     // Bytes came from the client of a session at its place, which is there.
     fn listen(&mut self, session: u8, piece: &[u8], out: &mut Vec<u8>) -> Result<(), HouseFault>
         requires there { IsTalking self.old session }
-        ensures follows { OnOk result (Follows self.old (events.Say session piece.entry) self.new out.old.items out.new.items) }
+        ensures follows { OnOk result
+            (Follows self.old (events.Say session piece.entry) self.new out.old.items
+            out.new.items) }
         ensures only { IfErr result (λ e. e ≡ HouseFault.NoMemory) }
-        ensures no_memory { OnErr result (FollowsInPart self.old (events.Say session piece.entry) self.new out.old.items out.new.items) }
+        ensures no_memory { OnErr result
+            (FollowsInPart self.old (events.Say session piece.entry) self.new out.old.items
+            out.new.items) }
         ensures asks { OnErr result (MayWant (events.Say session piece.entry) self.old self.new) }
     {
         let place = &mut self.visitors[index_of(session)];
@@ -274,14 +311,21 @@ impl House {
         piece: &[u8],
         out: &mut Vec<u8>,
     ) -> Result<(), HouseFault>
-        ensures follows { OnOk result (Follows self.old (events.Say session piece.entry) self.new out.old.items out.new.items) }
-        ensures nobody { (result ≡ Err HouseFault.Nobody) ↔ IsNobody self.old (events.Say session piece.entry) }
-        ensures busy { (result ≡ Err HouseFault.Busy) ↔ IsBusy self.old (events.Say session piece.entry) }
+        ensures follows { OnOk result
+            (Follows self.old (events.Say session piece.entry) self.new out.old.items
+            out.new.items) }
+        ensures nobody { (result ≡ Err HouseFault.Nobody)
+            ↔ IsNobody self.old (events.Say session piece.entry) }
+        ensures busy { (result ≡ Err HouseFault.Busy)
+            ↔ IsBusy self.old (events.Say session piece.entry) }
         ensures nothing { result ≢ Err HouseFault.Nothing }
         ensures no_memory { result ≡ Err HouseFault.NoMemory →
-            FollowsInPart self.old (events.Say session piece.entry) self.new out.old.items out.new.items }
-        ensures asks { result ≡ Err HouseFault.NoMemory → MayWant (events.Say session piece.entry) self.old self.new }
-        ensures refused { result ≢ Err HouseFault.NoMemory → OnErr result ((self.new ≡ self.old) × (out.new.items ≡ out.old.items)) }
+            FollowsInPart self.old (events.Say session piece.entry) self.new out.old.items
+            out.new.items }
+        ensures asks { result ≡ Err HouseFault.NoMemory
+            → MayWant (events.Say session piece.entry) self.old self.new }
+        ensures refused { result ≢ Err HouseFault.NoMemory
+            → OnErr result ((self.new ≡ self.old) × (out.new.items ≡ out.old.items)) }
     {
         if self.has_no_place(session) {
             return Err(HouseFault::Nobody);
@@ -299,7 +343,8 @@ impl House {
     // The client of a session at its place, which was there, is gone.
     fn part(&mut self, session: u8)
         requires there { IsTalking self.old session }
-        ensures { (k : Setup) (s : scene.Scene) (old : List ℕ) → StandsFor k self.old s → Led k true s (events.Leave session) self.new old old }
+        ensures { (k : Setup) (s : scene.Scene) (old : List ℕ) → StandsFor k self.old s
+            → Led k true s (events.Leave session) self.new old old }
     {
         self.store.session = session - 1;
         let _ = self.store.leave(false);
@@ -310,9 +355,11 @@ impl House {
 
     // A session's client is gone.
     pub(crate) fn leave(&mut self, session: u8) -> Result<(), HouseFault>
-        ensures follows { OnOk result ((k : Setup) (s : scene.Scene) (old : List ℕ) → StandsFor k self.old s →
+        ensures follows { OnOk result ((k : Setup) (s : scene.Scene) (old : List ℕ)
+            → StandsFor k self.old s →
             Led k true s (events.Leave session) self.new old old) }
-        ensures nobody { (result ≡ Err HouseFault.Nobody) ↔ IsNobody self.old (events.Leave session) }
+        ensures nobody { (result ≡ Err HouseFault.Nobody)
+            ↔ IsNobody self.old (events.Leave session) }
         ensures busy { (result ≡ Err HouseFault.Busy) ↔ IsBusy self.old (events.Leave session) }
         ensures only { IfErr result (λ e. (e ≡ HouseFault.Nobody) ⊎ (e ≡ HouseFault.Busy)) }
         ensures refused { OnErr result (self.new ≡ self.old) }
@@ -334,15 +381,20 @@ impl House {
     // A session puts the copy of the message that it submitted.
     pub(crate) fn put_of_session(&mut self, number: u8, out: &mut Vec<u8>) -> Result<(), HouseFault>
         requires number { IsSession self.old number }
-        ensures follows { OnOk result (Follows self.old (events.Put number) self.new out.old.items out.new.items) }
+        ensures follows { OnOk result
+            (Follows self.old (events.Put number) self.new out.old.items out.new.items) }
         ensures effort { OnOk result (MakesLess (events.Put number) self.old self.new) }
         ensures marks { self.new.directory ≡ self.old.directory }
         ensures nobody { (result ≡ Err HouseFault.Nobody) ↔ IsVacant self.old number }
         ensures busy { result ≢ Err HouseFault.Busy }
-        ensures changes_nothing { result ≡ Err HouseFault.Nothing → ChangesNothing self.old (events.Put number) }
-        ensures no_memory { result ≡ Err HouseFault.NoMemory → FollowsInPart self.old (events.Put number) self.new out.old.items out.new.items }
-        ensures asks { result ≡ Err HouseFault.NoMemory → MayWant (events.Put number) self.old self.new }
-        ensures refused { result ≢ Err HouseFault.NoMemory → OnErr result ((self.new ≡ self.old) × (out.new.items ≡ out.old.items)) }
+        ensures changes_nothing { result ≡ Err HouseFault.Nothing
+            → ChangesNothing self.old (events.Put number) }
+        ensures no_memory { result ≡ Err HouseFault.NoMemory
+            → FollowsInPart self.old (events.Put number) self.new out.old.items out.new.items }
+        ensures asks { result ≡ Err HouseFault.NoMemory
+            → MayWant (events.Put number) self.old self.new }
+        ensures refused { result ≢ Err HouseFault.NoMemory
+            → OnErr result ((self.new ≡ self.old) × (out.new.items ≡ out.old.items)) }
     {
         let session = number - self.callers.len() as u8;
         let place = index_of(session);
@@ -362,15 +414,20 @@ impl House {
     ) -> Result<(), HouseFault>
         requires number { IsSession self.old number }
         requires lane { number ≤ length self.old.core.replies }
-        ensures follows { OnOk result (Follows self.old (events.Hear number) self.new out.old.items out.new.items) }
+        ensures follows { OnOk result
+            (Follows self.old (events.Hear number) self.new out.old.items out.new.items) }
         ensures effort { OnOk result (MakesLess (events.Hear number) self.old self.new) }
         ensures marks { self.new.directory ≡ self.old.directory }
         ensures nobody { (result ≡ Err HouseFault.Nobody) ↔ IsVacant self.old number }
         ensures busy { result ≢ Err HouseFault.Busy }
-        ensures changes_nothing { result ≡ Err HouseFault.Nothing → ChangesNothing self.old (events.Hear number) }
-        ensures no_memory { result ≡ Err HouseFault.NoMemory → FollowsInPart self.old (events.Hear number) self.new out.old.items out.new.items }
-        ensures asks { result ≡ Err HouseFault.NoMemory → MayWant (events.Hear number) self.old self.new }
-        ensures refused { result ≢ Err HouseFault.NoMemory → OnErr result ((self.new ≡ self.old) × (out.new.items ≡ out.old.items)) }
+        ensures changes_nothing { result ≡ Err HouseFault.Nothing
+            → ChangesNothing self.old (events.Hear number) }
+        ensures no_memory { result ≡ Err HouseFault.NoMemory
+            → FollowsInPart self.old (events.Hear number) self.new out.old.items out.new.items }
+        ensures asks { result ≡ Err HouseFault.NoMemory
+            → MayWant (events.Hear number) self.old self.new }
+        ensures refused { result ≢ Err HouseFault.NoMemory
+            → OnErr result ((self.new ≡ self.old) × (out.new.items ≡ out.old.items)) }
     {
         let session = number - self.callers.len() as u8;
         let place = index_of(session);

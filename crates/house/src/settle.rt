@@ -84,7 +84,8 @@ impl House {
     // Each seat ends on a shard, where that is shut.
     fn end_where(&mut self, shard: u8, shut: bool, out: &mut Vec<u8>) -> Result<bool, AllocError>
         ensures came { CameStints (λ k. shard < k.config.shards) (λ k.
-            ends_where k.config.seats shard shut) self.old out.old.items self.new out.new.items result }
+            ends_where k.config.seats shard shut) self.old out.old.items self.new out.new.items
+            result }
         ensures marks { self.new.directory ≡ self.old.directory }
     {
         if !shut {
@@ -96,7 +97,8 @@ impl House {
     // Each seat ends on each shard that is shut.
     fn close_all(&mut self, out: &mut Vec<u8>) -> Result<bool, AllocError>
         ensures came { CameStints (λ k. Unit {0}) (λ k. closes k.config.seats
-            (is_shut self.old.directory) k.config.shards) self.old out.old.items self.new out.new.items result }
+            (is_shut self.old.directory) k.config.shards) self.old out.old.items self.new
+            out.new.items result }
         ensures marks { self.new.directory ≡ self.old.directory }
     {
         let shards = self.directory.shards();
@@ -112,7 +114,8 @@ impl House {
     // Each connection and each session puts its copies.
     fn put_all(&mut self, out: &mut Vec<u8>) -> Result<bool, AllocError>
         ensures marks { self.new.directory ≡ self.old.directory }
-        ensures came { CameStints (λ k. Unit {0}) (λ k. puts k.config.seats) self.old out.old.items self.new out.new.items result }
+        ensures came { CameStints (λ k. Unit {0}) (λ k.
+            puts k.config.seats) self.old out.old.items self.new out.new.items result }
     {
         let seats = (self.callers.len() + self.visitors.len()) as u8;
         let mut moved = false;
@@ -127,7 +130,8 @@ impl House {
     fn serve_all(&mut self, held: &[bool], out: &mut Vec<u8>) -> Result<bool, AllocError>
         ensures marks { self.new.directory ≡ self.old.directory }
         ensures came { CameStints (λ k. Unit {0}) (λ k. serves
-            (is_held held.now) k.config.shards) self.old out.old.items self.new out.new.items result }
+            (is_held held.now) k.config.shards) self.old out.old.items self.new out.new.items
+            result }
     {
         let shards = self.directory.shards();
         let mut moved = false;
@@ -141,7 +145,9 @@ impl House {
     // A shard takes, delivers and answers, unless it is held.
     fn serve(&mut self, shard: u8, held: bool, out: &mut Vec<u8>) -> Result<bool, AllocError>
         ensures marks { self.new.directory ≡ self.old.directory }
-        ensures came { CameStints (λ k. shard < k.config.shards) (λ k. serve shard held) self.old out.old.items self.new out.new.items result }
+        ensures came { CameStints (λ k.
+            shard < k.config.shards) (λ k.
+            serve shard held) self.old out.old.items self.new out.new.items result }
     {
         if held {
             return Ok(false);
@@ -157,7 +163,8 @@ impl House {
     // Each connection and each session hears its verdicts.
     fn hear_all(&mut self, out: &mut Vec<u8>) -> Result<bool, AllocError>
         ensures marks { self.new.directory ≡ self.old.directory }
-        ensures came { CameStints (λ k. Unit {0}) (λ k. hears k.config.seats) self.old out.old.items self.new out.new.items result }
+        ensures came { CameStints (λ k. Unit {0}) (λ k.
+            hears k.config.seats) self.old out.old.items self.new out.new.items result }
     {
         let seats = (self.callers.len() + self.visitors.len()) as u8;
         let mut moved = false;
@@ -184,9 +191,11 @@ impl House {
     // Rounds, until nothing moves.
     fn go_rounds(&mut self, held: &[bool], out: &mut Vec<u8>) -> Result<(), AllocError>
         ensures ok { OnOk result (Goes (λ k. Unit {0}) (λ k s t printed.
-            GoesRounds k (is_held held.now) s t printed) self.old out.old.items self.new out.new.items) }
+            GoesRounds k (is_held held.now) s t printed) self.old out.old.items self.new
+            out.new.items) }
         ensures err { OnErr result (Wants (λ k. Unit {0}) (λ k s t printed.
-            RoundsBreakOff k (is_held held.now) s t printed) self.old out.old.items self.new out.new.items) }
+            RoundsBreakOff k (is_held held.now) s t printed) self.old out.old.items self.new
+            out.new.items) }
     {
         loop {
             let moved = self.go_round(held, out)?;

@@ -34,7 +34,8 @@ fn print_flags_line(
     flags: Flags,
     out: &mut Vec<u8>,
 ) -> Result<(), AllocError>
-    ensures ok { OnOk result (out.new.items ≡ out.old.items ++ tail_line word.now (change_text (Change.Flags uid flags))) }
+    ensures ok { OnOk result (out.new.items
+        ≡ out.old.items ++ tail_line word.now (change_text (Change.Flags uid flags))) }
     ensures err { OnErr result (StartsWith out.new.items out.old.items) }
 {
     let mut digits = Buffer::new();
@@ -55,7 +56,8 @@ fn print_flags_line(
 
 // Prints a line of this word, kind and number, or nothing.
 fn print_number(word: &[u8], kind: &[u8], number: u128, out: &mut Vec<u8>) -> Result<(), AllocError>
-    ensures ok { OnOk result (out.new.items ≡ out.old.items ++ tail_line word.now (kind.now ++ decimal number)) }
+    ensures ok { OnOk result (out.new.items
+        ≡ out.old.items ++ tail_line word.now (kind.now ++ decimal number)) }
     ensures err { OnErr result (out.new.items ≡ out.old.items) }
 {
     let mut digits = Buffer::new();
@@ -75,7 +77,8 @@ fn print_number(word: &[u8], kind: &[u8], number: u128, out: &mut Vec<u8>) -> Re
 
 // Prints a change, or a part of it.
 fn print_change(word: &[u8], change: Change, out: &mut Vec<u8>) -> Result<(), AllocError>
-    ensures ok { OnOk result (out.new.items ≡ out.old.items ++ tail_line word.now (change_text change)) }
+    ensures ok { OnOk result (out.new.items
+        ≡ out.old.items ++ tail_line word.now (change_text change)) }
     ensures err { OnErr result (StartsWith out.new.items out.old.items) }
 {
     match change {
@@ -87,7 +90,8 @@ fn print_change(word: &[u8], change: Change, out: &mut Vec<u8>) -> Result<(), Al
 
 // Prints the changes, or as many of them as there is memory for.
 fn print_changes(word: &[u8], changes: &[Change], out: &mut Vec<u8>) -> Result<(), AllocError>
-    ensures ok { OnOk result (out.new.items ≡ out.old.items ++ flat_map (λ c. tail_line word.now (change_text c)) changes.now) }
+    ensures ok { OnOk result (out.new.items
+        ≡ out.old.items ++ flat_map (λ c. tail_line word.now (change_text c)) changes.now) }
     ensures err { OnErr result (StartsWith out.new.items out.old.items) }
 {
     for change in changes {
@@ -140,12 +144,15 @@ impl House {
     /// memory is wanting. Busy and Nothing never come while the house stands.
     pub fn tail(&self, word: &[u8], out: &mut Vec<u8>) -> Result<(), HouseFault>
         // In each scene for which the house stands: of the mailbox that the word names, each change of its window, and how many there ever were.
-        ensures window { OnOk result ((k : Setup) (s : Scene) → StandsFor k self.now s → PrintsWindow k s word.now out.old.items out.new.items) }
+        ensures window { OnOk result ((k : Setup) (s : Scene) → StandsFor k self.now s
+            → PrintsWindow k s word.now out.old.items out.new.items) }
 
         // Nobody exactly where the word names no mailbox; Busy never, and Nothing only in a house that stands for no scene.
-        ensures nobody { (result ≡ Err HouseFault.Nobody) ↔ (number_of self.now.directory word.now ≡ None) }
+        ensures nobody { (result ≡ Err HouseFault.Nobody)
+            ↔ (number_of self.now.directory word.now ≡ None) }
         ensures busy { result ≢ Err HouseFault.Busy }
-        ensures nothing { result ≡ Err HouseFault.Nothing → (k : Setup) (s : Scene) → StandsFor k self.now s → ⊥ }
+        ensures nothing { result ≡ Err HouseFault.Nothing → (k : Setup) (s : Scene)
+            → StandsFor k self.now s → ⊥ }
 
         // A refusal prints nothing.
         ensures refused { OnErr result (out.new.items ≡ out.old.items) }

@@ -29,8 +29,10 @@ fn set_posts(
     mut rooms: Vec<Vec<Ended<Job>>>,
     mut posts: Vec<Post>,
 ) -> Vec<Post>
-    requires hands { (vec_len hands ≡ producers) × AreHands floor.now.office.lanes.items 0 (map (λ v. v.items) hands.items) }
-    requires receivers { (vec_len receivers ≡ producers) × AreReceivers floor.now.depot.channels.items receivers.items }
+    requires hands { (vec_len hands ≡ producers)
+        × AreHands floor.now.office.lanes.items 0 (map (λ v. v.items) hands.items) }
+    requires receivers { (vec_len receivers ≡ producers)
+        × AreReceivers floor.now.depot.channels.items receivers.items }
     requires unheard { All (λ s. received s ≡ []) receivers.items }
     requires rooms { AreRooms producers (length floor.now.office.lanes.items) rooms }
     requires posts { (posts.items ≡ []) × (producers ≤ vec_capacity posts) }
@@ -67,8 +69,10 @@ fn set_stands(
     mut rooms: Vec<Vec<SenderEnded<Noted>>>,
     mut stands: Vec<Stand>,
 ) -> Vec<Stand>
-    requires hands { (vec_len hands ≡ shards) × AreSenderHands floor.now.depot.channels.items 0 (map (λ v. v.items) hands.items) }
-    requires consumers { (vec_len consumers ≡ shards) × AreConsumers floor.now.office.lanes.items consumers.items }
+    requires hands { (vec_len hands ≡ shards)
+        × AreSenderHands floor.now.depot.channels.items 0 (map (λ v. v.items) hands.items) }
+    requires consumers { (vec_len consumers ≡ shards)
+        × AreConsumers floor.now.office.lanes.items consumers.items }
     requires fresh { All (λ s. got s ≡ []) consumers.items }
     requires parkers { vec_len parkers ≡ shards }
     requires rooms { AreRooms shards (length floor.now.depot.channels.items) rooms }
@@ -127,10 +131,14 @@ pub(crate) fn deal_out(
     stands: Vec<Stand>,
     posts: Vec<Post>,
 ) -> (Vec<Stand>, Vec<Post>)
-    requires lanes { (length floor.now.office.lanes.items ≡ shards) × All (λ q. producers_of q ≡ producers) floor.now.office.lanes.items }
-    requires channels { (length floor.now.depot.channels.items ≡ producers) × All (λ c. senders_of c ≡ shards) floor.now.depot.channels.items }
-    requires undealt { AreUndealt producers shards floor.now.office.lanes.items floor.now.depot.channels.items undealt }
-    requires room { (stands.items ≡ []) × (posts.items ≡ []) × (shards ≤ vec_capacity stands) × (producers ≤ vec_capacity posts) }
+    requires lanes { (length floor.now.office.lanes.items ≡ shards)
+        × All (λ q. producers_of q ≡ producers) floor.now.office.lanes.items }
+    requires channels { (length floor.now.depot.channels.items ≡ producers)
+        × All (λ c. senders_of c ≡ shards) floor.now.depot.channels.items }
+    requires undealt { AreUndealt producers shards floor.now.office.lanes.items
+        floor.now.depot.channels.items undealt }
+    requires room { (stands.items ≡ []) × (posts.items ≡ []) × (shards ≤ vec_capacity stands)
+        × (producers ≤ vec_capacity posts) }
     ensures count { (vec_len result.0 ≡ shards) × (vec_len result.1 ≡ producers) }
     ensures stands { AllAt (IsStand floor.now) 0 result.0.items }
     ensures posts { AllAt (IsPost floor.now) 0 result.1.items }

@@ -62,8 +62,10 @@ pub(crate) struct Fittings {
 // The empty mailbox of this number.
 fn make_mailbox(alloc: Global, number: u8, sizes: Sizes<'_>) -> Result<Mailbox, AllocError>
     requires ring { 0 < sizes.limits.ring }
-    ensures numbers { IfOk result (λ m. (m.number ≡ number) × (m.uidvalidity ≡ sizes.entry.uidvalidity) × (m.first_uid ≡ sizes.entry.first_uid)) }
-    ensures keeps { IfOk result (λ m. (m.limit ≡ sizes.entry.limits.messages) × (m.history ≡ sizes.entry.history)) }
+    ensures numbers { IfOk result (λ m. (m.number ≡ number)
+        × (m.uidvalidity ≡ sizes.entry.uidvalidity) × (m.first_uid ≡ sizes.entry.first_uid)) }
+    ensures keeps { IfOk result (λ m. (m.limit ≡ sizes.entry.limits.messages)
+        × (m.history ≡ sizes.entry.history)) }
 {
     let Sizes {
         uidvalidity,

@@ -30,7 +30,9 @@ fn lay_floor(
 ) -> Floor
     requires host { length sizes.host.now < 256 }
     requires interior { IsHall directory sizes interior }
-    requires lanes { (vec_len lanes ≡ directory.shards) × All (λ q. (capacity_of q ≡ sizes.depth) × (producers_of q ≡ sizes.producers)) lanes.items }
+    requires lanes { (vec_len lanes ≡ directory.shards)
+        × All (λ q. (capacity_of q ≡ sizes.depth)
+        × (producers_of q ≡ sizes.producers)) lanes.items }
     requires channels { (vec_len channels ≡ sizes.producers) ×
         All (λ c. (room_of c ≡ reply_room) × (senders_of c ≡ directory.shards)) channels.items }
     ensures floor { IsFloor directory sizes.entry result }
@@ -61,9 +63,12 @@ fn lay_floor(
 
 // What is dealt to so many producers and consumers, and room for what comes of it.
 fn man(floor: &Floor, producers: u8, shards: u8, undealt: Undealt, lists: CrewLists) -> Crew
-    requires lanes { (length floor.now.office.lanes.items ≡ shards) × All (λ q. producers_of q ≡ producers) floor.now.office.lanes.items }
-    requires channels { (length floor.now.depot.channels.items ≡ producers) × All (λ c. senders_of c ≡ shards) floor.now.depot.channels.items }
-    requires undealt { AreUndealt producers shards floor.now.office.lanes.items floor.now.depot.channels.items undealt }
+    requires lanes { (length floor.now.office.lanes.items ≡ shards)
+        × All (λ q. producers_of q ≡ producers) floor.now.office.lanes.items }
+    requires channels { (length floor.now.depot.channels.items ≡ producers)
+        × All (λ c. senders_of c ≡ shards) floor.now.depot.channels.items }
+    requires undealt { AreUndealt producers shards floor.now.office.lanes.items
+        floor.now.depot.channels.items undealt }
     requires lists { AreCrewLists producers shards lists }
     ensures { IsCrew floor.now producers result }
 {
@@ -118,14 +123,20 @@ struct Sorted {
 
 // Sorts what was made.
 fn sort_out(rooms: Rooms, lanes: Lanes, channels: Channels, parkers: Vec<Parker>) -> Sorted
-    ensures lanes { (result.lanes ≡ lanes.queues) × (result.undealt.lane_permits ≡ lanes.permits) × (result.undealt.consumers ≡ lanes.consumers) }
-    ensures channels { (result.channels ≡ channels.channels) × (result.undealt.channel_permits ≡ channels.permits)
+    ensures lanes { (result.lanes ≡ lanes.queues) × (result.undealt.lane_permits ≡ lanes.permits)
+        × (result.undealt.consumers ≡ lanes.consumers) }
+    ensures channels { (result.channels ≡ channels.channels)
+        × (result.undealt.channel_permits ≡ channels.permits)
         × (result.undealt.receivers ≡ channels.receivers) }
     ensures parkers { result.undealt.parkers ≡ parkers }
-    ensures rooms { (result.undealt.hands ≡ rooms.producers.permits) × (result.undealt.rooms ≡ rooms.producers.ended.each)
-        × (result.undealt.sender_hands ≡ rooms.consumers.permits) × (result.undealt.sender_rooms ≡ rooms.consumers.ended.each) }
-    ensures left { (result.of_producers.hands ≡ rooms.producers.ended.all) × (result.of_producers.lists ≡ rooms.producers.lists)
-        × (result.of_consumers.hands ≡ rooms.consumers.ended.all) × (result.of_consumers.lists ≡ rooms.consumers.lists) }
+    ensures rooms { (result.undealt.hands ≡ rooms.producers.permits)
+        × (result.undealt.rooms ≡ rooms.producers.ended.each)
+        × (result.undealt.sender_hands ≡ rooms.consumers.permits)
+        × (result.undealt.sender_rooms ≡ rooms.consumers.ended.each) }
+    ensures left { (result.of_producers.hands ≡ rooms.producers.ended.all)
+        × (result.of_producers.lists ≡ rooms.producers.lists)
+        × (result.of_consumers.hands ≡ rooms.consumers.ended.all)
+        × (result.of_consumers.lists ≡ rooms.consumers.lists) }
 {
     let Rooms {
         producers,
@@ -171,9 +182,12 @@ fn baskets_of(
     papers: Papers,
 ) -> Baskets
     ensures producers { (result.hands ≡ producers.hands) × (result.lists ≡ producers.lists) }
-    ensures consumers { (result.sender_hands ≡ consumers.hands) × (result.sender_lists ≡ consumers.lists) }
-    ensures ends { (result.consumers ≡ ends.consumers) × (result.receivers ≡ ends.receivers) × (result.spares ≡ ends.spares) }
-    ensures papers { (result.replies ≡ papers.replies) × (result.logs ≡ papers.logs) × (result.taken ≡ papers.taken)
+    ensures consumers { (result.sender_hands ≡ consumers.hands)
+        × (result.sender_lists ≡ consumers.lists) }
+    ensures ends { (result.consumers ≡ ends.consumers) × (result.receivers ≡ ends.receivers)
+        × (result.spares ≡ ends.spares) }
+    ensures papers { (result.replies ≡ papers.replies) × (result.logs ≡ papers.logs)
+        × (result.taken ≡ papers.taken)
         × (result.lanes ≡ papers.lanes) × (result.channels ≡ papers.channels) }
 {
     let Leavings { hands, lists } = producers;

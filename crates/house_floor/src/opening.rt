@@ -115,7 +115,8 @@ pub fn open(
     ensures crew { IfOk result (λ o. IsCrew o.floor sizes.entry.producers o.crew) }
 
     // Nothing lies then in the baskets, which have room for what all leave; and each session has its end of a bell.
-    ensures baskets { IfOk result (λ o. AreBaskets sizes.entry.producers directory.shards o.baskets) }
+    ensures baskets { IfOk result (λ o.
+        AreBaskets sizes.entry.producers directory.shards o.baskets) }
     ensures sleepers { IfOk result (λ o. vec_len o.sleepers ≡ length guests.now) }
 {
     let fittings = make_fittings(alloc, &directory, sizes, guests)?;

@@ -8,7 +8,8 @@ use envelope::Directory;
 // Whether the mailbox is its user's INBOX.
 fn is_inbox(directory: &Directory, mailbox: u8) -> bool
     requires { mailbox < length directory.now.homes }
-    ensures { IfSome (slice_get directory.now.homes mailbox) (λ home. result ≡ is_inbox home.folder) }
+    ensures { IfSome (slice_get directory.now.homes mailbox) (λ home.
+        result ≡ is_inbox home.folder) }
 {
     directory.folder_of(mailbox).is_none()
 }
@@ -17,9 +18,11 @@ fn is_inbox(directory: &Directory, mailbox: u8) -> bool
 /// None where there are no so many users.
 pub fn inbox_numbered(directory: &Directory, user: u8) -> Option<u8>
     ensures inbox { IfSome result (λ inbox. (inbox < length directory.now.homes)
-        × IfSome (slice_get directory.now.homes inbox) (λ home. user_numbered user directory.now.homes ≡ Some home.user)) }
+        × IfSome (slice_get directory.now.homes inbox) (λ home.
+        user_numbered user directory.now.homes ≡ Some home.user)) }
     // It is an INBOX, and no folder.
-    ensures folder { IfSome result (λ inbox. IfSome (slice_get directory.now.homes inbox) (λ home. is_inbox home.folder ≡ true)) }
+    ensures folder { IfSome result (λ inbox.
+        IfSome (slice_get directory.now.homes inbox) (λ home. is_inbox home.folder ≡ true)) }
     ensures none { result ≡ None → user_numbered user directory.now.homes ≡ None }
 {
     let mut left = user;

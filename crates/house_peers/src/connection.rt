@@ -84,9 +84,11 @@ fn take_all(
     ensures moves { result.what ≡ Some whats.Submit → 0 < result.used }
     ensures awaits { AwaitsIn result.what machine.new.pending }
     ensures most { AreFew machine.new.pending }
-    ensures same { (machine.new.setting ≡ machine.old.setting) × (machine.new.host ≡ machine.old.host) }
+    ensures same { (machine.new.setting ≡ machine.old.setting)
+        × (machine.new.host ≡ machine.old.host) }
     ensures taken { (c : Conversation) → StandsFor machine.old c → IsAwaited [] c.standing.phase →
-        TakenBy (StandsFor machine.new) machine.old.setting machine.old.host directory.now c (take result.used piece.now) out.old.items
+        TakenBy (StandsFor machine.new) machine.old.setting machine.old.host directory.now c
+        (take result.used piece.now) out.old.items
         out.new.items result.what machine.new.pending }
 {
     let mut used = 0;
@@ -136,7 +138,8 @@ impl HouseConnection {
         // The server's name has at most 255 bytes.
         requires { length limits.host.now < 256 }
         // On all terms with this name and limit, where its seat may use keys of this serial from the first on, it stands for a new caller, greeted.
-        ensures { IfOk result (λ h. (k : Terms) (next : CopyKey) (heard : List Noted) → k.host ≡ limits.entry.host.now
+        ensures { IfOk result (λ h. (k : Terms) (next : CopyKey) (heard : List Noted)
+            → k.host ≡ limits.entry.host.now
             → k.max_message ≡ limits.entry.max_message
             → AtLeast next (record { seat = seat; serial = serial; message = 0; recipient = 0 })
             → StandsForConnection k seat next heard h (greeted k seat serial)) }
@@ -174,10 +177,13 @@ impl HouseConnection {
         requires read { self.old.gone ≡ false }
         ensures same { self.new.gone ≡ self.old.gone }
         ensures less { line_effort self.new ≤ line_effort self.old }
-        ensures ok { IfOk result (λ what. (k : Terms) (seat : ℕ) (next : CopyKey) (heard : List Noted) (b : spec.Caller)
+        ensures ok { IfOk result (λ what.
+            (k : Terms) (seat : ℕ) (next : CopyKey) (heard : List Noted) (b : spec.Caller)
             → directory.now ≡ k.directory → StandsForConnection k seat next heard self.old b →
             WorkedOff k true seat next heard b what self.new) }
-        ensures err { OnErr result ((k : Terms) (seat : ℕ) (next : CopyKey) (heard : List Noted) (b : spec.Caller) → directory.now ≡ k.directory
+        ensures err { OnErr result
+            ((k : Terms) (seat : ℕ) (next : CopyKey) (heard : List Noted) (b : spec.Caller)
+            → directory.now ≡ k.directory
             → StandsForConnection k seat next heard self.old b →
             (what : What) × WorkedOff k false seat next heard b what self.new) }
         ensures asks { OnErr result (IsCalm self.old → ⊥) }
@@ -202,10 +208,13 @@ impl HouseConnection {
         requires read { self.old.gone ≡ false }
         ensures same { self.new.gone ≡ self.old.gone }
         ensures less { line_effort self.new ≤ line_effort self.old }
-        ensures ok { IfOk result (λ what. (k : Terms) (seat : ℕ) (next : CopyKey) (heard : List Noted) (b : spec.Caller)
+        ensures ok { IfOk result (λ what.
+            (k : Terms) (seat : ℕ) (next : CopyKey) (heard : List Noted) (b : spec.Caller)
             → directory.now ≡ k.directory → StandsForConnection k seat next heard self.old b →
             WentOn k true seat next heard b what self.new) }
-        ensures err { OnErr result ((k : Terms) (seat : ℕ) (next : CopyKey) (heard : List Noted) (b : spec.Caller) → directory.now ≡ k.directory
+        ensures err { OnErr result
+            ((k : Terms) (seat : ℕ) (next : CopyKey) (heard : List Noted) (b : spec.Caller)
+            → directory.now ≡ k.directory
             → StandsForConnection k seat next heard self.old b →
             (what : What) × WentOn k false seat next heard b what self.new) }
         ensures asks { OnErr result (HasWork self.old) }
@@ -222,10 +231,13 @@ impl HouseConnection {
         requires read { self.old.gone ≡ false }
         ensures same { self.new.gone ≡ self.old.gone }
         ensures less { line_effort self.new ≤ line_effort self.old }
-        ensures ok { IfOk result (λ what. (k : Terms) (seat : ℕ) (next : CopyKey) (heard : List Noted) (b : spec.Caller)
+        ensures ok { IfOk result (λ what.
+            (k : Terms) (seat : ℕ) (next : CopyKey) (heard : List Noted) (b : spec.Caller)
             → directory.now ≡ k.directory → StandsForConnection k seat next heard self.old b →
             WentOn k true seat next heard b what self.new) }
-        ensures err { OnErr result ((k : Terms) (seat : ℕ) (next : CopyKey) (heard : List Noted) (b : spec.Caller) → directory.now ≡ k.directory
+        ensures err { OnErr result
+            ((k : Terms) (seat : ℕ) (next : CopyKey) (heard : List Noted) (b : spec.Caller)
+            → directory.now ≡ k.directory
             → StandsForConnection k seat next heard self.old b →
             (what : What) × WentOn k false seat next heard b what self.new) }
         ensures asks { OnErr result (IsPatient self.old → ⊥) }
@@ -246,7 +258,8 @@ impl HouseConnection {
         ensures err { OnErr result (self.new ≡ self.old) }
         ensures quiet { OnOk result (self.new.machine.pending ≡ []) }
         ensures read { self.new.gone ≡ false }
-        ensures ok { OnOk result ((k : Terms) (seat : ℕ) (next : CopyKey) (heard : List Noted) (b : spec.Caller)
+        ensures ok { OnOk result
+            ((k : Terms) (seat : ℕ) (next : CopyKey) (heard : List Noted) (b : spec.Caller)
             → StandsForConnection k seat next heard self.old b → 0 < length b.talk.pending →
             SaidVerdicts k seat next heard b verdicts.now self.new) }
     {
@@ -295,11 +308,14 @@ impl HouseConnection {
         ensures less { line_effort self.new ≤ line_effort self.old }
 
         // After Ok: for each caller for which it stood, it stands for one that did all it could, and the answer is what that one came to.
-        ensures ok { IfOk result (λ what. (k : Terms) (seat : ℕ) (next : CopyKey) (heard : List Noted) (b : spec.Caller)
+        ensures ok { IfOk result (λ what.
+            (k : Terms) (seat : ℕ) (next : CopyKey) (heard : List Noted) (b : spec.Caller)
             → directory.now ≡ k.directory → StandsForConnection k seat next heard self.old b →
             Proceeded k true seat next heard b what self.new) }
         // After an error: the same, but that the caller may have stopped for want of memory; what was done stands.
-        ensures err { OnErr result ((k : Terms) (seat : ℕ) (next : CopyKey) (heard : List Noted) (b : spec.Caller) → directory.now ≡ k.directory
+        ensures err { OnErr result
+            ((k : Terms) (seat : ℕ) (next : CopyKey) (heard : List Noted) (b : spec.Caller)
+            → directory.now ≡ k.directory
             → StandsForConnection k seat next heard self.old b →
             (what : What) × Proceeded k false seat next heard b what self.new) }
         // An error only where the peer is there and there was something to be done.
@@ -335,7 +351,12 @@ impl HouseConnection {
         // None only where no copy is due; else the answer is the first that is.
         ensures none { result ≡ None → due self.now ≡ [] }
         ensures some { IfSome result (λ c. (others : List Job)
-            × (due self.now ≡ record { key = c.key; mailbox = c.mailbox; text = c.text.now; flags = c.flags } ∷ others)) }
+            × (due self.now ≡ record {
+              key = c.key;
+              mailbox = c.mailbox;
+              text = c.text.now;
+              flags = c.flags;
+            } ∷ others)) }
     {
         if !self.is_waiting {
             return None;

@@ -45,7 +45,12 @@ impl Model for SeatedSession {
 
 // The key of the copy of a message that a session at this seat submitted.
 fn key_of(seat: u8, serial: u64, append: &Append) -> CopyKey
-    ensures { result ≡ record { seat = seat; serial = serial; message = append.now.message; recipient = 0 } }
+    ensures { result ≡ record {
+      seat = seat;
+      serial = serial;
+      message = append.now.message;
+      recipient = 0;
+    } }
 {
     CopyKey {
         seat,
@@ -84,7 +89,8 @@ impl SeatedSession {
 
     /// Adds bytes that came to those that wait. After an error nothing is changed; where there are none no memory is asked for.
     pub fn append(&mut self, piece: &[u8]) -> Result<(), AllocError>
-        ensures ok { OnOk result (self.new ≡ with_place (with_more piece.now self.old.place) self.old) }
+        ensures ok { OnOk result (self.new
+            ≡ with_place (with_more piece.now self.old.place) self.old) }
         ensures err { OnErr result (self.new ≡ self.old) }
         ensures asks { OnErr result (0 < length piece.now) }
     {
@@ -124,7 +130,12 @@ impl SeatedSession {
         // It lends the first of the copies that are still to be put; None only where none is.
         ensures none { result ≡ None → due self.now ≡ [] }
         ensures some { IfSome result (λ c. (others : List Job) ×
-            (due self.now ≡ record { key = c.key; mailbox = c.mailbox; text = c.text.now; flags = c.flags } ∷ others)) }
+            (due self.now ≡ record {
+              key = c.key;
+              mailbox = c.mailbox;
+              text = c.text.now;
+              flags = c.flags;
+            } ∷ others)) }
     {
         let Some(append) = self.session.submission() else {
             return None;
@@ -163,10 +174,14 @@ impl SeatedSession {
         requires there { self.old.gone ≡ false }
         requires going { self.old.place.link.session.ended ≡ false }
         requires waits { is_some (submitted_at self.old) ≡ true }
-        ensures ok { OnOk result ((seat : ℕ) (next : Key) (heard : List NotedSpec) (v : spec.SeatedVisitor) →
-            StandsForSeated seat next heard self.old v → Proceeded S.step true seat next heard v store.old store.new self.new) }
-        ensures err { OnErr result ((seat : ℕ) (next : Key) (heard : List NotedSpec) (v : spec.SeatedVisitor) →
-            StandsForSeated seat next heard self.old v → Proceeded S.step false seat next heard v store.old store.new self.new) }
+        ensures ok { OnOk result
+            ((seat : ℕ) (next : Key) (heard : List NotedSpec) (v : spec.SeatedVisitor) →
+            StandsForSeated seat next heard self.old v
+            → Proceeded S.step true seat next heard v store.old store.new self.new) }
+        ensures err { OnErr result
+            ((seat : ℕ) (next : Key) (heard : List NotedSpec) (v : spec.SeatedVisitor) →
+            StandsForSeated seat next heard self.old v
+            → Proceeded S.step false seat next heard v store.old store.new self.new) }
         ensures less { seat_effort self.new ≤ seat_effort self.old }
         ensures asked { Asks S.step store.old store.new }
         ensures gone { self.new.gone ≡ self.old.gone }
@@ -192,9 +207,11 @@ impl SeatedSession {
     /// Whether it awaits the verdict on a message, and that isn't known.
     pub fn awaits_verdict(&self) -> bool
         // Whomever it stands for: if true, its seat hasn't heard the verdict that it awaits; if false, it awaits none, or its seat has heard it.
-        ensures awaits { result ≡ true → (seat : ℕ) (next : Key) (heard : List NotedSpec) (v : spec.SeatedVisitor) →
+        ensures awaits { result ≡ true
+            → (seat : ℕ) (next : Key) (heard : List NotedSpec) (v : spec.SeatedVisitor) →
             StandsForSeated seat next heard self.now v → Awaits seat heard v }
-        ensures settled { result ≡ false → (seat : ℕ) (next : Key) (heard : List NotedSpec) (v : spec.SeatedVisitor) →
+        ensures settled { result ≡ false
+            → (seat : ℕ) (next : Key) (heard : List NotedSpec) (v : spec.SeatedVisitor) →
             StandsForSeated seat next heard self.now v → IsSettled seat heard v }
     {
         if !self.session.awaits_verdict() {
@@ -212,10 +229,14 @@ impl SeatedSession {
     /// on from there.
     pub fn proceed<S: Store>(&mut self, alloc: Global, store: &mut S) -> Result<(), AllocError>
         // From each session for which it stood: it did what it can by what its seat has heard, after an error perhaps less; nothing is printed yet.
-        ensures ok { OnOk result ((seat : ℕ) (next : Key) (heard : List NotedSpec) (v : spec.SeatedVisitor) →
-            StandsForSeated seat next heard self.old v → Proceeded S.step true seat next heard v store.old store.new self.new) }
-        ensures err { OnErr result ((seat : ℕ) (next : Key) (heard : List NotedSpec) (v : spec.SeatedVisitor) →
-            StandsForSeated seat next heard self.old v → Proceeded S.step false seat next heard v store.old store.new self.new) }
+        ensures ok { OnOk result
+            ((seat : ℕ) (next : Key) (heard : List NotedSpec) (v : spec.SeatedVisitor) →
+            StandsForSeated seat next heard self.old v
+            → Proceeded S.step true seat next heard v store.old store.new self.new) }
+        ensures err { OnErr result
+            ((seat : ℕ) (next : Key) (heard : List NotedSpec) (v : spec.SeatedVisitor) →
+            StandsForSeated seat next heard self.old v
+            → Proceeded S.step false seat next heard v store.old store.new self.new) }
 
         // No more is left to do than was. Whatever it stands for, the store was asked some calls in turn, or none.
         ensures less { seat_effort self.new ≤ seat_effort self.old }
@@ -245,14 +266,18 @@ impl SeatedSession {
         requires there { self.old.gone ≡ false }
 
         // From each session for which it stood, and whatever it stands for: it had a turn and showed so many changes, 64 at most.
-        ensures ok { IfOk result (λ count. (seat : ℕ) (next : Key) (heard : List NotedSpec) (v : spec.SeatedVisitor) →
-            StandsForSeated seat next heard self.old v → SeatedTurned S.step count seat next heard v store.old store.new self.new) }
-        ensures session { IfOk result (λ count. HadTurn S.step self.old.place store.old store.new count self.new.place) }
+        ensures ok { IfOk result (λ count.
+            (seat : ℕ) (next : Key) (heard : List NotedSpec) (v : spec.SeatedVisitor) →
+            StandsForSeated seat next heard self.old v
+            → SeatedTurned S.step count seat next heard v store.old store.new self.new) }
+        ensures session { IfOk result (λ count.
+            HadTurn S.step self.old.place store.old store.new count self.new.place) }
         ensures few { IfOk result (λ count. count ≤ 64) }
         ensures gone { self.new.gone ≡ self.old.gone }
 
         // Where it shows nothing and the session goes on, nothing is changed.
-        ensures quiet { IfOk result (λ count. count ≡ 0 → self.new.place.link.session.ended ≡ false → self.new ≡ self.old) }
+        ensures quiet { IfOk result (λ count. count ≡ 0 → self.new.place.link.session.ended ≡ false
+            → self.new ≡ self.old) }
 
         // After an error the session is as it was; so is the store, or it refused memory itself.
         ensures err { OnErr result ((self.new ≡ self.old) × Starves S.step store.old store.new) }

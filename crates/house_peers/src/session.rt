@@ -86,7 +86,8 @@ impl HouseSession {
 
     /// The message that was submitted and waits for the verdict on it: till then nothing more is answered.
     pub fn submission(&self) -> Option<&Append>
-        ensures { option_map (λ a. a.now) result ≡ option_map (λ (s : Sent). s.append) self.now.link.session.mailing.sent }
+        ensures { option_map (λ a. a.now) result
+            ≡ option_map (λ (s : Sent). s.append) self.now.link.session.mailing.sent }
     {
         self.connection.submission()
     }
@@ -109,7 +110,8 @@ impl HouseSession {
         requires waits { is_some self.old.link.session.mailing.sent ≡ true }
 
         // From each visitor for which it stood: the verdict was answered over the store, and what that says is still to be printed.
-        ensures ok { OnOk result ((v : spec.Visitor) → StandsFor self.old v → AnsweredVerdict S.step verdict v store.old store.new self.new) }
+        ensures ok { OnOk result ((v : spec.Visitor) → StandsFor self.old v
+            → AnsweredVerdict S.step verdict v store.old store.new self.new) }
 
         // Once it is answered none is awaited. What came stays.
         ensures done { OnOk result (self.new.link.session.mailing.sent ≡ None) }
@@ -133,15 +135,18 @@ impl HouseSession {
     /// Errors: `AllocError` where memory was refused, and only where bytes wait. What was done stands, and the next call goes on from there.
     pub fn go_on<S: Store>(&mut self, alloc: Global, store: &mut S) -> Result<(), AllocError>
         // From each visitor for which it stood: some of what waits was answered in turn, without error all that may be; nothing is printed yet.
-        ensures ok { OnOk result ((v : spec.Visitor) → StandsFor self.old v → Answered S.step true v store.old store.new self.new) }
-        ensures err { OnErr result ((v : spec.Visitor) → StandsFor self.old v → Answered S.step false v store.old store.new self.new) }
+        ensures ok { OnOk result ((v : spec.Visitor) → StandsFor self.old v
+            → Answered S.step true v store.old store.new self.new) }
+        ensures err { OnErr result ((v : spec.Visitor) → StandsFor self.old v
+            → Answered S.step false v store.old store.new self.new) }
 
         // Whatever it stands for, the store was asked some calls in turn, or none.
         ensures asked { Asks S.step store.old store.new }
 
         // No more bytes are left than were; fewer, where a message was submitted by it.
         ensures fewer { length self.new.came ≤ length self.old.came }
-        ensures moves { self.old.link.session.mailing.sent ≡ None → is_some self.new.link.session.mailing.sent ≡ true →
+        ensures moves { self.old.link.session.mailing.sent ≡ None
+            → is_some self.new.link.session.mailing.sent ≡ true →
             length self.new.came < length self.old.came }
 
         // An error only where bytes wait.
@@ -169,12 +174,15 @@ impl HouseSession {
     /// Errors: `AllocError` where memory was refused. The session is then as it was; so is the store, or it refused the call that shows.
     pub fn idle_turn<S: Store>(&mut self, store: &mut S) -> Result<usize, AllocError>
         // From each visitor for which it stood, and whatever it stands for: its session had a turn and showed so many changes, 64 at most.
-        ensures ok { IfOk result (λ count. (v : spec.Visitor) → StandsFor self.old v → Turned S.step count v store.old store.new self.new) }
-        ensures session { IfOk result (λ count. HadTurn S.step self.old store.old store.new count self.new) }
+        ensures ok { IfOk result (λ count. (v : spec.Visitor) → StandsFor self.old v
+            → Turned S.step count v store.old store.new self.new) }
+        ensures session { IfOk result (λ count.
+            HadTurn S.step self.old store.old store.new count self.new) }
         ensures few { IfOk result (λ count. count ≤ 64) }
 
         // Where it shows nothing and the session goes on, nothing is changed.
-        ensures quiet { IfOk result (λ count. count ≡ 0 → self.new.link.session.ended ≡ false → self.new ≡ self.old) }
+        ensures quiet { IfOk result (λ count. count ≡ 0 → self.new.link.session.ended ≡ false
+            → self.new ≡ self.old) }
 
         // After an error the session is as it was; so is the store, or it refused memory itself.
         ensures err { OnErr result ((self.new ≡ self.old) × Starves S.step store.old store.new) }

@@ -31,7 +31,8 @@ pub(crate) fn stand_down<R: Wait, G: Gate, S: Summons>(
     post: Post,
 ) -> Worked
     requires permits { ArePermits office.now.lanes.items post.desk.number post.desk.permits.items }
-    requires room { (post.room.items ≡ []) × (length office.now.lanes.items ≤ vec_capacity post.room) }
+    requires room { (post.room.items ≡ [])
+        × (length office.now.lanes.items ≤ vec_capacity post.room) }
     ensures permits { AreEnded office.now.lanes.items post.desk.number result.ended.items }
     ensures receiver { result.receiver ≡ post.desk.receiver }
     ensures log { result.log.seat ≡ post.desk.number }
@@ -63,8 +64,10 @@ pub(crate) fn step_aside<R: Wait, G: Gate>(
     depot: &Depot,
     stand: Stand,
 ) -> Consumed
-    requires senders { AreSenders depot.now.channels.items stand.stall.shard stand.stall.senders.items }
-    requires room { (stand.room.items ≡ []) × (length depot.now.channels.items ≤ vec_capacity stand.room) }
+    requires senders { AreSenders depot.now.channels.items stand.stall.shard
+        stand.stall.senders.items }
+    requires room { (stand.room.items ≡ [])
+        × (length depot.now.channels.items ≤ vec_capacity stand.room) }
     requires fresh { got stand.stall.permit ≡ [] }
     ensures { (lane : ShardQueue Job) → IsConsumer lane stand.stall.permit →
         IsConsumed lane depot.now stand.stall.shard (map sent_on stand.stall.senders.items) result }
@@ -97,7 +100,8 @@ pub(crate) fn end_first<R: Wait, G: Gate, S: Summons>(
     manned: usize,
 ) -> Post
     requires permits { ArePermits office.now.lanes.items post.desk.number post.desk.permits.items }
-    requires room { (post.room.items ≡ []) × (length office.now.lanes.items ≤ vec_capacity post.room) }
+    requires room { (post.room.items ≡ [])
+        × (length office.now.lanes.items ≤ vec_capacity post.room) }
     requires manned { manned ≤ length office.now.lanes.items }
     ensures { IsPostLeft (length office.now.lanes.items) result }
 {

@@ -123,7 +123,8 @@ pub(crate) fn start_consumers<'s, E, R: Threads + Wait + Sync, G: Gate + Sync>(
     manned: &'s Manned,
 ) -> (Vec<Kept<'s>>, usize)
     requires few { length floor.now.office.lanes.items < 256 }
-    requires stands { AllAt (IsStand floor.now) 0 stands.items × (vec_len stands ≡ length floor.now.office.lanes.items) }
+    requires stands { AllAt (IsStand floor.now) 0 stands.items
+        × (vec_len stands ≡ length floor.now.office.lanes.items) }
     requires room { (kept.items ≡ []) × (length floor.now.office.lanes.items ≤ vec_capacity kept) }
     ensures kept { AllAt (IsKept floor.now) 0 result.0.items }
     ensures count { vec_len result.0 ≡ length floor.now.office.lanes.items }

@@ -199,8 +199,10 @@ pub(crate) fn start_producers<'s, E, R: Threads + Wait + Sync, G: Gate + Sync>(
 ) -> (Vec<Hired<'s>>, bool)
     requires house { IsHouse floor.now (length plans.now + length guests.now) }
     requires guests { AreGuests floor.now guests.now }
-    requires posts { AllAt (IsPost floor.now) 0 posts.items × (vec_len posts ≡ length plans.now + length guests.now) }
-    requires room { (hired.items ≡ []) × (length plans.now + length guests.now ≤ vec_capacity hired) }
+    requires posts { AllAt (IsPost floor.now) 0 posts.items
+        × (vec_len posts ≡ length plans.now + length guests.now) }
+    requires room { (hired.items ≡ [])
+        × (length plans.now + length guests.now ≤ vec_capacity hired) }
     ensures hired { AllAt (IsHired floor.now plans.now guests.now) 0 result.0.items }
     ensures count { vec_len result.0 ≡ length plans.now + length guests.now }
 {
@@ -223,7 +225,8 @@ fn join_producer<R: Threads>(
     guests: &[Guest],
     hired: Hired<'_>,
 ) -> Worked
-    ensures { (n : ℕ) → IsHired floor.now plans.now guests.now n hired.entry → IsProduceOf floor.now plans.now guests.now n result }
+    ensures { (n : ℕ) → IsHired floor.now plans.now guests.now n hired.entry
+        → IsProduceOf floor.now plans.now guests.now n result }
 {
     match hired {
         Hired::There(child) => ManuallyDrop::into_inner(child.join(rt)),

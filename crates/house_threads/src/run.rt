@@ -69,9 +69,11 @@ fn handles_for<'a>(
 
 // No thread is started, for want of memory: all is left as it was dealt.
 fn none_started(crew: Crew) -> Ran
-    requires none { (crew.worked.items ≡ []) × (crew.consumed.items ≡ []) × (crew.unmanned.items ≡ []) }
+    requires none { (crew.worked.items ≡ []) × (crew.consumed.items ≡ [])
+        × (crew.unmanned.items ≡ []) }
     ensures none { (result.worked.items ≡ []) × (result.consumed.items ≡ []) }
-    ensures left { (floor : Floor) (producers : ℕ) → length floor.depot.channels.items ≡ producers → IsCrew floor producers crew →
+    ensures left { (floor : Floor) (producers : ℕ) → length floor.depot.channels.items ≡ producers
+        → IsCrew floor producers crew →
         IsSpendable floor producers result }
     ensures started { result.started ≡ Started.NoMemory }
 {
@@ -106,7 +108,8 @@ fn in_scope<'s, E, R: Threads + Wait + Sync, G: Gate + Sync>(
 ) -> Ran
     requires house { IsHouse floor.now (length plans.now + length guests.now) }
     requires guests { AreGuests floor.now guests.now }
-    requires crew { IsCrew floor.now (length plans.now + length guests.now) (manually_drop_value crew) }
+    requires crew { IsCrew floor.now (length plans.now
+        + length guests.now) (manually_drop_value crew) }
     ensures consumed { AllAt (IsServiceOf floor.now) 0 result.consumed.items }
     ensures worked { AllAt (IsProduceOf floor.now plans.now guests.now) 0 result.worked.items }
     ensures all { result.started ≡ Started.All → LeavesAll floor.now plans.now guests.now result }
@@ -186,12 +189,18 @@ pub fn run_threads<R: Threads + Wait + Sync, G: Gate + Sync>(
         thread::scope_env(),
         rt,
         |scope| -> Ran
-            requires { IsSync R.row × IsSync G.row × IsHouse floor.now (length plans.now + length guests.now) ×
-                AreGuests floor.now guests.now × IsCrew floor.now (length plans.now + length guests.now) (manually_drop_value crew) }
+            requires { IsSync R.row × IsSync G.row
+                × IsHouse floor.now (length plans.now + length guests.now) ×
+                AreGuests floor.now guests.now
+                × IsCrew floor.now (length plans.now
+                + length guests.now) (manually_drop_value crew) }
             ensures consumed { AllAt (IsServiceOf floor.entry.now) 0 result.consumed.items }
-            ensures worked { AllAt (IsProduceOf floor.entry.now plans.entry.now guests.entry.now) 0 result.worked.items }
-            ensures all { result.started ≡ Started.All → LeavesAll floor.entry.now plans.entry.now guests.entry.now result }
-            ensures left { IsSpendable floor.entry.now (length plans.entry.now + length guests.entry.now) result }
+            ensures worked { AllAt (IsProduceOf floor.entry.now plans.entry.now guests.entry.now) 0
+                result.worked.items }
+            ensures all { result.started ≡ Started.All
+                → LeavesAll floor.entry.now plans.entry.now guests.entry.now result }
+            ensures left { IsSpendable floor.entry.now (length plans.entry.now
+                + length guests.entry.now) result }
         { in_scope(scope, rt, floor, gate, plans, guests, crew, marks) },
     )
 }

@@ -34,16 +34,22 @@ fn live_through<R: Wait, G: Gate>(
     requires ready { IsReady courier.old.office.now courier.old.channel.now courier.old.desk }
     requires empty { replies.old.items ≡ [] }
     ensures ready { IsReady courier.new.office.now courier.new.channel.now courier.new.desk }
-    ensures same { IsSameDesk courier.old.office.now courier.new.office.now courier.old.channel.now courier.new.channel.now courier.old.desk
+    ensures same { IsSameDesk courier.old.office.now courier.new.office.now courier.old.channel.now
+        courier.new.channel.now courier.old.desk
         courier.new.desk }
     ensures serial { courier.new.serial ≡ courier.old.serial }
-    ensures only { courier.new.is_torn ≡ false → (courier.old.is_torn ≡ false) × HearsItsOwn courier.old.desk courier.new.desk }
+    ensures only { courier.new.is_torn ≡ false
+        → (courier.old.is_torn ≡ false) × HearsItsOwn courier.old.desk courier.new.desk }
     ensures book { courier.new.book.seat ≡ courier.old.book.seat }
     ensures began { result ≢ Fate.NotBegun }
     ensures whole { result ≡ Fate.Whole → (carried : List Carried)
-        × ((done : List Carried) → HasCarried courier.old.office.now courier.old.desk courier.old.serial (notes_tell courier.old.book.notes) done
-        → HasCarried courier.new.office.now courier.new.desk courier.new.serial (notes_tell courier.new.book.notes) (done ++ carried))
-        × ((text : List ℕ) × HasLived floor.now user.now locked.old guest.now carried text × (map (λ b. b.items) replies.new.items ≡ text ∷ [])) }
+        × ((done : List Carried)
+        → HasCarried courier.old.office.now courier.old.desk courier.old.serial
+        (notes_tell courier.old.book.notes) done
+        → HasCarried courier.new.office.now courier.new.desk courier.new.serial
+        (notes_tell courier.new.book.notes) (done ++ carried))
+        × ((text : List ℕ) × HasLived floor.now user.now locked.old guest.now carried text
+        × (map (λ b. b.items) replies.new.items ≡ text ∷ [])) }
 {
     let Ok(()) = replies.reserve(1) else {
         return Fate::NoMemory;
@@ -91,7 +97,8 @@ pub(crate) fn attend<R: Wait, G: Gate>(
     requires post { IsPost floor.now post.desk.number post }
     requires channel { IsReceiver channel.now post.desk.receiver }
     requires named { user_numbered guest.now.user floor.now.office.directory.homes ≢ None }
-    requires bells { length floor.now.office.directory.homes ≤ length floor.now.depot.sessions.items }
+    requires bells { length floor.now.office.directory.homes
+        ≤ length floor.now.depot.sessions.items }
     ensures { IsAttended floor.now channel.now post.desk.number guest.now result }
 {
     let directory = &floor.office.directory;

@@ -37,7 +37,8 @@ fn write_item(row: &Row, item: FetchItem, out: &mut Vec<u8>) -> Result<(), Alloc
 
 /// Appends an item behind others, or a part of it.
 fn put_item(first: bool, row: &Row, item: FetchItem, out: &mut Vec<u8>) -> Result<(), AllocError>
-    ensures ok { OnOk result (out.new.items ≡ out.old.items ++ lead first (item_text row.now item)) }
+    ensures ok { OnOk result (out.new.items
+        ≡ out.old.items ++ lead first (item_text row.now item)) }
     ensures err { OnErr result (StartsWith out.new.items out.old.items) }
     ensures room { vec_capacity out.old ≤ vec_capacity out.new }
 {
@@ -53,7 +54,8 @@ fn put_items(
     items: &[FetchItem],
     out: &mut Vec<u8>,
 ) -> Result<bool, AllocError>
-    ensures ok { OnOk result (out.new.items ≡ out.old.items ++ joined first (map (item_text row.now) items.now)) }
+    ensures ok { OnOk result (out.new.items
+        ≡ out.old.items ++ joined first (map (item_text row.now) items.now)) }
     ensures first { IfOk result (λ f. f ≡ (first && is_none items.now)) }
     ensures err { OnErr result (StartsWith out.new.items out.old.items) }
     ensures room { vec_capacity out.old ≤ vec_capacity out.new }
@@ -85,7 +87,8 @@ fn put_uid(
     items: &[FetchItem],
     out: &mut Vec<u8>,
 ) -> Result<bool, AllocError>
-    ensures ok { OnOk result (out.new.items ≡ out.old.items ++ joined true (map (item_text row.now) (uid_first by_uid items.now))) }
+    ensures ok { OnOk result (out.new.items
+        ≡ out.old.items ++ joined true (map (item_text row.now) (uid_first by_uid items.now))) }
     ensures first { IfOk result (λ f. f ≡ is_none (uid_first by_uid items.now)) }
     ensures err { OnErr result (out.new.items ≡ out.old.items) }
     ensures room { vec_capacity out.old ≤ vec_capacity out.new }
@@ -142,7 +145,8 @@ fn put_row(
     row: &Row,
     out: &mut Vec<u8>,
 ) -> Result<(), AllocError>
-    ensures ok { OnOk result (out.new.items ≡ out.old.items ++ row_answer position by_uid items.now row.now) }
+    ensures ok { OnOk result (out.new.items
+        ≡ out.old.items ++ row_answer position by_uid items.now row.now) }
     ensures err { OnErr result (StartsWith out.new.items out.old.items) }
     ensures room { vec_capacity out.old ≤ vec_capacity out.new }
 {
@@ -166,7 +170,8 @@ pub fn write_row(
     out: &mut Vec<u8>,
 ) -> Result<(), AllocError>
     // The answer is `row_answer`, byte by byte. An error writes nothing, and the room of `out` never becomes less.
-    ensures ok { OnOk result (out.new.items ≡ out.old.items ++ row_answer position by_uid items.now row.now) }
+    ensures ok { OnOk result (out.new.items
+        ≡ out.old.items ++ row_answer position by_uid items.now row.now) }
     ensures err { OnErr result (out.new.items ≡ out.old.items) }
     ensures room { vec_capacity out.old ≤ vec_capacity out.new }
 {

@@ -134,7 +134,8 @@ fn put_names(
     names: &[&[u8]],
     out: &mut Vec<u8>,
 ) -> Result<(), AllocError>
-    ensures ok { OnOk result (out.new.items ≡ out.old.items ++ flat_map (λ name. listed pattern.now name.now) names.now) }
+    ensures ok { OnOk result (out.new.items
+        ≡ out.old.items ++ flat_map (λ name. listed pattern.now name.now) names.now) }
     ensures err { OnErr result (StartsWith out.new.items out.old.items) }
     ensures room { vec_capacity out.old ≤ vec_capacity out.new }
 {
@@ -158,7 +159,9 @@ fn put_list(
     names: &[&[u8]],
     out: &mut Vec<u8>,
 ) -> Result<(), AllocError>
-    ensures ok { OnOk result (out.new.items ≡ out.old.items ++ list_answer reference.now pattern.now (map (λ name. name.now) names.now)) }
+    ensures ok { OnOk result (out.new.items
+        ≡ out.old.items ++ list_answer reference.now pattern.now (map (λ name.
+        name.now) names.now)) }
     ensures err { OnErr result (StartsWith out.new.items out.old.items) }
     ensures room { vec_capacity out.old ≤ vec_capacity out.new }
 {
@@ -183,7 +186,9 @@ pub fn write_list(
     out: &mut Vec<u8>,
 ) -> Result<(), AllocError>
     // The answer is `list_answer`, byte by byte. An error writes nothing, and the room of `out` never becomes less.
-    ensures ok { OnOk result (out.new.items ≡ out.old.items ++ list_answer reference.now pattern.now (map (λ name. name.now) names.now)) }
+    ensures ok { OnOk result (out.new.items
+        ≡ out.old.items ++ list_answer reference.now pattern.now (map (λ name.
+        name.now) names.now)) }
     ensures err { OnErr result (out.new.items ≡ out.old.items) }
     ensures room { vec_capacity out.old ≤ vec_capacity out.new }
 {

@@ -72,7 +72,9 @@ fn section_word(section: Section) -> &'static [u8]
 
 /// Appends a section with all its bytes.
 fn write_whole(word: &[u8], bytes: &[u8], out: &mut Vec<u8>) -> Result<(), AllocError>
-    ensures ok { OnOk result (out.new.items ≡ out.old.items ++ (codes "BODY[" ++ word.now ++ codes "]" ++ codes " " ++ literal bytes.now)) }
+    ensures ok { OnOk result (out.new.items
+        ≡ out.old.items ++ (codes "BODY[" ++ word.now ++ codes "]" ++ codes " "
+        ++ literal bytes.now)) }
     ensures err { OnErr result (out.new.items ≡ out.old.items) }
     ensures room { vec_capacity out.old ≤ vec_capacity out.new }
 {
@@ -99,7 +101,8 @@ fn write_partial(
     out: &mut Vec<u8>,
 ) -> Result<(), AllocError>
     ensures ok { OnOk result (out.new.items ≡ out.old.items
-        ++ (codes "BODY[" ++ word.now ++ codes "]" ++ (codes "<" ++ decimal origin ++ codes ">") ++ codes " " ++ literal bytes.now)) }
+        ++ (codes "BODY[" ++ word.now ++ codes "]" ++ (codes "<" ++ decimal origin ++ codes ">")
+        ++ codes " " ++ literal bytes.now)) }
     ensures err { OnErr result (out.new.items ≡ out.old.items) }
     ensures room { vec_capacity out.old ≤ vec_capacity out.new }
 {

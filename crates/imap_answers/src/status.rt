@@ -59,7 +59,8 @@ fn put_status_item(
     item: StatusItem,
     out: &mut Vec<u8>,
 ) -> Result<(), AllocError>
-    ensures ok { OnOk result (out.new.items ≡ out.old.items ++ lead first (status_text status.now item)) }
+    ensures ok { OnOk result (out.new.items
+        ≡ out.old.items ++ lead first (status_text status.now item)) }
     ensures err { OnErr result (StartsWith out.new.items out.old.items) }
     ensures room { vec_capacity out.old ≤ vec_capacity out.new }
 {
@@ -75,7 +76,8 @@ fn put_status_items(
     status: &Status,
     out: &mut Vec<u8>,
 ) -> Result<(), AllocError>
-    ensures ok { OnOk result (out.new.items ≡ out.old.items ++ spaced (map (status_text status.now) items.now)) }
+    ensures ok { OnOk result (out.new.items
+        ≡ out.old.items ++ spaced (map (status_text status.now) items.now)) }
     ensures err { OnErr result (StartsWith out.new.items out.old.items) }
     ensures room { vec_capacity out.old ≤ vec_capacity out.new }
 {
@@ -96,7 +98,8 @@ fn put_status(
     status: &Status,
     out: &mut Vec<u8>,
 ) -> Result<(), AllocError>
-    ensures ok { OnOk result (out.new.items ≡ out.old.items ++ status_answer name.now items.now status.now) }
+    ensures ok { OnOk result (out.new.items
+        ≡ out.old.items ++ status_answer name.now items.now status.now) }
     ensures err { OnErr result (StartsWith out.new.items out.old.items) }
     ensures room { vec_capacity out.old ≤ vec_capacity out.new }
 {
@@ -116,7 +119,8 @@ pub fn write_status(
     out: &mut Vec<u8>,
 ) -> Result<(), AllocError>
     // The answer is `status_answer`, byte by byte. An error writes nothing, and the room of `out` never becomes less.
-    ensures ok { OnOk result (out.new.items ≡ out.old.items ++ status_answer name.now items.now status.now) }
+    ensures ok { OnOk result (out.new.items
+        ≡ out.old.items ++ status_answer name.now items.now status.now) }
     ensures err { OnErr result (out.new.items ≡ out.old.items) }
     ensures room { vec_capacity out.old ≤ vec_capacity out.new }
 {

@@ -13,7 +13,8 @@ use std::alloc::AllocError;
 
 /// Appends a UID and what separates it, where it is told, or nothing where memory is refused.
 fn put_uid(by_uid: bool, uid: u32, out: &mut Vec<u8>) -> Result<(), AllocError>
-    ensures ok { OnOk result (out.new.items ≡ out.old.items ++ (if by_uid then codes "UID " ++ decimal uid ++ codes " " else [])) }
+    ensures ok { OnOk result (out.new.items
+        ≡ out.old.items ++ (if by_uid then codes "UID " ++ decimal uid ++ codes " " else [])) }
     ensures err { OnErr result (out.new.items ≡ out.old.items) }
     ensures room { vec_capacity out.old ≤ vec_capacity out.new }
 {
@@ -39,7 +40,8 @@ fn put_stored(
     flags: Flags,
     out: &mut Vec<u8>,
 ) -> Result<(), AllocError>
-    ensures ok { OnOk result (out.new.items ≡ out.old.items ++ flags_answer by_uid position uid flags) }
+    ensures ok { OnOk result (out.new.items
+        ≡ out.old.items ++ flags_answer by_uid position uid flags) }
     ensures err { OnErr result (StartsWith out.new.items out.old.items) }
     ensures room { vec_capacity out.old ≤ vec_capacity out.new }
 {
@@ -63,7 +65,8 @@ pub fn write_stored(
     out: &mut Vec<u8>,
 ) -> Result<(), AllocError>
     // The answer is `flags_answer`, byte by byte. An error writes nothing, and the room of `out` never becomes less.
-    ensures ok { OnOk result (out.new.items ≡ out.old.items ++ flags_answer by_uid position uid flags) }
+    ensures ok { OnOk result (out.new.items
+        ≡ out.old.items ++ flags_answer by_uid position uid flags) }
     ensures err { OnErr result (out.new.items ≡ out.old.items) }
     ensures room { vec_capacity out.old ≤ vec_capacity out.new }
 {

@@ -9,9 +9,11 @@ use std::alloc::AllocError;
 
 // Writes what stands between two texts, and them, in room that was reserved.
 pub(crate) fn put_between(before: &[u8], text: &[u8], behind: &[u8], out: &mut Vec<u8>)
-    requires { vec_len out.old + (length before.now + length text.now + length behind.now) ≤ vec_capacity out.old }
+    requires { vec_len out.old + (length before.now + length text.now + length behind.now)
+        ≤ vec_capacity out.old }
     ensures items { out.new.items ≡ out.old.items ++ (before.now ++ text.now ++ behind.now) }
-    ensures len { vec_len out.new ≡ vec_len out.old + (length before.now + length text.now + length behind.now) }
+    ensures len { vec_len out.new
+        ≡ vec_len out.old + (length before.now + length text.now + length behind.now) }
     ensures room { vec_capacity out.old ≤ vec_capacity out.new }
 {
     put(before, out);

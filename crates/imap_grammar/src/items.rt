@@ -223,7 +223,8 @@ fn all_status_items(text: &[u8]) -> bool
 
 // Notes the item that a word is.
 fn push_item(word: &[u8], items: &mut Vec<FetchItem>) -> Result<(), AllocError>
-    ensures { OnOk result (items.new.items ≡ items.old.items ++ option_to_list (fetch_item_of word.now)) }
+    ensures { OnOk result (items.new.items
+        ≡ items.old.items ++ option_to_list (fetch_item_of word.now)) }
 {
     if let Some(item) = fetch_item(word) {
         items.push(item)?;
@@ -278,7 +279,8 @@ fn items_mark_seen(text: &[u8]) -> bool
 
 // The first item that the words of a text are, and what stands behind its word.
 fn first_status_item(text: &[u8]) -> Option<(StatusItem, &[u8])>
-    ensures { MatchOption result (status_items_of text.now ≡ []) (λ found. status_items_of text.now ≡ found.0 ∷ status_items_of found.1.now) }
+    ensures { MatchOption result (status_items_of text.now ≡ []) (λ found. status_items_of text.now
+        ≡ found.0 ∷ status_items_of found.1.now) }
 {
     let mut rest = text;
     while let Some((word, others)) = next_word(rest) {

@@ -34,7 +34,9 @@ fn positions_of(range: &SeqRange, greatest: usize) -> PositionRange
 fn positions_of_uids(range: &SeqRange, greatest: usize, view: &[u32]) -> PositionRange
     requires { IsNonDecreasing view.now }
     ensures { (i : ℕ) → i < length view.now
-        → is_within result (i + 1) ≡ is_between (numeric greatest range.now.from) (numeric greatest range.now.to) (slice_index view.now i) }
+        → is_within result (i + 1)
+        ≡ is_between (numeric greatest range.now.from) (numeric greatest range.now.to)
+        (slice_index view.now i) }
 {
     let uids = positions_of(range, greatest);
     let first = view.partition_point(|uid| (*uid as usize) < uids.first);
@@ -54,7 +56,8 @@ fn covers_one(range: PositionRange, count: usize) -> bool
 
 /// Whether a range of positions names one of a view of this length. Takes no memory.
 pub(crate) fn names_a_position(range: &SeqRange, count: usize) -> bool
-    ensures { (view : List ℕ) → length view ≡ count → result ≡ is_one_there (Some (chosen_of false (range.now ∷ []) view)) }
+    ensures { (view : List ℕ) → length view ≡ count
+        → result ≡ is_one_there (Some (chosen_of false (range.now ∷ []) view)) }
 {
     covers_one(positions_of(range, count), count)
 }
@@ -71,7 +74,8 @@ pub(crate) fn names_a_uid(range: &SeqRange, greatest: usize, view: &[u32]) -> bo
 // Puts ranges into the order in which they begin.
 fn put_in_order(ranges: &mut [PositionRange])
     ensures order { IsNonDecreasingBy (λ range. range.first) ranges.new }
-    ensures same { (position : ℕ) → is_covered ranges.new position ≡ is_covered ranges.old position }
+    ensures same { (position : ℕ)
+        → is_covered ranges.new position ≡ is_covered ranges.old position }
 {
     ranges.sort_unstable_by_key(|range| range.first);
 }
@@ -83,7 +87,8 @@ pub(crate) fn named_positions(
     greatest: usize,
 ) -> Result<Vec<PositionRange>, AllocError>
     ensures order { IfOk result (λ v. IsNonDecreasingBy (λ range. range.first) v.items) }
-    ensures named { IfOk result (λ v. (position : ℕ) → is_covered v.items position ≡ is_named ranges.now greatest position) }
+    ensures named { IfOk result (λ v. (position : ℕ)
+        → is_covered v.items position ≡ is_named ranges.now greatest position) }
 {
     let mut positions = Vec::new(alloc);
     for range in ranges {
@@ -123,8 +128,10 @@ fn choose_range(
 ) -> Result<usize, AllocError>
     requires { (1 ≤ next) × (next ≤ length view.now + 1) }
     ensures next { IfOk result (λ after. (1 ≤ after) × (after ≤ length view.now + 1)) }
-    ensures chosen { IfOk result (λ after. (rest : List PositionRange) → All (λ other. range.first ≤ other.first) rest
-        → chosen.old.items ++ at_positions (is_covered (range ∷ rest)) next (drop (next - 1) view.now)
+    ensures chosen { IfOk result (λ after. (rest : List PositionRange)
+        → All (λ other. range.first ≤ other.first) rest
+        → chosen.old.items ++ at_positions (is_covered (range
+        ∷ rest)) next (drop (next - 1) view.now)
         ≡ chosen.new.items ++ at_positions (is_covered rest) after (drop (after - 1) view.now)) }
 {
     let first = range.first.max(next);

@@ -68,7 +68,8 @@ fn last_uid(view: &[u32]) -> usize
 
 fn part_names_one(part: &[u8], by_uid: bool, view: &[u32]) -> bool
     requires { IsNonDecreasing view.now }
-    ensures { result ≡ is_one_there (Some (chosen_of by_uid (option_to_list (range_of part.now)) view.now)) }
+    ensures { result ≡ is_one_there
+        (Some (chosen_of by_uid (option_to_list (range_of part.now)) view.now)) }
 {
     match range_in(part) {
         Some(range) => {
@@ -98,7 +99,8 @@ pub(crate) fn is_one_named(text: &[u8], by_uid: bool, view: &[u32]) -> bool
 }
 
 fn push_range(part: &[u8], ranges: &mut Vec<SeqRange>) -> Result<(), AllocError>
-    ensures { OnOk result (ranges.new.items ≡ ranges.old.items ++ option_to_list (range_of part.now)) }
+    ensures { OnOk result (ranges.new.items
+        ≡ ranges.old.items ++ option_to_list (range_of part.now)) }
 {
     if let Some(range) = range_in(part) {
         ranges.push(range)?;
@@ -140,7 +142,8 @@ pub(crate) fn positions_in(
     ranges: &[SeqRange],
     view: &[u32],
 ) -> Result<Vec<u32>, AllocError>
-    ensures { IfOk result (λ v. v.items ≡ at_positions (is_named ranges.now (length view.now)) 1 view.now) }
+    ensures { IfOk result (λ v.
+        v.items ≡ at_positions (is_named ranges.now (length view.now)) 1 view.now) }
 {
     let positions = named_positions(alloc, ranges, view.len())?;
     chosen_at(alloc, &positions, view)

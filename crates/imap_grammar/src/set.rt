@@ -132,8 +132,10 @@ impl<'a> SeqSet<'a> {
     fn uids(&self, alloc: Global, view: &[u32], by_uid: bool) -> Result<Vec<u32>, SetFault>
         requires { IsNonDecreasing view.now }
         ensures found { IfOk result (λ uids. named_in by_uid self.now view.now ≡ Some uids.items) }
-        ensures too_high { (result ≡ Err SetFault.TooHigh) ↔ (named_in by_uid self.now view.now ≡ None) }
-        ensures rising { IsStrictlyIncreasing view.now → IfOk result (λ uids. IsStrictlyIncreasing uids.items) }
+        ensures too_high { (result ≡ Err SetFault.TooHigh)
+            ↔ (named_in by_uid self.now view.now ≡ None) }
+        ensures rising { IsStrictlyIncreasing view.now
+            → IfOk result (λ uids. IsStrictlyIncreasing uids.items) }
     {
         if by_uid {
             let ranges = ranges_in(alloc, self.spelled)?;
@@ -149,9 +151,12 @@ impl<'a> SeqSet<'a> {
     // The messages of a view that the set names, as `resolve` says; memory may be refused to it whatever the set names.
     fn find(&self, alloc: Global, view: &[u32], by_uid: bool) -> Result<Vec<Named>, SetFault>
         requires { IsNonDecreasing view.now }
-        ensures found { IfOk result (λ named. messages_in by_uid self.now view.now ≡ Some named.items) }
-        ensures too_high { (result ≡ Err SetFault.TooHigh) ↔ (named_in by_uid self.now view.now ≡ None) }
-        ensures rising { IsStrictlyIncreasing view.now → IfOk result (λ named. IsStrictlyIncreasing (map (λ m. m.uid) named.items)) }
+        ensures found { IfOk result (λ named. messages_in by_uid self.now view.now
+            ≡ Some named.items) }
+        ensures too_high { (result ≡ Err SetFault.TooHigh)
+            ↔ (named_in by_uid self.now view.now ≡ None) }
+        ensures rising { IsStrictlyIncreasing view.now
+            → IfOk result (λ named. IsStrictlyIncreasing (map (λ m. m.uid) named.items)) }
     {
         let uids = self.uids(alloc, view, by_uid)?;
         Ok(with_positions(alloc, &uids, view)?)
@@ -161,7 +166,8 @@ impl<'a> SeqSet<'a> {
     fn find_none(&self, alloc: Global, view: &[u32], by_uid: bool) -> Result<Vec<Named>, SetFault>
         requires rising { IsNonDecreasing view.now }
         requires there { named_in by_uid self.now view.now ≢ None }
-        ensures found { IfOk result (λ named. (messages_in by_uid self.now view.now ≡ Some named.items) × (named.items ≡ [])) }
+        ensures found { IfOk result (λ named.
+            (messages_in by_uid self.now view.now ≡ Some named.items) × (named.items ≡ [])) }
         ensures wanted { OnErr result (names_one by_uid self.now view.now ≡ true) }
         ensures fault { IfErr result (λ f. f ≡ SetFault.NoMemory) }
     {
@@ -187,16 +193,20 @@ impl<'a> SeqSet<'a> {
         by_uid: bool,
     ) -> Result<Vec<Named>, SetFault>
         // The messages that the set names in the view, in the view's order, each with its position there.
-        ensures found { IfOk result (λ named. messages_in by_uid self.now view.now ≡ Some named.items) }
+        ensures found { IfOk result (λ named. messages_in by_uid self.now view.now
+            ≡ Some named.items) }
 
         // TooHigh exactly where it says a position that isn't there, as `*` is in an empty view; by UID never.
-        ensures too_high { (result ≡ Err SetFault.TooHigh) ↔ (named_in by_uid self.now view.now ≡ None) }
+        ensures too_high { (result ≡ Err SetFault.TooHigh)
+            ↔ (named_in by_uid self.now view.now ≡ None) }
 
         // NoMemory only where it names a message of the view.
-        ensures memory { (result ≡ Err SetFault.NoMemory) → names_one by_uid self.now view.now ≡ true }
+        ensures memory { (result ≡ Err SetFault.NoMemory)
+            → names_one by_uid self.now view.now ≡ true }
 
         // Their UIDs rise.
-        ensures rising { IfOk result (λ named. IsStrictlyIncreasing (map (λ m. m.uid) named.items)) }
+        ensures rising { IfOk result (λ named.
+            IsStrictlyIncreasing (map (λ m. m.uid) named.items)) }
     {
         let shown = view.uids();
         match self.find(alloc, shown, by_uid) {

@@ -39,8 +39,11 @@ fn count_and_show<S: Store>(
     response: &mut Response<'_>,
 ) -> Result<u32, MailFault>
     ensures done { (next : ℕ → Exchange) → Does S.step
-        (Count mailbox (λ status. showing selected (next status.uidvalidity))) next store.old store.new response.old response.new result }
-    ensures held { OnOk result ((response.new.tag ≡ response.old.tag) × (response.new.held ≡ response.old.held)) }
+        (Count mailbox (λ status.
+        showing selected (next status.uidvalidity))) next store.old store.new response.old
+        response.new result }
+    ensures held { OnOk result ((response.new.tag ≡ response.old.tag)
+        × (response.new.held ≡ response.old.held)) }
 {
     let status = store.status(mailbox)?;
     show_pending(selected, store, response)?;
@@ -51,7 +54,8 @@ fn count_and_show<S: Store>(
 #[tactic(auto, using(crate::proofs::Verdicts::ten_digits))]
 fn end_appended(response: Response<'_>, uidvalidity: u32, uid: u32, out: &mut Vec<u8>)
     requires long { length response.tag + STORED ≤ response.held }
-    ensures { out.new.items ≡ response.entry.text ++ tagged response.entry.tag (appended_words uidvalidity uid) }
+    ensures { out.new.items ≡ response.entry.text
+        ++ tagged response.entry.tag (appended_words uidvalidity uid) }
 {
     let mut validity = itoa::Buffer::new();
     let mut number = itoa::Buffer::new();
@@ -75,7 +79,8 @@ fn tell_stored<S: Store>(
 ) -> After
     requires long { length response.tag + STORED ≤ response.held }
     ensures plays { (now : Standing) → Plays S.step response.entry.tag now now
-        (on_verdict selected mailbox (Stored uid)) store.old store.new response.entry.text out.new.items result }
+        (on_verdict selected mailbox (Stored uid)) store.old store.new response.entry.text
+        out.new.items result }
     ensures only { (result ≡ After.Go) ⊎ (result ≡ After.Bye) }
 {
     match count_and_show(mailbox, selected, store, &mut response) {
@@ -98,7 +103,8 @@ pub(crate) fn tell_verdict<S: Store>(
 ) -> After
     requires long { length response.tag + STORED ≤ response.held }
     ensures plays { (now : Standing) → Plays S.step response.entry.tag now now
-        (on_verdict selected mailbox verdict) store.old store.new response.entry.text out.new.items result }
+        (on_verdict selected mailbox verdict) store.old store.new response.entry.text out.new.items
+        result }
     ensures only { (result ≡ After.Go) ⊎ (result ≡ After.Bye) }
 {
     match verdict {

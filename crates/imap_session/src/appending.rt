@@ -39,7 +39,14 @@ impl Session {
         requires room { IfSome text (λ t. min size most_first_room ≤ vec_capacity t) }
         ensures begun { self.new ≡ record self.old {
           mailing = record self.old.mailing {
-            begun = Some (record { tag = tag; mailbox = mailbox; flags = flags; size = size; due = size; text = option_map (λ t. t.items) text });
+            begun = Some (record {
+              tag = tag;
+              mailbox = mailbox;
+              flags = flags;
+              size = size;
+              due = size;
+              text = option_map (λ t. t.items) text;
+            });
           };
         } }
         ensures waits { result ≡ After.Literal size }
@@ -70,7 +77,8 @@ impl Session {
         requires alone { self.old.mailing.begun ≡ None }
         requires unsent { self.old.mailing.sent ≡ None }
         requires size { append.now.literal.size < 2 ^ 32 }
-        ensures leads { Leads response.entry.tag self.old (wanting (asking mailbox append.now.flags append.now.literal.size))
+        ensures leads { Leads response.entry.tag self.old
+            (wanting (asking mailbox append.now.flags append.now.literal.size))
             response.entry.text out.new.items result self.new }
         ensures folders { self.new.folders ≡ self.old.folders }
         ensures sends { result ≡ may_send self.new }
@@ -114,7 +122,8 @@ impl Session {
         requires unsent { self.old.mailing.sent ≡ None }
         requires waits { append.now.literal.waits ≡ true }
         ensures leads { Leads response.entry.tag self.old
-            (appending self.old.mailing.most self.old.folders append.now) response.entry.text out.new.items result self.new }
+            (appending self.old.mailing.most self.old.folders append.now) response.entry.text
+            out.new.items result self.new }
         ensures folders { self.new.folders ≡ self.old.folders }
         ensures sends { result ≡ may_send self.new }
     {
@@ -140,7 +149,8 @@ impl Session {
         append: &AppendCommand<'_>,
         size: usize,
     ) -> Result<(Option<u8>, Vec<u8>), AllocError>
-        ensures number { IfOk result (λ made. made.0 ≡ number_named append.now.name self.now.folders) }
+        ensures number { IfOk result (λ made.
+            made.0 ≡ number_named append.now.name self.now.folders) }
         ensures empty { IfOk result (λ made. made.1.items ≡ []) }
         ensures room { IfOk result (λ made. min size most_first_room ≤ vec_capacity made.1) }
     {
@@ -164,7 +174,8 @@ impl Session {
         requires unsent { self.old.mailing.sent ≡ None }
         requires size { append.now.literal.size < 2 ^ 32 }
         ensures leads { Leads response.entry.tag self.old
-            (coming (number_named append.now.name self.old.folders) append.now.flags append.now.literal.size)
+            (coming (number_named append.now.name self.old.folders) append.now.flags
+            append.now.literal.size)
             response.entry.text out.new.items result self.new }
         ensures folders { self.new.folders ≡ self.old.folders }
         ensures sends { result ≡ may_send self.new }
@@ -198,7 +209,8 @@ impl Session {
         requires alone { self.old.mailing.begun ≡ None }
         requires unsent { self.old.mailing.sent ≡ None }
         ensures leads { Leads response.entry.tag self.old
-            (appending self.old.mailing.most self.old.folders append.now) response.entry.text out.new.items result self.new }
+            (appending self.old.mailing.most self.old.folders append.now) response.entry.text
+            out.new.items result self.new }
         ensures folders { self.new.folders ≡ self.old.folders }
         ensures sends { result ≡ may_send self.new }
     {

@@ -130,7 +130,8 @@ impl ImapConnection {
 
     /// The message that was submitted and waits for the verdict on it (RFC 9051, 6.3.12). Till that is heard no more bytes are taken.
     pub fn submission(&self) -> Option<&Append>
-        ensures { option_map (λ a. a.now) result ≡ option_map (λ (s : Sent). s.append) self.now.session.mailing.sent }
+        ensures { option_map (λ a. a.now) result
+            ≡ option_map (λ (s : Sent). s.append) self.now.session.mailing.sent }
     {
         self.session.submission()
     }
@@ -172,17 +173,21 @@ impl ImapConnection {
         requires waits { is_some self.old.session.mailing.sent ≡ true }
 
         // The verdict was answered over the store as `turn_of_verdict` tells, by the session and in each dialogue for which it stood.
-        ensures session { IfOk result (λ after. AnswersVerdict S.step self.old.session verdict store.old store.new out.old.items out.new.items
+        ensures session { IfOk result (λ after.
+            AnswersVerdict S.step self.old.session verdict store.old store.new out.old.items
+            out.new.items
             after self.new.session) }
         ensures heard { IfOk result (λ after. (d : Dialogue) → StandsFor self.old d →
             Hears S.step d verdict store.old store.new out.old.items out.new.items after self.new) }
 
         // Ended exactly where the session has ended. A refusal leaves the connection, the store and `out` as they were.
         ensures ended { (result ≡ Err SessionFault.Ended) ↔ (self.old.session.ended ≡ true) }
-        ensures refused { OnErr result ((self.new ≡ self.old) × (store.new ≡ store.old) × (out.new.items ≡ out.old.items)) }
+        ensures refused { OnErr result ((self.new ≡ self.old) × (store.new ≡ store.old)
+            × (out.new.items ≡ out.old.items)) }
 
         // Where `out` had the room that `verdict_room` tells, NoMemory never comes.
-        ensures memory { result ≡ Err SessionFault.NoMemory → vec_capacity out.old < vec_len out.old + room_for_verdict self.old.session }
+        ensures memory { result ≡ Err SessionFault.NoMemory
+            → vec_capacity out.old < vec_len out.old + room_for_verdict self.old.session }
 
         // Once it is answered none is awaited, and it answers what the client may send from now on.
         ensures done { OnOk result (self.new.session.mailing.sent ≡ None) }
@@ -201,14 +206,16 @@ impl ImapConnection {
         out: &mut Vec<u8>,
     ) -> Result<usize, SessionFault>
         // The session had a turn over the store as `Session::idle_turn` tells, and showed so many changes; so in each dialogue for which it stood.
-        ensures session { IfOk result (λ count. IdleTurns S.step self.old.session store.old store.new out.old.items out.new.items count
+        ensures session { IfOk result (λ count.
+            IdleTurns S.step self.old.session store.old store.new out.old.items out.new.items count
             self.new.session) }
         ensures turned { IfOk result (λ count. (d : Dialogue) → StandsFor self.old d →
             Turns S.step d store.old store.new out.old.items out.new.items count self.new) }
         ensures few { IfOk result (λ count. count ≤ 64) }
 
         // Where it shows nothing and the session goes on, nothing is changed and nothing said.
-        ensures quiet { IfOk result (λ count. count ≡ 0 → self.new.session.ended ≡ false → (self.new ≡ self.old) × (out.new.items ≡ out.old.items)) }
+        ensures quiet { IfOk result (λ count. count ≡ 0 → self.new.session.ended ≡ false
+            → (self.new ≡ self.old) × (out.new.items ≡ out.old.items)) }
 
         // Ended exactly where the session has ended, and the store is as it was.
         ensures ended { (result ≡ Err SessionFault.Ended) ↔ (self.old.session.ended ≡ true) }
@@ -218,7 +225,8 @@ impl ImapConnection {
         ensures starved { result ≡ Err SessionFault.NoMemory → Starves S.step store.old store.new }
 
         // Where `out` has room for a BYE line, the store was asked.
-        ensures asked { result ≡ Err SessionFault.NoMemory → vec_len out.old + 48 ≤ vec_capacity out.old →
+        ensures asked { result ≡ Err SessionFault.NoMemory
+            → vec_len out.old + 48 ≤ vec_capacity out.old →
             S.step store.old (Feed most_changes) (Refused MailFault.NoMemory) store.new }
 
         // A refusal leaves the connection and `out` as they were.
@@ -232,9 +240,11 @@ impl ImapConnection {
         requires going { self.old.session.ended ≡ false }
         requires unsent { self.old.session.mailing.sent ≡ None }
         requires due { 0 < due_of self.old.session.mailing.begun }
-        ensures used { result.used ≡ min (length piece.now) (due_of self.old.session.mailing.begun) }
+        ensures used { result.used
+            ≡ min (length piece.now) (due_of self.old.session.mailing.begun) }
         ensures none { length piece.now ≡ 0 → self.new ≡ self.old }
-        ensures takes { 0 < length piece.now → TakesBytes self.old.session (take result.used piece.now) self.new.session }
+        ensures takes { 0 < length piece.now
+            → TakesBytes self.old.session (take result.used piece.now) self.new.session }
         ensures cutter { self.new.cutter ≡ self.old.cutter }
         ensures sends { result.after ≡ may_send self.new.session }
     {
@@ -261,12 +271,15 @@ impl ImapConnection {
     ) -> Result<Fed, AllocError>
         requires unsent { self.old.session.mailing.sent ≡ None }
         ensures used { IfOk result (λ fed. fed.used ≤ length piece.now) }
-        ensures moves { IfOk result (λ fed. self.old.session.ended ≡ false → 0 < length piece.now → 0 < fed.used) }
+        ensures moves { IfOk result (λ fed. self.old.session.ended ≡ false → 0 < length piece.now
+            → 0 < fed.used) }
         ensures asked { Asks S.step store.old store.new }
         ensures ok { IfOk result (λ fed. (d : Dialogue) → StandsFor self.old d →
             Takes S.step d piece.now store.old store.new out.old.items out.new.items fed self.new) }
-        ensures err { OnErr result ((self.new ≡ self.old) × (store.new ≡ store.old) × (out.new.items ≡ out.old.items)) }
-        ensures full { OnErr result (vec_capacity out.new < vec_len out.new + (ANSWER_ROOM + tag_len (kept_tag self.new.session))) }
+        ensures err { OnErr result ((self.new ≡ self.old) × (store.new ≡ store.old)
+            × (out.new.items ≡ out.old.items)) }
+        ensures full { OnErr result (vec_capacity out.new
+            < vec_len out.new + (ANSWER_ROOM + tag_len (kept_tag self.new.session))) }
         ensures sends { IfOk result (λ fed. fed.after ≡ may_send self.new.session) }
     {
         if self.session.ended() {
@@ -329,10 +342,13 @@ impl ImapConnection {
 
         // All of the piece was taken, unless the session ended, a message was submitted, or memory was refused.
         ensures used { result.used ≤ length piece.now }
-        ensures all { IfSome result.after (λ after. may_follow after ≡ true → result.used ≡ length piece.now) }
+        ensures all { IfSome result.after (λ after. may_follow after ≡ true
+            → result.used ≡ length piece.now) }
 
         // Memory is refused (None) only where `out` has too little room behind what it has by then, and no message is submitted then.
-        ensures full { result.after ≡ None → vec_capacity out.new < vec_len out.new + (ANSWER_ROOM + tag_len (kept_tag self.new.session)) }
+        ensures full { result.after ≡ None
+            → vec_capacity out.new < vec_len out.new
+            + (ANSWER_ROOM + tag_len (kept_tag self.new.session)) }
         ensures unsent { result.after ≡ None → self.new.session.mailing.sent ≡ None }
 
         // Nor is it where there is nothing to take.
@@ -347,7 +363,8 @@ impl ImapConnection {
 
         // In each dialogue for which it stood: lines and literals were answered one after another, and it stands for where they lead.
         ensures took { (d : Dialogue) → StandsFor self.old d →
-            Took S.step d piece.now store.old store.new out.old.items out.new.items result self.new }
+            Took S.step d piece.now store.old store.new out.old.items out.new.items result
+            self.new }
     {
         if piece.is_empty() {
             return Progress {

@@ -25,7 +25,8 @@ fn write_counted(
     status: &Status,
     response: &mut Response<'_>,
 ) -> Result<(), MailFault>
-    ensures text { OnOk result (response.new ≡ adding (status_answer name.now items.now status.now) response.old) }
+    ensures text { OnOk result (response.new
+        ≡ adding (status_answer name.now items.now status.now) response.old) }
     ensures err { OnErr result (response.new ≡ response.old) }
     ensures fault { IfErr result (λ f. f ≡ MailFault.NoMemory) }
 {
@@ -43,7 +44,8 @@ fn count_folder<S: Store>(
     response: &mut Response<'_>,
 ) -> Result<(), MailFault>
     ensures { (x : Exchange) → Does S.step
-        (Count folder.now.mailbox (λ status. Write (status_answer folder.now.name items.now status) (showing selected x)))
+        (Count folder.now.mailbox (λ status.
+        Write (status_answer folder.now.name items.now status) (showing selected x)))
         (λ _. x) store.old store.new response.old response.new result }
 {
     let status = store.status(folder.mailbox())?;
@@ -62,7 +64,13 @@ fn count_named<S: Store>(
 ) -> Result<LastWords, MailFault>
     ensures { Does S.step
         (on_folder name.now folders.now
-        (counting (record { folders = folders.now; selected = selected; idling = None; ended = false; mailing = nothing_sent None })
+        (counting (record {
+          folders = folders.now;
+          selected = selected;
+          idling = None;
+          ended = false;
+          mailing = nothing_sent None;
+        })
         name.now items.now))
         last store.old store.new response.old response.new result }
 {
@@ -85,7 +93,13 @@ pub(crate) fn count_mailbox<S: Store>(
 ) -> Result<LastWords, MailFault>
     ensures { Does S.step
         (wanting (on_folder name.now folders.now
-        (counting (record { folders = folders.now; selected = selected; idling = None; ended = false; mailing = nothing_sent None })
+        (counting (record {
+          folders = folders.now;
+          selected = selected;
+          idling = None;
+          ended = false;
+          mailing = nothing_sent None;
+        })
         name.now items.now)))
         last store.old store.new response.old response.new result }
 {
@@ -95,7 +109,8 @@ pub(crate) fn count_mailbox<S: Store>(
 
 // The names of folders, in their order.
 fn names_of<'a>(alloc: Global, folders: &'a [Folder]) -> Result<Vec<&'a [u8]>, AllocError>
-    ensures { IfOk result (λ names. map (λ name. name.now) names.items ≡ map (λ (folder : FolderSpec). folder.name) folders.now) }
+    ensures { IfOk result (λ names. map (λ name. name.now) names.items
+        ≡ map (λ (folder : FolderSpec). folder.name) folders.now) }
 {
     let mut names = Vec::with_capacity(alloc, folders.len())?;
     for folder in folders {
@@ -115,7 +130,8 @@ fn write_names(
     response: &mut Response<'_>,
 ) -> Result<(), MailFault>
     ensures text { OnOk result (response.new ≡ adding
-        (list_answer reference.now pattern.now (map (λ (folder : FolderSpec). folder.name) folders.now)) response.old) }
+        (list_answer reference.now pattern.now
+        (map (λ (folder : FolderSpec). folder.name) folders.now)) response.old) }
     ensures err { OnErr result (response.new ≡ response.old) }
     ensures fault { IfErr result (λ f. f ≡ MailFault.NoMemory) }
 {
@@ -137,7 +153,8 @@ pub(crate) fn list_folders<S: Store>(
     response: &mut Response<'_>,
 ) -> Result<LastWords, MailFault>
     ensures { Does S.step
-        (Write (list_answer reference.now pattern.now (map (λ (folder : FolderSpec). folder.name) folders.now))
+        (Write (list_answer reference.now pattern.now
+        (map (λ (folder : FolderSpec). folder.name) folders.now))
         (showing selected (completed (commands.List reference.now pattern.now))))
         last store.old store.new response.old response.new result }
 {

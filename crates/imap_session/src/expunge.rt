@@ -20,7 +20,9 @@ pub(crate) fn show_pending<S: Store>(
     store: &mut S,
     response: &mut Response<'_>,
 ) -> Result<(), MailFault>
-    ensures done { (x : Exchange) → Does S.step (showing selected x) (λ _. x) store.old store.new response.old response.new result }
+    ensures done { (x : Exchange)
+        → Does S.step (showing selected x) (λ _.
+        x) store.old store.new response.old response.new result }
     ensures held { (response.new.tag ≡ response.old.tag) × (response.new.held ≡ response.old.held) }
 {
     let Some(_) = selected else {
@@ -36,7 +38,8 @@ fn remove_and_show<S: Store>(
     store: &mut S,
     response: &mut Response<'_>,
 ) -> Result<(), MailFault>
-    ensures { (x : Exchange) → Does S.step (Expunge (option_copied uids.entry) (Feed unlimited x)) (λ _.
+    ensures { (x : Exchange)
+        → Does S.step (Expunge (option_copied uids.entry) (Feed unlimited x)) (λ _.
         x) store.old store.new response.old response.new result }
 {
     response.purge(uids, store)?;
@@ -70,7 +73,8 @@ pub(crate) fn expunge_set<S: Store>(
     store: &mut S,
     response: &mut Response<'_>,
 ) -> Result<LastWords, MailFault>
-    ensures { Does S.step (expunge_set set.now) last store.old store.new response.old response.new result }
+    ensures { Does S.step (expunge_set set.now) last store.old store.new response.old response.new
+        result }
 {
     let Some(messages) = store.choose(alloc, set, true)? else {
         return Ok(LastWords(b"BAD Sequence number too high"));

@@ -24,7 +24,8 @@ fn write_fetched(
     row: &Row,
     response: &mut Response<'_>,
 ) -> Result<(), MailFault>
-    ensures text { OnOk result (response.new ≡ adding (row_answer position by_uid items.now row.now) response.old) }
+    ensures text { OnOk result (response.new
+        ≡ adding (row_answer position by_uid items.now row.now) response.old) }
     ensures err { OnErr result (response.new ≡ response.old) }
     ensures fault { IfErr result (λ f. f ≡ MailFault.NoMemory) }
 {
@@ -43,7 +44,8 @@ fn fetch_one<S: Store>(
     response: &mut Response<'_>,
 ) -> Result<bool, MailFault>
     requires items { items.now ≡ fetch.now.items }
-    ensures { (view : List ℕ) (uid : ℕ) → message ≡ named_at view uid → (x y : Exchange) → Does S.step
+    ensures { (view : List ℕ) (uid : ℕ) → message ≡ named_at view uid → (x y : Exchange)
+        → Does S.step
         (Read uid mark_seen (on_found (λ row. Write (fetched fetch.now view uid row) x) y))
         (λ here. if here then x else y) store.old store.new response.old response.new result }
 {
@@ -64,8 +66,10 @@ fn fetch_all<S: Store>(
     response: &mut Response<'_>,
 ) -> Result<bool, MailFault>
     requires items { items.now ≡ fetch.now.items }
-    ensures { (view uids : List ℕ) → messages.now ≡ map (named_at view) uids → (done : Bool → Exchange) → Does S.step
-        (fetching fetch.now mark_seen view done uids false) done store.old store.new response.old response.new result }
+    ensures { (view uids : List ℕ) → messages.now ≡ map (named_at view) uids
+        → (done : Bool → Exchange) → Does S.step
+        (fetching fetch.now mark_seen view done uids false) done store.old store.new response.old
+        response.new result }
 {
     let mut gone = false;
     for message in messages {
@@ -85,7 +89,8 @@ fn finish_fetch<S: Store>(
     response: &mut Response<'_>,
 ) -> Result<LastWords, MailFault>
     ensures { Does S.step
-        (messages_done (commands.Fetch fetch.now) fetch.now.by_uid gone) last store.old store.new response.old response.new result }
+        (messages_done (commands.Fetch fetch.now) fetch.now.by_uid gone) last store.old store.new
+        response.old response.new result }
 {
     if fetch.by_uid {
         response.show(usize::MAX, store)?;
@@ -106,7 +111,8 @@ pub(crate) fn fetch_messages<S: Store>(
     response: &mut Response<'_>,
 ) -> Result<LastWords, MailFault>
     ensures { Does S.step
-        (wanting (on_set fetch.now.by_uid fetch.now.set (λ view uids. fetching fetch.now mark_seen view
+        (wanting (on_set fetch.now.by_uid fetch.now.set (λ view uids.
+        fetching fetch.now mark_seen view
         (messages_done (commands.Fetch fetch.now) fetch.now.by_uid) uids false)))
         last store.old store.new response.old response.new result }
 {

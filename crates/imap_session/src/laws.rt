@@ -15,18 +15,21 @@ ghost use Rattle.imap_session.specs.declared.standing.Selected.{Selected};
 /// UID EXPUNGE remove messages: nowhere else, and no other line that these commands say is of that kind. Where a mailbox is selected no such
 /// tagged OK comes without them. A plain FETCH and a plain STORE show none (RFC 9051, 7.5.1), and IDLE shows none before its turns.
 pub fn changes_are_shown_in_order()
-    ensures { (now : Standing) (command : Command) → ShowsInOrder now command (on_command now command) }
+    ensures { (now : Standing) (command : Command)
+        → ShowsInOrder now command (on_command now command) }
 {}
 
 /// The line that ends an IDLE shows changes right before its tagged OK where it is DONE. Any other line shows none.
 pub fn done_shows_in_order()
-    ensures { (selected : Option Selected) (line : List ℕ) → DoneShowsInOrder selected line (on_idle_line selected line) }
+    ensures { (selected : Option Selected) (line : List ℕ)
+        → DoneShowsInOrder selected line (on_idle_line selected line) }
 {}
 
 /// What stands behind a literal shows no changes, asks nothing of the store and has no tagged OK: the message is refused, or it is submitted and
 /// nothing is said before the verdict on it.
 pub fn rest_shows_none()
-    ensures { (mailing : Mailing) (begun : Appending) (ends : Bool) → RestShowsNone (on_rest mailing begun ends) }
+    ensures { (mailing : Mailing) (begun : Appending) (ends : Bool)
+        → RestShowsNone (on_rest mailing begun ends) }
 {}
 
 /// The verdict on an appended message shows changes right before the tagged OK that tells its UID, where a mailbox is selected. A message that was
@@ -51,17 +54,21 @@ pub fn only_a_stored_verdict_tells_a_uid()
 
     // No last line of a command, of an IDLE, or behind a literal tells one.
     ensures commands { (now : Standing) (command : Command) → TellsNoUid (on_command now command) }
-    ensures idling { (selected : Option Selected) (line : List ℕ) → TellsNoUid (on_idle_line selected line) }
-    ensures rest { (mailing : Mailing) (begun : Appending) (ends : Bool) → TellsNoUid (on_rest mailing begun ends) }
+    ensures idling { (selected : Option Selected) (line : List ℕ)
+        → TellsNoUid (on_idle_line selected line) }
+    ensures rest { (mailing : Mailing) (begun : Appending) (ends : Bool)
+        → TellsNoUid (on_rest mailing begun ends) }
 
     // Nor does the line for no command, for one that is too long, or for a refusal of the store or of memory.
     ensures faults { (fault : ImapFault) → LineTellsNoUid (fault_tag fault) (fault_text fault) }
     ensures long { (now : Standing) → LineTellsNoUid (kept_tag now) (turn_of_long_line now).bytes }
-    ensures refusals { (tag : List ℕ) (fault : MailFault) → RefusalTellsNoUid tag (refusal_text tag fault) }
+    ensures refusals { (tag : List ℕ) (fault : MailFault)
+        → RefusalTellsNoUid tag (refusal_text tag fault) }
 {}
 
 /// However the bytes of a literal are cut, the session comes to stand where it would by all at once.
 pub fn literals_may_be_cut()
     ensures { (now : Standing) (front back : List ℕ) (kept also_kept : Bool) →
-        with_bytes also_kept back (with_bytes kept front now) ≡ with_bytes (kept && also_kept) (front ++ back) now }
+        with_bytes also_kept back (with_bytes kept front now)
+        ≡ with_bytes (kept && also_kept) (front ++ back) now }
 {}

@@ -72,7 +72,8 @@ impl Appending {
     pub(crate) fn keep(&mut self, bytes: &[u8])
         requires fits { length bytes.now ≤ self.old.due }
         requires first { HasFirstRoom self.old }
-        ensures taken { (kept : Bool) × (appending_of self.new ≡ taking kept bytes.now (appending_of self.old)) ×
+        ensures taken { (kept : Bool)
+            × (appending_of self.new ≡ taking kept bytes.now (appending_of self.old)) ×
             (kept ≡ false → IsBeyondRoom (Some (appending_of self.old)) bytes.now) }
         ensures room { HasFirstRoom self.new }
     {
@@ -115,7 +116,8 @@ fn has_nul(text: &[u8]) -> bool
 pub(crate) fn refused_size(most: Option<u32>, size: u64) -> Option<LastWords>
     ensures taken { result ≡ None → is_over most size ≡ false }
     ensures fits { result ≡ None → size < 2 ^ 32 }
-    ensures refused { IfSome result (λ words. (is_over most size ≡ true) × (over most ≡ says words)) }
+    ensures refused { IfSome result (λ words. (is_over most size ≡ true)
+        × (over most ≡ says words)) }
 {
     let Some(most) = most else {
         return Some(LastWords(b"NO [CANNOT] Not offered here"));
@@ -135,10 +137,12 @@ pub(crate) fn judge(
     number: u32,
     empty: bool,
 ) -> Result<(u8, Vec<u8>), LastWords>
-    ensures says { IfErr result (λ words. (mailing : MailingSpec) (a : AppendingSpec) → mailing.most ≡ most → mailing.number ≡ number →
+    ensures says { IfErr result (λ words. (mailing : MailingSpec) (a : AppendingSpec)
+        → mailing.most ≡ most → mailing.number ≡ number →
         a.mailbox ≡ mailbox → a.size ≡ size → a.text ≡ option_map (λ t. t.items) text →
         on_rest mailing a empty ≡ says words) }
-    ensures ready { IfOk result (λ made. (mailing : MailingSpec) (a : AppendingSpec) → mailing.most ≡ most → mailing.number ≡ number →
+    ensures ready { IfOk result (λ made. (mailing : MailingSpec) (a : AppendingSpec)
+        → mailing.most ≡ most → mailing.number ≡ number →
         a.mailbox ≡ mailbox → a.size ≡ size → a.text ≡ option_map (λ t. t.items) text →
         on_rest mailing a empty ≡ wanting (Wait [] (ForVerdict made.0 a.flags made.1.items))) }
     ensures numbered { IfOk result (λ made. number < 4294967295) }

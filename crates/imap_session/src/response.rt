@@ -109,7 +109,11 @@ impl<'a> Response<'a> {
     pub(crate) fn new(tag: &'a [u8], beside: usize, out: &mut Vec<u8>) -> Response<'a>
         requires last { LAST ≤ beside }
         requires fits { vec_len out.old + (length tag.now + beside) ≤ vec_capacity out.old }
-        ensures { result ≡ record { tag = tag.now; held = length tag.now + beside; text = out.old.items } }
+        ensures { result ≡ record {
+          tag = tag.now;
+          held = length tag.now + beside;
+          text = out.old.items;
+        } }
     {
         Response {
             tag,
@@ -129,8 +133,10 @@ impl<'a> Response<'a> {
 
     /// Holds room besides for what is told of a mailbox of this name once it is entered.
     pub(crate) fn hold_opening(&mut self, name: &[u8]) -> Result<(), MailFault>
-        ensures held { OnOk result (self.new ≡ record self.old { held = self.old.held + (length name.now + OPENING_ROOM) }) }
-        ensures fits { OnOk result (length self.new.tag + (LAST + (length name.now + OPENING_ROOM)) ≤ self.new.held) }
+        ensures held { OnOk result (self.new
+            ≡ record self.old { held = self.old.held + (length name.now + OPENING_ROOM) }) }
+        ensures fits { OnOk result (length self.new.tag + (LAST + (length name.now + OPENING_ROOM))
+            ≤ self.new.held) }
         ensures err { OnErr result (self.new ≡ self.old) }
         ensures fault { IfErr result (λ f. f ≡ MailFault.NoMemory) }
     {
@@ -143,7 +149,8 @@ impl<'a> Response<'a> {
 
     /// Writes what is told of a mailbox that was entered, in the room that is held for it.
     pub(crate) fn put_opening(&mut self, read_only: bool, name: &[u8], opening: &Opening)
-        requires fits { length self.old.tag + (LAST + (length name.now + OPENING_ROOM)) ≤ self.old.held }
+        requires fits { length self.old.tag + (LAST + (length name.now + OPENING_ROOM))
+            ≤ self.old.held }
         ensures { Adds (opening_text read_only name.now opening.now) self.old self.new }
     {
         put_opening(read_only, name, opening, &mut self.out);
@@ -164,9 +171,11 @@ impl<'a> Response<'a> {
     /// Shows changes, at most so many. The store writes their lines; what it wrote can't be taken back, so the room for the last line is held
     /// by bytes that go again.
     pub(crate) fn show<S: Store>(&mut self, limit: usize, store: &mut S) -> Result<usize, MailFault>
-        ensures done { (x : Exchange) → Does S.step (Feed limit x) (λ n. x) store.old store.new self.old self.new result }
+        ensures done { (x : Exchange)
+            → Does S.step (Feed limit x) (λ n. x) store.old store.new self.old self.new result }
         // It is one call of the store.
-        ensures event { Feeds (λ a. S.step store.old (Feed limit) a store.new) limit self.old.text self.new.text result }
+        ensures event { Feeds (λ a.
+            S.step store.old (Feed limit) a store.new) limit self.old.text self.new.text result }
         ensures faults { IfErr result (λ f. f ≢ MailFault.Spent) }
         ensures held { (self.new.tag ≡ self.old.tag) × (self.new.held ≡ self.old.held) }
     {
@@ -191,7 +200,9 @@ impl<'a> Response<'a> {
         uids: Option<&[u32]>,
         store: &mut S,
     ) -> Result<(), MailFault>
-        ensures { (x : Exchange) → Does S.step (Expunge (option_copied uids.entry) x) (λ _. x) store.old store.new self.old self.new result }
+        ensures { (x : Exchange)
+            → Does S.step (Expunge (option_copied uids.entry) x) (λ _.
+            x) store.old store.new self.old self.new result }
     {
         let start = self.out.len();
         let held = self.held;

@@ -18,7 +18,8 @@ pub(crate) const READY: &[u8] = b"+ ready\r\n";
 
 // Writes the tag and the words behind it, as a line, in room that was reserved.
 pub(crate) fn put_tagged(tag: &[u8], words: &[u8], out: &mut Vec<u8>)
-    requires fits { vec_len out.old + (length tag.now + length words.now + 3) ≤ vec_capacity out.old }
+    requires fits { vec_len out.old + (length tag.now + length words.now + 3)
+        ≤ vec_capacity out.old }
     ensures text { out.new.items ≡ out.old.items ++ tagged tag.now words.now }
 {
     put(tag, out);

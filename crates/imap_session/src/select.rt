@@ -23,7 +23,8 @@ fn leave_previous<S: Store>(
     response: &mut Response<'_>,
 ) -> Result<(), MailFault>
     requires long { length response.old.tag + (LAST + FIRST) ≤ response.old.held }
-    ensures done { (x : Exchange) → Moves S.step selected.old selected.new (closing selected.old x) (λ _.
+    ensures done { (x : Exchange)
+        → Moves S.step selected.old selected.new (closing selected.old x) (λ _.
         x) store.old store.new response.old response.new result }
     ensures none { OnOk result (selected.new ≡ None) }
 {
@@ -43,7 +44,8 @@ fn enter_mailbox<S: Store>(
     store: &mut S,
 ) -> Result<Opening, MailFault>
     ensures done { (next : OpeningSpec → Exchange) (response : ResponseSpec) →
-        Moves S.step selected.old selected.new (Enter wanted next) next store.old store.new response response result }
+        Moves S.step selected.old selected.new (Enter wanted next) next store.old store.new response
+        response result }
     ensures entered { OnOk result (selected.new ≡ Some wanted) }
 {
     let opening = store.enter(wanted.mailbox)?;
@@ -57,7 +59,8 @@ pub(crate) fn leave_mailbox<S: Store>(
     selected: &mut Option<Selected>,
     store: &mut S,
 ) -> Result<(), MailFault>
-    ensures done { (x : Exchange) (response : ResponseSpec) → Moves S.step selected.old selected.new (Leave remove x) (λ _.
+    ensures done { (x : Exchange) (response : ResponseSpec)
+        → Moves S.step selected.old selected.new (Leave remove x) (λ _.
         x) store.old store.new response response result }
     ensures none { OnOk result (selected.new ≡ None) }
     ensures err { OnErr result (selected.new ≡ selected.old) }
@@ -69,7 +72,8 @@ pub(crate) fn leave_mailbox<S: Store>(
 
 // What the last line says after a mailbox was entered.
 fn entered_words(read_only: bool) -> LastWords
-    ensures { result ≡ (if read_only then codes "OK [READ-ONLY] EXAMINE completed" else codes "OK [READ-WRITE] SELECT completed") }
+    ensures { result ≡ (if read_only then codes "OK [READ-ONLY] EXAMINE completed" else
+        codes "OK [READ-WRITE] SELECT completed") }
 {
     if read_only {
         LastWords(b"OK [READ-ONLY] EXAMINE completed")
@@ -87,7 +91,8 @@ fn enter_folder<S: Store>(
     response: &mut Response<'_>,
 ) -> Result<LastWords, MailFault>
     ensures { Moves S.step selected.old selected.new
-        (wanting (entering read_only folder.now)) last store.old store.new response.old response.new result }
+        (wanting (entering read_only folder.now)) last store.old store.new response.old response.new
+        result }
 {
     let name = folder.name();
     response.hold_opening(name)?;
@@ -110,7 +115,8 @@ fn enter_named<S: Store>(
     response: &mut Response<'_>,
 ) -> Result<LastWords, MailFault>
     ensures { Moves S.step selected.old selected.new
-        (wanting (on_folder name.now folders.now (entering read_only))) last store.old store.new response.old response.new result }
+        (wanting (on_folder name.now folders.now (entering read_only))) last store.old store.new
+        response.old response.new result }
 {
     match find_folder(name, folders) {
         None => Ok(LastWords(b"NO [NONEXISTENT] No such mailbox")),

@@ -30,8 +30,10 @@ fn sets_seen(command: &Fetch<'_>, mailbox: Selected) -> bool
 
 // Why a command that changes the mailbox is refused, where it is: what its last line says.
 fn refusal(selected: Option<Selected>) -> Option<LastWords>
-    ensures refused { IfSome result (λ words. (x : Exchange) → on_found (if_writable x) wrong_state selected ≡ says words) }
-    ensures taken { IfNone result ((x : Exchange) → on_found (if_writable x) wrong_state selected ≡ x) }
+    ensures refused { IfSome result (λ words. (x : Exchange)
+        → on_found (if_writable x) wrong_state selected ≡ says words) }
+    ensures taken { IfNone result ((x : Exchange)
+        → on_found (if_writable x) wrong_state selected ≡ x) }
 {
     match selected {
         None => Some(LastWords(b"BAD Wrong state")),
@@ -54,7 +56,8 @@ pub(crate) fn fetch<S: Store>(
     response: &mut Response<'_>,
 ) -> Result<LastWords, MailFault>
     ensures { Does S.step
-        (on_found (fetch_messages command.now) wrong_state selected) last store.old store.new response.old response.new result }
+        (on_found (fetch_messages command.now) wrong_state selected) last store.old store.new
+        response.old response.new result }
 {
     match selected {
         None => Ok(LastWords(b"BAD Wrong state")),
@@ -74,7 +77,8 @@ pub(crate) fn store_flags<S: Store>(
     response: &mut Response<'_>,
 ) -> Result<LastWords, MailFault>
     ensures { Does S.step (on_found (if_writable
-        (store_messages command.now)) wrong_state selected) last store.old store.new response.old response.new result }
+        (store_messages command.now)) wrong_state selected) last store.old store.new response.old
+        response.new result }
 {
     match refusal(selected) {
         Some(words) => Ok(words),
@@ -107,7 +111,8 @@ pub(crate) fn uid_expunge<S: Store>(
     response: &mut Response<'_>,
 ) -> Result<LastWords, MailFault>
     ensures { Does S.step (on_found (if_writable
-        (expunge_set set.now)) wrong_state selected) last store.old store.new response.old response.new result }
+        (expunge_set set.now)) wrong_state selected) last store.old store.new response.old
+        response.new result }
 {
     match refusal(selected) {
         Some(words) => Ok(words),
@@ -121,7 +126,8 @@ pub(crate) fn close<S: Store>(
     store: &mut S,
 ) -> Result<LastWords, MailFault>
     ensures { (response : ResponseSpec) → Moves S.step selected.old selected.new
-        (on_found (λ mailbox. Leave (not mailbox.read_only) (completed commands.Close)) wrong_state selected.old)
+        (on_found (λ mailbox. Leave (not mailbox.read_only) (completed commands.Close)) wrong_state
+        selected.old)
         last store.old store.new response response result }
 {
     let Some(mailbox) = *selected else {
@@ -137,7 +143,8 @@ pub(crate) fn unselect<S: Store>(
     store: &mut S,
 ) -> Result<LastWords, MailFault>
     ensures { (response : ResponseSpec) → Moves S.step selected.old selected.new
-        (on_found (λ mailbox. Leave false (completed commands.Unselect)) wrong_state selected.old) last store.old store.new response response result }
+        (on_found (λ mailbox. Leave false (completed commands.Unselect)) wrong_state selected.old)
+        last store.old store.new response response result }
 {
     let Some(_) = *selected else {
         return Ok(LastWords(b"BAD Wrong state"));

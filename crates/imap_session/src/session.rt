@@ -58,7 +58,13 @@ impl Session {
     /// The session of a client whose mailboxes have these names, and which appends messages of so many bytes at most, or none. It has
     /// selected no mailbox. Where two have the same name, the first is found.
     pub fn new(folders: Vec<Folder>, max_message: Option<u32>) -> Session
-        ensures { result ≡ record { folders = folders.items; selected = None; idling = None; ended = false; mailing = nothing_sent max_message } }
+        ensures { result ≡ record {
+          folders = folders.items;
+          selected = None;
+          idling = None;
+          ended = false;
+          mailing = nothing_sent max_message;
+        } }
     {
         Session {
             folders,
@@ -152,10 +158,13 @@ impl Session {
 
     // Begins to idle. Where memory for the tag is refused, that is told: of a tag of at most 32 bytes it isn't asked.
     fn begin_idling(&mut self, alloc: Global, response: Response<'_>, out: &mut Vec<u8>) -> After
-        ensures begun { result ≡ After.Idle → (self.new ≡ record self.old { idling = Some response.entry.tag }) ×
+        ensures begun { result ≡ After.Idle
+            → (self.new ≡ record self.old { idling = Some response.entry.tag }) ×
             (out.new.items ≡ response.entry.text ++ codes "+ idling\r\n") }
-        ensures starved { result ≡ After.Go → (32 < length response.entry.tag) × (self.new ≡ self.old) ×
-            (out.new.items ≡ response.entry.text ++ tagged response.entry.tag (codes "NO Out of memory")) }
+        ensures starved { result ≡ After.Go
+            → (32 < length response.entry.tag) × (self.new ≡ self.old) ×
+            (out.new.items ≡ response.entry.text
+            ++ tagged response.entry.tag (codes "NO Out of memory")) }
         ensures only { (result ≡ After.Idle) ⊎ (result ≡ After.Go) }
     {
         let tag = response.release(out);
@@ -182,10 +191,14 @@ impl Session {
         requires alone { self.old.mailing.begun ≡ None }
         requires unsent { self.old.mailing.sent ≡ None }
         requires other { is_open command.now ≡ false }
-        requires long { length response.tag + (LAST + FIRST) ≤ response.held + length (first_line command.now) }
-        ensures plays { Plays S.step response.entry.tag self.old (record self.old { selected = self.new.selected })
-            (behind_first_line self.old command.now) store.old store.new response.entry.text out.new.items result }
-        ensures standing { self.new ≡ (closed (record self.old { selected = self.new.selected }) result).standing }
+        requires long { length response.tag + (LAST + FIRST)
+            ≤ response.held + length (first_line command.now) }
+        ensures plays { Plays S.step response.entry.tag self.old
+            (record self.old { selected = self.new.selected })
+            (behind_first_line self.old command.now) store.old store.new response.entry.text
+            out.new.items result }
+        ensures standing { self.new
+            ≡ (closed (record self.old { selected = self.new.selected }) result).standing }
         ensures sends { result ≡ may_send self.new }
     {
         let done = carry_out(
@@ -213,10 +226,14 @@ impl Session {
         requires awake { self.old.idling ≡ None }
         requires alone { self.old.mailing.begun ≡ None }
         requires unsent { self.old.mailing.sent ≡ None }
-        ensures answered { IfOk result (λ after. Answers S.step self.old line.now store.old store.new out.old.items out.new.items after self.new) }
+        ensures answered { IfOk result (λ after.
+            Answers S.step self.old line.now store.old store.new out.old.items out.new.items after
+            self.new) }
         ensures lasts { result ≢ Err SessionFault.Ended }
-        ensures refused { OnErr result ((self.new ≡ self.old) × (store.new ≡ store.old) × (out.new.items ≡ out.old.items)) }
-        ensures memory { OnErr result (vec_capacity out.old < vec_len out.old + (length line.now + 90)) }
+        ensures refused { OnErr result ((self.new ≡ self.old) × (store.new ≡ store.old)
+            × (out.new.items ≡ out.old.items)) }
+        ensures memory { OnErr result (vec_capacity out.old
+            < vec_len out.old + (length line.now + 90)) }
         ensures folders { self.new.folders ≡ self.old.folders }
         ensures sends { IfOk result (λ after. after ≡ may_send self.new) }
     {
@@ -257,7 +274,8 @@ impl Session {
         requires alone { self.old.mailing.begun ≡ None }
         requires unsent { self.old.mailing.sent ≡ None }
         ensures plays { Plays S.step response.entry.tag self.old self.old
-            (on_idle_line self.old.selected line.now) store.old store.new response.entry.text out.new.items result }
+            (on_idle_line self.old.selected line.now) store.old store.new response.entry.text
+            out.new.items result }
         ensures standing { self.new ≡ (closed self.old result).standing }
         ensures sends { result ≡ may_send self.new }
     {
@@ -280,9 +298,11 @@ impl Session {
         requires alone { self.old.mailing.begun ≡ None }
         requires unsent { self.old.mailing.sent ≡ None }
         ensures answered { IfOk result (λ after. Answers S.step
-            (record self.old { idling = Some tag }) line.now store.old store.new out.old.items out.new.items after self.new) }
+            (record self.old { idling = Some tag }) line.now store.old store.new out.old.items
+            out.new.items after self.new) }
         ensures lasts { result ≢ Err SessionFault.Ended }
-        ensures refused { OnErr result ((self.new ≡ record self.old { idling = Some tag }) × (store.new ≡ store.old) ×
+        ensures refused { OnErr result ((self.new ≡ record self.old { idling = Some tag })
+            × (store.new ≡ store.old) ×
             (out.new.items ≡ out.old.items)) }
         ensures memory { OnErr result (vec_capacity out.old < vec_len out.old + (length tag + 48)) }
         ensures folders { self.new.folders ≡ self.old.folders }
@@ -321,11 +341,15 @@ impl Session {
     ) -> Result<After, SessionFault>
         requires unsent { self.old.mailing.sent ≡ None }
         // What was asked of the store, what is said, and how the session stands then is what `turn_of` tells, by the store's answers.
-        ensures answered { IfOk result (λ after. Answers S.step self.old line.now store.old store.new out.old.items out.new.items after self.new) }
+        ensures answered { IfOk result (λ after.
+            Answers S.step self.old line.now store.old store.new out.old.items out.new.items after
+            self.new) }
         ensures ended { (result ≡ Err SessionFault.Ended) ↔ (self.old.ended ≡ true) }
-        ensures refused { OnErr result ((self.new ≡ self.old) × (store.new ≡ store.old) × (out.new.items ≡ out.old.items)) }
+        ensures refused { OnErr result ((self.new ≡ self.old) × (store.new ≡ store.old)
+            × (out.new.items ≡ out.old.items)) }
         // Where `out` had the room of `room_for`, NoMemory never comes.
-        ensures memory { result ≡ Err SessionFault.NoMemory → vec_capacity out.old < vec_len out.old + room_for self.old line.now }
+        ensures memory { result ≡ Err SessionFault.NoMemory
+            → vec_capacity out.old < vec_len out.old + room_for self.old line.now }
         ensures folders { self.new.folders ≡ self.old.folders }
         ensures sends { IfOk result (λ after. after ≡ may_send self.new) }
     {
@@ -370,7 +394,8 @@ impl Session {
 
     /// The message that was submitted and waits for the verdict on it.
     pub fn submission(&self) -> Option<&Append>
-        ensures { option_map (λ a. a.now) result ≡ option_map (λ (s : SentSpec). s.append) self.now.mailing.sent }
+        ensures { option_map (λ a. a.now) result
+            ≡ option_map (λ (s : SentSpec). s.append) self.now.mailing.sent }
     {
         match &self.mailing.sent {
             None => None,
@@ -398,11 +423,17 @@ impl Session {
         requires unsent { self.old.mailing.sent ≡ None }
         requires room { HasFirstRoom begun }
         ensures answered { IfOk result (λ after. Leads begun.tag (record self.old { idling = None })
-            (on_rest self.old.mailing (appending_of begun) (length line.now == 0)) out.old.items out.new.items after self.new) }
+            (on_rest self.old.mailing (appending_of begun) (length line.now == 0)) out.old.items
+            out.new.items after self.new) }
         ensures lasts { result ≢ Err SessionFault.Ended }
-        ensures refused { OnErr result ((self.new ≡ record self.old { mailing = record self.old.mailing { begun = Some (appending_of begun) } }) ×
+        ensures refused { OnErr result ((self.new
+            ≡ record self.old {
+              mailing = record self.old.mailing
+                  { begun = Some (appending_of begun) };
+            }) ×
             (out.new.items ≡ out.old.items)) }
-        ensures memory { OnErr result (vec_capacity out.old < vec_len out.old + (length begun.tag + 48)) }
+        ensures memory { OnErr result (vec_capacity out.old
+            < vec_len out.old + (length begun.tag + 48)) }
         ensures folders { self.new.folders ≡ self.old.folders }
         ensures sends { IfOk result (λ after. after ≡ may_send self.new) }
     {
@@ -426,9 +457,12 @@ impl Session {
         requires awake { self.old.idling ≡ None }
         requires alone { self.old.mailing.begun ≡ None }
         requires unsent { self.old.mailing.sent ≡ None }
-        ensures sent { OnOk result ((before : List ℕ) → Leads begun.tag self.old (on_rest self.old.mailing (appending_of begun) ends) before before
+        ensures sent { OnOk result ((before : List ℕ)
+            → Leads begun.tag self.old (on_rest self.old.mailing (appending_of begun) ends) before
+            before
             After.Submit self.new) }
-        ensures refused { IfErr result (λ told. (before : List ℕ) → Leads begun.tag self.old (on_rest self.old.mailing (appending_of begun) ends)
+        ensures refused { IfErr result (λ told. (before : List ℕ)
+            → Leads begun.tag self.old (on_rest self.old.mailing (appending_of begun) ends)
             before (before ++ tagged told.0 told.1) After.Go self.new) }
         ensures tag { IfErr result (λ told. told.0 ≡ begun.tag) }
         ensures folders { self.new.folders ≡ self.old.folders }
@@ -481,7 +515,8 @@ impl Session {
         requires unsent { self.old.mailing.sent ≡ None }
         requires long { length response.tag + STORED ≤ response.held }
         ensures plays { Plays S.step response.entry.tag self.old self.old
-            (on_verdict self.old.selected mailbox verdict) store.old store.new response.entry.text out.new.items result }
+            (on_verdict self.old.selected mailbox verdict) store.old store.new response.entry.text
+            out.new.items result }
         ensures standing { self.new ≡ (closed self.old result).standing }
         ensures mailing { self.new.mailing ≡ self.old.mailing }
         ensures sends { result ≡ may_send self.new }
@@ -505,10 +540,16 @@ impl Session {
             (record self.old { mailing = record self.old.mailing { sent = Some (sent_of sent) } })
             verdict store.old store.new out.old.items out.new.items after self.new) }
         ensures lasts { result ≢ Err SessionFault.Ended }
-        ensures refused { OnErr result ((self.new ≡ record self.old { mailing = record self.old.mailing { sent = Some (sent_of sent) } }) ×
+        ensures refused { OnErr result ((self.new
+            ≡ record self.old {
+              mailing = record self.old.mailing
+                  { sent = Some (sent_of sent) };
+            }) ×
             (store.new ≡ store.old) × (out.new.items ≡ out.old.items)) }
-        ensures memory { OnErr result (vec_capacity out.old < vec_len out.old + (length sent.tag + STORED)) }
-        ensures done { OnOk result ((self.new.mailing.begun ≡ None) × (self.new.mailing.sent ≡ None)) }
+        ensures memory { OnErr result (vec_capacity out.old
+            < vec_len out.old + (length sent.tag + STORED)) }
+        ensures done { OnOk result ((self.new.mailing.begun ≡ None)
+            × (self.new.mailing.sent ≡ None)) }
         ensures folders { self.new.folders ≡ self.old.folders }
         ensures sends { IfOk result (λ after. after ≡ may_send self.new) }
     {
@@ -549,11 +590,14 @@ impl Session {
         ensures answered { IfOk result (λ after. AnswersVerdict S.step self.old verdict
             store.old store.new out.old.items out.new.items after self.new) }
         ensures ended { (result ≡ Err SessionFault.Ended) ↔ (self.old.ended ≡ true) }
-        ensures refused { OnErr result ((self.new ≡ self.old) × (store.new ≡ store.old) × (out.new.items ≡ out.old.items)) }
+        ensures refused { OnErr result ((self.new ≡ self.old) × (store.new ≡ store.old)
+            × (out.new.items ≡ out.old.items)) }
         // Where `out` had the room that `verdict_room` tells, NoMemory never comes.
-        ensures memory { result ≡ Err SessionFault.NoMemory → vec_capacity out.old < vec_len out.old + room_for_verdict self.old }
+        ensures memory { result ≡ Err SessionFault.NoMemory
+            → vec_capacity out.old < vec_len out.old + room_for_verdict self.old }
         // Once it is answered, neither a literal nor a verdict is waited for.
-        ensures done { OnOk result ((self.new.mailing.begun ≡ None) × (self.new.mailing.sent ≡ None)) }
+        ensures done { OnOk result ((self.new.mailing.begun ≡ None)
+            × (self.new.mailing.sent ≡ None)) }
         ensures folders { self.new.folders ≡ self.old.folders }
         ensures sends { IfOk result (λ after. after ≡ may_send self.new) }
     {
@@ -573,11 +617,13 @@ impl Session {
     /// room for the answer and memory was refused.
     pub fn long_line(&mut self, out: &mut Vec<u8>) -> Result<After, SessionFault>
         // One line is said, that of `long_line_text`, and a command may follow: an IDLE or APPEND that was begun is over.
-        ensures answered { IfOk result (λ after. (after ≡ After.Go) × (out.new.items ≡ out.old.items ++ long_line_text self.old)) }
+        ensures answered { IfOk result (λ after. (after ≡ After.Go)
+            × (out.new.items ≡ out.old.items ++ long_line_text self.old)) }
         ensures standing { OnOk result (self.new ≡ (turn_of_long_line self.old).standing) }
         ensures ended { (result ≡ Err SessionFault.Ended) ↔ (self.old.ended ≡ true) }
         ensures refused { OnErr result ((self.new ≡ self.old) × (out.new.items ≡ out.old.items)) }
-        ensures memory { result ≡ Err SessionFault.NoMemory → vec_capacity out.old < vec_len out.old + length (long_line_text self.old) }
+        ensures memory { result ≡ Err SessionFault.NoMemory
+            → vec_capacity out.old < vec_len out.old + length (long_line_text self.old) }
     {
         if self.ended {
             return Err(SessionFault::Ended);
@@ -611,7 +657,8 @@ impl Session {
 
     // Says BYE for a fault that ends the session.
     fn part(&mut self, fault: MailFault, response: Response<'_>, out: &mut Vec<u8>)
-        ensures text { out.new.items ≡ response.entry.text ++ refusal_text response.entry.tag fault }
+        ensures text { out.new.items
+            ≡ response.entry.text ++ refusal_text response.entry.tag fault }
         ensures standing { self.new ≡ record self.old { ended = true } }
     {
         let _ = response.conclude(After::Bye, Err(fault), out);
@@ -630,18 +677,22 @@ impl Session {
         out: &mut Vec<u8>,
     ) -> Result<usize, SessionFault>
         // What was asked of the store, what is said, and how the session stands then is what the spec's `idle_turn` tells, for so many changes.
-        ensures turned { IfOk result (λ count. IdleTurns S.step self.old store.old store.new out.old.items out.new.items count self.new) }
+        ensures turned { IfOk result (λ count.
+            IdleTurns S.step self.old store.old store.new out.old.items out.new.items count
+            self.new) }
         ensures mailing { self.new.mailing ≡ self.old.mailing }
         ensures few { IfOk result (λ count. count ≤ 64) }
         // Where it shows nothing and the session goes on, nothing is changed and nothing said.
-        ensures quiet { IfOk result (λ count. count ≡ 0 → self.new.ended ≡ false → (self.new ≡ self.old) × (out.new.items ≡ out.old.items)) }
+        ensures quiet { IfOk result (λ count. count ≡ 0 → self.new.ended ≡ false
+            → (self.new ≡ self.old) × (out.new.items ≡ out.old.items)) }
         // Ended exactly where the session has ended, and the store is as it was.
         ensures ended { (result ≡ Err SessionFault.Ended) ↔ (self.old.ended ≡ true) }
         ensures over { result ≡ Err SessionFault.Ended → store.new ≡ store.old }
         // After NoMemory the store is as it was, or it refused memory itself.
         ensures starved { result ≡ Err SessionFault.NoMemory → Starves S.step store.old store.new }
         // Where `out` has room for a BYE line, the store was asked.
-        ensures asked { result ≡ Err SessionFault.NoMemory → vec_len out.old + 48 ≤ vec_capacity out.old →
+        ensures asked { result ≡ Err SessionFault.NoMemory
+            → vec_len out.old + 48 ≤ vec_capacity out.old →
             S.step store.old (Feed most_changes) (Refused MailFault.NoMemory) store.new }
         ensures refused { OnErr result ((self.new ≡ self.old) × (out.new.items ≡ out.old.items)) }
     {

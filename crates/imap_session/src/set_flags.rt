@@ -25,7 +25,8 @@ fn write_changed(
     response: &mut Response<'_>,
 ) -> Result<(), MailFault>
     ensures text { OnOk result (response.new ≡ adding
-        (if command.now.silent then [] else flags_answer command.now.by_uid message.position message.uid flags) response.old) }
+        (if command.now.silent then [] else flags_answer command.now.by_uid message.position
+        message.uid flags) response.old) }
     ensures err { OnErr result (response.new ≡ response.old) }
     ensures fault { IfErr result (λ f. f ≡ MailFault.NoMemory) }
     ensures told { OnErr result (command.now.silent ≡ false) }
@@ -48,7 +49,8 @@ fn store_one<S: Store>(
     store: &mut S,
     response: &mut Response<'_>,
 ) -> Result<bool, MailFault>
-    ensures { (view : List ℕ) (uid : ℕ) → message ≡ named_at view uid → (x y : Exchange) → Does S.step
+    ensures { (view : List ℕ) (uid : ℕ) → message ≡ named_at view uid → (x y : Exchange)
+        → Does S.step
         (Alter uid command.now.change (on_found (λ flags. stored command.now view uid flags x) y))
         (λ here. if here then x else y) store.old store.new response.old response.new result }
 {
@@ -66,8 +68,10 @@ fn store_all<S: Store>(
     store: &mut S,
     response: &mut Response<'_>,
 ) -> Result<bool, MailFault>
-    ensures { (view uids : List ℕ) → messages.now ≡ map (named_at view) uids → (done : Bool → Exchange) → Does S.step
-        (storing command.now view done uids false) done store.old store.new response.old response.new result }
+    ensures { (view uids : List ℕ) → messages.now ≡ map (named_at view) uids
+        → (done : Bool → Exchange) → Does S.step
+        (storing command.now view done uids false) done store.old store.new response.old
+        response.new result }
 {
     let mut gone = false;
     for message in messages {
@@ -87,7 +91,8 @@ fn finish_store<S: Store>(
     response: &mut Response<'_>,
 ) -> Result<LastWords, MailFault>
     ensures { Does S.step
-        (messages_done (commands.Store command.now) command.now.by_uid gone) last store.old store.new response.old response.new result }
+        (messages_done (commands.Store command.now) command.now.by_uid gone) last store.old
+        store.new response.old response.new result }
 {
     if command.by_uid {
         response.show(usize::MAX, store)?;

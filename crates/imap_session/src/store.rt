@@ -34,7 +34,8 @@ pub trait Store {
         by_uid: bool,
     ) -> Result<Option<Vec<Named>>, MailFault>
         // It looked at a view, and answers which messages the set names there, or None for a position that isn't there.
-        ensures event { Chooses (λ a. step self.now (Look by_uid set.now) a self.now) by_uid set.now result }
+        ensures event { Chooses (λ a.
+            step self.now (Look by_uid set.now) a self.now) by_uid set.now result }
         ensures faults { IfErr result (λ f. (f ≡ MailFault.Stranger) ⊎ (f ≡ MailFault.NoMemory)) };
 
     /// Reads the message of a UID; where `mark_seen`, it has \Seen from now on. None where it isn't there.
@@ -54,7 +55,9 @@ pub trait Store {
     /// named. Answers how many went.
     fn expunge(&mut self, uids: Option<&[u32]>, out: &mut Vec<u8>) -> Result<usize, MailFault>
         // It met a view, showed changes behind `out` as they count there, and removed as many messages as it answers. A refusal writes nothing.
-        ensures event { Expunges (λ a. step self.old (Expunge (option_copied uids.entry)) a self.new) out.old.items out.new.items result }
+        ensures event { Expunges (λ a.
+            step self.old (Expunge (option_copied uids.entry)) a self.new) out.old.items
+            out.new.items result }
 
         // The room of `out` never becomes less.
         ensures room { vec_capacity out.old ≤ vec_capacity out.new };
@@ -62,7 +65,8 @@ pub trait Store {
     /// Shows the changes that are pending, so many of them at most. Answers how many it showed.
     fn feed(&mut self, limit: usize, out: &mut Vec<u8>) -> Result<usize, MailFault>
         // It met a view and showed as many changes as it answers, `limit` at most, as they count there. A refusal writes nothing.
-        ensures event { Feeds (λ a. step self.old (Feed limit) a self.new) limit out.old.items out.new.items result }
+        ensures event { Feeds (λ a.
+            step self.old (Feed limit) a self.new) limit out.old.items out.new.items result }
 
         // The room of `out` never becomes less.
         ensures room { vec_capacity out.old ≤ vec_capacity out.new }

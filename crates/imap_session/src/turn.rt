@@ -73,7 +73,8 @@ pub(crate) fn end_idle<S: Store>(
     store: &mut S,
     response: &mut Response<'_>,
 ) -> Result<LastWords, MailFault>
-    ensures { Does S.step (on_idle_line selected line.now) last store.old store.new response.old response.new result }
+    ensures { Does S.step (on_idle_line selected line.now) last store.old store.new response.old
+        response.new result }
 {
     if !is_done(line) {
         return Ok(LastWords(b"BAD Expected DONE"));
@@ -88,7 +89,8 @@ fn note_nothing<S: Store>(
     store: &mut S,
     response: &mut Response<'_>,
 ) -> Result<LastWords, MailFault>
-    ensures { Does S.step (showing selected (completed commands.Noop)) last store.old store.new response.old response.new result }
+    ensures { Does S.step (showing selected (completed commands.Noop)) last store.old store.new
+        response.old response.new result }
 {
     show_pending(selected, store, response)?;
     Ok(LastWords(b"OK NOOP completed"))
@@ -117,9 +119,16 @@ pub(crate) fn carry_out<S: Store>(
     response: &mut Response<'_>,
 ) -> Result<LastWords, MailFault>
     requires other { is_open command.now ≡ false }
-    requires long { length response.old.tag + (LAST + FIRST) ≤ response.old.held + length (first_line command.now) }
+    requires long { length response.old.tag + (LAST + FIRST)
+        ≤ response.old.held + length (first_line command.now) }
     ensures { (mailing : Mailing) → Moves S.step selected.old selected.new
-        (behind_first_line (record { folders = folders.now; selected = selected.old; idling = None; ended = false; mailing = mailing }) command.now)
+        (behind_first_line (record {
+          folders = folders.now;
+          selected = selected.old;
+          idling = None;
+          ended = false;
+          mailing = mailing;
+        }) command.now)
         (ending (after_command command.now)) store.old store.new response.old response.new result }
 {
     match command {

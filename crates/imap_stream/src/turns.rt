@@ -24,10 +24,13 @@ pub(crate) fn show_all<R: Wait, G: Gate>(
     store: &mut LockedStore<'_, R, G>,
     out: &mut Vec<u8>,
 ) -> Result<(), AllocError>
-    ensures ok { OnOk result ((d : Dialogue) → StandsFor connection.old d → (next : Dialogue) × StandsFor connection.new next
+    ensures ok { OnOk result ((d : Dialogue) → StandsFor connection.old d
+        → (next : Dialogue) × StandsFor connection.new next
         × ShowsAll (moment d store.old out.old.items) (moment next store.new out.new.items)) }
-    ensures err { OnErr result ((d : Dialogue) → StandsFor connection.old d → (next : Dialogue) × StandsFor connection.new next
-        × ShowsInPart (vec_capacity out.new) (moment d store.old out.old.items) (moment next store.new out.new.items)) }
+    ensures err { OnErr result ((d : Dialogue) → StandsFor connection.old d
+        → (next : Dialogue) × StandsFor connection.new next
+        × ShowsInPart (vec_capacity out.new) (moment d store.old out.old.items)
+        (moment next store.new out.new.items)) }
 {
     for _turn in rt.forever() {
         if !connection.is_idling() {
@@ -68,13 +71,18 @@ pub(crate) fn answer_and_show<R: Wait, G: Gate, C: Courier>(
 
     // Without an error the piece was answered, its messages and no others were carried, and what there is was shown while it idles.
     ensures ok { OnOk result ((carried : List Carried) ×
-        ((done : List Carried) → C.carried courier.old done → C.carried courier.new (done ++ carried))
-        × ((d : Dialogue) → StandsFor connection.old d → (next : Dialogue) × StandsFor connection.new next
-        × Hears piece.now carried (moment d store.old out.old.items) (moment next store.new out.new.items))) }
+        ((done : List Carried) → C.carried courier.old done
+        → C.carried courier.new (done ++ carried))
+        × ((d : Dialogue) → StandsFor connection.old d
+        → (next : Dialogue) × StandsFor connection.new next
+        × Hears piece.now carried (moment d store.old out.old.items)
+        (moment next store.new out.new.items))) }
 
     // After an error it stopped within the piece, or in the turns behind it; what was said by then stands behind `out`.
-    ensures err { IfErr result (λ why. (d : Dialogue) → StandsFor connection.old d → (next : Dialogue) × StandsFor connection.new next
-        × HearsInPart (vec_capacity out.new) piece.now why (moment d store.old out.old.items) (moment next store.new out.new.items)) }
+    ensures err { IfErr result (λ why. (d : Dialogue) → StandsFor connection.old d
+        → (next : Dialogue) × StandsFor connection.new next
+        × HearsInPart (vec_capacity out.new) piece.now why (moment d store.old out.old.items)
+        (moment next store.new out.new.items)) }
 {
     let answered = answer(alloc, connection, store, courier, piece, out);
     idles.store(connection.is_idling(), Ordering::SeqCst);

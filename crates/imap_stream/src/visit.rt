@@ -59,7 +59,8 @@ fn flush<W: Sink>(output: &mut W, written: &mut Vec<u8>) -> Result<(), VisitFaul
     ensures err { OnErr result ((sent : ℕ) × (sent < length written.old.items) ×
         Appends (W.taken output.old) (W.taken output.new) (take sent written.old.items)) }
     ensures failed { OnErr result (W.failed output.new ≡ true) }
-    ensures cleared { (written.new.items ≡ []) × (vec_capacity written.new ≡ vec_capacity written.old) }
+    ensures cleared { (written.new.items ≡ [])
+        × (vec_capacity written.new ≡ vec_capacity written.old) }
     ensures fault { IfErr result (λ fault. fault ≡ VisitFault.Write) }
 {
     let sent = send(output, written);
@@ -90,7 +91,13 @@ fn greeted<W: Sink>(
 ) -> Result<(ImapConnection, Vec<u8>), VisitFault>
     requires live { W.failed output.old ≡ false }
     ensures stands { IfOk result (λ made. StandsFor made.0 (record {
-      standing = record { folders = folders.items; selected = None; idling = None; ended = false; mailing = nothing_sent most };
+      standing = record {
+        folders = folders.items;
+        selected = None;
+        idling = None;
+        ended = false;
+        mailing = nothing_sent most;
+      };
       begun = [];
     })) }
     ensures empty { IfOk result (λ made. made.1.items ≡ []) }
@@ -99,7 +106,8 @@ fn greeted<W: Sink>(
     ensures untorn { IfErr result (λ fault. fault ≢ VisitFault.Torn) }
     ensures short { result ≡ Err VisitFault.NoMemory → output.new ≡ output.old }
     ensures cut { result ≡ Err VisitFault.Write →
-        (sent : ℕ) × (sent < length greeting) × Appends (W.taken output.old) (W.taken output.new) (take sent greeting) }
+        (sent : ℕ) × (sent < length greeting)
+        × Appends (W.taken output.old) (W.taken output.new) (take sent greeting) }
     ensures failed { result ≡ Err VisitFault.Write → W.failed output.new ≡ true }
 {
     let connection = ImapConnection::new(alloc, folders, most)?;
@@ -171,7 +179,8 @@ impl<'a, R: Wait, G: Gate, W: Sink> Visit<'a, R, G, W> {
         requires outside { store.entered ≡ None }
 
         // Without an error the client was greeted, and nothing else was done.
-        ensures ok { IfOk result (λ visit. IsGreeted most folders.items store.entry (W.taken output) visit) }
+        ensures ok { IfOk result (λ visit.
+            IsGreeted most folders.items store.entry (W.taken output) visit) }
 
         // It is never `Torn`; with `NoMemory` the output is given back as it was.
         ensures untorn { IfErr result (λ stop. stop.1 ≢ VisitFault.Torn) }
@@ -179,7 +188,8 @@ impl<'a, R: Wait, G: Gate, W: Sink> Visit<'a, R, G, W> {
 
         // With `Write` it is given back failed: it took the first bytes of the greeting, and not all.
         ensures cut { IfErr result (λ stop. stop.1 ≡ VisitFault.Write →
-            (sent : ℕ) × (sent < length greeting) × Appends (W.taken output) (W.taken stop.0) (take sent greeting)) }
+            (sent : ℕ) × (sent < length greeting)
+            × Appends (W.taken output) (W.taken stop.0) (take sent greeting)) }
         ensures failed { IfErr result (λ stop. stop.1 ≡ VisitFault.Write → W.failed stop.0 ≡ true) }
     {
         match greeted(alloc, folders, most, &mut output) {
@@ -248,11 +258,15 @@ impl<'a, R: Wait, G: Gate, W: Sink> Visit<'a, R, G, W> {
         ensures kept { (first : C) → C.kept first courier.old → C.kept first courier.new }
 
         // Where the visit is over, or its session awaits a verdict, nothing is done.
-        ensures over { takes_bytes self.old ≡ false → (result ≡ Ok (awaited self.old)) × (self.new ≡ self.old) × (courier.new ≡ courier.old) }
+        ensures over { takes_bytes self.old ≡ false
+            → (result ≡ Ok (awaited self.old)) × (self.new ≡ self.old)
+            × (courier.new ≡ courier.old) }
 
         // Without an error the piece was answered, its messages and no others were carried, what there is shown while it idles, and all sent.
         ensures ok { OnOk result (takes_bytes self.old ≡ true
-            → (carried : List Carried) × ((done : List Carried) → C.carried courier.old done → C.carried courier.new (done ++ carried))
+            → (carried : List Carried)
+            × ((done : List Carried) → C.carried courier.old done
+            → C.carried courier.new (done ++ carried))
             × Tells (Hears piece.now carried) SendsAll self.old self.new) }
 
         // What is answered is what the client may send next; an error closes the visit, and nothing else here does.
@@ -261,14 +275,19 @@ impl<'a, R: Wait, G: Gate, W: Sink> Visit<'a, R, G, W> {
         ensures ends { OnErr result (self.new.closed ≡ true) }
 
         // After `NoMemory` or `Torn` it stopped within the piece, or in the turns behind it, and all that was said by then was sent.
-        ensures short { result ≡ Err VisitFault.NoMemory → Tells (HearsInPart self.new.room piece.now Lost.NoMemory) SendsAll self.old self.new }
-        ensures torn { result ≡ Err VisitFault.Torn → Tells (HearsInPart self.new.room piece.now Lost.Torn) SendsAll self.old self.new }
+        ensures short { result ≡ Err VisitFault.NoMemory
+            → Tells (HearsInPart self.new.room piece.now Lost.NoMemory) SendsAll self.old self.new }
+        ensures torn { result ≡ Err VisitFault.Torn
+            → Tells (HearsInPart self.new.room piece.now Lost.Torn) SendsAll self.old self.new }
 
         // After `Write` the output took the first bytes of what was said, and not all: of the whole, or up to such a stop.
         ensures cut { result ≡ Err VisitFault.Write
-            → ((carried : List Carried) × ((done : List Carried) → C.carried courier.old done → C.carried courier.new (done ++ carried))
+            → ((carried : List Carried)
+            × ((done : List Carried) → C.carried courier.old done
+            → C.carried courier.new (done ++ carried))
             × Tells (Hears piece.now carried) SendsFirst self.old self.new)
-            ⊎ ((why : Lost) × Tells (HearsInPart self.new.room piece.now why) SendsFirst self.old self.new) }
+            ⊎ ((why : Lost) × Tells (HearsInPart self.new.room piece.now why) SendsFirst self.old
+            self.new) }
     {
         if !self.takes_bytes() {
             return Ok(self.awaited());
@@ -312,7 +331,8 @@ impl<'a, R: Wait, G: Gate, W: Sink> Visit<'a, R, G, W> {
         ensures over { is_over self.old ≡ true → (result ≡ Ok After.Bye) × (self.new ≡ self.old) }
 
         // Without an error the client was shown what there is, where its session idles, and all that was said was sent.
-        ensures ok { OnOk result (is_over self.old ≡ false → Tells ShowsAll SendsAll self.old self.new) }
+        ensures ok { OnOk result (is_over self.old ≡ false
+            → Tells ShowsAll SendsAll self.old self.new) }
 
         // What is answered is then what the client may send next, and the visit isn't closed by it.
         ensures next { IfOk result (λ after. after ≡ awaited self.new) }
@@ -321,7 +341,8 @@ impl<'a, R: Wait, G: Gate, W: Sink> Visit<'a, R, G, W> {
         // It is never `Torn`. After `NoMemory` the visit goes on, the session idles still, and what the turns before said was sent.
         ensures untorn { IfErr result (λ fault. fault ≢ VisitFault.Torn) }
         ensures waits { result ≡ Err VisitFault.NoMemory → self.new.closed ≡ self.old.closed }
-        ensures short { result ≡ Err VisitFault.NoMemory → Tells (ShowsInPart self.new.room) SendsAll self.old self.new }
+        ensures short { result ≡ Err VisitFault.NoMemory
+            → Tells (ShowsInPart self.new.room) SendsAll self.old self.new }
 
         // After `Write` the output took the first bytes of what was said, and not all, and the visit is over.
         ensures cut { result ≡ Err VisitFault.Write → Tells ShowsAll SendsFirst self.old self.new ⊎
@@ -352,7 +373,8 @@ impl<'a, R: Wait, G: Gate, W: Sink> Visit<'a, R, G, W> {
     pub fn dismiss(&mut self) -> Result<(), VisitFault>
         // Where the visit is over nothing is done; else, without an error, the whole farewell was sent.
         ensures over { is_over self.old ≡ true → (result ≡ Ok tt) × (self.new ≡ self.old) }
-        ensures ok { OnOk result (is_over self.old ≡ false → Appends self.old.taken self.new.taken farewell × (self.new.failed ≡ false)) }
+        ensures ok { OnOk result (is_over self.old ≡ false
+            → Appends self.old.taken self.new.taken farewell × (self.new.failed ≡ false)) }
 
         // An error is `Write`: the output failed when it had taken the first bytes of the farewell, and not all.
         ensures fault { IfErr result (λ fault. fault ≡ VisitFault.Write) }
@@ -360,7 +382,8 @@ impl<'a, R: Wait, G: Gate, W: Sink> Visit<'a, R, G, W> {
 
         // After either the visit is over, and its session stands as before.
         ensures ends { is_over self.new ≡ true }
-        ensures rest { (self.new.link ≡ self.old.link) × (self.new.selection ≡ self.old.selection) × (self.new.room ≡ self.old.room) }
+        ensures rest { (self.new.link ≡ self.old.link) × (self.new.selection ≡ self.old.selection)
+            × (self.new.room ≡ self.old.room) }
     {
         if self.is_over() {
             return Ok(());
@@ -384,7 +407,10 @@ impl<'a, R: Wait, G: Gate, W: Sink> Visit<'a, R, G, W> {
         ensures fault { IfErr result (λ fault. fault ≡ VisitFault.Torn) }
 
         // After either the visit is over, and nothing else of it has changed.
-        ensures rest { self.new ≡ record self.old { selection = self.new.selection; closed = true } }
+        ensures rest { self.new ≡ record self.old {
+          selection = self.new.selection;
+          closed = true;
+        } }
     {
         self.is_closed = true;
         match depart(&mut self.store) {

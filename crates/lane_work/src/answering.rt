@@ -84,8 +84,11 @@ fn answer<R: Wait, G: Gate>(
     delivered: Result<Receipt, Refusal>,
 )
     requires { IsSender channel.now permit.old }
-    ensures permit { IsSender channel.now permit.new × (sender_number permit.new ≡ sender_number permit.old) }
-    ensures sent { sent_on permit.new ≡ sent_on permit.old ++ telling (sender_number permit.old) job.now (verdict_of delivered) ∷ [] }
+    ensures permit { IsSender channel.now permit.new
+        × (sender_number permit.new ≡ sender_number permit.old) }
+    ensures sent { sent_on permit.new
+        ≡ sent_on permit.old ++ telling (sender_number permit.old) job.now (verdict_of delivered)
+        ∷ [] }
 {
     let noted = Noted {
         key: job.key,
@@ -120,10 +123,12 @@ pub fn serve_copy<R: Wait, G: Gate>(
     ensures senders { AreSenders depot.now.channels.items shard senders.new.items }
 
     // `true` is said of just the copies whose producer has a channel and whose mailbox is there.
-    ensures known { result ≡ is_ours (length depot.now.mailboxes.items) (length depot.now.channels.items) producer job.now }
+    ensures known { result ≡ is_ours (length depot.now.mailboxes.items)
+        (length depot.now.channels.items) producer job.now }
 
     // Its producer was told one verdict on it (a refusal, where its mailbox wasn't found), and nobody else anything; without a channel nobody was.
-    ensures served { Serves (length depot.now.mailboxes.items) (length depot.now.channels.items) shard producer job.now
+    ensures served { Serves (length depot.now.mailboxes.items) (length depot.now.channels.items)
+        shard producer job.now
         (map sent_on senders.old.items) (map sent_on senders.new.items) }
 {
     let position = usize::from(producer);

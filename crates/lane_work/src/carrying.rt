@@ -69,9 +69,11 @@ fn judge<R: Wait, G: Gate, S: Summons>(
     ensures ends { CountsEnds desk.old desk.new }
     ensures grew { IsStartOf (received desk.old.receiver) (received desk.new.receiver) }
     ensures only { OnOk result (HearsItsOwn desk.old desk.new) }
-    ensures judged { IfOk result (λ verdict. WasJudged office.now.directory (rooms_of office.now.lanes.items) desk.old.number
+    ensures judged { IfOk result (λ verdict.
+        WasJudged office.now.directory (rooms_of office.now.lanes.items) desk.old.number
         (record { key = key; mailbox = mailbox; text = text.now; flags = flags }) verdict
-        (received desk.new.receiver) (map put_by desk.old.permits.items) (map put_by desk.new.permits.items)) }
+        (received desk.new.receiver) (map put_by desk.old.permits.items)
+        (map put_by desk.new.permits.items)) }
 {
     match put_copy(rt, pace, office, summons, desk, key, mailbox, text, flags) {
         Some(verdict) => Ok(verdict),

@@ -28,8 +28,10 @@ pub struct Channels {
 
 // No channels, with room for so many.
 fn no_channels(alloc: Global, count: usize) -> Result<Channels, AllocError>
-    ensures { IfOk result (λ r. (r.channels.items ≡ []) × (r.permits.items ≡ []) × (r.receivers.items ≡ [])
-        × (count ≤ vec_capacity r.channels) × (count ≤ vec_capacity r.permits) × (count ≤ vec_capacity r.receivers)) }
+    ensures { IfOk result (λ r. (r.channels.items ≡ []) × (r.permits.items ≡ [])
+        × (r.receivers.items ≡ [])
+        × (count ≤ vec_capacity r.channels) × (count ≤ vec_capacity r.permits)
+        × (count ≤ vec_capacity r.receivers)) }
 {
     let channels = Vec::with_capacity(alloc, count)?;
     let permits = match Vec::with_capacity(alloc, count) {
@@ -64,10 +66,12 @@ pub fn make_channels(
 ) -> Result<Channels, AllocError>
     requires { 0 < depth }
     ensures count { IfOk result (λ r. vec_len r.channels ≡ producers) }
-    ensures channels { IfOk result (λ r. All (λ q. (room_of q ≡ depth) × (senders_of q ≡ senders)) r.channels.items) }
+    ensures channels { IfOk result (λ r.
+        All (λ q. (room_of q ≡ depth) × (senders_of q ≡ senders)) r.channels.items) }
 
     // Without an error each channel has its senders' permits, by their numbers, which sent nothing, and its receiver's, which took nothing.
-    ensures permits { IfOk result (λ r. SenderRows r.channels.items 0 (map (λ v. v.items) r.permits.items)) }
+    ensures permits { IfOk result (λ r.
+        SenderRows r.channels.items 0 (map (λ v. v.items) r.permits.items)) }
     ensures receivers { IfOk result (λ r. AreReceivers r.channels.items r.receivers.items
         × All (λ s. received s ≡ []) r.receivers.items) }
 {
@@ -90,7 +94,8 @@ pub fn make_channels(
 
 /// Spends channels that are not to be used, with the permits that are there. It takes no memory.
 pub fn abandon_channels(alloc: Global, channels: Channels)
-    requires { (vec_len channels.permits ≡ vec_len channels.channels) × (vec_len channels.receivers ≡ vec_len channels.channels) }
+    requires { (vec_len channels.permits ≡ vec_len channels.channels)
+        × (vec_len channels.receivers ≡ vec_len channels.channels) }
 {
     let Channels {
         mut channels,
@@ -120,7 +125,8 @@ pub fn deal_senders(
     requires room { (hand.items ≡ []) × (length channels.now ≤ vec_capacity hand) }
 
     // The hand has this sender's permit on each channel, which sent nothing; those of the senders behind it are left.
-    ensures hand { AreSenders channels.now number result.items × All (λ s. sent_on s ≡ []) result.items }
+    ensures hand { AreSenders channels.now number result.items
+        × All (λ s. sent_on s ≡ []) result.items }
     ensures left { SenderRows channels.now (suc number) (map (λ v. v.items) permits.new.items) }
 {
     for channel in 0..channels.len() {
@@ -167,7 +173,8 @@ pub fn collect_senders(lists: &mut Vec<Vec<SenderEnded<Noted>>>, mut ended: Vec<
 
     // Each is in its channel's list, and what stood in the lists stands there still.
     ensures here { AreSendersIn ended.items (map (λ v. v.items) lists.new.items) }
-    ensures still { KeepSenders (map (λ v. v.items) lists.old.items) (map (λ v. v.items) lists.new.items) }
+    ensures still { KeepSenders (map (λ v. v.items) lists.old.items) (map (λ v.
+        v.items) lists.new.items) }
 
     // Where these are one sender's ended permits, the lists are still of their channels; and none has lost room for more than one.
     ensures channels { StaySendersEnded ended.items (map (λ v. v.items) lists.old.items)
@@ -192,11 +199,14 @@ pub fn collect_all_senders(
     requires room { All (λ v. vec_len v + vec_len hands ≤ vec_capacity v) lists.old.items }
 
     // Each is in its channel's list, and what stood in the lists stands there still.
-    ensures here { AllSendersIn (map (λ v. v.items) hands.items) (map (λ v. v.items) lists.new.items) }
-    ensures still { KeepSenders (map (λ v. v.items) lists.old.items) (map (λ v. v.items) lists.new.items) }
+    ensures here { AllSendersIn (map (λ v. v.items) hands.items) (map (λ v.
+        v.items) lists.new.items) }
+    ensures still { KeepSenders (map (λ v. v.items) lists.old.items) (map (λ v.
+        v.items) lists.new.items) }
 
     // Where the hands are of senders one after another, the lists are still of their channels.
-    ensures channels { AllStaySendersEnded (map (λ v. v.items) hands.items) (map (λ v. v.items) lists.old.items)
+    ensures channels { AllStaySendersEnded (map (λ v. v.items) hands.items) (map (λ v.
+        v.items) lists.old.items)
         (map (λ v. v.items) lists.new.items) }
 {
     for _ in 0..hands.len() {
@@ -221,8 +231,10 @@ pub fn close_channels(
     requires room { (closed.items ≡ []) × (vec_len channels ≤ vec_capacity closed) }
 
     // `None`: of some channel an ended permit is missing, or an end wasn't received. Else all that was sent was received, as each said it.
-    ensures { MatchOption result (AreChannelsTorn channels.items (map (λ v. v.items) ended.items) receivers.items)
-        (λ cs. AreChannelsClosed channels.items (map (λ v. v.items) ended.items) receivers.items cs.items) }
+    ensures { MatchOption result (AreChannelsTorn channels.items (map (λ v.
+        v.items) ended.items) receivers.items)
+        (λ cs. AreChannelsClosed channels.items (map (λ v.
+        v.items) ended.items) receivers.items cs.items) }
 {
     let mut torn = false;
     for _ in 0..channels.len() {

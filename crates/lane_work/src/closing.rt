@@ -87,10 +87,13 @@ fn end_where_shut<R: Wait, G: Gate, S: Summons>(
     desk: &mut Desk,
     directory: &Directory,
 )
-    requires { AreInForce directory.now office.now.lanes.items desk.old.number desk.old.permits.items }
-    ensures permits { AreInForce directory.now office.now.lanes.items desk.old.number desk.new.permits.items }
+    requires { AreInForce directory.now office.now.lanes.items desk.old.number
+        desk.old.permits.items }
+    ensures permits { AreInForce directory.now office.now.lanes.items desk.old.number
+        desk.new.permits.items }
     ensures kept { KeepsDesk desk.old desk.new }
-    ensures over { (lane : ℕ) → lane < length office.now.lanes.items → is_shut directory.now lane ≡ true →
+    ensures over { (lane : ℕ) → lane < length office.now.lanes.items
+        → is_shut directory.now lane ≡ true →
         slice_index_or (overs desk.new.permits.items) lane false ≡ true }
 {
     for lane in 0..office.lanes.len() {
@@ -114,17 +117,21 @@ pub(crate) fn close_due<R: Wait, G: Gate, S: Summons>(
     connection: usize,
 )
     // The desk has its own permit on each lane, over only where `directory` marks the shard as shut.
-    requires permits { AreInForce directory.old office.now.lanes.items desk.old.number desk.old.permits.items }
+    requires permits { AreInForce directory.old office.now.lanes.items desk.old.number
+        desk.old.permits.items }
     requires lanes { directory.old.shards ≡ length office.now.lanes.items }
     requires marks { length directory.old.shut ≡ directory.old.shards }
 
     // The same holds after, with the new marks; nothing is put or heard.
-    ensures permits { AreInForce directory.new office.now.lanes.items desk.old.number desk.new.permits.items }
+    ensures permits { AreInForce directory.new office.now.lanes.items desk.old.number
+        desk.new.permits.items }
     ensures kept { KeepsDesk desk.old desk.new }
 
     // Just the shards are marked in addition that this worker closes before this connection, and on each marked one the permit is over.
-    ensures marks { Marks connection (closings_at office.now desk.old.number) directory.old directory.new }
-    ensures over { (lane : ℕ) → lane < length office.now.lanes.items → is_shut directory.new lane ≡ true →
+    ensures marks { Marks connection (closings_at office.now desk.old.number) directory.old
+        directory.new }
+    ensures over { (lane : ℕ) → lane < length office.now.lanes.items
+        → is_shut directory.new lane ≡ true →
         slice_index_or (overs desk.new.permits.items) lane false ≡ true }
 {
     mark_due(closings_of(office, desk.number), connection, directory);

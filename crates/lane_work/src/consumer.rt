@@ -98,10 +98,14 @@ fn serve_all<R: Wait, G: Gate>(
     ensures shard { stall.new.shard ≡ stall.old.shard }
     ensures permit { IsConsumer lane.now stall.new.permit }
     ensures senders { AreSenders depot.now.channels.items stall.old.shard stall.new.senders.items }
-    ensures answered { HaveAnswered (length depot.now.mailboxes.items) (length depot.now.channels.items) stall.old.shard
-        (got stall.new.permit) (map sent_on stall.old.senders.items) (map sent_on stall.new.senders.items) }
+    ensures answered { HaveAnswered (length depot.now.mailboxes.items)
+        (length depot.now.channels.items) stall.old.shard
+        (got stall.new.permit) (map sent_on stall.old.senders.items)
+        (map sent_on stall.new.senders.items) }
     ensures ends { producers ≤ ends_in (got stall.new.permit) }
-    ensures torn { result.torn ≡ list_any (is_nobodys (length depot.now.mailboxes.items) (length depot.now.channels.items)) (got stall.new.permit) }
+    ensures torn { result.torn
+        ≡ list_any (is_nobodys (length depot.now.mailboxes.items) (length depot.now.channels.items))
+        (got stall.new.permit) }
     ensures kept { result.kept ≡ true → taken.new.items ≡ got stall.new.permit }
 {
     let mut tally = Tally {
@@ -158,7 +162,8 @@ pub fn consume<R: Wait, G: Gate>(
     requires none { taken.items ≡ [] }
 
     // Each channel got one verdict on each copy taken of its producer, in order, then the end; where `kept`, `taken` is all that was taken.
-    ensures consumed { IsConsumed lane.now depot.now stall.shard (map sent_on stall.senders.items) result }
+    ensures consumed { IsConsumed lane.now depot.now stall.shard (map sent_on stall.senders.items)
+        result }
 
     // As many producers' ends were taken as `producers` says, or more.
     ensures ends { producers ≤ ends_in (got result.permit) }

@@ -107,13 +107,16 @@ pub fn hear_ends<R: Wait, G: Gate>(
     ensures grew { IsStartOf (received receiver.old) (received receiver.new) }
 
     // `true` is answered exactly where nothing but ends came: as many more were received as ends.
-    ensures quiet { (result ≡ true) ↔ (length (received receiver.new) + ends_in (received receiver.old)
+    ensures quiet { (result ≡ true)
+        ↔ (length (received receiver.new) + ends_in (received receiver.old)
         ≡ length (received receiver.old) + ends_in (received receiver.new)) }
 
     // The ends that were heard before (`heard`) and those that came now are as many as `shards`, or more.
-    ensures ends { shards + ends_in (received receiver.old) ≤ heard + ends_in (received receiver.new) }
+    ensures ends { shards + ends_in (received receiver.old)
+        ≤ heard + ends_in (received receiver.new) }
     // As many ends came now as were missing, and no more: none where those before were enough.
-    ensures missing { ends_in (received receiver.new) ≡ ends_in (received receiver.old) + (shards - heard) }
+    ensures missing { ends_in (received receiver.new)
+        ≡ ends_in (received receiver.old) + (shards - heard) }
 {
     let mut quiet = true;
     for _ in rt.forever() {
@@ -138,7 +141,8 @@ pub fn end_sender<R: Wait, G: Gate>(
     mut permit: SenderPermit<Noted>,
 ) -> SenderEnded<Noted>
     requires { IsSender channel.now permit }
-    ensures { IsSenderEnded channel.now result × (sender_ended_number result ≡ sender_number permit) ×
+    ensures { IsSenderEnded channel.now result
+        × (sender_ended_number result ≡ sender_number permit) ×
         (said_on result ≡ sent_on permit ++ entries.End (sender_number permit) ∷ []) }
 {
     for _ in rt.forever() {

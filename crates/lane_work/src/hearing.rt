@@ -54,16 +54,21 @@ pub(crate) fn hear_all<R: Wait, G: Gate>(
     // Only empty slots were filled, each with a verdict that was heard on its copy; what was heard before stands in front.
     ensures fills { Fills verdicts.old.slots verdicts.new.slots }
     ensures grew { IsStartOf (received desk.old.receiver) (received desk.new.receiver) }
-    ensures heard { WereHeard (received desk.new.receiver) (copies_of (submission_of message.now)) verdicts.old.slots verdicts.new.slots }
+    ensures heard { WereHeard (received desk.new.receiver) (copies_of (submission_of message.now))
+        verdicts.old.slots verdicts.new.slots }
 
     // Without an error each slot is full, as many verdicts came as were unknown, and no end where no permit is over.
-    ensures awaited { OnOk result (length (received desk.new.receiver) + ends_in (received desk.old.receiver)
-        ≡ length (received desk.old.receiver) + unknown verdicts.old.slots + ends_in (received desk.new.receiver)) }
-    ensures live { OnOk result (AreLive desk.old.permits.items → ends_in (received desk.new.receiver) ≡ ends_in (received desk.old.receiver)) }
+    ensures awaited { OnOk result (length (received desk.new.receiver)
+        + ends_in (received desk.old.receiver)
+        ≡ length (received desk.old.receiver) + unknown verdicts.old.slots
+        + ends_in (received desk.new.receiver)) }
+    ensures live { OnOk result (AreLive desk.old.permits.items
+        → ends_in (received desk.new.receiver) ≡ ends_in (received desk.old.receiver)) }
     ensures known { OnOk result (list_all is_some verdicts.new.slots ≡ true) }
 
     // After an error something was heard.
-    ensures torn { OnErr result (length (received desk.old.receiver) < length (received desk.new.receiver)) }
+    ensures torn { OnErr result (length (received desk.old.receiver)
+        < length (received desk.new.receiver)) }
 {
     let keys = message.keys.as_slice();
     let mailboxes = message.mailboxes.as_slice();
@@ -105,9 +110,16 @@ pub(crate) fn hear_one<R: Wait, G: Gate>(
 
     // Without an error the verdict was heard, of just this key and mailbox; after one, something was heard.
     ensures grew { IsStartOf (received desk.old.receiver) (received desk.new.receiver) }
-    ensures only { OnOk result (verdicts_in (received desk.new.receiver) ≡ verdicts_in (received desk.old.receiver) + 1) }
-    ensures heard { IfOk result (λ verdict. IsHeard (received desk.new.receiver) (record { key = key; mailbox = mailbox; verdict = verdict })) }
-    ensures torn { OnErr result (length (received desk.old.receiver) < length (received desk.new.receiver)) }
+    ensures only { OnOk result (verdicts_in (received desk.new.receiver)
+        ≡ verdicts_in (received desk.old.receiver) + 1) }
+    ensures heard { IfOk result (λ verdict.
+        IsHeard (received desk.new.receiver) (record {
+          key = key;
+          mailbox = mailbox;
+          verdict = verdict;
+        })) }
+    ensures torn { OnErr result (length (received desk.old.receiver)
+        < length (received desk.new.receiver)) }
 {
     pace.pass();
     match channel.recv_as(rt, &mut desk.receiver) {

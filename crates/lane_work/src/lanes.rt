@@ -26,8 +26,10 @@ pub struct Lanes {
 
 // No lanes, with room for so many.
 fn no_lanes(alloc: Global, count: usize) -> Result<Lanes, AllocError>
-    ensures { IfOk result (λ r. (r.queues.items ≡ []) × (r.permits.items ≡ []) × (r.consumers.items ≡ [])
-        × (count ≤ vec_capacity r.queues) × (count ≤ vec_capacity r.permits) × (count ≤ vec_capacity r.consumers)) }
+    ensures { IfOk result (λ r. (r.queues.items ≡ []) × (r.permits.items ≡ [])
+        × (r.consumers.items ≡ [])
+        × (count ≤ vec_capacity r.queues) × (count ≤ vec_capacity r.permits)
+        × (count ≤ vec_capacity r.consumers)) }
 {
     let queues = Vec::with_capacity(alloc, count)?;
     let permits = match Vec::with_capacity(alloc, count) {
@@ -62,10 +64,12 @@ pub fn make_lanes(
 ) -> Result<Lanes, AllocError>
     requires { 0 < depth }
     ensures count { IfOk result (λ r. vec_len r.queues ≡ shards) }
-    ensures queues { IfOk result (λ r. All (λ q. (capacity_of q ≡ depth) × (producers_of q ≡ producers)) r.queues.items) }
+    ensures queues { IfOk result (λ r.
+        All (λ q. (capacity_of q ≡ depth) × (producers_of q ≡ producers)) r.queues.items) }
 
     // Without an error each lane has its producers' permits, by their numbers, which put nothing, and its consumer's, which took nothing.
-    ensures permits { IfOk result (λ r. Rows r.queues.items 0 (map (λ v. v.items) r.permits.items)) }
+    ensures permits { IfOk result (λ r.
+        Rows r.queues.items 0 (map (λ v. v.items) r.permits.items)) }
     ensures consumers { IfOk result (λ r. AreConsumers r.queues.items r.consumers.items
         × All (λ s. got s ≡ []) r.consumers.items) }
 {
@@ -88,7 +92,8 @@ pub fn make_lanes(
 
 /// Spends lanes that are not to be used, with the permits that are there. It takes no memory.
 pub fn abandon_lanes(alloc: Global, lanes: Lanes)
-    requires { (vec_len lanes.permits ≡ vec_len lanes.queues) × (vec_len lanes.consumers ≡ vec_len lanes.queues) }
+    requires { (vec_len lanes.permits ≡ vec_len lanes.queues)
+        × (vec_len lanes.consumers ≡ vec_len lanes.queues) }
 {
     let Lanes {
         mut queues,
@@ -191,7 +196,8 @@ pub fn collect_all(lists: &mut Vec<Vec<Ended<Job>>>, mut hands: Vec<Vec<Ended<Jo
     ensures still { Keep (map (λ v. v.items) lists.old.items) (map (λ v. v.items) lists.new.items) }
 
     // Where the hands are of producers one after another, the lists are still of their lanes.
-    ensures lanes { AllStayEnded (map (λ v. v.items) hands.items) (map (λ v. v.items) lists.old.items)
+    ensures lanes { AllStayEnded (map (λ v. v.items) hands.items) (map (λ v.
+        v.items) lists.old.items)
         (map (λ v. v.items) lists.new.items) }
 {
     for _ in 0..hands.len() {
@@ -216,7 +222,8 @@ pub fn close_lanes(
     requires room { (closed.items ≡ []) × (vec_len lanes ≤ vec_capacity closed) }
 
     // `None`: of some lane an ended permit is missing, or an end wasn't taken. Else all that was put was taken, as each said it.
-    ensures { MatchOption result (IsTorn lanes.items (map (λ v. v.items) ended.items) consumers.items)
+    ensures { MatchOption result (IsTorn lanes.items (map (λ v.
+        v.items) ended.items) consumers.items)
         (λ cs. AreClosed lanes.items (map (λ v. v.items) ended.items) consumers.items cs.items) }
 {
     let mut torn = false;

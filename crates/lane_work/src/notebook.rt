@@ -27,7 +27,8 @@ pub trait Notebook {
     fn reserve(&mut self, count: usize) -> Result<(), AllocError>
         // It stays the same worker's, and tells of all copies of which it told.
         ensures owner { owner self.new ≡ owner self.old }
-        ensures tells { (copies : List (Job × Verdict)) → tells self.old copies → tells self.new copies }
+        ensures tells { (copies : List (Job × Verdict)) → tells self.old copies
+            → tells self.new copies }
 
         // Without an error there is room for `count` more; where there was before, it succeeds.
         ensures ok { OnOk result (has_room self.new count) }
@@ -55,7 +56,8 @@ pub trait Notebook {
 
         // It tells of the copy of this key and mailbox too, with its verdict, behind those of which it told. Its text doesn't matter.
         ensures owner { owner self.new ≡ owner self.old }
-        ensures tells { (copy : Job) (copies : List (Job × Verdict)) → copy.key ≡ key → copy.mailbox ≡ mailbox → tells self.old copies →
+        ensures tells { (copy : Job) (copies : List (Job × Verdict)) → copy.key ≡ key
+            → copy.mailbox ≡ mailbox → tells self.old copies →
             tells self.new (copies ++ (copy, verdict) ∷ []) };
 }
 
@@ -105,7 +107,8 @@ fn log_all(log: &mut WorkerLog, message: &Submission, verdicts: &[Verdict])
     requires verdicts { length verdicts.now ≡ vec_len message.now.keys }
     requires room { length verdicts.now ≤ log.old.spare }
     ensures seat { log.new.seat ≡ log.old.seat }
-    ensures notes { log.new.notes ≡ log.old.notes ++ map note_of (zip (copies_of (submission_of message.now)) verdicts.now) }
+    ensures notes { log.new.notes
+        ≡ log.old.notes ++ map note_of (zip (copies_of (submission_of message.now)) verdicts.now) }
 {
     for i in 0..verdicts.len() {
         log.note(message.keys[i], message.mailboxes[i], verdicts[i]);

@@ -48,7 +48,8 @@ pub(crate) fn take_piece<R: Wait, G: Gate, S: Summons, N: Notebook>(
     out: &mut Vec<u8>,
 ) -> Result<Next, Stop>
     // The desk has its own permit on each lane, over only where the office marks the shard as shut; its receiver is of `channel`.
-    requires permits { AreInForce office.now.directory office.now.lanes.items desk.old.number desk.old.permits.items }
+    requires permits { AreInForce office.now.directory office.now.lanes.items desk.old.number
+        desk.old.permits.items }
     requires receiver { IsReceiver channel.now desk.old.receiver }
     requires lanes { office.now.directory.shards ≡ length office.now.lanes.items }
 
@@ -56,33 +57,43 @@ pub(crate) fn take_piece<R: Wait, G: Gate, S: Summons, N: Notebook>(
     requires quiet { machine.old.pending ≡ [] }
 
     // The same holds after; no end was counted that wasn't heard.
-    ensures permits { AreInForce office.now.directory office.now.lanes.items desk.old.number desk.new.permits.items }
+    ensures permits { AreInForce office.now.directory office.now.lanes.items desk.old.number
+        desk.new.permits.items }
     ensures receiver { IsReceiver channel.now desk.new.receiver }
     ensures number { desk.new.number ≡ desk.old.number }
     ensures ends { CountsEnds desk.old desk.new }
 
     // What was heard before stands in front of what was heard since; after `Torn` something was.
     ensures grew { IsStartOf (received desk.old.receiver) (received desk.new.receiver) }
-    ensures torn { result ≡ Err Stop.Torn → length (received desk.old.receiver) < length (received desk.new.receiver) }
+    ensures torn { result ≡ Err Stop.Torn
+        → length (received desk.old.receiver) < length (received desk.new.receiver) }
 
     // The book stays its owner's; without an error no message waits, and the connection's setting and host are the same.
     ensures owner { N.owner book.new ≡ N.owner book.old }
     ensures quiet { OnOk result (machine.new.pending ≡ []) }
-    ensures same { OnOk result ((machine.new.setting ≡ machine.old.setting) × (machine.new.host ≡ machine.old.host)) }
+    ensures same { OnOk result ((machine.new.setting ≡ machine.old.setting)
+        × (machine.new.host ≡ machine.old.host)) }
 
     // Without an error: as it stood for `bytes`, so it does with a front of the piece, which is all of it at `Read` unless the dialogue ended.
     ensures took { IfOk result (λ next. (done : List Judged) (bytes told : List ℕ)
-        → Stands office.now.directory office.now.directory (rooms_of office.now.lanes.items) desk.old.number done bytes false machine.old (told
-        ++ out.old.items) (N.tells book.old) (received desk.old.receiver) (map put_by desk.old.permits.items)
-        → TookPiece office.now.directory (rooms_of office.now.lanes.items) desk.old.number done bytes piece.now next machine.new (told
-        ++ out.new.items) (N.tells book.new) (received desk.new.receiver) (map put_by desk.new.permits.items)) }
+        → Stands office.now.directory office.now.directory (rooms_of office.now.lanes.items)
+        desk.old.number done bytes false machine.old (told
+        ++ out.old.items) (N.tells book.old) (received desk.old.receiver)
+        (map put_by desk.old.permits.items)
+        → TookPiece office.now.directory (rooms_of office.now.lanes.items) desk.old.number done
+        bytes piece.now next machine.new (told
+        ++ out.new.items) (N.tells book.new) (received desk.new.receiver)
+        (map put_by desk.new.permits.items)) }
 
     // After `NoMemory`: `told`, then `out`, is the replies to `bytes` and a front of the piece, whose messages are in the books.
     ensures no_memory { result ≡ Err Stop.NoMemory → (done : List Judged) (bytes told : List ℕ)
-        → Stands office.now.directory office.now.directory (rooms_of office.now.lanes.items) desk.old.number done bytes false machine.old (told
-        ++ out.old.items) (N.tells book.old) (received desk.old.receiver) (map put_by desk.old.permits.items)
+        → Stands office.now.directory office.now.directory (rooms_of office.now.lanes.items)
+        desk.old.number done bytes false machine.old (told
+        ++ out.old.items) (N.tells book.old) (received desk.old.receiver)
+        (map put_by desk.old.permits.items)
         → SaidByThen machine.old.setting machine.old.host office.now.directory
-        (rooms_of office.now.lanes.items) desk.old.number done bytes piece.now (told ++ out.new.items) (N.tells book.new)
+        (rooms_of office.now.lanes.items) desk.old.number done bytes piece.now (told
+        ++ out.new.items) (N.tells book.new)
         (received desk.new.receiver) (map put_by desk.new.permits.items) }
 {
     if stop.load(Ordering::SeqCst) {

@@ -39,11 +39,13 @@ fn put_on<R: Wait>(
     flags: Flags,
 ) -> Option<Verdict>
     requires { IsProducer lane.now permit.old }
-    ensures permit { IsProducer lane.now permit.new × (number_of permit.new ≡ number_of permit.old) }
+    ensures permit { IsProducer lane.now permit.new
+        × (number_of permit.new ≡ number_of permit.old) }
     ensures put { MatchOption result
         (sent permit.new ≡ sent permit.old ++ entries.Item (number_of permit.old)
         (record { key = key; mailbox = mailbox; text = text.now; flags = flags }) ∷ [])
-        (λ v. (sent permit.new ≡ sent permit.old) × IsAtOnce (FilledAlone (room_of lane.now) (number_of permit.old) (sent permit.old)) v) }
+        (λ v. (sent permit.new ≡ sent permit.old)
+        × IsAtOnce (FilledAlone (room_of lane.now) (number_of permit.old) (sent permit.old)) v) }
 {
     let Ok(text) = text.copy() else {
         return Some(Verdict::Refused(Refusal::NoMemory));
@@ -71,13 +73,17 @@ fn put_at<R: Wait>(
     flags: Flags,
 ) -> Option<Verdict>
     requires { IsPermit lane.now permit.old }
-    ensures permit { IsPermit lane.now permit.new × (permit_number permit.new ≡ permit_number permit.old)
+    ensures permit { IsPermit lane.now permit.new
+        × (permit_number permit.new ≡ permit_number permit.old)
         × (is_over permit.new ≡ is_over permit.old) }
     ensures put { is_over permit.old ≡ false → MatchOption result
         (put_by permit.new ≡ put_by permit.old ++ entries.Item (permit_number permit.old)
         (record { key = key; mailbox = mailbox; text = text.now; flags = flags }) ∷ [])
-        (λ v. (put_by permit.new ≡ put_by permit.old) × IsAtOnce (FilledAlone (room_of lane.now) (permit_number permit.old) (put_by permit.old)) v) }
-    ensures over { is_over permit.old ≡ true → (result ≡ Some (verdicts.Refused refusals.Shut)) × (permit.new ≡ permit.old) }
+        (λ v. (put_by permit.new ≡ put_by permit.old)
+        × IsAtOnce (FilledAlone (room_of lane.now) (permit_number permit.old) (put_by permit.old))
+        v) }
+    ensures over { is_over permit.old ≡ true
+        → (result ≡ Some (verdicts.Refused refusals.Shut)) × (permit.new ≡ permit.old) }
 {
     match permit {
         LanePermit::Live(live) => put_on(rt, lane, live, key, mailbox, text, flags),
@@ -102,17 +108,29 @@ fn try_copy<R: Wait>(
     ensures within { shard_of office.now.directory mailbox < length office.now.lanes.items }
 
     // Where the mailbox's permit isn't over: just the copy was put, on its lane; or it is refused, for want of room or memory, and nothing put.
-    ensures put { slice_index_or (overs desk.old.permits.items) (shard_of office.now.directory mailbox) false ≡ false → MatchOption result
-        (map put_by desk.new.permits.items ≡ slice_set (map put_by desk.old.permits.items) (shard_of office.now.directory mailbox)
-        (slice_index_or (map put_by desk.old.permits.items) (shard_of office.now.directory mailbox) []
-        ++ entries.Item desk.old.number (record { key = key; mailbox = mailbox; text = text.now; flags = flags }) ∷ []))
+    ensures put { slice_index_or (overs desk.old.permits.items)
+        (shard_of office.now.directory mailbox) false ≡ false → MatchOption result
+        (map put_by desk.new.permits.items
+        ≡ slice_set (map put_by desk.old.permits.items) (shard_of office.now.directory mailbox)
+        (slice_index_or (map put_by desk.old.permits.items) (shard_of office.now.directory mailbox)
+        []
+        ++ entries.Item desk.old.number (record {
+          key = key;
+          mailbox = mailbox;
+          text = text.now;
+          flags = flags;
+        }) ∷ []))
         (λ v. (map put_by desk.new.permits.items ≡ map put_by desk.old.permits.items)
-        × IsAtOnce (FilledAlone (room_at (rooms_of office.now.lanes.items) (shard_of office.now.directory mailbox)) desk.old.number
-        (slice_index_or (map put_by desk.old.permits.items) (shard_of office.now.directory mailbox) [])) v) }
+        × IsAtOnce (FilledAlone (room_at (rooms_of office.now.lanes.items)
+        (shard_of office.now.directory mailbox)) desk.old.number
+        (slice_index_or (map put_by desk.old.permits.items) (shard_of office.now.directory mailbox)
+        [])) v) }
 
     // Where it is over, the copy is refused as `Shut`, and nothing is put.
-    ensures over { slice_index_or (overs desk.old.permits.items) (shard_of office.now.directory mailbox) false ≡ true
-        → (result ≡ Some (verdicts.Refused refusals.Shut)) × (map put_by desk.new.permits.items ≡ map put_by desk.old.permits.items) }
+    ensures over { slice_index_or (overs desk.old.permits.items)
+        (shard_of office.now.directory mailbox) false ≡ true
+        → (result ≡ Some (verdicts.Refused refusals.Shut))
+        × (map put_by desk.new.permits.items ≡ map put_by desk.old.permits.items) }
 {
     let shard = office.directory.shard_of(mailbox);
     put_at(
@@ -148,17 +166,29 @@ fn put_or_make_room<R: Wait, G: Gate, S: Summons>(
     ensures within { shard_of office.now.directory mailbox < length office.now.lanes.items }
 
     // Where the mailbox's permit isn't over: just the copy was put, on its lane; or it is refused, for want of room or memory, and nothing put.
-    ensures put { slice_index_or (overs desk.old.permits.items) (shard_of office.now.directory mailbox) false ≡ false → MatchOption result
-        (map put_by desk.new.permits.items ≡ slice_set (map put_by desk.old.permits.items) (shard_of office.now.directory mailbox)
-        (slice_index_or (map put_by desk.old.permits.items) (shard_of office.now.directory mailbox) []
-        ++ entries.Item desk.old.number (record { key = key; mailbox = mailbox; text = text.now; flags = flags }) ∷ []))
+    ensures put { slice_index_or (overs desk.old.permits.items)
+        (shard_of office.now.directory mailbox) false ≡ false → MatchOption result
+        (map put_by desk.new.permits.items
+        ≡ slice_set (map put_by desk.old.permits.items) (shard_of office.now.directory mailbox)
+        (slice_index_or (map put_by desk.old.permits.items) (shard_of office.now.directory mailbox)
+        []
+        ++ entries.Item desk.old.number (record {
+          key = key;
+          mailbox = mailbox;
+          text = text.now;
+          flags = flags;
+        }) ∷ []))
         (λ v. (map put_by desk.new.permits.items ≡ map put_by desk.old.permits.items)
-        × IsAtOnce (FilledAlone (room_at (rooms_of office.now.lanes.items) (shard_of office.now.directory mailbox)) desk.old.number
-        (slice_index_or (map put_by desk.old.permits.items) (shard_of office.now.directory mailbox) [])) v) }
+        × IsAtOnce (FilledAlone (room_at (rooms_of office.now.lanes.items)
+        (shard_of office.now.directory mailbox)) desk.old.number
+        (slice_index_or (map put_by desk.old.permits.items) (shard_of office.now.directory mailbox)
+        [])) v) }
 
     // Where it is over, the copy is refused as `Shut`, and nothing is put.
-    ensures over { slice_index_or (overs desk.old.permits.items) (shard_of office.now.directory mailbox) false ≡ true
-        → (result ≡ Some (verdicts.Refused refusals.Shut)) × (map put_by desk.new.permits.items ≡ map put_by desk.old.permits.items) }
+    ensures over { slice_index_or (overs desk.old.permits.items)
+        (shard_of office.now.directory mailbox) false ≡ true
+        → (result ≡ Some (verdicts.Refused refusals.Shut))
+        × (map put_by desk.new.permits.items ≡ map put_by desk.old.permits.items) }
 {
     pace.pass();
     for _ in 1..TRIES {
@@ -191,17 +221,29 @@ pub(crate) fn put_copy<R: Wait, G: Gate, S: Summons>(
     ensures within { shard_of office.now.directory mailbox < length office.now.lanes.items }
 
     // Where the mailbox's permit isn't over: just the copy was put, on its lane; or it is refused, for want of room or memory, and nothing put.
-    ensures put { slice_index_or (overs desk.old.permits.items) (shard_of office.now.directory mailbox) false ≡ false → MatchOption result
-        (map put_by desk.new.permits.items ≡ slice_set (map put_by desk.old.permits.items) (shard_of office.now.directory mailbox)
-        (slice_index_or (map put_by desk.old.permits.items) (shard_of office.now.directory mailbox) []
-        ++ entries.Item desk.old.number (record { key = key; mailbox = mailbox; text = text.now; flags = flags }) ∷ []))
+    ensures put { slice_index_or (overs desk.old.permits.items)
+        (shard_of office.now.directory mailbox) false ≡ false → MatchOption result
+        (map put_by desk.new.permits.items
+        ≡ slice_set (map put_by desk.old.permits.items) (shard_of office.now.directory mailbox)
+        (slice_index_or (map put_by desk.old.permits.items) (shard_of office.now.directory mailbox)
+        []
+        ++ entries.Item desk.old.number (record {
+          key = key;
+          mailbox = mailbox;
+          text = text.now;
+          flags = flags;
+        }) ∷ []))
         (λ v. (map put_by desk.new.permits.items ≡ map put_by desk.old.permits.items)
-        × IsAtOnce (FilledAlone (room_at (rooms_of office.now.lanes.items) (shard_of office.now.directory mailbox)) desk.old.number
-        (slice_index_or (map put_by desk.old.permits.items) (shard_of office.now.directory mailbox) [])) v) }
+        × IsAtOnce (FilledAlone (room_at (rooms_of office.now.lanes.items)
+        (shard_of office.now.directory mailbox)) desk.old.number
+        (slice_index_or (map put_by desk.old.permits.items) (shard_of office.now.directory mailbox)
+        [])) v) }
 
     // Where it is over, the copy is refused as `Shut`, and nothing is put.
-    ensures over { slice_index_or (overs desk.old.permits.items) (shard_of office.now.directory mailbox) false ≡ true
-        → (result ≡ Some (verdicts.Refused refusals.Shut)) × (map put_by desk.new.permits.items ≡ map put_by desk.old.permits.items) }
+    ensures over { slice_index_or (overs desk.old.permits.items)
+        (shard_of office.now.directory mailbox) false ≡ true
+        → (result ≡ Some (verdicts.Refused refusals.Shut))
+        × (map put_by desk.new.permits.items ≡ map put_by desk.old.permits.items) }
 {
     let verdict = put_or_make_room(rt, pace, office, summons, desk, key, mailbox, text, flags);
     summons.summon(rt, office.directory.shard_of(mailbox));
@@ -220,7 +262,8 @@ fn rest_of_group(mailboxes: &[u8], at_once: usize, position: usize) -> &[u8]
 
 // Whether none of these mailboxes is this shard's.
 fn has_none_at(directory: &Directory, shard: usize, mailboxes: &[u8]) -> bool
-    ensures { result ≡ list_all (λ mailbox. not (shard_of directory.now mailbox == shard)) mailboxes.now }
+    ensures { result ≡ list_all (λ mailbox.
+        not (shard_of directory.now mailbox == shard)) mailboxes.now }
 {
     mailboxes
         .iter()
@@ -231,7 +274,8 @@ fn has_none_at(directory: &Directory, shard: usize, mailboxes: &[u8]) -> bool
 fn is_due(directory: &Directory, at_once: usize, mailboxes: &[u8], position: usize) -> bool
     requires within { position < length mailboxes.now }
     requires some { 0 < at_once }
-    ensures { IfSome (slice_get mailboxes.now position) (λ mailbox. result ≡ is_last_at directory.now mailbox (rest_of_group at_once mailboxes.now position)) }
+    ensures { IfSome (slice_get mailboxes.now position) (λ mailbox.
+        result ≡ is_last_at directory.now mailbox (rest_of_group at_once mailboxes.now position)) }
 {
     let shard = directory.shard_of(mailboxes[position]);
     let rest = rest_of_group(mailboxes, at_once, position);
@@ -272,13 +316,17 @@ pub(crate) fn put_all<R: Wait, G: Gate, S: Summons>(
     ensures same { SameButPermits desk.old desk.new }
     ensures slots { length verdicts.new.slots ≡ vec_len message.now.keys }
     // So many copies were put as verdicts are unknown.
-    ensures counts { copies_in (map put_by desk.new.permits.items) ≡ copies_in (map put_by desk.old.permits.items) + unknown verdicts.new.slots }
+    ensures counts { copies_in (map put_by desk.new.permits.items)
+        ≡ copies_in (map put_by desk.old.permits.items) + unknown verdicts.new.slots }
     // Where no permit is over that a copy is for.
-    ensures tried { AreOpenTo office.now.directory message.now.mailboxes.items desk.old.permits.items
-        → WereTried office.now.directory (rooms_of office.now.lanes.items) desk.old.number (copies_of (submission_of message.now)) verdicts.new.slots
+    ensures tried { AreOpenTo office.now.directory message.now.mailboxes.items
+        desk.old.permits.items
+        → WereTried office.now.directory (rooms_of office.now.lanes.items) desk.old.number
+        (copies_of (submission_of message.now)) verdicts.new.slots
         (map put_by desk.old.permits.items) }
     ensures put { AreOpenTo office.now.directory message.now.mailboxes.items desk.old.permits.items
-        → HavePut office.now.directory desk.old.number (copies_of (submission_of message.now)) verdicts.new.slots (map put_by desk.old.permits.items)
+        → HavePut office.now.directory desk.old.number (copies_of (submission_of message.now))
+        verdicts.new.slots (map put_by desk.old.permits.items)
         (map put_by desk.new.permits.items) }
 {
     for i in 0..message.keys.len() {

@@ -20,7 +20,8 @@ pub(crate) fn read_piece<R: Wait, I: Read>(
     requires { 0 < length buffer.old }
     ensures len { length buffer.new ≡ length buffer.old }
     ensures bound { IfOk result (λ n. n ≤ length buffer.new) }
-    ensures came { IfOk result (λ n. Consumes (I.remaining input.old) (I.remaining input.new) (take n buffer.new)) }
+    ensures came { IfOk result (λ n.
+        Consumes (I.remaining input.old) (I.remaining input.new) (take n buffer.new)) }
     ensures end { IfOk result (λ n. n ≡ 0 → IsAtEnd (I.remaining input.new)) }
     ensures none { OnErr result (Keeps (I.remaining input.old) (I.remaining input.new)) }
 {

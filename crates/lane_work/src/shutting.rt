@@ -32,7 +32,8 @@ fn say_last(machine: &mut LmtpMachine, out: &mut Vec<u8>) -> Result<(), AllocErr
 pub(crate) fn give_up<O: Sink>(output: &mut O, out: &[u8]) -> TalkFault
     requires live { O.failed output.old ≡ false }
     ensures fault { result ≡ TalkFault.NoMemory }
-    ensures sent { AreGivenUp (O.taken output.old) (O.taken output.new) (O.failed output.new) out.now }
+    ensures sent { AreGivenUp (O.taken output.old) (O.taken output.new) (O.failed output.new)
+        out.now }
 {
     let _ = send(output, out);
     TalkFault::NoMemory
@@ -48,7 +49,8 @@ pub(crate) fn shut_down<O: Sink>(
 
     // Its last words, by where the dialogue stands, were sent behind `out`; or not, for the sink's failure or for want of memory.
     ensures last { (c : Conversation) → StandsFor machine.old c →
-        SaysLast (O.taken output.old) (O.taken output.new) (O.failed output.new) machine.old.host out.old.items c.standing.phase result }
+        SaysLast (O.taken output.old) (O.taken output.new) (O.failed output.new) machine.old.host
+        out.old.items c.standing.phase result }
 
     // Without an error the sink hasn't failed; after `Write` it has.
     ensures live { OnOk result (O.failed output.new ≡ false) }

@@ -44,7 +44,8 @@ fn open(
 ) -> Result<LmtpMachine, AllocError>
     requires host { length office.now.host.items < 256 }
     requires none { out.old.items ≡ [] }
-    ensures setting { IfOk result (λ m. m.setting ≡ setting_at (premises_of office.now) seat serial) }
+    ensures setting { IfOk result (λ m.
+        m.setting ≡ setting_at (premises_of office.now) seat serial) }
     ensures host { IfOk result (λ m. m.host ≡ office.now.host.items) }
     ensures quiet { IfOk result (λ m. m.pending ≡ []) }
     ensures stands { IfOk result (λ m. StandsFor m opened) }
@@ -76,28 +77,33 @@ fn go_on<R: Wait, G: Gate, S: Summons, N: Notebook, I: Read, O: Sink>(
     buffer: &mut [u8],
     out: &mut Vec<u8>,
 ) -> Result<Ending, TalkFault>
-    requires permits { AreInForce office.now.directory office.now.lanes.items desk.old.number desk.old.permits.items }
+    requires permits { AreInForce office.now.directory office.now.lanes.items desk.old.number
+        desk.old.permits.items }
     requires receiver { IsReceiver channel.now desk.old.receiver }
     requires lanes { office.now.directory.shards ≡ length office.now.lanes.items }
     requires quiet { machine.old.pending ≡ [] }
     requires host { machine.old.host ≡ office.now.host.items }
     requires live { O.failed output.old ≡ false }
     requires room { 0 < length buffer.old }
-    ensures permits { AreInForce office.now.directory office.now.lanes.items desk.old.number desk.new.permits.items }
+    ensures permits { AreInForce office.now.directory office.now.lanes.items desk.old.number
+        desk.new.permits.items }
     ensures receiver { IsReceiver channel.now desk.new.receiver }
     ensures number { desk.new.number ≡ desk.old.number }
     ensures ends { CountsEnds desk.old desk.new }
     ensures grew { IsStartOf (received desk.old.receiver) (received desk.new.receiver) }
-    ensures torn { result ≡ Err TalkFault.Torn → length (received desk.old.receiver) < length (received desk.new.receiver) }
+    ensures torn { result ≡ Err TalkFault.Torn
+        → length (received desk.old.receiver) < length (received desk.new.receiver) }
     ensures owner { N.owner book.new ≡ N.owner book.old }
     ensures len { length buffer.new ≡ length buffer.old }
     ensures live { OnOk result (O.failed output.new ≡ false) }
     ensures failed { result ≡ Err TalkFault.Write → O.failed output.new ≡ true }
     ensures played { (done : List Judged)
         → Stands office.now.directory office.now.directory
-        (rooms_of office.now.lanes.items) desk.old.number done [] false machine.old out.old.items (N.tells book.old) (received desk.old.receiver)
+        (rooms_of office.now.lanes.items) desk.old.number done [] false machine.old out.old.items
+        (N.tells book.old) (received desk.old.receiver)
         (map put_by desk.old.permits.items)
-        → IsPlayed (premises_of office.now) machine.old.setting desk.old.number done (I.remaining input.old) (I.remaining input.new)
+        → IsPlayed (premises_of office.now) machine.old.setting desk.old.number done
+        (I.remaining input.old) (I.remaining input.new)
         (O.taken output.old) (O.taken output.new) (O.failed output.new)
         (N.tells book.new) (received desk.new.receiver) (map put_by desk.new.permits.items) result }
 {
@@ -173,7 +179,8 @@ pub fn converse<R: Wait, G: Gate, S: Summons, N: Notebook, I: Read, O: Sink>(
     out: &mut Vec<u8>,
 ) -> Result<Ending, TalkFault>
     // The desk has its own permit on each lane, over only where the office marks the shard as shut; its receiver is of `channel`.
-    requires permits { AreInForce office.now.directory office.now.lanes.items desk.old.number desk.old.permits.items }
+    requires permits { AreInForce office.now.directory office.now.lanes.items desk.old.number
+        desk.old.permits.items }
     requires receiver { IsReceiver channel.now desk.old.receiver }
     requires lanes { office.now.directory.shards ≡ length office.now.lanes.items }
     requires host { length office.now.host.items < 256 }
@@ -181,14 +188,16 @@ pub fn converse<R: Wait, G: Gate, S: Summons, N: Notebook, I: Read, O: Sink>(
     requires room { 0 < length buffer.old }
 
     // The same holds after, so that the next connection may follow; no end was counted that wasn't heard.
-    ensures permits { AreInForce office.now.directory office.now.lanes.items desk.old.number desk.new.permits.items }
+    ensures permits { AreInForce office.now.directory office.now.lanes.items desk.old.number
+        desk.new.permits.items }
     ensures receiver { IsReceiver channel.now desk.new.receiver }
     ensures number { desk.new.number ≡ desk.old.number }
     ensures ends { CountsEnds desk.old desk.new }
 
     // What was heard before stands in front of what was heard since; after `Torn` something was.
     ensures grew { IsStartOf (received desk.old.receiver) (received desk.new.receiver) }
-    ensures torn { result ≡ Err TalkFault.Torn → length (received desk.old.receiver) < length (received desk.new.receiver) }
+    ensures torn { result ≡ Err TalkFault.Torn
+        → length (received desk.old.receiver) < length (received desk.new.receiver) }
 
     // The book stays its owner's, and `buffer` as long as it was.
     ensures owner { N.owner book.new ≡ N.owner book.old }
@@ -200,10 +209,13 @@ pub fn converse<R: Wait, G: Gate, S: Summons, N: Notebook, I: Read, O: Sink>(
 
     // If the books told of `done`: what was taken is a conversation, its replies were sent as `result` says, and, unless `Torn`, it is booked.
     ensures played { (done : List Judged)
-        → AreBooks office.now.directory (rooms_of office.now.lanes.items) desk.old.number done (N.tells book.old) (received desk.old.receiver)
+        → AreBooks office.now.directory (rooms_of office.now.lanes.items) desk.old.number done
+        (N.tells book.old) (received desk.old.receiver)
         (map put_by desk.old.permits.items)
-        → IsPlayed (premises_of office.now) (setting_at (premises_of office.now) desk.old.number serial) desk.old.number done
-        (I.remaining input.old) (I.remaining input.new) (O.taken output.old) (O.taken output.new) (O.failed output.new)
+        → IsPlayed (premises_of office.now)
+        (setting_at (premises_of office.now) desk.old.number serial) desk.old.number done
+        (I.remaining input.old) (I.remaining input.new) (O.taken output.old) (O.taken output.new)
+        (O.failed output.new)
         (N.tells book.new) (received desk.new.receiver) (map put_by desk.new.permits.items) result }
 {
     out.clear();

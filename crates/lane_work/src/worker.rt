@@ -95,16 +95,22 @@ fn put_and_hear<R: Wait, G: Gate, S: Summons, N: Notebook>(
     ensures only { OnOk result (HearsItsOwn desk.old desk.new) }
     ensures verdicts { IfOk result (λ vs. vec_len vs ≡ vec_len message.now.keys) }
     // Where no permit is over that a copy is for.
-    ensures books { IfOk result (λ vs. AreOpenTo office.now.directory message.now.mailboxes.items desk.old.permits.items →
-        (judged : List Judged) → AreBooks office.now.directory (rooms_of office.now.lanes.items) desk.old.number judged (N.tells book.old)
+    ensures books { IfOk result (λ vs.
+        AreOpenTo office.now.directory message.now.mailboxes.items desk.old.permits.items →
+        (judged : List Judged) → AreBooks office.now.directory (rooms_of office.now.lanes.items)
+        desk.old.number judged (N.tells book.old)
         (received desk.old.receiver) (map put_by desk.old.permits.items)
         → AreBooks office.now.directory (rooms_of office.now.lanes.items) desk.old.number (judged
-        ++ record { message = submission_of message.now; verdicts = vs.items } ∷ []) (N.tells book.new) (received desk.new.receiver)
+        ++ record { message = submission_of message.now; verdicts = vs.items }
+        ∷ []) (N.tells book.new) (received desk.new.receiver)
         (map put_by desk.new.permits.items)) }
-    ensures err { result ≡ Err Stop.NoMemory → (map put_by desk.new.permits.items ≡ map put_by desk.old.permits.items) ×
+    ensures err { result ≡ Err Stop.NoMemory
+        → (map put_by desk.new.permits.items ≡ map put_by desk.old.permits.items) ×
         (received desk.new.receiver ≡ received desk.old.receiver) }
-    ensures noted { result ≡ Err Stop.NoMemory → (copies : List (Job × Verdict)) → N.tells book.old copies → N.tells book.new copies }
-    ensures torn { result ≡ Err Stop.Torn → length (received desk.old.receiver) < length (received desk.new.receiver) }
+    ensures noted { result ≡ Err Stop.NoMemory → (copies : List (Job × Verdict))
+        → N.tells book.old copies → N.tells book.new copies }
+    ensures torn { result ≡ Err Stop.Torn
+        → length (received desk.old.receiver) < length (received desk.new.receiver) }
     ensures grew { IsStartOf (received desk.old.receiver) (received desk.new.receiver) }
 {
     let count = message.keys.len();
@@ -144,7 +150,8 @@ pub fn turn<R: Wait, G: Gate, S: Summons, N: Notebook>(
     out: &mut Vec<u8>,
 ) -> Result<Fed, Stop>
     // The desk has its own permit on each lane, over only where `directory` marks the shard as shut; its receiver is of `channel`.
-    requires permits { AreInForce directory.now office.now.lanes.items desk.old.number desk.old.permits.items }
+    requires permits { AreInForce directory.now office.now.lanes.items desk.old.number
+        desk.old.permits.items }
     requires receiver { IsReceiver channel.now desk.old.receiver }
 
     // There is a lane for each shard, and but for its marks `directory` is the office's.
@@ -155,7 +162,8 @@ pub fn turn<R: Wait, G: Gate, S: Summons, N: Notebook>(
     requires quiet { machine.old.pending ≡ [] }
 
     // The permits are as required still; desk and book stay whose they were, and no end was counted that wasn't heard.
-    ensures permits { AreInForce directory.now office.now.lanes.items desk.old.number desk.new.permits.items }
+    ensures permits { AreInForce directory.now office.now.lanes.items desk.old.number
+        desk.new.permits.items }
     ensures receiver { IsReceiver channel.now desk.new.receiver }
     ensures number { desk.new.number ≡ desk.old.number }
     ensures ends { CountsEnds desk.old desk.new }
@@ -166,7 +174,8 @@ pub fn turn<R: Wait, G: Gate, S: Summons, N: Notebook>(
 
     // Without an error the next turn may follow: no message waits, and the connection's setting and host are the same.
     ensures quiet { OnOk result (machine.new.pending ≡ []) }
-    ensures same { OnOk result ((machine.new.setting ≡ machine.old.setting) × (machine.new.host ≡ machine.old.host)) }
+    ensures same { OnOk result ((machine.new.setting ≡ machine.old.setting)
+        × (machine.new.host ≡ machine.old.host)) }
 
     // Without an error no more was taken than the piece has, and at least one byte, where it has any, unless the dialogue ended.
     ensures used { IfOk result (λ fed. fed.used ≤ length piece.now) }
@@ -174,24 +183,34 @@ pub fn turn<R: Wait, G: Gate, S: Summons, N: Notebook>(
 
     // Without an error: if `told`, then `out`, was the replies to `bytes`, with their messages booked behind `done`, so it is with what was taken.
     ensures stands { IfOk result (λ fed. (done : List Judged) (bytes told : List ℕ)
-        → Stands directory.now office.now.directory (rooms_of office.now.lanes.items) desk.old.number done bytes false machine.old (told
-        ++ out.old.items) (N.tells book.old) (received desk.old.receiver) (map put_by desk.old.permits.items)
-        → Stands directory.now office.now.directory (rooms_of office.now.lanes.items) desk.old.number done (bytes ++ take fed.used piece.now)
-        (is_quit fed.what) machine.new (told ++ out.new.items) (N.tells book.new) (received desk.new.receiver) (map put_by desk.new.permits.items)) }
+        → Stands directory.now office.now.directory (rooms_of office.now.lanes.items)
+        desk.old.number done bytes false machine.old (told
+        ++ out.old.items) (N.tells book.old) (received desk.old.receiver)
+        (map put_by desk.old.permits.items)
+        → Stands directory.now office.now.directory (rooms_of office.now.lanes.items)
+        desk.old.number done (bytes ++ take fed.used piece.now)
+        (is_quit fed.what) machine.new (told
+        ++ out.new.items) (N.tells book.new) (received desk.new.receiver)
+        (map put_by desk.new.permits.items)) }
 
     // After an error, where it stood so before: what was in `out` stands there still, in front.
     ensures kept { OnErr result ((done : List Judged) (bytes told : List ℕ)
-        → Stands directory.now office.now.directory (rooms_of office.now.lanes.items) desk.old.number done bytes false machine.old (told
-        ++ out.old.items) (N.tells book.old) (received desk.old.receiver) (map put_by desk.old.permits.items)
+        → Stands directory.now office.now.directory (rooms_of office.now.lanes.items)
+        desk.old.number done bytes false machine.old (told
+        ++ out.old.items) (N.tells book.old) (received desk.old.receiver)
+        (map put_by desk.old.permits.items)
         → StartsWith out.new.items out.old.items) }
 
     // After `NoMemory` nothing was put or heard, and the book tells of all copies of which it told.
-    ensures err { result ≡ Err Stop.NoMemory → (map put_by desk.new.permits.items ≡ map put_by desk.old.permits.items) ×
+    ensures err { result ≡ Err Stop.NoMemory
+        → (map put_by desk.new.permits.items ≡ map put_by desk.old.permits.items) ×
         (received desk.new.receiver ≡ received desk.old.receiver) }
-    ensures noted { result ≡ Err Stop.NoMemory → (copies : List (Job × Verdict)) → N.tells book.old copies → N.tells book.new copies }
+    ensures noted { result ≡ Err Stop.NoMemory → (copies : List (Job × Verdict))
+        → N.tells book.old copies → N.tells book.new copies }
 
     // After `Torn` something was heard; and after any result, what was heard before stands in front of what was heard since.
-    ensures torn { result ≡ Err Stop.Torn → length (received desk.old.receiver) < length (received desk.new.receiver) }
+    ensures torn { result ≡ Err Stop.Torn
+        → length (received desk.old.receiver) < length (received desk.new.receiver) }
     ensures grew { IsStartOf (received desk.old.receiver) (received desk.new.receiver) }
 {
     let fed = machine.feed(piece, directory, out)?;
@@ -233,23 +252,28 @@ fn speak<R: Wait, G: Gate, S: Summons>(
     bytes: &[u8],
     out: &mut Vec<u8>,
 ) -> Result<(), Stop>
-    requires permits { AreInForce directory.now office.now.lanes.items desk.old.number desk.old.permits.items }
+    requires permits { AreInForce directory.now office.now.lanes.items desk.old.number
+        desk.old.permits.items }
     requires receiver { IsReceiver channel.now desk.old.receiver }
     requires lanes { office.now.directory.shards ≡ length office.now.lanes.items }
     requires marks { directory.now ≡ marked directory.now.shut office.now.directory }
     requires quiet { machine.old.pending ≡ [] }
-    ensures permits { AreInForce directory.now office.now.lanes.items desk.old.number desk.new.permits.items }
+    ensures permits { AreInForce directory.now office.now.lanes.items desk.old.number
+        desk.new.permits.items }
     ensures receiver { IsReceiver channel.now desk.new.receiver }
     ensures number { desk.new.number ≡ desk.old.number }
     ensures ends { CountsEnds desk.old desk.new }
     ensures seat { log.new.seat ≡ log.old.seat }
     ensures only { OnOk result (HearsItsOwn desk.old desk.new) }
     ensures spoke { OnOk result ((done : List Judged)
-        → Stands directory.now office.now.directory (rooms_of office.now.lanes.items) desk.old.number done [] false machine.old out.old.items
+        → Stands directory.now office.now.directory (rooms_of office.now.lanes.items)
+        desk.old.number done [] false machine.old out.old.items
         (notes_tell log.old.notes) (received desk.old.receiver) (map put_by desk.old.permits.items)
         → Spoke directory.now office.now.directory
-        (rooms_of office.now.lanes.items) desk.old.number done bytes.now machine.old.setting machine.old.host out.new.items
-        (notes_tell log.new.notes) (received desk.new.receiver) (map put_by desk.new.permits.items)) }
+        (rooms_of office.now.lanes.items) desk.old.number done bytes.now machine.old.setting
+        machine.old.host out.new.items
+        (notes_tell log.new.notes) (received desk.new.receiver)
+        (map put_by desk.new.permits.items)) }
 {
     let mut used = 0;
     loop {
@@ -294,22 +318,27 @@ fn converse<R: Wait, G: Gate, S: Summons>(
     serial: u64,
     bytes: &[u8],
 ) -> Result<Vec<u8>, Stop>
-    requires permits { AreInForce directory.now office.now.lanes.items desk.old.number desk.old.permits.items }
+    requires permits { AreInForce directory.now office.now.lanes.items desk.old.number
+        desk.old.permits.items }
     requires receiver { IsReceiver channel.now desk.old.receiver }
     requires lanes { office.now.directory.shards ≡ length office.now.lanes.items }
     requires marks { directory.now ≡ marked directory.now.shut office.now.directory }
     requires host { length office.now.host.items < 256 }
-    ensures permits { AreInForce directory.now office.now.lanes.items desk.old.number desk.new.permits.items }
+    ensures permits { AreInForce directory.now office.now.lanes.items desk.old.number
+        desk.new.permits.items }
     ensures receiver { IsReceiver channel.now desk.new.receiver }
     ensures number { desk.new.number ≡ desk.old.number }
     ensures ends { CountsEnds desk.old desk.new }
     ensures seat { log.new.seat ≡ log.old.seat }
     ensures only { OnOk result (HearsItsOwn desk.old desk.new) }
     ensures spoke { IfOk result (λ reply. (done : List Judged)
-        → AreBooks office.now.directory (rooms_of office.now.lanes.items) desk.old.number done (notes_tell log.old.notes)
+        → AreBooks office.now.directory (rooms_of office.now.lanes.items) desk.old.number done
+        (notes_tell log.old.notes)
         (received desk.old.receiver) (map put_by desk.old.permits.items)
-        → Spoke directory.now office.now.directory (rooms_of office.now.lanes.items) desk.old.number done bytes.now
-        (setting_at (premises_of office.now) desk.old.number serial) office.now.host.items reply.items (notes_tell log.new.notes)
+        → Spoke directory.now office.now.directory (rooms_of office.now.lanes.items) desk.old.number
+        done bytes.now
+        (setting_at (premises_of office.now) desk.old.number serial) office.now.host.items
+        reply.items (notes_tell log.new.notes)
         (received desk.new.receiver) (map put_by desk.new.permits.items)) }
 {
     let limits = Limits {
@@ -363,12 +392,15 @@ fn go_through<R: Wait, G: Gate, S: Summons>(
     replies: &mut Vec<Vec<u8>>,
     connections: &[Vec<u8>],
 ) -> Fate
-    requires permits { ArePermits office.now.lanes.items desk.old.number desk.old.permits.items × All IsNew desk.old.permits.items }
+    requires permits { ArePermits office.now.lanes.items desk.old.number desk.old.permits.items
+        × All IsNew desk.old.permits.items }
     requires receiver { IsReceiver channel.now desk.old.receiver }
     requires lanes { office.now.directory.shards ≡ length office.now.lanes.items }
     requires host { length office.now.host.items < 256 }
-    requires begun { (replies.old.items ≡ []) × AreBooks office.now.directory (rooms_of office.now.lanes.items) desk.old.number []
-        (notes_tell log.old.notes) (received desk.old.receiver) (map put_by desk.old.permits.items) }
+    requires begun { (replies.old.items ≡ [])
+        × AreBooks office.now.directory (rooms_of office.now.lanes.items) desk.old.number []
+        (notes_tell log.old.notes) (received desk.old.receiver)
+        (map put_by desk.old.permits.items) }
     ensures permits { ArePermits office.now.lanes.items desk.old.number desk.new.permits.items }
     ensures receiver { IsReceiver channel.now desk.new.receiver }
     ensures number { desk.new.number ≡ desk.old.number }
@@ -376,8 +408,10 @@ fn go_through<R: Wait, G: Gate, S: Summons>(
     ensures seat { log.new.seat ≡ log.old.seat }
     ensures began { result ≢ Fate.NotBegun }
     ensures only { result ≡ Fate.Whole → HearsItsOwn desk.old desk.new }
-    ensures whole { result ≡ Fate.Whole → HasServed (premises_of office.now) desk.old.number (map (λ b. b.items) connections.now)
-        (map (λ b. b.items) replies.new.items) (notes_tell log.new.notes) (received desk.new.receiver) (map put_by desk.new.permits.items) }
+    ensures whole { result ≡ Fate.Whole
+        → HasServed (premises_of office.now) desk.old.number (map (λ b. b.items) connections.now)
+        (map (λ b. b.items) replies.new.items) (notes_tell log.new.notes)
+        (received desk.new.receiver) (map put_by desk.new.permits.items) }
 {
     let Ok(mut directory) = office.directory.copy(alloc) else {
         return Fate::NoMemory;
@@ -431,7 +465,8 @@ pub fn work<R: Wait, G: Gate, S: Summons>(
     connections: &[Vec<u8>],
 ) -> Worked
     // The desk has its own permit on each lane, none of them over, and put nothing yet; its receiver is of `channel`.
-    requires permits { ArePermits office.now.lanes.items desk.number desk.permits.items × All IsNew desk.permits.items }
+    requires permits { ArePermits office.now.lanes.items desk.number desk.permits.items
+        × All IsNew desk.permits.items }
     requires receiver { IsReceiver channel.now desk.receiver }
     requires lanes { office.now.directory.shards ≡ length office.now.lanes.items }
     requires host { length office.now.host.items < 256 }
@@ -441,14 +476,17 @@ pub fn work<R: Wait, G: Gate, S: Summons>(
     ensures began { result.fate ≢ Fate.NotBegun }
 
     // It heard as many shards' ends as there are lanes, or more, of which `desk.ends` were counted before.
-    ensures heard { length office.now.lanes.items + ends_in (received desk.receiver) ≤ desk.ends + ends_in (received result.receiver) }
+    ensures heard { length office.now.lanes.items + ends_in (received desk.receiver)
+        ≤ desk.ends + ends_in (received result.receiver) }
 
     // Where it is `Whole`, as many verdicts were heard as copies were put on all lanes: each was awaited, and nothing else came.
-    ensures only { result.fate ≡ Fate.Whole → verdicts_in (received result.receiver) ≡ verdicts_in (received desk.receiver) +
+    ensures only { result.fate ≡ Fate.Whole
+        → verdicts_in (received result.receiver) ≡ verdicts_in (received desk.receiver) +
         copies_in (map said result.ended.items) }
 
     // The permits, the receiver and the log are its own; where it is `Whole`, this is its account: of replies, notes and what it put.
-    ensures worked { IsWorked office.now channel.now desk.number (map (λ b. b.items) connections.now) result }
+    ensures worked { IsWorked office.now channel.now desk.number (map (λ b.
+        b.items) connections.now) result }
 {
     let mut log = WorkerLog::new(alloc, desk.number);
     let mut replies = Vec::new(alloc);
@@ -493,19 +531,22 @@ pub fn finish<R: Wait, G: Gate, S: Summons>(
 
     // Its permit on each lane has ended: there it has said what it had put, then its end, and nothing else.
     ensures ended { AreEnded office.now.lanes.items desk.number result.ended.items }
-    ensures said { HaveEnded desk.number (map put_by desk.permits.items) (map said result.ended.items) }
+    ensures said { HaveEnded desk.number (map put_by desk.permits.items)
+        (map said result.ended.items) }
 
     // It heard as many shards' ends as there are lanes, or more, of which `desk.ends` were counted before.
     ensures receiver { IsReceiver channel.now result.receiver }
     ensures grew { IsStartOf (received desk.receiver) (received result.receiver) }
-    ensures heard { length office.now.lanes.items + ends_in (received desk.receiver) ≤ desk.ends + ends_in (received result.receiver) }
+    ensures heard { length office.now.lanes.items + ends_in (received desk.receiver)
+        ≤ desk.ends + ends_in (received result.receiver) }
 
     // Log and replies are those that were given.
     ensures kept { (result.log ≡ log) × (result.replies ≡ replies) }
 
     // It is `Whole` only where it was given as `Whole`, and nothing but ends was heard since.
     ensures whole { result.fate ≡ Fate.Whole → fate ≡ Fate.Whole }
-    ensures quiet { result.fate ≡ Fate.Whole → length (received result.receiver) + ends_in (received desk.receiver) ≡ length
+    ensures quiet { result.fate ≡ Fate.Whole
+        → length (received result.receiver) + ends_in (received desk.receiver) ≡ length
         (received desk.receiver) + ends_in (received result.receiver) }
 
     // It is `NotBegun` only where it was given as that.

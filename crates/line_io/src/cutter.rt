@@ -143,7 +143,8 @@ impl LineCutter {
         ensures max { self.new.max ≡ self.old.max }
         ensures line { self.new.line ≡ None }
         ensures stands { (stream : List ℕ) → StandsFor self.old stream →
-            StandsFor self.new (stream ++ take result piece.now) × (wire_lines (stream ++ take result piece.now) ≡ wire_lines stream) }
+            StandsFor self.new (stream ++ take result piece.now)
+            × (wire_lines (stream ++ take result piece.now) ≡ wire_lines stream) }
     {
         let len = before_lf(piece);
         if len == 0 {

@@ -15,8 +15,10 @@ fn next_cr(bytes: &[u8], from: usize) -> Option<usize>
     requires { from ≤ length bytes.now }
     ensures within { IfSome result (λ at. (from ≤ at) × (at < length bytes.now)) }
     ensures cr { IfSome result (λ at. slice_index bytes.now at ≡ 13) }
-    ensures before { IfSome result (λ at. (k : ℕ) → from ≤ k → k < at → slice_index bytes.now k ≡ 13 → ⊥) }
-    ensures none { IfNone result ((k : ℕ) → from ≤ k → k < length bytes.now → slice_index bytes.now k ≡ 13 → ⊥) }
+    ensures before { IfSome result (λ at. (k : ℕ) → from ≤ k → k < at → slice_index bytes.now k ≡ 13
+        → ⊥) }
+    ensures none { IfNone result ((k : ℕ) → from ≤ k → k < length bytes.now
+        → slice_index bytes.now k ≡ 13 → ⊥) }
 {
     match memchr(b'\r', &bytes[from..]) {
         Some(at) => Some(from + at),
@@ -29,8 +31,10 @@ fn first_crlf(bytes: &[u8]) -> Option<usize>
     ensures within { IfSome result (λ at. at + 1 < length bytes.now) }
     ensures cr { IfSome result (λ at. slice_index bytes.now at ≡ 13) }
     ensures lf { IfSome result (λ at. slice_index bytes.now (at + 1) ≡ 10) }
-    ensures before { IfSome result (λ at. (k : ℕ) → k < at → slice_index bytes.now k ≡ 13 → slice_index bytes.now (k + 1) ≡ 10 → ⊥) }
-    ensures none { IfNone result ((k : ℕ) → k + 1 < length bytes.now → slice_index bytes.now k ≡ 13 → slice_index bytes.now (k + 1) ≡ 10 → ⊥) }
+    ensures before { IfSome result (λ at. (k : ℕ) → k < at → slice_index bytes.now k ≡ 13
+        → slice_index bytes.now (k + 1) ≡ 10 → ⊥) }
+    ensures none { IfNone result ((k : ℕ) → k + 1 < length bytes.now → slice_index bytes.now k ≡ 13
+        → slice_index bytes.now (k + 1) ≡ 10 → ⊥) }
 {
     let mut from = 0;
     while let Some(at) = next_cr(bytes, from) {
@@ -44,7 +48,8 @@ fn first_crlf(bytes: &[u8]) -> Option<usize>
 
 // Appends a line with its mark, or nothing.
 fn append_line(letter: u8, number: u8, line: &[u8], out: &mut Vec<u8>) -> Result<(), AllocError>
-    ensures ok { OnOk result (out.new.items ≡ out.old.items ++ (letter ∷ decimal number ++ codes " " ++ line.now ++ 10 ∷ [])) }
+    ensures ok { OnOk result (out.new.items
+        ≡ out.old.items ++ (letter ∷ decimal number ++ codes " " ++ line.now ++ 10 ∷ [])) }
     ensures err { OnErr result (out.new.items ≡ out.old.items) }
 {
     let mut digits = Buffer::new();

@@ -20,7 +20,8 @@ pub fn put(bytes: &[u8], out: &mut Vec<u8>)
 /// Errors: `AllocError` where memory was refused; `out` is then as it was.
 pub fn append_parts(parts: &[&[u8]], out: &mut Vec<u8>) -> Result<(), AllocError>
     // After Ok the parts stand behind what was there, in their order; after an error `out` has the bytes that it had.
-    ensures ok { OnOk result (out.new.items ≡ out.old.items ++ flat_map (λ part. part.now) parts.now) }
+    ensures ok { OnOk result (out.new.items
+        ≡ out.old.items ++ flat_map (λ part. part.now) parts.now) }
     ensures err { OnErr result (out.new.items ≡ out.old.items) }
     // `out` keeps its room or has more.
     ensures room { vec_capacity out.old ≤ vec_capacity out.new }

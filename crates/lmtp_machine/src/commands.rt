@@ -134,7 +134,10 @@ impl Commands {
     /// The message of the data was submitted.
     pub fn submit(&mut self)
         requires { self.old.stage ≡ Stage.Data }
-        ensures { self.new ≡ record self.old { stage = Stage.Waiting; submitted = self.old.submitted + 1 } }
+        ensures { self.new ≡ record self.old {
+          stage = Stage.Waiting;
+          submitted = self.old.submitted + 1;
+        } }
     {
         self.submitted += 1;
         self.stage = Stage::Waiting;
@@ -176,7 +179,8 @@ impl Commands {
 
     fn rcpt(&mut self, path: ForwardPath<'_>, directory: &Directory, host: &[u8], out: &mut Vec<u8>)
         requires { vec_len out.old + BRIEF_ROOM ≤ vec_capacity out.old }
-        ensures { Takes host.now (on_rcpt directory.now (standing_of self.old).phase self.old.submitted
+        ensures { Takes host.now
+            (on_rcpt directory.now (standing_of self.old).phase self.old.submitted
             (forward_path path.entry)) self.new out.old.items out.new.items }
     {
         match self.stage {
@@ -201,7 +205,8 @@ impl Commands {
 
     fn data(&mut self, host: &[u8], out: &mut Vec<u8>)
         requires { vec_len out.old + BRIEF_ROOM ≤ vec_capacity out.old }
-        ensures { Takes host.now (on_data (standing_of self.old).phase self.old.submitted) self.new out.old.items out.new.items }
+        ensures { Takes host.now (on_data (standing_of self.old).phase self.old.submitted) self.new
+            out.old.items out.new.items }
     {
         match self.stage {
             Stage::Transaction => {}
@@ -224,7 +229,9 @@ impl Commands {
         requires room { vec_len out.old + length host.now + NAMED_ROOM ≤ vec_capacity out.old }
         requires stage { IsOpen self.old.stage }
         requires short { (path : Path) → said command ≡ Mail path → has_long_part path ≡ false }
-        ensures { Takes host.now (on_command directory.now (standing_of self.old) (said command.entry)) self.new out.old.items out.new.items }
+        ensures { Takes host.now
+            (on_command directory.now (standing_of self.old) (said command.entry)) self.new
+            out.old.items out.new.items }
     {
         match command {
             LmtpCommand::Lhlo => {
@@ -257,7 +264,8 @@ impl Commands {
         // It is between commands: within no data, awaiting no verdicts, and not ended.
         requires stage { IsOpen self.old.stage }
         // It stands where the dialogue does after this line, and what the dialogue replies stands behind what was written.
-        ensures { Takes host.now (on_command_line directory.now (standing_of self.old) line.now) self.new out.old.items out.new.items }
+        ensures { Takes host.now (on_command_line directory.now (standing_of self.old) line.now)
+            self.new out.old.items out.new.items }
     {
         if line.len() > MOST_TEXT {
             return say(out, host, Reply::LineTooLong);

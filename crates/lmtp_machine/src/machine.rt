@@ -92,7 +92,12 @@ impl LmtpMachine {
         // It stands for the conversation of a new connection, in which nothing was said.
         ensures stands { IfOk result (λ m. StandsFor m opened) }
         // It has what it was given, and no verdicts are awaited.
-        ensures setting { IfOk result (λ m. m.setting ≡ record { seat = seat; serial = serial; max_message = limits.entry.max_message }) }
+        ensures setting { IfOk result (λ m.
+            m.setting ≡ record {
+              seat = seat;
+              serial = serial;
+              max_message = limits.entry.max_message;
+            }) }
         ensures host { IfOk result (λ m. m.host ≡ limits.entry.host.now) }
         ensures quiet { IfOk result (λ m. m.pending ≡ []) }
     {
@@ -115,12 +120,15 @@ impl LmtpMachine {
     pub fn greet(&mut self, out: &mut Vec<u8>) -> Result<(), AllocError>
         // From each conversation for which it stood, the opening leads to one for which it stands, and what the dialogue says to it is written.
         ensures ok { OnOk result ((d : Directory) (c : Conversation) → StandsFor self.old c
-            → Happens (StandsFor self.new) self.old.setting self.old.host d c dialogue.Opened out.old.items out.new.items) }
+            → Happens (StandsFor self.new) self.old.setting self.old.host d c dialogue.Opened
+            out.old.items out.new.items) }
         // Seat, serial, limit and name stay, and so does the message whose verdicts are awaited.
-        ensures same { OnOk result ((self.new.setting ≡ self.old.setting) × (self.new.host ≡ self.old.host) × (self.new.pending ≡ self.old.pending)) }
+        ensures same { OnOk result ((self.new.setting ≡ self.old.setting)
+            × (self.new.host ≡ self.old.host) × (self.new.pending ≡ self.old.pending)) }
         // After an error nothing has changed, nor was anything written; `out` had less room than for the name and `NAMED_ROOM` bytes.
         ensures err { OnErr result ((self.new ≡ self.old) × (out.new.items ≡ out.old.items)) }
-        ensures full { OnErr result (vec_capacity out.old < vec_len out.old + length self.old.host + NAMED_ROOM) }
+        ensures full { OnErr result (vec_capacity out.old
+            < vec_len out.old + length self.old.host + NAMED_ROOM) }
     {
         out.reserve(self.host.len() + NAMED_ROOM)?;
         say_any(out, self.host.as_slice(), Reply::Greeting);
@@ -146,17 +154,21 @@ impl LmtpMachine {
         // After Submit the verdicts on one message are awaited, and else none; it has at most 100 copies, each with its mailbox.
         ensures awaits { IfOk result (λ fed. Awaits fed.what self.new.pending) }
         ensures most { OnOk result (All (λ s. length s.keys ≤ MOST_RECIPIENTS) self.new.pending) }
-        ensures paired { OnOk result (All (λ s. length s.mailboxes ≡ length s.keys) self.new.pending) }
+        ensures paired { OnOk result (All (λ s. length s.mailboxes
+            ≡ length s.keys) self.new.pending) }
         // From each conversation for which it stood the bytes used lead to one for which it stands, and what is said on the way is written.
         ensures ok { IfOk result (λ fed. (c : Conversation) → StandsFor self.old c
-            → Follows (StandsFor self.new) self.old.setting self.old.host directory.now c piece.now fed
+            → Follows (StandsFor self.new) self.old.setting self.old.host directory.now c piece.now
+            fed
             out.old.items out.new.items self.new.pending) }
         // Seat, serial, limit and name stay.
-        ensures same { OnOk result ((self.new.setting ≡ self.old.setting) × (self.new.host ≡ self.old.host)) }
+        ensures same { OnOk result ((self.new.setting ≡ self.old.setting)
+            × (self.new.host ≡ self.old.host)) }
         // After an error nothing has changed, nor was anything written.
         ensures err { OnErr result ((self.new ≡ self.old) × (out.new.items ≡ out.old.items)) }
         // An error comes only where `out` had less room than for the name and `ANSWER_ROOM` bytes, and where the connection had not ended.
-        ensures full { OnErr result (vec_capacity out.old < vec_len out.old + length self.old.host + ANSWER_ROOM) }
+        ensures full { OnErr result (vec_capacity out.old
+            < vec_len out.old + length self.old.host + ANSWER_ROOM) }
         ensures asks { OnErr result (self.old.commands.stage ≡ Stage.Ended → ⊥) }
     {
         match self.commands.stage() {
@@ -206,17 +218,21 @@ impl LmtpMachine {
     /// written and the same answer is awaited.
     pub fn answer(&mut self, verdicts: &[Verdict], out: &mut Vec<u8>) -> Result<(), AllocError>
         // There is one verdict for each key of the message that was submitted.
-        requires { (s : dialogue.Submission) → self.old.pending ≡ s ∷ [] → length verdicts.now ≡ length s.keys }
+        requires { (s : dialogue.Submission) → self.old.pending ≡ s ∷ []
+            → length verdicts.now ≡ length s.keys }
         // From each conversation for which it stood the answer leads to one for which it stands, and what the dialogue says to it is written.
         ensures ok { OnOk result ((d : Directory) (c : Conversation) → StandsFor self.old c
-            → Happens (StandsFor self.new) self.old.setting self.old.host d c (dialogue.Answered verdicts.now) out.old.items out.new.items) }
+            → Happens (StandsFor self.new) self.old.setting self.old.host d c
+            (dialogue.Answered verdicts.now) out.old.items out.new.items) }
         // Seat, serial, limit and name stay, and no verdicts are awaited any more.
-        ensures same { OnOk result ((self.new.setting ≡ self.old.setting) × (self.new.host ≡ self.old.host)) }
+        ensures same { OnOk result ((self.new.setting ≡ self.old.setting)
+            × (self.new.host ≡ self.old.host)) }
         ensures pending { OnOk result (self.new.pending ≡ []) }
         // After an error nothing has changed, nor was anything written.
         ensures err { OnErr result ((self.new ≡ self.old) × (out.new.items ≡ out.old.items)) }
         // An error comes only where `out` had less room than for `BRIEF_ROOM` bytes a verdict (`ANSWER_ROOM` at most), and where verdicts were awaited.
-        ensures brief { OnErr result (vec_capacity out.old < vec_len out.old + length verdicts.now * BRIEF_ROOM) }
+        ensures brief { OnErr result (vec_capacity out.old
+            < vec_len out.old + length verdicts.now * BRIEF_ROOM) }
         ensures full { OnErr result (vec_capacity out.old < vec_len out.old + ANSWER_ROOM) }
         ensures asks { OnErr result (self.old.pending ≡ [] → ⊥) }
     {
@@ -236,9 +252,11 @@ impl LmtpMachine {
     pub fn shut(&mut self, out: &mut Vec<u8>) -> Result<(), AllocError>
         // From each conversation for which it stood the shutdown leads to one for which it stands, and what is said of it is written.
         ensures ok { OnOk result ((d : Directory) (c : Conversation) → StandsFor self.old c
-            → Happens (StandsFor self.new) self.old.setting self.old.host d c dialogue.Shut out.old.items out.new.items) }
+            → Happens (StandsFor self.new) self.old.setting self.old.host d c dialogue.Shut
+            out.old.items out.new.items) }
         // Seat, serial, limit and name stay, and no verdicts are awaited any more.
-        ensures same { OnOk result ((self.new.setting ≡ self.old.setting) × (self.new.host ≡ self.old.host)) }
+        ensures same { OnOk result ((self.new.setting ≡ self.old.setting)
+            × (self.new.host ≡ self.old.host)) }
         ensures pending { OnOk result (self.new.pending ≡ []) }
         // After an error nothing has changed, nor was anything written; `out` had less room than for `BRIEF_ROOM` bytes.
         ensures err { OnErr result ((self.new ≡ self.old) × (out.new.items ≡ out.old.items)) }
@@ -263,13 +281,17 @@ impl LmtpMachine {
         ensures moves { IfOk result (λ fed. Moves fed.used fed.what piece.now) }
         ensures awaits { IfOk result (λ fed. Awaits fed.what self.new.pending) }
         ensures most { OnOk result (All (λ s. length s.keys ≤ MOST_RECIPIENTS) self.new.pending) }
-        ensures paired { OnOk result (All (λ s. length s.mailboxes ≡ length s.keys) self.new.pending) }
+        ensures paired { OnOk result (All (λ s. length s.mailboxes
+            ≡ length s.keys) self.new.pending) }
         ensures ok { IfOk result (λ fed. (c : Conversation) → StandsFor self.old c
-            → Follows (StandsFor self.new) self.old.setting self.old.host directory.now c piece.now fed
+            → Follows (StandsFor self.new) self.old.setting self.old.host directory.now c piece.now
+            fed
             out.old.items out.new.items self.new.pending) }
-        ensures same { OnOk result ((self.new.setting ≡ self.old.setting) × (self.new.host ≡ self.old.host)) }
+        ensures same { OnOk result ((self.new.setting ≡ self.old.setting)
+            × (self.new.host ≡ self.old.host)) }
         ensures err { OnErr result ((self.new ≡ self.old) × (out.new.items ≡ out.old.items)) }
-        ensures full { OnErr result (vec_capacity out.old < vec_len out.old + length self.old.host + ANSWER_ROOM) }
+        ensures full { OnErr result (vec_capacity out.old
+            < vec_len out.old + length self.old.host + ANSWER_ROOM) }
     {
         out.reserve(self.host.len() + NAMED_ROOM)?;
         let cut = self.cutter.take(piece);
@@ -300,13 +322,17 @@ impl LmtpMachine {
         ensures moves { IfOk result (λ fed. Moves fed.used fed.what piece.now) }
         ensures awaits { IfOk result (λ fed. Awaits fed.what self.new.pending) }
         ensures most { OnOk result (All (λ s. length s.keys ≤ MOST_RECIPIENTS) self.new.pending) }
-        ensures paired { OnOk result (All (λ s. length s.mailboxes ≡ length s.keys) self.new.pending) }
+        ensures paired { OnOk result (All (λ s. length s.mailboxes
+            ≡ length s.keys) self.new.pending) }
         ensures ok { IfOk result (λ fed. (c : Conversation) → StandsFor self.old c
-            → Follows (StandsFor self.new) self.old.setting self.old.host directory.now c piece.now fed
+            → Follows (StandsFor self.new) self.old.setting self.old.host directory.now c piece.now
+            fed
             out.old.items out.new.items self.new.pending) }
-        ensures same { OnOk result ((self.new.setting ≡ self.old.setting) × (self.new.host ≡ self.old.host)) }
+        ensures same { OnOk result ((self.new.setting ≡ self.old.setting)
+            × (self.new.host ≡ self.old.host)) }
         ensures err { OnErr result ((self.new ≡ self.old) × (out.new.items ≡ out.old.items)) }
-        ensures full { OnErr result (vec_capacity out.old < vec_len out.old + length self.old.host + ANSWER_ROOM) }
+        ensures full { OnErr result (vec_capacity out.old
+            < vec_len out.old + length self.old.host + ANSWER_ROOM) }
     {
         out.reserve(self.commands.recipients().len() * BRIEF_ROOM)?;
         let taken = self.unstuffer.take(piece);
@@ -331,15 +357,18 @@ impl LmtpMachine {
     fn end_data(&mut self, outcome: Outcome, ended: Unstuffer, out: &mut Vec<u8>) -> What
         requires stage { self.old.commands.stage ≡ Stage.Data }
         requires outcome { ended.outcome ≡ Some outcome }
-        requires room { vec_len out.old + length self.old.commands.recipients * BRIEF_ROOM ≤ vec_capacity out.old }
+        requires room { vec_len out.old + length self.old.commands.recipients * BRIEF_ROOM
+            ≤ vec_capacity out.old }
         ensures awaits { Awaits result self.new.pending }
         ensures most { All (λ s. length s.keys ≤ MOST_RECIPIENTS) self.new.pending }
         ensures paired { All (λ s. length s.mailboxes ≡ length s.keys) self.new.pending }
         ensures same { (self.new.setting ≡ self.old.setting) × (self.new.host ≡ self.old.host) }
-        ensures does { (lines : List (List ℕ)) → IsBehind ended.collected (return_path self.old.commands.sender)
+        ensures does { (lines : List (List ℕ))
+            → IsBehind ended.collected (return_path self.old.commands.sender)
             → (outcome ≡ Outcome.Ok → ended.collected.bytes ≡ plain lines)
             → (final : Outcome) × Becomes outcome final
-            × Does self.old (on_outcome self.old.setting self.old.commands.submitted self.old.commands.sender self.old.commands.recipients
+            × Does self.old (on_outcome self.old.setting self.old.commands.submitted
+            self.old.commands.sender self.old.commands.recipients
             lines final) self.new result out.old.items out.new.items }
     {
         match outcome {
@@ -363,7 +392,8 @@ impl LmtpMachine {
     fn build(&self, text: Vec<u8>) -> Result<Submission, AllocError>
         ensures few { length self.now.commands.recipients ≤ MOST_RECIPIENTS }
         ensures made { IfOk result (λ s. submission_of s ≡ record {
-          keys = keys_from self.now.setting self.now.commands.submitted 0 self.now.commands.recipients;
+          keys = keys_from self.now.setting self.now.commands.submitted 0
+              self.now.commands.recipients;
           mailboxes = self.now.commands.recipients;
           text = text.items;
         }) }
@@ -381,11 +411,15 @@ impl LmtpMachine {
     fn fail(&mut self, reply: Reply, out: &mut Vec<u8>) -> What
         requires stage { self.old.commands.stage ≡ Stage.Data }
         requires brief { IsBrief reply }
-        requires room { vec_len out.old + length self.old.commands.recipients * BRIEF_ROOM ≤ vec_capacity out.old }
+        requires room { vec_len out.old + length self.old.commands.recipients * BRIEF_ROOM
+            ≤ vec_capacity out.old }
         ensures what { result ≡ What.More }
-        ensures after { self.new ≡ record self.old { commands = record self.old.commands { stage = Stage.Ready } } }
+        ensures after { self.new
+            ≡ record self.old { commands = record self.old.commands { stage = Stage.Ready } } }
         ensures quiet { self.new.pending ≡ [] }
-        ensures said { out.new.items ≡ out.old.items ++ wire self.old.host (replicate (length self.old.commands.recipients) reply) }
+        ensures said { out.new.items
+            ≡ out.old.items ++ wire self.old.host
+            (replicate (length self.old.commands.recipients) reply) }
     {
         let recipients = self.commands.recipients().len();
         say_to_each(out, self.host.as_slice(), reply, recipients);

@@ -26,7 +26,11 @@ pub fn keys_of(
 ) -> Result<Vec<CopyKey>, AllocError>
     requires { length recipients.now ≤ MOST_RECIPIENTS }
     ensures { IfOk result (λ v. (most : ℕ)
-        → v.items ≡ keys_from (record { seat = seat; serial = serial; max_message = most }) message 0 recipients.now) }
+        → v.items ≡ keys_from (record {
+          seat = seat;
+          serial = serial;
+          max_message = most;
+        }) message 0 recipients.now) }
 {
     let mut keys = Vec::with_capacity(alloc, recipients.len())?;
     for i in 0..recipients.len() {
@@ -50,7 +54,8 @@ pub fn begin_data(commands: &Commands, unstuffer: &mut Unstuffer)
     ensures live { unstuffer.old.outcome ≡ None → unstuffer.new.outcome ≡ None }
     ensures stands { StandsFor unstuffer.old [] → StandsFor unstuffer.new [] }
     // Where it was accepted the text is to stand behind the Return-Path line, unless memory for that was refused.
-    ensures behind { commands.now.stage ≡ Stage.Data → IsBehind unstuffer.new.collected (return_path commands.now.sender) }
+    ensures behind { commands.now.stage ≡ Stage.Data
+        → IsBehind unstuffer.new.collected (return_path commands.now.sender) }
 {
     if let Stage::Data = commands.stage() {
         unstuffer.begin_behind(&[

@@ -128,7 +128,11 @@ impl Mailbox {
 
         // Its client counts the messages that are there, and is to be shown what comes next; no other slot has changed.
         ensures opened { IfOk result (λ r. Updates self.old.cursors self.new.cursors r.0.slot
-            (Some (record { serial = self.old.cursors.next; at = total self.old.window; view = uids_of self.old.messages }))) }
+            (Some (record {
+              serial = self.old.cursors.next;
+              at = total self.old.window;
+              view = uids_of self.old.messages;
+            }))) }
         ensures next { OnOk result (self.new.cursors.next ≡ self.old.cursors.next + 1) }
 
         // The client is told how many messages are there, the UID of the next one, and the UIDVALIDITY.
@@ -155,7 +159,8 @@ impl Mailbox {
         // Stranger exactly where the handle has no cursor here.
         ensures stranger { IsErr result ↔ IsStranger self.now handle.now }
         // The view is what the handle's client counts, and its UIDs rise.
-        ensures shown { IfOk result (λ view. option_map (λ o. o.view) (held self.now.cursors handle.now) ≡ Some view) }
+        ensures shown { IfOk result (λ view.
+            option_map (λ o. o.view) (held self.now.cursors handle.now) ≡ Some view) }
         ensures rising { IfOk result (λ view. IsStrictlyIncreasing view) }
     {
         let uids = self.cursors.view(handle)?;
@@ -176,25 +181,31 @@ impl Mailbox {
         ensures stranger { (result ≡ Err FeedFault.Stranger) ↔ IsStranger self.old handle.old }
         ensures lapped { (result ≡ Err FeedFault.Lapped) ↔ IsLapped self.old handle.old }
         // NoMemory only where there is something to show. After an error nothing has changed, nor was anything written.
-        ensures memory { (result ≡ Err FeedFault.NoMemory) → 0 < min limit (total self.old.window - handle.old.at) }
-        ensures err { OnErr result ((self.new ≡ self.old) × (handle.new ≡ handle.old) × (out.new.items ≡ out.old.items)) }
+        ensures memory { (result ≡ Err FeedFault.NoMemory)
+            → 0 < min limit (total self.old.window - handle.old.at) }
+        ensures err { OnErr result ((self.new ≡ self.old) × (handle.new ≡ handle.old)
+            × (out.new.items ≡ out.old.items)) }
 
         // The next changes of each log for which the mailbox stands.
         ensures count { IfOk result (λ n. n ≡ min limit (total self.old.window - handle.old.at)) }
         ensures shown { IfOk result (λ n. (log : List Change) → Stands self.old log →
-            out.new.items ≡ out.old.items ++ lines (view_at log handle.old.at) (next_of log handle.old.at n)) }
+            out.new.items ≡ out.old.items
+            ++ lines (view_at log handle.old.at) (next_of log handle.old.at n)) }
         // The handle goes on by as many. Nothing is logged, and of the mailbox nothing but its cursors changes.
-        ensures handle { IfOk result (λ n. handle.new ≡ record handle.old { at = handle.old.at + n }) }
+        ensures handle { IfOk result (λ n.
+            handle.new ≡ record handle.old { at = handle.old.at + n }) }
         ensures logged { KeepsLog self.old self.new }
         ensures rest { self.new ≡ record self.old { cursors = self.new.cursors } }
         // Its cursor goes on by as many, and its view with them; no other slot has changed.
         ensures moved { IfOk result (λ n. Updates self.old.cursors self.new.cursors handle.old.slot
-            (option_map (after_showing (next_changes self.old.window handle.old.at n)) (held self.old.cursors handle.old))) }
+            (option_map (after_showing (next_changes self.old.window handle.old.at n))
+            (held self.old.cursors handle.old))) }
         ensures next { self.new.cursors.next ≡ self.old.cursors.next }
 
         // The lines as the client counts.
         ensures written { IfOk result (λ n. IfSome (held self.old.cursors handle.old) (λ o.
-            out.new.items ≡ out.old.items ++ lines o.view (next_changes self.old.window handle.old.at n))) }
+            out.new.items ≡ out.old.items
+            ++ lines o.view (next_changes self.old.window handle.old.at n))) }
         // `out` keeps its room or has more.
         ensures room { vec_capacity out.old ≤ vec_capacity out.new }
     {
@@ -207,7 +218,8 @@ impl Mailbox {
         ensures stranger { (result ≡ Err MailFault.Stranger) ↔ IsStranger self.now handle.now }
         ensures lapped { (result ≡ Err MailFault.Lapped) ↔ IsLapped self.now handle.now }
         ensures admitted { OnOk result (IsCurrent self.now handle.now) }
-        ensures only { IfErr result (λ fault. (fault ≡ MailFault.Stranger) ⊎ (fault ≡ MailFault.Lapped)) }
+        ensures only { IfErr result (λ fault. (fault ≡ MailFault.Stranger)
+            ⊎ (fault ≡ MailFault.Lapped)) }
         ensures within { OnOk result (handle.now.at ≤ total self.now.window) }
         ensures small { total self.now.window ≤ 2 ^ 62 }
     {
@@ -222,7 +234,8 @@ impl Mailbox {
 
     // Flags and text of the message of a UID.
     fn letter(&self, uid: u32) -> Option<(Flags, &Text)>
-        ensures { option_map (λ p. message_of uid p.0 p.1.now) result ≡ message_with uid self.now.messages }
+        ensures { option_map (λ p. message_of uid p.0 p.1.now) result
+            ≡ message_with uid self.now.messages }
     {
         self.messages.get(uid)
     }
@@ -237,15 +250,23 @@ impl Mailbox {
     // Sets the flags of a message that has these flags, and logs that where they become others:
     // answers whether they did. Spent where the log has no room for it; nothing is then changed.
     pub(crate) fn set_flags(&mut self, uid: u32, old: Flags, op: FlagOp) -> Result<bool, Spent>
-        requires there { option_map (λ (m : Kept). m.flags) (message_with uid self.old.messages) ≡ Some old }
+        requires there { option_map (λ (m : Kept). m.flags) (message_with uid self.old.messages)
+            ≡ Some old }
         requires small { total self.old.window ≤ 2 ^ 62 }
         ensures spent { IsErr result ↔ IsTooMany self.old (flags_logged (rows self.old) uid op) }
         ensures err { OnErr result (self.new ≡ self.old) }
-        ensures logged { OnOk result (Logs self.old self.new (flags_logged (rows self.old) uid op)) }
-        ensures window { OnOk result (Moves self.old.cursors self.old.window self.new.window (flags_logged (rows self.old) uid op)) }
+        ensures logged { OnOk result
+            (Logs self.old self.new (flags_logged (rows self.old) uid op)) }
+        ensures window { OnOk result
+            (Moves self.old.cursors self.old.window self.new.window
+            (flags_logged (rows self.old) uid op)) }
         ensures messages { OnOk result (self.new.messages ≡ flagged uid op self.old.messages) }
-        ensures rest { self.new ≡ record self.old { messages = self.new.messages; window = self.new.window } }
-        ensures changed { IfOk result (λ changed. was_logged (flags_logged (rows self.old) uid op) ≡ changed) }
+        ensures rest { self.new ≡ record self.old {
+          messages = self.new.messages;
+          window = self.new.window;
+        } }
+        ensures changed { IfOk result (λ changed. was_logged (flags_logged (rows self.old) uid op)
+            ≡ changed) }
     {
         // What the type keeps is known where a field is used: the UIDs rise.
         let _ = &self.messages;
@@ -270,20 +291,29 @@ impl Mailbox {
         // Stranger, Lapped and Spent come exactly where they hold, in this order, and NoMemory never.
         ensures stranger { (result ≡ Err MailFault.Stranger) ↔ IsStranger self.old handle.now }
         ensures lapped { (result ≡ Err MailFault.Lapped) ↔ IsLapped self.old handle.now }
-        ensures spent { (result ≡ Err MailFault.Spent) ↔ (IsCurrent self.old handle.now × IsTooMany self.old (flags_logged (rows self.old) uid op)) }
+        ensures spent { (result ≡ Err MailFault.Spent)
+            ↔ (IsCurrent self.old handle.now
+            × IsTooMany self.old (flags_logged (rows self.old) uid op)) }
         ensures memory { result ≢ Err MailFault.NoMemory }
         // After an error nothing has changed.
         ensures err { OnErr result (self.new ≡ self.old) }
 
         // The new flags are logged, on every log for which the mailbox stood, where a message has the UID and they are others.
-        ensures logged { OnOk result (Logs self.old self.new (flags_logged (rows self.old) uid op)) }
+        ensures logged { OnOk result
+            (Logs self.old self.new (flags_logged (rows self.old) uid op)) }
         // What is logged goes into the window; a full one drops its oldest change, or grows where a client is still to be shown it.
-        ensures window { OnOk result (Moves self.old.cursors self.old.window self.new.window (flags_logged (rows self.old) uid op)) }
+        ensures window { OnOk result
+            (Moves self.old.cursors self.old.window self.new.window
+            (flags_logged (rows self.old) uid op)) }
         // The message of this UID has the new flags; nothing but the messages and the window changes.
         ensures messages { OnOk result (self.new.messages ≡ flagged uid op self.old.messages) }
-        ensures rest { self.new ≡ record self.old { messages = self.new.messages; window = self.new.window } }
+        ensures rest { self.new ≡ record self.old {
+          messages = self.new.messages;
+          window = self.new.window;
+        } }
         // The answer is the flags that the message has now, or None where no message has the UID.
-        ensures flags { IfOk result (λ flags. flags ≡ option_map (λ m. m.flags) (message_with uid self.new.messages)) }
+        ensures flags { IfOk result (λ flags.
+            flags ≡ option_map (λ m. m.flags) (message_with uid self.new.messages)) }
     {
         self.admit(handle)?;
         let Some(old) = self.flags_of(uid) else {
@@ -295,7 +325,8 @@ impl Mailbox {
 
     // Whether setting \Seen, where that is asked for, is more than the log has room for.
     fn cannot_mark(&self, uid: u32, old: Flags, mark_seen: bool) -> bool
-        requires there { option_map (λ (m : Kept). m.flags) (message_with uid self.now.messages) ≡ Some old }
+        requires there { option_map (λ (m : Kept). m.flags) (message_with uid self.now.messages)
+            ≡ Some old }
         requires small { total self.now.window ≤ 2 ^ 62 }
         ensures { IsTrue result ↔ IsTooMany self.now (seen_logged mark_seen (rows self.now) uid) }
     {
@@ -310,15 +341,25 @@ impl Mailbox {
 
     // Sets \Seen, where that is asked for: answers whether that changed the flags.
     fn mark(&mut self, uid: u32, old: Flags, mark_seen: bool) -> Result<bool, Spent>
-        requires there { option_map (λ (m : Kept). m.flags) (message_with uid self.old.messages) ≡ Some old }
+        requires there { option_map (λ (m : Kept). m.flags) (message_with uid self.old.messages)
+            ≡ Some old }
         requires small { total self.old.window ≤ 2 ^ 62 }
-        ensures spent { IsErr result ↔ IsTooMany self.old (seen_logged mark_seen (rows self.old) uid) }
+        ensures spent { IsErr result
+            ↔ IsTooMany self.old (seen_logged mark_seen (rows self.old) uid) }
         ensures err { OnErr result (self.new ≡ self.old) }
-        ensures logged { OnOk result (Logs self.old self.new (seen_logged mark_seen (rows self.old) uid)) }
-        ensures window { OnOk result (Moves self.old.cursors self.old.window self.new.window (seen_logged mark_seen (rows self.old) uid)) }
-        ensures messages { OnOk result (self.new.messages ≡ seen_after mark_seen uid self.old.messages) }
-        ensures rest { self.new ≡ record self.old { messages = self.new.messages; window = self.new.window } }
-        ensures changed { IfOk result (λ changed. was_logged (seen_logged mark_seen (rows self.old) uid) ≡ changed) }
+        ensures logged { OnOk result
+            (Logs self.old self.new (seen_logged mark_seen (rows self.old) uid)) }
+        ensures window { OnOk result
+            (Moves self.old.cursors self.old.window self.new.window
+            (seen_logged mark_seen (rows self.old) uid)) }
+        ensures messages { OnOk result (self.new.messages
+            ≡ seen_after mark_seen uid self.old.messages) }
+        ensures rest { self.new ≡ record self.old {
+          messages = self.new.messages;
+          window = self.new.window;
+        } }
+        ensures changed { IfOk result (λ changed.
+            was_logged (seen_logged mark_seen (rows self.old) uid) ≡ changed) }
     {
         if !mark_seen {
             return Ok(false);
@@ -340,17 +381,25 @@ impl Mailbox {
         ensures lapped { (result ≡ Err MailFault.Lapped) ↔ IsLapped self.old handle.now }
         ensures spent { (result ≡ Err MailFault.Spent) ↔ (IsCurrent self.old handle.now ×
             IsTooMany self.old (seen_logged mark_seen (rows self.old) uid)) }
-        ensures memory { (result ≡ Err MailFault.NoMemory) → IsSome (message_with uid self.old.messages) }
+        ensures memory { (result ≡ Err MailFault.NoMemory)
+            → IsSome (message_with uid self.old.messages) }
         // After an error nothing has changed.
         ensures err { OnErr result (self.new ≡ self.old) }
 
         // \Seen is logged, on every log for which the mailbox stood, where it is asked for and the message is there without it.
-        ensures logged { OnOk result (Logs self.old self.new (seen_logged mark_seen (rows self.old) uid)) }
+        ensures logged { OnOk result
+            (Logs self.old self.new (seen_logged mark_seen (rows self.old) uid)) }
         // What is logged goes into the window; a full one drops its oldest change, or grows where a client is still to be shown it.
-        ensures window { OnOk result (Moves self.old.cursors self.old.window self.new.window (seen_logged mark_seen (rows self.old) uid)) }
+        ensures window { OnOk result
+            (Moves self.old.cursors self.old.window self.new.window
+            (seen_logged mark_seen (rows self.old) uid)) }
         // Where it is asked for, the message has \Seen now; nothing but the messages and the window changes.
-        ensures messages { OnOk result (self.new.messages ≡ seen_after mark_seen uid self.old.messages) }
-        ensures rest { self.new ≡ record self.old { messages = self.new.messages; window = self.new.window } }
+        ensures messages { OnOk result (self.new.messages
+            ≡ seen_after mark_seen uid self.old.messages) }
+        ensures rest { self.new ≡ record self.old {
+          messages = self.new.messages;
+          window = self.new.window;
+        } }
         // The answer is the message as it is now, and whether this call set \Seen; None where no message has the UID.
         ensures row { IfOk result (λ row. row ≡ option_map (λ m. record {
           uid = m.uid;
@@ -378,9 +427,11 @@ impl Mailbox {
 
     // Why a message isn't read whose text could not be copied: a log without room comes first.
     fn refuse_copy(&self, uid: u32, old: Flags, mark_seen: bool) -> MailFault
-        requires there { option_map (λ (m : Kept). m.flags) (message_with uid self.now.messages) ≡ Some old }
+        requires there { option_map (λ (m : Kept). m.flags) (message_with uid self.now.messages)
+            ≡ Some old }
         requires small { total self.now.window ≤ 2 ^ 62 }
-        ensures spent { (result ≡ MailFault.Spent) ↔ IsTooMany self.now (seen_logged mark_seen (rows self.now) uid) }
+        ensures spent { (result ≡ MailFault.Spent)
+            ↔ IsTooMany self.now (seen_logged mark_seen (rows self.now) uid) }
         ensures only { (result ≡ MailFault.Spent) ⊎ (result ≡ MailFault.NoMemory) }
     {
         if self.cannot_mark(uid, old, mark_seen) {

@@ -81,8 +81,10 @@ fn position_of(uids: &[u32], uid: u32) -> Option<usize>
 fn replace_flags(uids: &[u32], letters: &mut Vec<Letter>, uid: u32, flags: Flags) -> Option<Flags>
     requires rising { IsStrictlyIncreasing uids.now }
     requires beside { length letters.old.items ≡ length uids.now }
-    ensures was { result ≡ option_map (λ m. m.flags) (message_with uid (messages_of (filed uids.now letters.old.items))) }
-    ensures messages { messages_of (filed uids.now letters.new.items) ≡ reflagged uid flags (messages_of (filed uids.now letters.old.items)) }
+    ensures was { result ≡ option_map (λ m.
+        m.flags) (message_with uid (messages_of (filed uids.now letters.old.items))) }
+    ensures messages { messages_of (filed uids.now letters.new.items)
+        ≡ reflagged uid flags (messages_of (filed uids.now letters.old.items)) }
     ensures beside { length letters.new.items ≡ length uids.now }
 {
     let position = position_of(uids, uid)?;
@@ -99,8 +101,10 @@ fn replace_flags(uids: &[u32], letters: &mut Vec<Letter>, uid: u32, flags: Flags
 fn take_text(uids: &[u32], letters: &mut Vec<Letter>, uid: u32) -> Option<(Flags, Text)>
     requires rising { IsStrictlyIncreasing uids.now }
     requires beside { length letters.old.items ≡ length uids.now }
-    ensures was { option_map (λ p. message_of uid p.0 p.1) result ≡ message_with uid (messages_of (filed uids.now letters.old.items)) }
-    ensures messages { messages_of (filed uids.now letters.new.items) ≡ without_message uid (messages_of (filed uids.now letters.old.items)) }
+    ensures was { option_map (λ p. message_of uid p.0 p.1) result
+        ≡ message_with uid (messages_of (filed uids.now letters.old.items)) }
+    ensures messages { messages_of (filed uids.now letters.new.items)
+        ≡ without_message uid (messages_of (filed uids.now letters.old.items)) }
     ensures beside { length letters.new.items ≡ length uids.now }
 {
     let position = position_of(uids, uid)?;
@@ -127,7 +131,8 @@ fn close_uids(uids: &mut Vec<u32>, letters: &[Letter])
 // Gives up the positions of those that were taken out.
 fn close_up(uids: &mut Vec<u32>, letters: &mut Vec<Letter>)
     requires { length letters.old.items ≡ length uids.old.items }
-    ensures messages { messages_of (filed uids.new.items letters.new.items) ≡ messages_of (filed uids.old.items letters.old.items) }
+    ensures messages { messages_of (filed uids.new.items letters.new.items)
+        ≡ messages_of (filed uids.old.items letters.old.items) }
     ensures uids { uids.new.items ≡ uids_of (messages_of (filed uids.old.items letters.old.items)) }
     ensures beside { length letters.new.items ≡ length uids.new.items }
 {
@@ -137,7 +142,8 @@ fn close_up(uids: &mut Vec<u32>, letters: &mut Vec<Letter>)
 
 // Whether the last position has a UID that is not below this one.
 fn is_behind(uids: &[u32], uid: u32) -> bool
-    ensures above { result ≡ false → IsStrictlyIncreasing uids.now → IsStrictlyIncreasing (uids.now ++ uid ∷ []) }
+    ensures above { result ≡ false → IsStrictlyIncreasing uids.now
+        → IsStrictlyIncreasing (uids.now ++ uid ∷ []) }
     ensures needed { result ≡ true → All (λ u. u < uid) uids.now → ⊥ }
 {
     match uids.last() {
@@ -150,8 +156,10 @@ fn is_behind(uids: &[u32], uid: u32) -> bool
 fn make_way(uids: &mut Vec<u32>, letters: &mut Vec<Letter>, uid: u32)
     requires rising { IsStrictlyIncreasing uids.old.items }
     requires beside { length letters.old.items ≡ length uids.old.items }
-    requires above { All (λ u. u < uid) (uids_of (messages_of (filed uids.old.items letters.old.items))) }
-    ensures messages { messages_of (filed uids.new.items letters.new.items) ≡ messages_of (filed uids.old.items letters.old.items) }
+    requires above { All (λ u.
+        u < uid) (uids_of (messages_of (filed uids.old.items letters.old.items))) }
+    ensures messages { messages_of (filed uids.new.items letters.new.items)
+        ≡ messages_of (filed uids.old.items letters.old.items) }
     ensures rising { IsStrictlyIncreasing (uids.new.items ++ uid ∷ []) }
     ensures beside { length letters.new.items ≡ length uids.new.items }
 {
@@ -169,7 +177,8 @@ fn uids_in(
 ) -> Result<Vec<u32>, AllocError>
     requires beside { length letters.now ≡ length uids.now }
     requires count { count ≡ length (messages_of (filed uids.now letters.now)) }
-    ensures { IfOk result (λ found. found.items ≡ uids_of (messages_of (filed uids.now letters.now))) }
+    ensures { IfOk result (λ found.
+        found.items ≡ uids_of (messages_of (filed uids.now letters.now))) }
 {
     let mut found = Vec::with_capacity(alloc, count)?;
     for position in 0..uids.len() {
@@ -189,7 +198,8 @@ fn texts_in(
 ) -> Result<Vec<(u32, Text)>, AllocError>
     requires beside { length letters.now ≡ length uids.now }
     requires count { count ≡ length (messages_of (filed uids.now letters.now)) }
-    ensures { IfOk result (λ texts. texts.items ≡ texts_of (messages_of (filed uids.now letters.now))) }
+    ensures { IfOk result (λ texts.
+        texts.items ≡ texts_of (messages_of (filed uids.now letters.now))) }
 {
     let mut texts = Vec::with_capacity(alloc, count)?;
     for position in 0..uids.len() {
@@ -269,7 +279,8 @@ impl Letters {
     // changed.
     pub(crate) fn add(&mut self, uid: u32, text: Text) -> Result<(), AllocError>
         requires { All (λ u. u < uid) (uids_of self.old) }
-        ensures ok { OnOk result (self.new ≡ self.old ++ record { uid = uid; flags = no_flags; text = text } ∷ []) }
+        ensures ok { OnOk result (self.new
+            ≡ self.old ++ record { uid = uid; flags = no_flags; text = text } ∷ []) }
         ensures err { OnErr result (self.new ≡ self.old) }
     {
         let size = text.as_slice().len() as u128;

@@ -13,7 +13,8 @@ use cursor_set::CursorSet;
 // The least number of a change that the window has and some client is still to be shown; the end of
 // the log where there is none.
 fn wanted_from(ring: &ChangeRing, cursors: &CursorSet) -> u64
-    ensures { result ≤ ring.now.base → 0 < length ring.now.changes → Contains (open_numbers cursors.now) ring.now.base }
+    ensures { result ≤ ring.now.base → 0 < length ring.now.changes
+        → Contains (open_numbers cursors.now) ring.now.base }
 {
     match cursors.least(ring.base()) {
         Some(number) => number,

@@ -148,9 +148,11 @@ impl Mailbox {
         // It stands for the empty log: nothing has happened yet.
         ensures stands { IfOk result (λ m. Stands m []) }
         // It has what it was given, no message, and no client.
-        ensures settings { IfOk result (λ m. (m.number ≡ number) × (m.uidvalidity ≡ uidvalidity) × (m.first_uid ≡ first_uid) ×
+        ensures settings { IfOk result (λ m. (m.number ≡ number) × (m.uidvalidity ≡ uidvalidity)
+            × (m.first_uid ≡ first_uid) ×
             (m.limit ≡ limits.messages) × (m.history ≡ history)) }
-        ensures empty { IfOk result (λ m. (m.messages ≡ []) × (m.accepted ≡ []) × (m.cursors ≡ record { number = number; next = 0; slots = [] })) }
+        ensures empty { IfOk result (λ m. (m.messages ≡ []) × (m.accepted ≡ [])
+            × (m.cursors ≡ record { number = number; next = 0; slots = [] })) }
         // Its window is empty, with room for `limits.ring` changes, and may grow to `limits.ring_max` where that is more.
         ensures window { IfOk result (λ m. m.window ≡ record {
           base = 0;
@@ -202,13 +204,17 @@ impl Mailbox {
         requires uid { next_uid self.old < 4294967295 }
         requires room { total self.old.window < 2 ^ 62 }
         ensures full { (result ≡ Err Refusal.MailboxFull) ↔ (is_full self.old ≡ true) }
-        ensures refused { IfErr result (λ why. (why ≡ Refusal.MailboxFull) ⊎ (why ≡ Refusal.NoMemory)) }
+        ensures refused { IfErr result (λ why. (why ≡ Refusal.MailboxFull)
+            ⊎ (why ≡ Refusal.NoMemory)) }
         ensures err { OnErr result (self.new ≡ self.old) }
-        ensures logged { OnOk result (Logs self.old self.new (Change.Add (next_uid self.old) ∷ [])) }
+        ensures logged { OnOk result (Logs self.old self.new (Change.Add (next_uid self.old)
+            ∷ [])) }
         ensures message { OnOk result (self.new.messages ≡ self.old.messages ++
             record { uid = next_uid self.old; flags = no_flags; text = job.now.text } ∷ []) }
         ensures rising { OnOk result (IsStrictlyIncreasing (uids_of self.new.messages)) }
-        ensures window { OnOk result (Moves self.old.cursors self.old.window self.new.window (Change.Add (next_uid self.old) ∷ [])) }
+        ensures window { OnOk result
+            (Moves self.old.cursors self.old.window self.new.window (Change.Add (next_uid self.old)
+            ∷ [])) }
         ensures rest { OnOk result (self.new ≡ record self.old {
           messages = self.new.messages;
           window = self.new.window;
@@ -252,20 +258,25 @@ impl Mailbox {
     pub fn deliver(&mut self, job: &Job) -> Result<Receipt, Refusal>
         // UidSpent exactly where no UID is left or the log lacks room for the arrival; else MailboxFull exactly where it is full.
         ensures spent { (result ≡ Err Refusal.UidSpent) ↔ (is_spent job.now.flags self.old ≡ true) }
-        ensures full { (result ≡ Err Refusal.MailboxFull) ↔ ((is_spent job.now.flags self.old ≡ false) × (is_full self.old ≡ true)) }
+        ensures full { (result ≡ Err Refusal.MailboxFull)
+            ↔ ((is_spent job.now.flags self.old ≡ false) × (is_full self.old ≡ true)) }
         // The refusals of a lane never come. After a refusal nothing has changed.
         ensures not_queued { (result ≡ Err Refusal.Full) → ⊥ }
         ensures not_shut { (result ≡ Err Refusal.Shut) → ⊥ }
         ensures err { OnErr result (self.new ≡ self.old) }
 
         // One event more, on every log for which the mailbox stood.
-        ensures logged { OnOk result (Logs self.old self.new (arrival (next_uid self.old) job.now.flags)) }
+        ensures logged { OnOk result
+            (Logs self.old self.new (arrival (next_uid self.old) job.now.flags)) }
         // The copy is noted under the next UID, and its message is the last one, with this UID, its flags and its text.
-        ensures accepted { OnOk result (self.new.accepted ≡ self.old.accepted ++ (job.now.key, next_uid self.old) ∷ []) }
+        ensures accepted { OnOk result (self.new.accepted
+            ≡ self.old.accepted ++ (job.now.key, next_uid self.old) ∷ []) }
         ensures message { OnOk result (self.new.messages ≡ self.old.messages ++
             record { uid = next_uid self.old; flags = job.now.flags; text = job.now.text } ∷ []) }
         // What is logged goes into the window; a full one drops its oldest change, or grows where a client is still to be shown it.
-        ensures window { OnOk result (Moves self.old.cursors self.old.window self.new.window (arrival (next_uid self.old) job.now.flags)) }
+        ensures window { OnOk result
+            (Moves self.old.cursors self.old.window self.new.window
+            (arrival (next_uid self.old) job.now.flags)) }
         // Cursors stay, and so does what no call changes: number, UIDVALIDITY, first UID, limit, and whether copies are kept.
         ensures cursors { OnOk result (self.new.cursors ≡ self.old.cursors) }
         ensures same { OnOk result (SameMailbox self.old self.new) }

@@ -156,7 +156,8 @@ impl Messages {
     // nothing is then changed.
     pub(crate) fn add(&mut self, uid: u32, text: Text) -> Result<(), AllocError>
         requires { All (λ u. u < uid) (uids_of self.old) }
-        ensures ok { OnOk result (self.new ≡ self.old ++ record { uid = uid; flags = no_flags; text = text } ∷ []) }
+        ensures ok { OnOk result (self.new
+            ≡ self.old ++ record { uid = uid; flags = no_flags; text = text } ∷ []) }
         ensures err { OnErr result (self.new ≡ self.old) }
     {
         let more = self.letters.len() + 1 - self.marked.len();

@@ -63,11 +63,16 @@ impl Mailbox {
     // Takes out the messages that go.
     fn remove(&mut self, choice: Choice)
         requires found { IsFound choice }
-        requires room { total self.old.window + length (removals (passes choice) (rows self.old)) ≤ 2 ^ 62 }
+        requires room { total self.old.window + length (removals (passes choice) (rows self.old))
+            ≤ 2 ^ 62 }
         ensures logged { Logs self.old self.new (removals (passes choice.entry) (rows self.old)) }
-        ensures window { Moves self.old.cursors self.old.window self.new.window (removals (passes choice.entry) (rows self.old)) }
+        ensures window { Moves self.old.cursors self.old.window self.new.window
+            (removals (passes choice.entry) (rows self.old)) }
         ensures messages { self.new.messages ≡ remaining (passes choice.entry) self.old.messages }
-        ensures rest { self.new ≡ record self.old { messages = self.new.messages; window = self.new.window } }
+        ensures rest { self.new ≡ record self.old {
+          messages = self.new.messages;
+          window = self.new.window;
+        } }
     {
         log_removals(
             &mut self.ring,
@@ -93,27 +98,34 @@ impl Mailbox {
         ensures stranger { (result ≡ Err MailFault.Stranger) ↔ IsStranger self.old handle.old }
         ensures lapped { (result ≡ Err MailFault.Lapped) ↔ IsLapped self.old handle.old }
         ensures spent { (result ≡ Err MailFault.Spent) ↔ (IsCurrent self.old handle.old ×
-            IsTooMany self.old (removals (in_set (option_map (λ uids. uids.now) set.entry)) (rows self.old))) }
+            IsTooMany self.old (removals (in_set (option_map (λ uids.
+            uids.now) set.entry)) (rows self.old))) }
         ensures memory { (result ≡ Err MailFault.NoMemory) → handle.old.at < total self.old.window }
         // After an error nothing has changed, nor was anything written.
-        ensures err { OnErr result ((self.new ≡ self.old) × (handle.new ≡ handle.old) × (out.new.items ≡ out.old.items)) }
+        ensures err { OnErr result ((self.new ≡ self.old) × (handle.new ≡ handle.old)
+            × (out.new.items ≡ out.old.items)) }
 
         // All that was pending is shown, and nothing of what goes now.
         ensures shown { OnOk result ((log : List Change) → Stands self.old log →
-            out.new.items ≡ out.old.items ++ lines (view_at log handle.old.at) (drop handle.old.at log)) }
+            out.new.items ≡ out.old.items
+            ++ lines (view_at log handle.old.at) (drop handle.old.at log)) }
         // Handle and cursor stand where the log ended before the removals; no other slot has changed.
-        ensures handle { OnOk result (handle.new ≡ record handle.old { at = total self.old.window }) }
+        ensures handle { OnOk result (handle.new
+            ≡ record handle.old { at = total self.old.window }) }
         ensures within { OnOk result (handle.old.at ≤ total self.old.window) }
         ensures moved { OnOk result (Updates self.old.cursors self.new.cursors handle.old.slot
-            (option_map (after_showing (changes_from handle.old.at self.old.window)) (held self.old.cursors handle.old))) }
+            (option_map (after_showing (changes_from handle.old.at self.old.window))
+            (held self.old.cursors handle.old))) }
 
         // That they are gone is logged, in the order of the messages, on every log for which the mailbox stood.
-        ensures logged { OnOk result (Logs self.old self.new (removals (in_set (option_map (λ uids. uids.now) set.entry)) (rows self.old))) }
+        ensures logged { OnOk result (Logs self.old self.new (removals (in_set (option_map (λ uids.
+            uids.now) set.entry)) (rows self.old))) }
         // What is logged goes into the window; a full one drops its oldest change, or grows where a client is still to be shown it.
         ensures window { OnOk result (Moves self.new.cursors self.old.window self.new.window
             (removals (in_set (option_map (λ uids. uids.now) set.entry)) (rows self.old))) }
         // The messages with \Deleted go, of the set where there is one; nothing but messages, window and cursors changes.
-        ensures messages { OnOk result (self.new.messages ≡ remaining (in_set (option_map (λ uids. uids.now) set.entry)) self.old.messages) }
+        ensures messages { OnOk result (self.new.messages
+            ≡ remaining (in_set (option_map (λ uids. uids.now) set.entry)) self.old.messages) }
         ensures rest { OnOk result (self.new ≡ record self.old {
           messages = self.new.messages;
           window = self.new.window;
@@ -121,11 +133,14 @@ impl Mailbox {
         }) }
         // The serial of the next cursor stays, and the answer is how many messages went.
         ensures next { self.new.cursors.next ≡ self.old.cursors.next }
-        ensures count { IfOk result (λ n. n ≡ length (removals (in_set (option_map (λ uids. uids.now) set.entry)) (rows self.old))) }
+        ensures count { IfOk result (λ n.
+            n ≡ length (removals (in_set (option_map (λ uids.
+            uids.now) set.entry)) (rows self.old))) }
 
         // The lines as the client counts.
         ensures written { OnOk result (IfSome (held self.old.cursors handle.old) (λ o.
-            out.new.items ≡ out.old.items ++ lines o.view (changes_from handle.old.at self.old.window))) }
+            out.new.items ≡ out.old.items
+            ++ lines o.view (changes_from handle.old.at self.old.window))) }
         // `out` keeps its room or has more.
         ensures room { vec_capacity out.old ≤ vec_capacity out.new }
     {
@@ -150,7 +165,8 @@ impl Mailbox {
         ensures closed { OnOk result (Updates self.old.cursors self.new.cursors handle.slot None) }
         ensures held { OnOk result (IsSome (held self.old.cursors handle)) }
         ensures next { self.new.cursors.next ≡ self.old.cursors.next }
-        ensures stranger { IfErr result (λ back. (back ≡ handle) × IsStranger self.old handle × (self.new ≡ self.old)) }
+        ensures stranger { IfErr result (λ back. (back ≡ handle) × IsStranger self.old handle
+            × (self.new ≡ self.old)) }
     {
         self.cursors.close(handle)
     }
@@ -168,11 +184,17 @@ impl Mailbox {
 
     // Takes out the messages that go as a client leaves.
     fn remove_leaving(&mut self, remove: bool)
-        requires room { total self.old.window + length (removals_if remove (rows self.old)) ≤ 2 ^ 62 }
+        requires room { total self.old.window + length (removals_if remove (rows self.old))
+            ≤ 2 ^ 62 }
         ensures logged { Logs self.old self.new (removals_if remove (rows self.old)) }
-        ensures window { Moves self.old.cursors self.old.window self.new.window (removals_if remove (rows self.old)) }
-        ensures messages { self.new.messages ≡ (if remove then remaining (λ uid. true) self.old.messages else self.old.messages) }
-        ensures rest { self.new ≡ record self.old { messages = self.new.messages; window = self.new.window } }
+        ensures window { Moves self.old.cursors self.old.window self.new.window
+            (removals_if remove (rows self.old)) }
+        ensures messages { self.new.messages
+            ≡ (if remove then remaining (λ uid. true) self.old.messages else self.old.messages) }
+        ensures rest { self.new ≡ record self.old {
+          messages = self.new.messages;
+          window = self.new.window;
+        } }
     {
         if remove {
             self.remove(Choice::Any);
@@ -192,18 +214,24 @@ impl Mailbox {
         remove: bool,
     ) -> Result<usize, (CursorHandle, MailFault)>
         // Stranger exactly where the handle has no cursor here; Spent exactly where it has and the log has no room for what goes.
-        ensures stranger { (result ≡ Err (handle, MailFault.Stranger)) ↔ IsStranger self.old handle }
-        ensures spent { (result ≡ Err (handle, MailFault.Spent)) ↔ (IsSome (held self.old.cursors handle) ×
+        ensures stranger { (result ≡ Err (handle, MailFault.Stranger))
+            ↔ IsStranger self.old handle }
+        ensures spent { (result ≡ Err (handle, MailFault.Spent))
+            ↔ (IsSome (held self.old.cursors handle) ×
             IsTooMany self.old (removals_if remove (rows self.old))) }
         // After an error the handle comes back, it is one of these two, and nothing has changed.
-        ensures only { IfErr result (λ e. (e.0 ≡ handle) × ((e.1 ≡ MailFault.Stranger) ⊎ (e.1 ≡ MailFault.Spent)) × (self.new ≡ self.old)) }
+        ensures only { IfErr result (λ e. (e.0 ≡ handle)
+            × ((e.1 ≡ MailFault.Stranger) ⊎ (e.1 ≡ MailFault.Spent)) × (self.new ≡ self.old)) }
 
         // Where `remove`, what goes is logged, in the order of the messages, on every log for which the mailbox stood.
         ensures logged { OnOk result (Logs self.old self.new (removals_if remove (rows self.old))) }
         // What is logged goes into the window, which grows only for clients that stay: the cursor is closed first.
-        ensures window { OnOk result (Moves self.new.cursors self.old.window self.new.window (removals_if remove (rows self.old))) }
+        ensures window { OnOk result
+            (Moves self.new.cursors self.old.window self.new.window
+            (removals_if remove (rows self.old))) }
         // Where `remove`, the messages with \Deleted go; else all stay.
-        ensures messages { OnOk result (self.new.messages ≡ (if remove then remaining (λ uid. true) self.old.messages else self.old.messages)) }
+        ensures messages { OnOk result (self.new.messages
+            ≡ (if remove then remaining (λ uid. true) self.old.messages else self.old.messages)) }
         // The slot is vacant, and no other slot has changed; nothing but messages, window and cursors changes.
         ensures closed { OnOk result (Updates self.old.cursors self.new.cursors handle.slot None) }
         ensures rest { OnOk result (self.new ≡ record self.old {

@@ -71,7 +71,8 @@ fn given<'a>(
 ) -> Result<u64, Refused<'a>>
     requires { IsFrom option.number.least option.number.most default }
     ensures range { IfOk result (IsFrom option.number.least option.number.most) }
-    ensures value { IfOk result (λ n. n ≡ number_given (rows_of (found_of matches.now)) option.name.now default) }
+    ensures value { IfOk result (λ n.
+        n ≡ number_given (rows_of (found_of matches.now)) option.name.now default) }
 {
     let Some(text) = matches.get_str(option.name) else {
         return Ok(default);
@@ -89,7 +90,8 @@ fn set_name<'a>(
     name: &str,
     value: &mut Vec<u8>,
 ) -> Result<(), AllocError>
-    ensures { OnOk result (value.new.items ≡ text_given (rows_of (found_of matches.now)) name.now value.old.items) }
+    ensures { OnOk result (value.new.items
+        ≡ text_given (rows_of (found_of matches.now)) name.now value.old.items) }
 {
     let Some(text) = matches.get_str(name) else {
         return Ok(());
@@ -100,7 +102,8 @@ fn set_name<'a>(
 
 // The bytes of each of these words.
 fn bytes_of<'a>(alloc: Global, words: &[&'a str]) -> Result<Vec<&'a [u8]>, AllocError>
-    ensures { IfOk result (λ bytes. map (λ word. word.now) bytes.items ≡ map (λ word. word.now) words.now) }
+    ensures { IfOk result (λ bytes. map (λ word. word.now) bytes.items
+        ≡ map (λ word. word.now) words.now) }
 {
     let mut bytes = Vec::new(alloc);
     for word in words {
@@ -112,7 +115,8 @@ fn bytes_of<'a>(alloc: Global, words: &[&'a str]) -> Result<Vec<&'a [u8]>, Alloc
 // The words of the mailboxes.
 fn mailboxes_of<'a>(alloc: Global, matches: &ArgMatches<'a>) -> Result<Vec<&'a [u8]>, Refused<'a>>
     ensures some { IfOk result (λ words. 0 < length words.items) }
-    ensures given { IfOk result (λ words. map (λ word. word.now) words.items ≡ mailboxes_given (rows_of (found_of matches.now))) }
+    ensures given { IfOk result (λ words. map (λ word. word.now) words.items
+        ≡ mailboxes_given (rows_of (found_of matches.now))) }
 {
     let Some(given) = matches.get_strs("MAILBOX") else {
         return Err(Refused::NoMailbox);
@@ -132,9 +136,12 @@ fn set_names<'a>(
 ) -> Result<(), Refused<'a>>
     requires { IsInRange config.old }
     ensures range { IsInRange config.new }
-    ensures host { OnOk result (config.new.host.items ≡ text_given (rows_of (found_of matches.now)) (codes "host") config.old.host.items) }
-    ensures domain { OnOk result (config.new.domain.items ≡ text_given (rows_of (found_of matches.now)) (codes "domain") config.old.domain.items) }
-    ensures rest { config.new ≡ record config.old { host = config.new.host; domain = config.new.domain } }
+    ensures host { OnOk result (config.new.host.items
+        ≡ text_given (rows_of (found_of matches.now)) (codes "host") config.old.host.items) }
+    ensures domain { OnOk result (config.new.domain.items
+        ≡ text_given (rows_of (found_of matches.now)) (codes "domain") config.old.domain.items) }
+    ensures rest { config.new
+        ≡ record config.old { host = config.new.host; domain = config.new.domain } }
 {
     set_name(alloc, matches, "host", &mut config.host)?;
     set_name(alloc, matches, "domain", &mut config.domain)?;
@@ -145,11 +152,22 @@ fn set_names<'a>(
 fn set_sizes<'a>(matches: &ArgMatches<'a>, config: &mut Config) -> Result<(), Refused<'a>>
     requires { IsInRange config.old }
     ensures range { IsInRange config.new }
-    ensures shards { OnOk result (config.new.shards ≡ number_given (rows_of (found_of matches.now)) (codes "shards") config.old.shards) }
-    ensures depth { OnOk result (config.new.depth ≡ number_given (rows_of (found_of matches.now)) (codes "depth") config.old.depth) }
-    ensures messages { OnOk result (config.new.messages ≡ number_given (rows_of (found_of matches.now)) (codes "messages") config.old.messages) }
-    ensures max_message { OnOk result (config.new.max_message ≡ number_given (rows_of (found_of matches.now)) (codes "max-message") config.old.max_message) }
-    ensures rest { config.new ≡ record config.old { shards = config.new.shards; depth = config.new.depth; messages = config.new.messages; max_message = config.new.max_message } }
+    ensures shards { OnOk result (config.new.shards
+        ≡ number_given (rows_of (found_of matches.now)) (codes "shards") config.old.shards) }
+    ensures depth { OnOk result (config.new.depth
+        ≡ number_given (rows_of (found_of matches.now)) (codes "depth") config.old.depth) }
+    ensures messages { OnOk result (config.new.messages
+        ≡ number_given (rows_of (found_of matches.now)) (codes "messages") config.old.messages) }
+    ensures max_message { OnOk result (config.new.max_message
+        ≡ number_given (rows_of (found_of matches.now)) (codes "max-message")
+        config.old.max_message) }
+    ensures rest { config.new
+        ≡ record config.old {
+          shards = config.new.shards;
+          depth = config.new.depth;
+          messages = config.new.messages;
+          max_message = config.new.max_message;
+        } }
 {
     config.shards = given(matches, SHARDS, u64::from(config.shards))? as u8;
     config.depth = given(matches, DEPTH, config.depth as u64)? as usize;
@@ -162,9 +180,12 @@ fn set_sizes<'a>(matches: &ArgMatches<'a>, config: &mut Config) -> Result<(), Re
 fn set_windows<'a>(matches: &ArgMatches<'a>, config: &mut Config) -> Result<(), Refused<'a>>
     requires { IsInRange config.old }
     ensures range { IsInRange config.new }
-    ensures ring { OnOk result (config.new.ring ≡ number_given (rows_of (found_of matches.now)) (codes "ring") config.old.ring) }
-    ensures ring_max { OnOk result (config.new.ring_max ≡ number_given (rows_of (found_of matches.now)) (codes "ring-max") config.old.ring_max) }
-    ensures rest { config.new ≡ record config.old { ring = config.new.ring; ring_max = config.new.ring_max } }
+    ensures ring { OnOk result (config.new.ring
+        ≡ number_given (rows_of (found_of matches.now)) (codes "ring") config.old.ring) }
+    ensures ring_max { OnOk result (config.new.ring_max
+        ≡ number_given (rows_of (found_of matches.now)) (codes "ring-max") config.old.ring_max) }
+    ensures rest { config.new
+        ≡ record config.old { ring = config.new.ring; ring_max = config.new.ring_max } }
 {
     config.ring = given(matches, RING, config.ring as u64)? as usize;
     config.ring_max = given(matches, RING_MAX, config.ring_max as u64)? as usize;
@@ -175,9 +196,16 @@ fn set_windows<'a>(matches: &ArgMatches<'a>, config: &mut Config) -> Result<(), 
 fn set_uids<'a>(matches: &ArgMatches<'a>, config: &mut Config) -> Result<(), Refused<'a>>
     requires { IsInRange config.old }
     ensures range { IsInRange config.new }
-    ensures uidvalidity { OnOk result (config.new.uidvalidity ≡ number_given (rows_of (found_of matches.now)) (codes "uidvalidity") config.old.uidvalidity) }
-    ensures first_uid { OnOk result (config.new.first_uid ≡ number_given (rows_of (found_of matches.now)) (codes "first-uid") config.old.first_uid) }
-    ensures rest { config.new ≡ record config.old { uidvalidity = config.new.uidvalidity; first_uid = config.new.first_uid } }
+    ensures uidvalidity { OnOk result (config.new.uidvalidity
+        ≡ number_given (rows_of (found_of matches.now)) (codes "uidvalidity")
+        config.old.uidvalidity) }
+    ensures first_uid { OnOk result (config.new.first_uid
+        ≡ number_given (rows_of (found_of matches.now)) (codes "first-uid") config.old.first_uid) }
+    ensures rest { config.new
+        ≡ record config.old {
+          uidvalidity = config.new.uidvalidity;
+          first_uid = config.new.first_uid;
+        } }
 {
     config.uidvalidity = given(matches, UIDVALIDITY, u64::from(config.uidvalidity))? as u32;
     config.first_uid = given(matches, FIRST_UID, u64::from(config.first_uid))? as u32;
@@ -188,11 +216,21 @@ fn set_uids<'a>(matches: &ArgMatches<'a>, config: &mut Config) -> Result<(), Ref
 fn set_server<'a>(matches: &ArgMatches<'a>, config: &mut Config) -> Result<(), Refused<'a>>
     requires { IsInRange config.old }
     ensures range { IsInRange config.new }
-    ensures lmtp_port { OnOk result (config.new.lmtp_port ≡ number_given (rows_of (found_of matches.now)) (codes "lmtp-port") config.old.lmtp_port) }
-    ensures imap_port { OnOk result (config.new.imap_port ≡ number_given (rows_of (found_of matches.now)) (codes "imap-port") config.old.imap_port) }
-    ensures workers { OnOk result (config.new.workers ≡ number_given (rows_of (found_of matches.now)) (codes "workers") config.old.workers) }
-    ensures sessions { OnOk result (config.new.sessions ≡ number_given (rows_of (found_of matches.now)) (codes "sessions") config.old.sessions) }
-    ensures rest { config.new ≡ record config.old { lmtp_port = config.new.lmtp_port; imap_port = config.new.imap_port; workers = config.new.workers; sessions = config.new.sessions } }
+    ensures lmtp_port { OnOk result (config.new.lmtp_port
+        ≡ number_given (rows_of (found_of matches.now)) (codes "lmtp-port") config.old.lmtp_port) }
+    ensures imap_port { OnOk result (config.new.imap_port
+        ≡ number_given (rows_of (found_of matches.now)) (codes "imap-port") config.old.imap_port) }
+    ensures workers { OnOk result (config.new.workers
+        ≡ number_given (rows_of (found_of matches.now)) (codes "workers") config.old.workers) }
+    ensures sessions { OnOk result (config.new.sessions
+        ≡ number_given (rows_of (found_of matches.now)) (codes "sessions") config.old.sessions) }
+    ensures rest { config.new
+        ≡ record config.old {
+          lmtp_port = config.new.lmtp_port;
+          imap_port = config.new.imap_port;
+          workers = config.new.workers;
+          sessions = config.new.sessions;
+        } }
 {
     config.lmtp_port = given(matches, LMTP_PORT, u64::from(config.lmtp_port))? as u16;
     config.imap_port = given(matches, IMAP_PORT, u64::from(config.imap_port))? as u16;
@@ -209,7 +247,8 @@ fn set_given<'a>(
 ) -> Result<(), Refused<'a>>
     requires { IsInRange config.old }
     ensures range { IsInRange config.new }
-    ensures given { OnOk result (IsDefault config.old (mailboxes_given (rows_of (found_of matches.now)))
+    ensures given { OnOk result
+        (IsDefault config.old (mailboxes_given (rows_of (found_of matches.now)))
         → AsksForScript (rows_of (found_of matches.now)) config.new) }
 {
     set_names(alloc, matches, config)?;
@@ -222,7 +261,8 @@ fn set_given<'a>(
 // The defaults, with the mailboxes of these words.
 fn defaults<'a>(alloc: Global, matches: &ArgMatches<'a>) -> Result<Config, Refused<'a>>
     ensures range { IfOk result IsInRange }
-    ensures default { IfOk result (λ config. IsDefault config (mailboxes_given (rows_of (found_of matches.now)))) }
+    ensures default { IfOk result (λ config.
+        IsDefault config (mailboxes_given (rows_of (found_of matches.now)))) }
 {
     let words = mailboxes_of(alloc, matches)?;
     Ok(Config::new(alloc, &words)?)
@@ -335,8 +375,10 @@ fn asked_by<'a, S: AsStr>(
     requires { app_of command ≡ words_taken.program }
     ensures range { IfOk result IsAskedInRange }
     ensures asks { IfOk result (AsksFor (map S.text words.entry.now)) }
-    ensures answered { MatchResult result (λ asked. words_taken.faults_at (map S.text words.entry.now) ≡ [])
-        (λ e. words_taken.FailsWith (words_taken.faults_at (map S.text words.entry.now)) (kind_of e)) }
+    ensures answered { MatchResult result (λ asked.
+        words_taken.faults_at (map S.text words.entry.now) ≡ [])
+        (λ e. words_taken.FailsWith (words_taken.faults_at (map S.text words.entry.now))
+        (kind_of e)) }
 {
     let matches = command.try_get_matches_from_mut(words)?;
     match asked_in(alloc, &matches) {
@@ -354,8 +396,10 @@ fn asked_by<'a, S: AsStr>(
 pub fn asked_of<'a, S: AsStr>(alloc: Global, words: &'a [S]) -> Result<Asked, Error>
     ensures range { IfOk result IsAskedInRange }
     ensures asks { IfOk result (AsksFor (map S.text words.entry.now)) }
-    ensures answered { MatchResult result (λ asked. words_taken.faults_at (map S.text words.entry.now) ≡ [])
-        (λ e. words_taken.FailsWith (words_taken.faults_at (map S.text words.entry.now)) (kind_of e)) }
+    ensures answered { MatchResult result (λ asked.
+        words_taken.faults_at (map S.text words.entry.now) ≡ [])
+        (λ e. words_taken.FailsWith (words_taken.faults_at (map S.text words.entry.now))
+        (kind_of e)) }
 {
     let helps = Helps::new(alloc)?;
     asked_by(alloc, command_line(alloc, &helps)?, words)

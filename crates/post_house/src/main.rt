@@ -70,7 +70,8 @@ fn is_request(kind: ErrorKind) -> bool
 // Writes help or the version to the output. Where memory is refused nothing is written.
 fn show<W: Sink, F: Write>(alloc: Global, error: &Error, output: &mut W, faults: &mut F) -> u8
     requires { W.failed output.old ≡ false }
-    ensures { (result ≡ 5) × (output.new ≡ output.old) ⊎ Tells (W.failed output.new) result (W.taken output.old) (W.taken output.new) }
+    ensures { (result ≡ 5) × (output.new ≡ output.old)
+        ⊎ Tells (W.failed output.new) result (W.taken output.old) (W.taken output.new) }
 {
     let mut help = Vec::new(alloc);
     let Ok(()) = write!(help, "{error}") else {
@@ -85,7 +86,8 @@ fn show<W: Sink, F: Write>(alloc: Global, error: &Error, output: &mut W, faults:
 // Says what is to be said of a command line that gave no settings: the help on the output, a mistake on standard error.
 fn tell<W: Sink, F: Write>(alloc: Global, error: &Error, output: &mut W, faults: &mut F) -> u8
     requires { W.failed output.old ≡ false }
-    ensures { HasTold (kind_of error.now) (output.new ≡ output.old) (W.failed output.new) result (W.taken output.old) (W.taken output.new) }
+    ensures { HasTold (kind_of error.now) (output.new
+        ≡ output.old) (W.failed output.new) result (W.taken output.old) (W.taken output.new) }
 {
     if is_want(error.kind()) {
         return fail(Failure::NoMemory, faults);
@@ -107,11 +109,15 @@ fn play<R: BufRead, W: Sink>(
     requires range { IsInRange config.now }
     requires live { W.failed output.old ≡ false }
     ensures played { (bytes : List ℕ) → R.remaining input.old ≡ Some bytes →
-        WasPlayed config.now (script_of bytes) (W.failed output.new) result (W.taken output.old) (W.taken output.new) }
+        WasPlayed config.now (script_of bytes) (W.failed output.new) result (W.taken output.old)
+        (W.taken output.new) }
     ensures once { (bytes : List ℕ) → R.remaining input.old ≡ Some bytes →
-        WroteOnce (setup_of config.now) (script_of bytes) (W.taken output.old) (W.taken output.new) }
-    ensures fault { (fault : ConfigFault) → result ≡ Err (Failure.Config fault) → config_fault config.now ≡ Some fault }
-    ensures not_set { (fault : ConfigFault) → result ≡ Err (Failure.Config fault) → output.new ≡ output.old }
+        WroteOnce (setup_of config.now) (script_of bytes) (W.taken output.old)
+        (W.taken output.new) }
+    ensures fault { (fault : ConfigFault) → result ≡ Err (Failure.Config fault)
+        → config_fault config.now ≡ Some fault }
+    ensures not_set { (fault : ConfigFault) → result ≡ Err (Failure.Config fault)
+        → output.new ≡ output.old }
 {
     let mut house = match House::new(alloc, config) {
         Ok(house) => house,
@@ -132,7 +138,8 @@ fn carry_out<
     requires range { IsAskedInRange asked.now }
     requires live { W.failed output.old ≡ false }
     ensures not_set { status_of_done result ≡ 3 → output.new ≡ output.old }
-    ensures done { HasDone asked.now result (I.remaining input.old) (W.failed output.new) (W.taken output.old) (W.taken output.new) }
+    ensures done { HasDone asked.now result (I.remaining input.old) (W.failed output.new)
+        (W.taken output.old) (W.taken output.new) }
 {
     match asked {
         Asked::Script(config) => Done::Played(play(alloc, config, input, output)),
@@ -173,7 +180,8 @@ fn command<
     ensures not_asked { result.status ≡ NOT_ASKED_RIGHT → output.new ≡ output.old }
     ensures not_set { result.status ≡ 3 → output.new ≡ output.old }
     // What the words asked for was done; or they ask for nothing that is done, the input wasn't touched, and that was told.
-    ensures ran { HasRun (map S.text words.now) result.outcome (input.new ≡ input.old) (I.remaining input.old) (output.new ≡ output.old)
+    ensures ran { HasRun (map S.text words.now) result.outcome (input.new
+        ≡ input.old) (I.remaining input.old) (output.new ≡ output.old)
         (W.failed output.new) result.status (W.taken output.old) (W.taken output.new) }
 {
     let asked = match asked_of(alloc, words) {

@@ -210,7 +210,8 @@ fn with_names_of<'a>(
     helps: &'a [String],
 ) -> Result<Command<'a>, AllocError>
     requires { 2 ≤ length helps.now }
-    ensures { IfOk result (HasMore (words.name_rule (codes "host") ∷ words.name_rule (codes "domain") ∷ []) subcommand.entry) }
+    ensures { IfOk result (HasMore (words.name_rule (codes "host")
+        ∷ words.name_rule (codes "domain") ∷ []) subcommand.entry) }
 {
     subcommand
         .arg(name(alloc, "host", &helps[0]))?
@@ -269,7 +270,8 @@ fn serve_line<'a>(alloc: Global, helps: &'a Helps) -> Result<Command<'a>, AllocE
 
 // The program, with no subcommand yet.
 fn program<'a>(alloc: Global) -> Command<'a>
-    ensures { app_of result ≡ record words.program { top = record (words.program).top { is_leaf = true }; subs = [] } }
+    ensures { app_of result ≡ record words.program
+        { top = record (words.program).top { is_leaf = true }; subs = [] } }
 {
     Command::new(alloc, "post_house")
         .about("Takes in mail for a few mailboxes")

@@ -56,10 +56,12 @@ fn clear_post(
 )
     requires receivers { vec_len receivers.old < vec_capacity receivers.old }
     requires permits { vec_len permits.old + vec_len post.desk.permits ≤ vec_capacity permits.old }
-    requires ended { vec_len ended.old + (vec_len post.desk.permits + vec_len post.room) ≤ vec_capacity ended.old }
+    requires ended { vec_len ended.old + (vec_len post.desk.permits + vec_len post.room)
+        ≤ vec_capacity ended.old }
     ensures receivers { HasGrown 1 receivers.old receivers.new }
     ensures permits { HasGrownAtMost (vec_len post.desk.permits) permits.old permits.new }
-    ensures ended { HasGrownAtMost (vec_len post.desk.permits + vec_len post.room) ended.old ended.new }
+    ensures ended { HasGrownAtMost (vec_len post.desk.permits
+        + vec_len post.room) ended.old ended.new }
 {
     let Post { desk, room } = post;
     let Desk {
@@ -81,10 +83,14 @@ fn clear_posts(
     ended: &mut Vec<Ended<Job>>,
 )
     requires receivers { vec_len receivers.old + vec_len posts ≤ vec_capacity receivers.old }
-    requires permits { vec_len permits.old + sum_by (λ p. vec_len p.desk.permits) posts.items ≤ vec_capacity permits.old }
-    requires ended { vec_len ended.old + sum_by (λ p. vec_len p.desk.permits + vec_len p.room) posts.items ≤ vec_capacity ended.old }
+    requires permits { vec_len permits.old + sum_by (λ p. vec_len p.desk.permits) posts.items
+        ≤ vec_capacity permits.old }
+    requires ended { vec_len ended.old
+        + sum_by (λ p. vec_len p.desk.permits + vec_len p.room) posts.items
+        ≤ vec_capacity ended.old }
     ensures receivers { HasGrown (vec_len posts) receivers.old receivers.new }
-    ensures ended { HasGrownAtMost (sum_by (λ p. vec_len p.desk.permits + vec_len p.room) posts.items) ended.old ended.new }
+    ensures ended { HasGrownAtMost (sum_by (λ p.
+        vec_len p.desk.permits + vec_len p.room) posts.items) ended.old ended.new }
 {
     while let Some(post) = posts.pop() {
         clear_post(post, receivers, permits, ended);
@@ -121,7 +127,8 @@ fn clear_workers(
     ended: &mut Vec<Ended<Job>>,
 )
     requires receivers { vec_len receivers.old + vec_len worked ≤ vec_capacity receivers.old }
-    requires ended { vec_len ended.old + sum_by (λ w. vec_len w.ended) worked.items ≤ vec_capacity ended.old }
+    requires ended { vec_len ended.old + sum_by (λ w. vec_len w.ended) worked.items
+        ≤ vec_capacity ended.old }
     ensures receivers { HasGrown (vec_len worked) receivers.old receivers.new }
 {
     while let Some(one) = worked.pop() {
@@ -137,7 +144,8 @@ fn clear_stand(
     senders: &mut Vec<SenderPermit<Noted>>,
 )
     requires permits { vec_len permits.old < vec_capacity permits.old }
-    requires senders { vec_len senders.old + vec_len stand.stall.senders ≤ vec_capacity senders.old }
+    requires senders { vec_len senders.old + vec_len stand.stall.senders
+        ≤ vec_capacity senders.old }
     requires room { stand.room.items ≡ [] }
     ensures permits { HasGrown 1 permits.old permits.new }
     ensures senders { HasGrown (vec_len stand.stall.senders) senders.old senders.new }
@@ -161,7 +169,8 @@ fn clear_stands(
     senders: &mut Vec<SenderPermit<Noted>>,
 )
     requires permits { vec_len permits.old + vec_len stands ≤ vec_capacity permits.old }
-    requires senders { vec_len senders.old + sum_by (λ s. vec_len s.stall.senders) stands.items ≤ vec_capacity senders.old }
+    requires senders { vec_len senders.old + sum_by (λ s. vec_len s.stall.senders) stands.items
+        ≤ vec_capacity senders.old }
     requires rooms { All (λ s. s.room.items ≡ []) stands.items }
     ensures permits { HasGrown (vec_len stands) permits.old permits.new }
 {
@@ -200,7 +209,8 @@ fn clear_consumers(
     ended: &mut Vec<SenderEnded<Noted>>,
 )
     requires permits { vec_len permits.old + vec_len consumed ≤ vec_capacity permits.old }
-    requires ended { vec_len ended.old + sum_by (λ c. vec_len c.senders) consumed.items ≤ vec_capacity ended.old }
+    requires ended { vec_len ended.old + sum_by (λ c. vec_len c.senders) consumed.items
+        ≤ vec_capacity ended.old }
     ensures permits { HasGrown (vec_len consumed) permits.old permits.new }
 {
     while let Some(one) = consumed.pop() {
@@ -260,7 +270,8 @@ struct Ends {
 // The room that is needed here; the other baskets are empty, and are spent.
 fn ends_of(baskets: Baskets) -> Ends
     requires hands { (baskets.hands.items ≡ []) × (baskets.sender_hands.items ≡ []) }
-    requires lists { All (λ v. v.items ≡ []) baskets.lists.items × All (λ v. v.items ≡ []) baskets.sender_lists.items }
+    requires lists { All (λ v. v.items ≡ []) baskets.lists.items
+        × All (λ v. v.items ≡ []) baskets.sender_lists.items }
     ensures consumers { result.consumers ≡ baskets.consumers }
     ensures receivers { result.receivers ≡ baskets.receivers }
     ensures spares { result.spares ≡ baskets.spares }
@@ -297,14 +308,17 @@ pub fn abandon(alloc: Global, floor: Floor, ran: Ran, baskets: Baskets)
     requires channels { 0 < length floor.depot.channels.items }
 
     // Nothing lies in the baskets, which have room for what so many producers and consumers leave.
-    requires baskets { AreBaskets (length floor.depot.channels.items) (length floor.office.lanes.items) baskets }
+    requires baskets { AreBaskets (length floor.depot.channels.items)
+        (length floor.office.lanes.items) baskets }
 
     // Of each producer there is its post or what it left, of each consumer its stand or what it left.
     requires left { IsSpendable floor (length floor.depot.channels.items) ran }
 
     // Who left something left what is left of its permit on each lane, or of its sender on each channel.
-    requires worked { All (λ w. vec_len w.ended ≡ length floor.office.lanes.items) ran.worked.items }
-    requires consumed { All (λ c. vec_len c.senders ≡ length floor.depot.channels.items) ran.consumed.items }
+    requires worked { All (λ w. vec_len w.ended
+        ≡ length floor.office.lanes.items) ran.worked.items }
+    requires consumed { All (λ c. vec_len c.senders
+        ≡ length floor.depot.channels.items) ran.consumed.items }
 {
     let Remains {
         directory: _,

@@ -133,7 +133,8 @@ pub fn close_queues(
     requires hands { AreEndedHands lanes.items 0 (map (λ w. w.ended.items) worked.items) }
     requires receivers { AreReceivers channels.items (map (λ w. w.receiver) worked.items) }
     requires consumers { AreConsumers lanes.items (map (λ c. c.permit) consumed.items) }
-    requires senders { AreSenderEndedHands channels.items 0 (map (λ c. c.senders.items) consumed.items) }
+    requires senders { AreSenderEndedHands channels.items 0 (map (λ c.
+        c.senders.items) consumed.items) }
 
     // Nothing lies in the baskets, which have room for all of that.
     requires baskets { AreBaskets (vec_len channels) (vec_len lanes) baskets }
@@ -199,13 +200,15 @@ pub fn balance(
     requires hands { AreEndedHands lanes.items 0 (map (λ w. w.ended.items) worked.items) }
     requires receivers { AreReceivers channels.items (map (λ w. w.receiver) worked.items) }
     requires consumers { AreConsumers lanes.items (map (λ c. c.permit) consumed.items) }
-    requires senders { AreSenderEndedHands channels.items 0 (map (λ c. c.senders.items) consumed.items) }
+    requires senders { AreSenderEndedHands channels.items 0 (map (λ c.
+        c.senders.items) consumed.items) }
 
     // Nothing lies in the baskets, which have room for all of that.
     requires baskets { AreBaskets (vec_len channels) (vec_len lanes) baskets }
 
     // Without an error no thread had a fault, each queue was closed, and the books have the rest of what they left, in their order.
-    ensures balanced { IfOk result (λ books. IsBalanced lanes.items channels.items worked.items consumed.items books) }
+    ensures balanced { IfOk result (λ books.
+        IsBalanced lanes.items channels.items worked.items consumed.items books) }
 
     // An error is the gravest fault of a thread; or there was none, it is `Torn`, and some queue couldn't be closed.
     ensures fault { IfErr result (IsWhyNot lanes.items channels.items worked.items consumed.items) }

@@ -35,8 +35,10 @@ pub fn close_all_lanes(
     requires closed { (closed.items ≡ []) × (vec_len lanes ≤ vec_capacity closed) }
 
     // `None`: some lane was torn. Else each lane was closed, with the ended permits of all these producers there.
-    ensures { MatchOption result (AreTornWith lanes.items (map (λ h. h.items) hands.items) consumers.items)
-        (λ cs. AreClosedWith lanes.items (map (λ h. h.items) hands.items) consumers.items cs.items) }
+    ensures { MatchOption result (AreTornWith lanes.items (map (λ h.
+        h.items) hands.items) consumers.items)
+        (λ cs. AreClosedWith lanes.items (map (λ h.
+        h.items) hands.items) consumers.items cs.items) }
 {
     collect_all(&mut lists, hands);
     close_lanes(alloc, lanes, lists, consumers, closed)
@@ -62,8 +64,10 @@ pub fn close_all_channels(
     requires closed { (closed.items ≡ []) × (vec_len channels ≤ vec_capacity closed) }
 
     // `None`: some channel was torn. Else each channel was closed, with the ended senders of all these consumers there.
-    ensures { MatchOption result (AreChannelsTornWith channels.items (map (λ h. h.items) hands.items) receivers.items)
-        (λ cs. AreChannelsClosedWith channels.items (map (λ h. h.items) hands.items) receivers.items cs.items) }
+    ensures { MatchOption result (AreChannelsTornWith channels.items (map (λ h.
+        h.items) hands.items) receivers.items)
+        (λ cs. AreChannelsClosedWith channels.items (map (λ h.
+        h.items) hands.items) receivers.items cs.items) }
 {
     collect_all_senders(&mut lists, hands);
     close_channels(alloc, channels, lists, receivers, closed)

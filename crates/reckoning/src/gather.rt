@@ -76,12 +76,15 @@ fn lay_worker(worked: Worked, into: &mut FromWorkers) -> Fate
     requires receivers { vec_len into.old.receivers < vec_capacity into.old.receivers }
     requires replies { vec_len into.old.replies < vec_capacity into.old.replies }
     requires logs { vec_len into.old.logs < vec_capacity into.old.logs }
-    ensures hands { (into.new.hands.items ≡ into.old.hands.items ++ worked.ended ∷ []) × (vec_capacity into.new.hands ≡ vec_capacity into.old.hands) }
-    ensures receivers { (into.new.receivers.items ≡ into.old.receivers.items ++ worked.receiver ∷ []) ×
+    ensures hands { (into.new.hands.items ≡ into.old.hands.items ++ worked.ended ∷ [])
+        × (vec_capacity into.new.hands ≡ vec_capacity into.old.hands) }
+    ensures receivers { (into.new.receivers.items
+        ≡ into.old.receivers.items ++ worked.receiver ∷ []) ×
         (vec_capacity into.new.receivers ≡ vec_capacity into.old.receivers) }
     ensures replies { (into.new.replies.items ≡ into.old.replies.items ++ worked.replies ∷ []) ×
         (vec_capacity into.new.replies ≡ vec_capacity into.old.replies) }
-    ensures logs { (into.new.logs.items ≡ into.old.logs.items ++ worked.log ∷ []) × (vec_capacity into.new.logs ≡ vec_capacity into.old.logs) }
+    ensures logs { (into.new.logs.items ≡ into.old.logs.items ++ worked.log ∷ [])
+        × (vec_capacity into.new.logs ≡ vec_capacity into.old.logs) }
     ensures fate { result ≡ worked.fate }
 {
     let Worked {

@@ -22,7 +22,8 @@ pub struct Shelves {
 fn add_to(alloc: Global, behind: Mutex<Mailbox>, shelves: &mut Shelves) -> Result<(), AllocError>
     requires numbered { All (λ v. AreNumbered v.items) shelves.old.accepted.items }
     requires once { All (λ v. AreToldOnce v.items) shelves.old.texts.items }
-    ensures counts { OnOk result ((vec_len shelves.new.accepted ≡ vec_len shelves.old.accepted + 1) ×
+    ensures counts { OnOk result ((vec_len shelves.new.accepted
+        ≡ vec_len shelves.old.accepted + 1) ×
         (vec_len shelves.new.texts ≡ vec_len shelves.old.texts + 1)) }
     ensures numbered { OnOk result (All (λ v. AreNumbered v.items) shelves.new.accepted.items) }
     ensures once { OnOk result (All (λ v. AreToldOnce v.items) shelves.new.texts.items) }
@@ -39,7 +40,8 @@ fn add_to(alloc: Global, behind: Mutex<Mailbox>, shelves: &mut Shelves) -> Resul
 /// What each mailbox accepted, and what is there. The only error is that memory is refused.
 pub fn take_out(alloc: Global, mailboxes: Vec<Mutex<Mailbox>>) -> Result<Shelves, AllocError>
     // There is a list of each for each mailbox.
-    ensures counts { IfOk result (λ s. (vec_len s.accepted ≡ vec_len mailboxes) × (vec_len s.texts ≡ vec_len mailboxes)) }
+    ensures counts { IfOk result (λ s. (vec_len s.accepted ≡ vec_len mailboxes)
+        × (vec_len s.texts ≡ vec_len mailboxes)) }
 
     // UIDs were given one after another, with no gap; and each message that is there is told once.
     ensures numbered { IfOk result (λ s. All (λ v. AreNumbered v.items) s.accepted.items) }

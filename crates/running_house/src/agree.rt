@@ -23,7 +23,8 @@ fn mailbox_agrees(
     texts: &[(u32, Text)],
 ) -> Result<bool, AllocError>
     ensures { IfOk result (λ agrees. IsTrue agrees
-        ↔ MailboxMet whole (map (λ l. l.notes) logs.now) copies.now mailbox accepted.now texts.now) }
+        ↔ MailboxMet whole (map (λ l.
+        l.notes) logs.now) copies.now mailbox accepted.now texts.now) }
 {
     if !are_told(alloc, logs, mailbox, accepted)? {
         return Ok(false);
@@ -55,19 +56,25 @@ pub fn lists_agree(
     requires { directory.now.shards ≤ length copies.now }
 
     // Where `true` is answered the lists agree.
-    ensures agrees { IfOk result (λ agrees. IsTrue agrees → ListsAgree directory.now whole (map (λ l. l.notes) logs.now)
-        (map (λ c. c.items) copies.now) (map (λ a. a.items) accepted.now) (map (λ t. t.items) texts.now)) }
+    ensures agrees { IfOk result (λ agrees. IsTrue agrees
+        → ListsAgree directory.now whole (map (λ l. l.notes) logs.now)
+        (map (λ c. c.items) copies.now) (map (λ a. a.items) accepted.now) (map (λ t.
+        t.items) texts.now)) }
 
     // Where they agree, and stand in the order of a house that did its work, `true` is answered.
-    ensures found { IfOk result (λ agrees. AreInOrder directory.now (map (λ c. c.items) copies.now) (map (λ a. a.items) accepted.now)
+    ensures found { IfOk result (λ agrees.
+        AreInOrder directory.now (map (λ c. c.items) copies.now) (map (λ a. a.items) accepted.now)
         (map (λ t. t.items) texts.now)
-        → ListsAgree directory.now whole (map (λ l. l.notes) logs.now) (map (λ c. c.items) copies.now)
+        → ListsAgree directory.now whole (map (λ l. l.notes) logs.now) (map (λ c.
+        c.items) copies.now)
         (map (λ a. a.items) accepted.now) (map (λ t. t.items) texts.now)
         → IsTrue agrees) }
 
     // In whatever order: `true` just where the logs tell what was accepted, and each message is met with its copy, one behind the other.
-    ensures exact { IfOk result (λ agrees. IsTrue agrees ↔ ListsMet directory.now whole (map (λ l. l.notes) logs.now)
-        (map (λ c. c.items) copies.now) (map (λ a. a.items) accepted.now) (map (λ t. t.items) texts.now)) }
+    ensures exact { IfOk result (λ agrees. IsTrue agrees
+        ↔ ListsMet directory.now whole (map (λ l. l.notes) logs.now)
+        (map (λ c. c.items) copies.now) (map (λ a. a.items) accepted.now) (map (λ t.
+        t.items) texts.now)) }
 {
     let mailboxes = directory.mailboxes();
     if accepted.len() != mailboxes || texts.len() != mailboxes {

@@ -26,7 +26,8 @@ pub(crate) fn all_copies(
     alloc: Global,
     taken: Vec<Vec<Entry<Job>>>,
 ) -> Result<Vec<Vec<Job>>, AllocError>
-    ensures { IfOk result (λ copies. map (λ c. c.items) copies.items ≡ map (λ t. items_of t.items) taken.items) }
+    ensures { IfOk result (λ copies. map (λ c. c.items) copies.items
+        ≡ map (λ t. items_of t.items) taken.items) }
 {
     let mut copies = Vec::with_capacity(alloc, taken.len())?;
     for one in taken {

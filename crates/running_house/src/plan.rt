@@ -146,8 +146,11 @@ fn is_shard_missing(closings: &[Vec<Closing>], shards: u8) -> bool
 fn fault_of_actors(plan: &Plan, directory: &Directory) -> Option<ConfigFault>
     requires { directory.now ≡ directory_for plan.now.config }
     ensures is { result ≡ after_settings plan.now None }
-    ensures few { result ≡ None → (length plan.now.workers.items ≤ most_workers) × (producers_in plan.now ≤ most_producers) }
-    ensures guests { result ≡ None → All (λ v. user_numbered v.user directory.now.homes ≢ None) plan.now.sessions.items }
+    ensures few { result ≡ None
+        → (length plan.now.workers.items ≤ most_workers)
+        × (producers_in plan.now ≤ most_producers) }
+    ensures guests { result ≡ None
+        → All (λ v. user_numbered v.user directory.now.homes ≢ None) plan.now.sessions.items }
 {
     if MOST_WORKERS < plan.workers.len() {
         return Some(ConfigFault::TooMany);
@@ -181,8 +184,10 @@ pub(crate) fn directory_for(alloc: Global, plan: &Plan) -> Result<Directory, Wor
     ensures directory { IfOk result (λ d. d ≡ directory_for plan.now.config) }
     ensures host { IfOk result (λ d. length plan.now.config.host.items < 256) }
     ensures right { IfOk result (λ d. plan_fault plan.now ≡ None) }
-    ensures few { IfOk result (λ d. (length plan.now.workers.items ≤ most_workers) × (producers_in plan.now ≤ most_producers)) }
-    ensures guests { IfOk result (λ d. All (λ v. user_numbered v.user d.homes ≢ None) plan.now.sessions.items) }
+    ensures few { IfOk result (λ d. (length plan.now.workers.items ≤ most_workers)
+        × (producers_in plan.now ≤ most_producers)) }
+    ensures guests { IfOk result (λ d.
+        All (λ v. user_numbered v.user d.homes ≢ None) plan.now.sessions.items) }
 
     // An error is `NoMemory`, or `Config` with the plan's own first fault.
     ensures fault { IfErr result (IsFaultOf plan.now) }

@@ -94,7 +94,8 @@ fn came_behind(count: usize, mailbox: u8, key: &CopyKey, taken: &[Entry<Job>]) -
 
 // What was taken from the lane of this mailbox's shard.
 fn taken_for<'a>(evidence: &Evidence<'a>, mailbox: u8) -> &'a [Entry<Job>]
-    ensures { result.now ≡ slice_index_or (map (λ own. own.items) evidence.now.taken.now) (shard_of evidence.now.directory.now mailbox) [] }
+    ensures { result.now ≡ slice_index_or (map (λ own.
+        own.items) evidence.now.taken.now) (shard_of evidence.now.directory.now mailbox) [] }
 {
     match evidence.taken.get(evidence.directory.shard_of(mailbox)) {
         Some(taken) => taken.as_slice(),
@@ -104,7 +105,8 @@ fn taken_for<'a>(evidence: &Evidence<'a>, mailbox: u8) -> &'a [Entry<Job>]
 
 // Those that this mailbox accepted.
 fn accepted_by<'a>(evidence: &Evidence<'a>, mailbox: u8) -> &'a [(CopyKey, u32)]
-    ensures { result.now ≡ slice_index_or (map (λ own. own.items) evidence.now.accepted.now) mailbox [] }
+    ensures { result.now ≡ slice_index_or (map (λ own.
+        own.items) evidence.now.accepted.now) mailbox [] }
 {
     match evidence.accepted.get(usize::from(mailbox)) {
         Some(own) => own.as_slice(),
@@ -114,8 +116,11 @@ fn accepted_by<'a>(evidence: &Evidence<'a>, mailbox: u8) -> &'a [(CopyKey, u32)]
 
 // Whether a mailbox can have accepted so many copies when the one with this key was judged.
 fn may_have_had(evidence: &Evidence<'_>, count: usize, noted: &Noted) -> bool
-    ensures { IsTrue result → MayHaveHad count (slice_index_or (map (λ own. own.items) evidence.now.accepted.now) noted.now.mailbox []) noted.now.mailbox noted.now.key
-        (slice_index_or (map (λ own. own.items) evidence.now.taken.now) (shard_of evidence.now.directory.now noted.now.mailbox) []) }
+    ensures { IsTrue result → MayHaveHad count (slice_index_or (map (λ own.
+        own.items) evidence.now.accepted.now) noted.now.mailbox []) noted.now.mailbox noted.now.key
+        (slice_index_or (map (λ own.
+        own.items) evidence.now.taken.now) (shard_of evidence.now.directory.now noted.now.mailbox)
+        []) }
 {
     let mailbox = noted.mailbox;
     count <= accepted_by(evidence, mailbox).len()
@@ -125,7 +130,8 @@ fn may_have_had(evidence: &Evidence<'_>, count: usize, noted: &Noted) -> bool
 // Whether this verdict can have come.
 fn may_come(evidence: &Evidence<'_>, noted: &Noted) -> bool
     ensures { IsTrue result → MayCome evidence.now.config.now evidence.now.directory.now
-        (map (λ own. own.items) evidence.now.accepted.now) (map (λ own. own.items) evidence.now.taken.now) noted.now }
+        (map (λ own. own.items) evidence.now.accepted.now) (map (λ own.
+        own.items) evidence.now.taken.now) noted.now }
 {
     let config = evidence.config;
     match noted.verdict {
@@ -145,15 +151,18 @@ fn may_come(evidence: &Evidence<'_>, noted: &Noted) -> bool
 // Whether each verdict of one log can have come.
 fn each_may_come(evidence: &Evidence<'_>, log: &WorkerLog) -> bool
     ensures { IsTrue result → All (MayCome evidence.now.config.now evidence.now.directory.now
-        (map (λ own. own.items) evidence.now.accepted.now) (map (λ own. own.items) evidence.now.taken.now)) log.now.notes }
+        (map (λ own. own.items) evidence.now.accepted.now) (map (λ own.
+        own.items) evidence.now.taken.now)) log.now.notes }
 {
     log.notes().iter().all(|noted| may_come(evidence, noted))
 }
 
 /// Whether each verdict that the producers noted can have come: one log is of one producer.
 pub(crate) fn all_may_come(evidence: &Evidence<'_>, logs: &[WorkerLog]) -> bool
-    ensures { IsTrue result → All (λ log. All (MayCome evidence.now.config.now evidence.now.directory.now
-        (map (λ own. own.items) evidence.now.accepted.now) (map (λ own. own.items) evidence.now.taken.now)) log.notes) logs.now }
+    ensures { IsTrue result → All (λ log.
+        All (MayCome evidence.now.config.now evidence.now.directory.now
+        (map (λ own. own.items) evidence.now.accepted.now) (map (λ own.
+        own.items) evidence.now.taken.now)) log.notes) logs.now }
 {
     logs.iter().all(|log| each_may_come(evidence, log))
 }

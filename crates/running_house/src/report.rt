@@ -48,7 +48,8 @@ fn part_sessions(
     requires { workers ≤ vec_len replies.old }
     ensures workers { OnOk result (replies.new.items ≡ take workers replies.old.items) }
     ensures count { IfOk result (λ sessions. workers + vec_len sessions ≡ vec_len replies.old) }
-    ensures sessions { IfOk result (λ sessions. AreTexts (drop workers replies.old.items) sessions.items) }
+    ensures sessions { IfOk result (λ sessions.
+        AreTexts (drop workers replies.old.items) sessions.items) }
 {
     let mut sessions = Vec::with_capacity(alloc, replies.len() - workers)?;
     for _session in workers..replies.len() {
@@ -70,15 +71,22 @@ fn compare(
     requires shards { directory.now.shards ≤ vec_len books.taken }
     requires numbered { All (λ v. AreNumbered v.items) shelves.accepted.items }
     requires once { All (λ v. AreToldOnce v.items) shelves.texts.items }
-    ensures lists { IfOk result (λ r. ListsAgree directory.now whole (notes_of r) (map (λ t. items_of t.items) books.taken.items) (accepted_of r)
+    ensures lists { IfOk result (λ r.
+        ListsAgree directory.now whole (notes_of r) (map (λ t.
+        items_of t.items) books.taken.items) (accepted_of r)
         (texts_of r)) }
-    ensures met { IfOk result (λ r. ListsMet directory.now whole (notes_of r) (map (λ t. items_of t.items) books.taken.items) (accepted_of r)
+    ensures met { IfOk result (λ r.
+        ListsMet directory.now whole (notes_of r) (map (λ t.
+        items_of t.items) books.taken.items) (accepted_of r)
         (texts_of r)) }
     ensures numbered { IfOk result (IsNumbered config.now.first_uid) }
-    ensures refusals { IfOk result (λ r. All (λ log. All (MayCome config.now directory.now (accepted_of r)
+    ensures refusals { IfOk result (λ r.
+        All (λ log. All (MayCome config.now directory.now (accepted_of r)
         (map (λ t. t.items) books.taken.items)) log.notes) r.logs.items) }
-    ensures same { IfOk result (λ r. (r.replies ≡ books.replies) × (r.logs ≡ books.logs) × (r.sessions ≡ sessions) × (r.closed ≡ books.closed)) }
-    ensures fault { IfErr result (λ fault. (fault ≡ WorkFault.NoMemory) ⊎ (fault ≡ WorkFault.Torn)) }
+    ensures same { IfOk result (λ r. (r.replies ≡ books.replies) × (r.logs ≡ books.logs)
+        × (r.sessions ≡ sessions) × (r.closed ≡ books.closed)) }
+    ensures fault { IfErr result (λ fault. (fault ≡ WorkFault.NoMemory)
+        ⊎ (fault ≡ WorkFault.Torn)) }
 {
     let Books {
         replies,
@@ -132,15 +140,21 @@ fn report_on(
 ) -> Result<Report, WorkFault>
     requires shards { directory.now.shards ≤ vec_len books.taken }
     requires workers { length plan.now.workers.items ≤ vec_len books.replies }
-    ensures lists { IfOk result (λ r. ListsAgree directory.now (length plan.now.sessions.items == 0) (notes_of r)
+    ensures lists { IfOk result (λ r.
+        ListsAgree directory.now (length plan.now.sessions.items == 0) (notes_of r)
         (map (λ t. items_of t.items) books.taken.items) (accepted_of r) (texts_of r)) }
-    ensures met { IfOk result (λ r. ListsMet directory.now (length plan.now.sessions.items == 0) (notes_of r)
+    ensures met { IfOk result (λ r.
+        ListsMet directory.now (length plan.now.sessions.items == 0) (notes_of r)
         (map (λ t. items_of t.items) books.taken.items) (accepted_of r) (texts_of r)) }
     ensures numbered { IfOk result (IsNumbered plan.now.config.first_uid) }
-    ensures refusals { IfOk result (λ r. All (λ log. All (MayCome plan.now.config directory.now (accepted_of r)
+    ensures refusals { IfOk result (λ r.
+        All (λ log. All (MayCome plan.now.config directory.now (accepted_of r)
         (map (λ t. t.items) books.taken.items)) log.notes) r.logs.items) }
-    ensures parts { IfOk result (λ r. (r.replies.items ≡ take (length plan.now.workers.items) books.replies.items) × (r.logs ≡ books.logs) ×
-        (r.closed ≡ books.closed) × AreTexts (drop (length plan.now.workers.items) books.replies.items) r.sessions.items ×
+    ensures parts { IfOk result (λ r.
+        (r.replies.items ≡ take (length plan.now.workers.items) books.replies.items)
+        × (r.logs ≡ books.logs) ×
+        (r.closed ≡ books.closed)
+        × AreTexts (drop (length plan.now.workers.items) books.replies.items) r.sessions.items ×
         (length plan.now.workers.items + vec_len r.sessions ≡ vec_len books.replies)) }
     ensures fault { IfErr result (λ fault. (known : Fault) × (fault ≡ of_reckoning known)) }
 {
@@ -170,7 +184,8 @@ pub(crate) fn report_of(
 ) -> Result<Report, WorkFault>
     requires floor { IsFloorFor plan.now floor }
     requires consumed { AllAt (IsServiceOf floor) 0 ran.consumed.items }
-    requires worked { AllAt (IsProduceOf floor plan.now.workers.items plan.now.sessions.items) 0 ran.worked.items }
+    requires worked { AllAt (IsProduceOf floor plan.now.workers.items plan.now.sessions.items) 0
+        ran.worked.items }
     requires all { LeavesAll floor plan.now.workers.items plan.now.sessions.items ran }
     requires baskets { AreBaskets (producers_in plan.now) plan.now.config.shards baskets }
     ensures agrees { IfOk result (Agrees plan.now) }

@@ -23,7 +23,8 @@ fn pair_with(accepted: &[(CopyKey, u32)], uid: u32) -> Option<(CopyKey, &[(CopyK
 
 /// The text of the first copy for this mailbox with this key, and what stands behind it.
 fn copy_with(mailbox: u8, copies: &[Job], key: CopyKey) -> Option<(&Text, &[Job])>
-    ensures { option_map (λ found. (found.0.now, found.1.now)) result ≡ copy_with mailbox key copies.now }
+    ensures { option_map (λ found. (found.0.now, found.1.now)) result
+        ≡ copy_with mailbox key copies.now }
 {
     for position in 0..copies.len() {
         if copies[position].mailbox == mailbox && copies[position].key == key {

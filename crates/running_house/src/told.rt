@@ -77,7 +77,8 @@ pub(crate) fn are_told(
     mailbox: u8,
     accepted: &[(CopyKey, u32)],
 ) -> Result<bool, AllocError>
-    ensures { IfOk result (λ b. IsTrue b ↔ AreTold (map (λ l. l.notes) logs.now) mailbox accepted.now) }
+    ensures { IfOk result (λ b. IsTrue b
+        ↔ AreTold (map (λ l. l.notes) logs.now) mailbox accepted.now) }
 {
     if !are_owned(accepted, logs.len()) {
         return Ok(false);

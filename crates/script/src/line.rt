@@ -106,7 +106,8 @@ enum Said<'a> {
 
 // Hexadecimal digits after one space.
 fn in_hex(rest: &[u8]) -> Said<'_>
-    ensures { (brings : List ℕ → spec.ScriptLine) (gone : spec.ScriptLine) → as_line brings gone result ≡ in_hex brings rest.now }
+    ensures { (brings : List ℕ → spec.ScriptLine) (gone : spec.ScriptLine)
+        → as_line brings gone result ≡ in_hex brings rest.now }
 {
     match rest.split_first() {
         Some((first, digits)) if *first == b' ' => Said::Hex(digits),
@@ -116,7 +117,8 @@ fn in_hex(rest: &[u8]) -> Said<'_>
 
 // What follows a number: a text, digits or `!`.
 fn behind_number(rest: &[u8]) -> Said<'_>
-    ensures { (brings : List ℕ → spec.ScriptLine) (gone : spec.ScriptLine) → as_line brings gone result ≡ behind_number brings gone rest.now }
+    ensures { (brings : List ℕ → spec.ScriptLine) (gone : spec.ScriptLine)
+        → as_line brings gone result ≡ behind_number brings gone rest.now }
 {
     let Some((first, behind)) = rest.split_first() else {
         return Said::Text(rest);

@@ -44,7 +44,8 @@ fn len_before_end(shown: &[u8], most: usize) -> usize
 fn part_of_line(shown: &[u8], room: usize) -> (usize, bool)
     ensures within { result.0 ≤ length shown.now }
     ensures room { result.0 ≤ room }
-    ensures part { (left : List ℕ) → (length shown.now ≡ 0 → left ≡ []) → IsPart (take result.0 shown.now) left result.1 }
+    ensures part { (left : List ℕ) → (length shown.now ≡ 0 → left ≡ [])
+        → IsPart (take result.0 shown.now) left result.1 }
 {
     let most = shown.len().min(room);
     let before = len_before_end(shown, most);
@@ -102,7 +103,8 @@ fn read_front<R: BufRead>(reader: &mut R, line: &mut Vec<u8>) -> Result<bool, Tu
 
 // Passes over what is still to come of a line.
 fn skip_rest<R: BufRead>(reader: &mut R, ended: bool) -> Result<(), TurnFault>
-    ensures behind { OnOk result ((xs : List ℕ) → R.remaining reader.old ≡ Some xs → R.remaining reader.new ≡ Some (behind_line ended xs)) }
+    ensures behind { OnOk result ((xs : List ℕ) → R.remaining reader.old ≡ Some xs
+        → R.remaining reader.new ≡ Some (behind_line ended xs)) }
     ensures fault { (sent : ℕ) → result ≢ Err (TurnFault.Write sent) }
 {
     if ended {
@@ -117,10 +119,14 @@ fn skip_rest<R: BufRead>(reader: &mut R, ended: bool) -> Result<(), TurnFault>
 /// Reads the next line with its end, if there is one. One that is too long, or a long comment, is passed over as it comes: a front is
 /// kept, which asks for the same.
 pub(crate) fn read_piece<R: BufRead>(reader: &mut R, line: &mut Vec<u8>) -> Result<bool, TurnFault>
-    ensures some { OnOk result ((xs : List ℕ) → R.remaining reader.old ≡ Some xs → asked (line_of line.new.items) ≡ asked (line_of (take_through 10 xs))) }
-    ensures rest { OnOk result ((xs : List ℕ) → R.remaining reader.old ≡ Some xs → R.remaining reader.new ≡ Some (drop_through 10 xs)) }
-    ensures end { IfOk result (λ some. some ≡ false → (xs : List ℕ) → R.remaining reader.old ≡ Some xs → xs ≡ []) }
-    ensures more { IfOk result (λ some. some ≡ true → (xs : List ℕ) → R.remaining reader.old ≡ Some xs → 0 < length (take_through 10 xs)) }
+    ensures some { OnOk result ((xs : List ℕ) → R.remaining reader.old ≡ Some xs
+        → asked (line_of line.new.items) ≡ asked (line_of (take_through 10 xs))) }
+    ensures rest { OnOk result ((xs : List ℕ) → R.remaining reader.old ≡ Some xs
+        → R.remaining reader.new ≡ Some (drop_through 10 xs)) }
+    ensures end { IfOk result (λ some. some ≡ false → (xs : List ℕ)
+        → R.remaining reader.old ≡ Some xs → xs ≡ []) }
+    ensures more { IfOk result (λ some. some ≡ true → (xs : List ℕ)
+        → R.remaining reader.old ≡ Some xs → 0 < length (take_through 10 xs)) }
     ensures bounded { length line.new.items ≤ most_kept }
     ensures fault { (sent : ℕ) → result ≢ Err (TurnFault.Write sent) }
 {

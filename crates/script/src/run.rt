@@ -105,7 +105,8 @@ fn do_event(
     requires asked { MayFindNothing event → ⊥ }
     ensures done { OnOk result ((k : Setup) (s : scene.Scene) → StandsFor k house.old s →
         LineDone k number (line_for event.entry) s house.new out.old.items out.new.items) }
-    ensures wanting { OnErr result ((k : Setup) (s : scene.Scene) → StandsFor k house.old s → LineWanting k (line_for event.entry) s house.new) }
+    ensures wanting { OnErr result ((k : Setup) (s : scene.Scene) → StandsFor k house.old s
+        → LineWanting k (line_for event.entry) s house.new) }
 {
     match house.step(event, out) {
         Ok(()) => Ok(()),
@@ -126,7 +127,8 @@ fn hear_line(
     out: &mut Vec<u8>,
 ) -> Result<(), AllocError>
     ensures done { OnOk result ((k : Setup) (s : scene.Scene) → StandsFor k house.old s →
-        LineDone k number (spec.Sends connection (text.now ++ crlf)) s house.new out.old.items out.new.items) }
+        LineDone k number (spec.Sends connection (text.now
+        ++ crlf)) s house.new out.old.items out.new.items) }
     ensures wanting { OnErr result ((k : Setup) (s : scene.Scene) → StandsFor k house.old s →
         LineWanting k (spec.Sends connection (text.now ++ crlf)) s house.new) }
 {
@@ -143,8 +145,12 @@ fn is_want(fault: FromHexError) -> bool
 
 // The bytes that hexadecimal digits stand for, if the digits can be read and there are any.
 fn bytes_of(alloc: Global, digits: &[u8]) -> Result<Option<Vec<u8>>, AllocError>
-    ensures some { IfOk result (λ o. IfSome o (λ v. (brings : List ℕ → spec.ScriptLine) → brought brings (decode_of digits.now) ≡ brings v.items)) }
-    ensures none { IfOk result (λ o. IfNone o ((brings : List ℕ → spec.ScriptLine) → brought brings (decode_of digits.now) ≡ spec.Bad)) }
+    ensures some { IfOk result (λ o.
+        IfSome o (λ v. (brings : List ℕ → spec.ScriptLine)
+        → brought brings (decode_of digits.now) ≡ brings v.items)) }
+    ensures none { IfOk result (λ o.
+        IfNone o ((brings : List ℕ → spec.ScriptLine)
+        → brought brings (decode_of digits.now) ≡ spec.Bad)) }
 {
     let bytes = match decode(alloc, digits) {
         Ok(bytes) => bytes,
@@ -167,7 +173,8 @@ fn hear_hex(
     out: &mut Vec<u8>,
 ) -> Result<(), AllocError>
     ensures done { OnOk result ((k : Setup) (s : scene.Scene) → StandsFor k house.old s →
-        LineDone k number (brought (spec.Sends connection) (decode_of digits.now)) s house.new out.old.items out.new.items) }
+        LineDone k number (brought (spec.Sends connection) (decode_of digits.now)) s house.new
+        out.old.items out.new.items) }
     ensures wanting { OnErr result ((k : Setup) (s : scene.Scene) → StandsFor k house.old s →
         LineWanting k (brought (spec.Sends connection) (decode_of digits.now)) s house.new) }
 {
@@ -210,7 +217,9 @@ fn set_held(
 ) -> Result<(), AllocError>
     requires digits { list_all is_digit digits.now ≡ true }
     requires few { length held.old.items ≤ 256 }
-    ensures sets { OnOk result (SetsHeld held.old.items number (digits_value 10 digits.now) is_held held.new.items out.old.items out.new.items) }
+    ensures sets { OnOk result
+        (SetsHeld held.old.items number (digits_value 10 digits.now) is_held held.new.items
+        out.old.items out.new.items) }
     ensures as_many { length held.new.items ≡ length held.old.items }
 {
     let shard = clipped_number(digits);
@@ -230,7 +239,8 @@ fn close_shard(
 ) -> Result<(), AllocError>
     requires digits { list_all is_digit digits.now ≡ true }
     ensures done { OnOk result ((k : Setup) (s : scene.Scene) → StandsFor k house.old s →
-        LineDone k number (spec.Closes (digits_value 10 digits.now)) s house.new out.old.items out.new.items) }
+        LineDone k number (spec.Closes (digits_value 10 digits.now)) s house.new out.old.items
+        out.new.items) }
     ensures wanting { OnErr result ((k : Setup) (s : scene.Scene) → StandsFor k house.old s →
         LineWanting k (spec.Closes (digits_value 10 digits.now)) s house.new) }
 {
@@ -251,7 +261,8 @@ fn ask_line(
     out: &mut Vec<u8>,
 ) -> Result<(), AllocError>
     ensures done { OnOk result ((k : Setup) (s : scene.Scene) → StandsFor k house.old s →
-        LineDone k number (spec.Asks session (text.now ++ crlf)) s house.new out.old.items out.new.items) }
+        LineDone k number (spec.Asks session (text.now
+        ++ crlf)) s house.new out.old.items out.new.items) }
     ensures wanting { OnErr result ((k : Setup) (s : scene.Scene) → StandsFor k house.old s →
         LineWanting k (spec.Asks session (text.now ++ crlf)) s house.new) }
 {
@@ -269,7 +280,8 @@ fn ask_hex(
     out: &mut Vec<u8>,
 ) -> Result<(), AllocError>
     ensures done { OnOk result ((k : Setup) (s : scene.Scene) → StandsFor k house.old s →
-        LineDone k number (brought (spec.Asks session) (decode_of digits.now)) s house.new out.old.items out.new.items) }
+        LineDone k number (brought (spec.Asks session) (decode_of digits.now)) s house.new
+        out.old.items out.new.items) }
     ensures wanting { OnErr result ((k : Setup) (s : scene.Scene) → StandsFor k house.old s →
         LineWanting k (brought (spec.Asks session) (decode_of digits.now)) s house.new) }
 {
@@ -304,9 +316,11 @@ fn do_line(
     out: &mut Vec<u8>,
 ) -> Result<(), AllocError>
     requires { length held.old.items ≤ 256 }
-    ensures done { OnOk result ((k : Setup) (s : scene.Scene) → StandsFor k house.old s → length held.old.items ≡ k.config.shards →
+    ensures done { OnOk result ((k : Setup) (s : scene.Scene) → StandsFor k house.old s
+        → length held.old.items ≡ k.config.shards →
         LineDone k number (asked line.now) s house.new out.old.items out.new.items) }
-    ensures wanting { OnErr result ((k : Setup) (s : scene.Scene) → StandsFor k house.old s → LineWanting k (asked line.now) s house.new) }
+    ensures wanting { OnErr result ((k : Setup) (s : scene.Scene) → StandsFor k house.old s
+        → LineWanting k (asked line.now) s house.new) }
     ensures held { OnOk result (held.new.items ≡ held_after held.old.items (asked line.now)) }
     ensures as_many { length held.new.items ≡ length held.old.items }
 {
@@ -341,11 +355,16 @@ fn do_line(
 // Does the line that was read, and settles.
 fn play_line(house: &mut House, number: u64, room: &mut Room) -> Result<(), AllocError>
     requires { length room.old.held.items ≤ 256 }
-    ensures played { OnOk result ((k : Setup) (s : scene.Scene) → StandsFor k house.old s → length room.old.held.items ≡ k.config.shards →
-        LinePlayed k number room.old.held.items (asked (line_of room.old.line.items)) s house.new [] room.new.out.items) }
-    ensures wanting { OnErr result ((k : Setup) (s : scene.Scene) → StandsFor k house.old s → length room.old.held.items ≡ k.config.shards →
-        PlayWanting k number room.old.held.items (asked (line_of room.old.line.items)) s house.new) }
-    ensures held { OnOk result (room.new.held.items ≡ held_after room.old.held.items (asked (line_of room.old.line.items))) }
+    ensures played { OnOk result ((k : Setup) (s : scene.Scene) → StandsFor k house.old s
+        → length room.old.held.items ≡ k.config.shards →
+        LinePlayed k number room.old.held.items (asked (line_of room.old.line.items)) s house.new []
+        room.new.out.items) }
+    ensures wanting { OnErr result ((k : Setup) (s : scene.Scene) → StandsFor k house.old s
+        → length room.old.held.items ≡ k.config.shards →
+        PlayWanting k number room.old.held.items (asked (line_of room.old.line.items)) s
+        house.new) }
+    ensures held { OnOk result (room.new.held.items
+        ≡ held_after room.old.held.items (asked (line_of room.old.line.items))) }
     ensures as_many { length room.new.held.items ≡ length room.old.held.items }
 {
     room.out.clear();
@@ -384,7 +403,8 @@ fn take_turn<R: BufRead, W: Sink>(
     requires few { length room.old.held.items ≤ 256 }
     ensures tells { (k : Setup) (s : scene.Scene) (input : List ℕ) → StandsFor k house.old s →
         length room.old.held.items ≡ k.config.shards → R.remaining reader.old ≡ Some input →
-        TurnTells k number room.old.held.items s input house.new room.new.held.items (R.remaining reader.new) (W.taken writer.old)
+        TurnTells k number room.old.held.items s input house.new room.new.held.items
+        (R.remaining reader.new) (W.taken writer.old)
         (W.taken writer.new) result }
     ensures live { OnOk result (W.failed writer.new ≡ false) }
     ensures as_many { length room.new.held.items ≡ length room.old.held.items }
@@ -429,28 +449,35 @@ pub fn drive<R: BufRead, W: Sink>(
     requires { W.failed writer.old ≡ false }
 
     // In a new house, by a reader whose bytes are known: all that the script prints was written; the house stands for where its lines lead.
-    ensures ok { OnOk result ((k : Setup) (input : List ℕ) → StandsFor k house.old (empty_scene k) → R.remaining reader.old ≡ Some input →
+    ensures ok { OnOk result ((k : Setup) (input : List ℕ) → StandsFor k house.old (empty_scene k)
+        → R.remaining reader.old ≡ Some input →
         Writes k (script_of input) house.new (W.taken writer.old) (W.taken writer.new)) }
 
     // In such a run, of what some of the first lines print the first `sent` bytes were written, not all; it stands for where they lead.
-    ensures write { (sent : ℕ) → result ≡ Err (RunFault.Write sent) → (k : Setup) (input : List ℕ) → StandsFor k house.old (empty_scene k) →
+    ensures write { (sent : ℕ) → result ≡ Err (RunFault.Write sent) → (k : Setup) (input : List ℕ)
+        → StandsFor k house.old (empty_scene k) →
         R.remaining reader.old ≡ Some input →
         WritesFirst k (script_of input) sent house.new (W.taken writer.old) (W.taken writer.new) }
     ensures failed { (sent : ℕ) → result ≡ Err (RunFault.Write sent) → W.failed writer.new ≡ true }
 
     // In such a run, all that some of the first lines print was written, and nothing of the next, played in part or not at all.
-    ensures no_memory { result ≡ Err RunFault.NoMemory → (k : Setup) (input : List ℕ) → StandsFor k house.old (empty_scene k) →
+    ensures no_memory { result ≡ Err RunFault.NoMemory → (k : Setup) (input : List ℕ)
+        → StandsFor k house.old (empty_scene k) →
         R.remaining reader.old ≡ Some input →
-        WritesBeginning k (script_of input) (IsLeftWanting k house.new) (W.taken writer.old) (W.taken writer.new) }
+        WritesBeginning k (script_of input) (IsLeftWanting k house.new) (W.taken writer.old)
+        (W.taken writer.new) }
 
     // In such a run, whatever the result, what some of the first lines print delivers exactly once; a beginning of it was written.
-    ensures once { (k : Setup) (input : List ℕ) → StandsFor k house.old (empty_scene k) → R.remaining reader.old ≡ Some input →
+    ensures once { (k : Setup) (input : List ℕ) → StandsFor k house.old (empty_scene k)
+        → R.remaining reader.old ≡ Some input →
         WroteOnce k (script_of input) (W.taken writer.old) (W.taken writer.new) }
 
     // In such a run, all that some of the first lines print was written, and nothing was done since.
-    ensures read { result ≡ Err RunFault.Read → (k : Setup) (input : List ℕ) → StandsFor k house.old (empty_scene k) →
+    ensures read { result ≡ Err RunFault.Read → (k : Setup) (input : List ℕ)
+        → StandsFor k house.old (empty_scene k) →
         R.remaining reader.old ≡ Some input →
-        WritesBeginning k (script_of input) (IsLeft k house.new) (W.taken writer.old) (W.taken writer.new) }
+        WritesBeginning k (script_of input) (IsLeft k house.new) (W.taken writer.old)
+        (W.taken writer.new) }
 {
     let Ok(held) = none_held(alloc, house.shards()) else {
         return Err(RunFault::NoMemory);

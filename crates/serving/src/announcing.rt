@@ -51,7 +51,9 @@ fn announce_mailbox(
     requires port { port < 131072 }
     ensures line { OnOk result (IfSome (slice_get directory.now.homes mailbox) (λ home.
         out.new.items ≡ out.old.items ++ imap_lines port (users_of (home ∷ [])))) }
-    ensures next { IfOk result (λ next. IfSome (slice_get directory.now.homes mailbox) (λ home. next ≡ port + length (users_of (home ∷ [])))) }
+    ensures next { IfOk result (λ next.
+        IfSome (slice_get directory.now.homes mailbox) (λ home.
+        next ≡ port + length (users_of (home ∷ [])))) }
     ensures bound { IfOk result (λ next. next ≤ port + 1) }
 {
     if directory.folder_of(mailbox).is_some() {
@@ -64,7 +66,8 @@ fn announce_mailbox(
 // A line for each user's port, from the first one on.
 fn announce_users(directory: &Directory, first: usize, out: &mut Vec<u8>) -> Result<(), AllocError>
     requires { first < 65536 }
-    ensures { OnOk result (out.new.items ≡ out.old.items ++ imap_lines first (users_of directory.now.homes)) }
+    ensures { OnOk result (out.new.items
+        ≡ out.old.items ++ imap_lines first (users_of directory.now.homes)) }
 {
     let mut port = first;
     for mailbox in 0..directory.mailboxes() {
@@ -87,7 +90,8 @@ pub(crate) fn announce(
     imap_port: u16,
     uidvalidity: Uidvalidity,
 ) -> Result<Vec<u8>, AllocError>
-    ensures { IfOk result (λ v. v.items ≡ announcement lmtp_port imap_port directory.now.homes uidvalidity) }
+    ensures { IfOk result (λ v.
+        v.items ≡ announcement lmtp_port imap_port directory.now.homes uidvalidity) }
 {
     let mut out = Vec::new(alloc);
     announce_mail(usize::from(lmtp_port), &mut out)?;
@@ -110,8 +114,10 @@ impl<'o, W: Sink> Announcer<'o, W> {
     pub(crate) fn tell(self, lines: &[u8]) -> (Announcer<'o, W>, bool)
         requires live { W.failed self.output.now ≡ false }
         ensures same { result.0.output.ghost_name ≡ self.entry.output.ghost_name }
-        ensures told { (n : ℕ) × Appends (W.taken self.entry.output.now) (W.taken result.0.output.now) (take n lines.now) }
-        ensures all { result.1 ≡ true → Appends (W.taken self.entry.output.now) (W.taken result.0.output.now) lines.now }
+        ensures told { (n : ℕ) × Appends (W.taken self.entry.output.now)
+            (W.taken result.0.output.now) (take n lines.now) }
+        ensures all { result.1 ≡ true
+            → Appends (W.taken self.entry.output.now) (W.taken result.0.output.now) lines.now }
     {
         let Announcer { output } = self;
         if send(output, lines).is_err() {

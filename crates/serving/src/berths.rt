@@ -13,7 +13,8 @@ use std::alloc::{AllocError, Global};
 fn add_berths(alloc: Global, user: u8, count: u8, guests: &mut Vec<Guest>) -> Result<(), AllocError>
     ensures count { OnOk result (vec_len guests.new ≡ vec_len guests.old + count) }
     ensures named { OnOk result ((homes : List Home) → user_numbered user homes ≢ None
-        → All (λ v. user_numbered v.user homes ≢ None) guests.old.items → All (λ v. user_numbered v.user homes ≢ None) guests.new.items) }
+        → All (λ v. user_numbered v.user homes ≢ None) guests.old.items
+        → All (λ v. user_numbered v.user homes ≢ None) guests.new.items) }
 {
     for _ in 0..count {
         guests.push(Guest {
@@ -33,7 +34,8 @@ pub(crate) fn berths_for(
     count: u8,
 ) -> Result<Vec<Guest>, AllocError>
     requires { count ≤ 4 }
-    ensures named { IfOk result (λ vs. All (λ v. user_numbered v.user directory.now.homes ≢ None) vs.items) }
+    ensures named { IfOk result (λ vs.
+        All (λ v. user_numbered v.user directory.now.homes ≢ None) vs.items) }
     ensures few { IfOk result (λ vs. vec_len vs ≤ 256) }
     ensures count { IfOk result (λ vs. vec_len vs ≡ count * length (users_of directory.now.homes)) }
 {

@@ -93,7 +93,8 @@ fn client_buffers_for(alloc: Global, berths: usize) -> Result<Vec<Vec<u8>>, Allo
 
 /// What so many workers and berths take in with. An error where memory is refused.
 pub(crate) fn equip(alloc: Global, workers: usize, berths: usize) -> Result<Equipment, AllocError>
-    ensures buffers { IfOk result (λ e. All (λ b. 0 < length b.input.items) e.buffers.items × (vec_len e.buffers ≡ workers)) }
+    ensures buffers { IfOk result (λ e. All (λ b. 0 < length b.input.items) e.buffers.items
+        × (vec_len e.buffers ≡ workers)) }
     ensures clients { IfOk result (λ e. vec_len e.client_buffers ≡ berths) }
 {
     Ok(Equipment {

@@ -91,16 +91,22 @@ fn start_all<'s, E, H: Hall + Send, R: Threads + Wait + Sync>(
     requires lanes { H.lanes ≡ Some site.now.floor.office.lanes.items }
     requires depot { H.depot ≡ Some site.now.floor.depot }
     requires house { IsHouse site.now.floor (length site.now.floor.depot.channels.items) }
-    requires grips { length site.now.grips.mail.items + length site.now.guests.items ≡ length site.now.floor.depot.channels.items }
-    requires posts { AllAt (IsPost site.now.floor) 0 posts.items × (vec_len posts ≡ length site.now.floor.depot.channels.items) }
-    requires buffers { All (λ b. 0 < length b.input.items) buffers.items × (vec_len buffers ≡ length site.now.grips.mail.items) }
+    requires grips { length site.now.grips.mail.items + length site.now.guests.items
+        ≡ length site.now.floor.depot.channels.items }
+    requires posts { AllAt (IsPost site.now.floor) 0 posts.items
+        × (vec_len posts ≡ length site.now.floor.depot.channels.items) }
+    requires buffers { All (λ b. 0 < length b.input.items) buffers.items
+        × (vec_len buffers ≡ length site.now.grips.mail.items) }
     requires client_grips { length site.now.grips.clients.items ≡ length site.now.guests.items }
     requires berths { vec_len furnishings.berths ≡ length site.now.guests.items }
-    requires bells { (vec_len furnishings.bells ≡ length site.now.guests.items) × (vec_len furnishings.buffers ≡ length site.now.guests.items) }
-    requires room { (hired.items ≡ []) × (length site.now.floor.depot.channels.items ≤ vec_capacity hired) }
+    requires bells { (vec_len furnishings.bells ≡ length site.now.guests.items)
+        × (vec_len furnishings.buffers ≡ length site.now.guests.items) }
+    requires room { (hired.items ≡ [])
+        × (length site.now.floor.depot.channels.items ≤ vec_capacity hired) }
     requires imap { All (λ v. v.user < vec_len site.now.sockets.imap) site.now.guests.items }
     ensures hired { AllAt (IsHired site.now.floor) 0 result.0.items }
-    ensures mail { FirstTakeMail (length site.now.grips.mail.items) (map serves_mail result.0.items) }
+    ensures mail { FirstTakeMail (length site.now.grips.mail.items)
+        (map serves_mail result.0.items) }
     ensures count { vec_len result.0 ≡ length site.now.floor.depot.channels.items }
     ensures all { result.1 ≡ true → list_all has_thread result.0.items ≡ true }
 {
@@ -137,23 +143,33 @@ fn start_and_tell<'s, 'o, E, H: Hall + Send, R: Threads + Wait + Sync, W: Sink>(
     requires lanes { H.lanes ≡ Some site.now.floor.office.lanes.items }
     requires depot { H.depot ≡ Some site.now.floor.depot }
     requires house { IsHouse site.now.floor (length site.now.floor.depot.channels.items) }
-    requires grips { length site.now.grips.mail.items + length site.now.guests.items ≡ length site.now.floor.depot.channels.items }
-    requires posts { AllAt (IsPost site.now.floor) 0 posts.items × (vec_len posts ≡ length site.now.floor.depot.channels.items) }
-    requires buffers { All (λ b. 0 < length b.input.items) buffers.items × (vec_len buffers ≡ length site.now.grips.mail.items) }
+    requires grips { length site.now.grips.mail.items + length site.now.guests.items
+        ≡ length site.now.floor.depot.channels.items }
+    requires posts { AllAt (IsPost site.now.floor) 0 posts.items
+        × (vec_len posts ≡ length site.now.floor.depot.channels.items) }
+    requires buffers { All (λ b. 0 < length b.input.items) buffers.items
+        × (vec_len buffers ≡ length site.now.grips.mail.items) }
     requires client_grips { length site.now.grips.clients.items ≡ length site.now.guests.items }
     requires berths { vec_len furnishings.berths ≡ length site.now.guests.items }
-    requires bells { (vec_len furnishings.bells ≡ length site.now.guests.items) × (vec_len furnishings.buffers ≡ length site.now.guests.items) }
-    requires room { (hired.items ≡ []) × (length site.now.floor.depot.channels.items ≤ vec_capacity hired) }
+    requires bells { (vec_len furnishings.bells ≡ length site.now.guests.items)
+        × (vec_len furnishings.buffers ≡ length site.now.guests.items) }
+    requires room { (hired.items ≡ [])
+        × (length site.now.floor.depot.channels.items ≤ vec_capacity hired) }
     requires imap { All (λ v. v.user < vec_len site.now.sockets.imap) site.now.guests.items }
     requires live { W.failed announcer.output.now ≡ false }
     ensures hired { AllAt (IsHired site.now.floor) 0 result.hired.items }
-    ensures mail { FirstTakeMail (length site.now.grips.mail.items) (map serves_mail result.hired.items) }
+    ensures mail { FirstTakeMail (length site.now.grips.mail.items)
+        (map serves_mail result.hired.items) }
     ensures count { vec_len result.hired ≡ length site.now.floor.depot.channels.items }
     ensures there { result.all_started ≡ true → list_all has_thread result.hired.items ≡ true }
     ensures same { result.announcer.output.ghost_name ≡ announcer.entry.output.ghost_name }
-    ensures unsaid { result.all_started ≡ false → result.announcer.output.now ≡ announcer.entry.output.now }
-    ensures told { (n : ℕ) × Appends (W.taken announcer.entry.output.now) (W.taken result.announcer.output.now) (take n lines.now) }
-    ensures all { result.is_told ≡ true → Appends (W.taken announcer.entry.output.now) (W.taken result.announcer.output.now) lines.now }
+    ensures unsaid { result.all_started ≡ false
+        → result.announcer.output.now ≡ announcer.entry.output.now }
+    ensures told { (n : ℕ) × Appends (W.taken announcer.entry.output.now)
+        (W.taken result.announcer.output.now) (take n lines.now) }
+    ensures all { result.is_told ≡ true
+        → Appends (W.taken announcer.entry.output.now) (W.taken result.announcer.output.now)
+        lines.now }
 {
     let _not_yet = site.mark.start.lock(rt);
     let (hired, all_started) = start_all::<E, H, R>(
@@ -188,7 +204,8 @@ fn start_and_tell<'s, 'o, E, H: Hall + Send, R: Threads + Wait + Sync, W: Sink>(
 // What is left where no thread was tried.
 fn untried(served: Vec<Served>, posts: Vec<Post>) -> Over
     ensures left { (result.served ≡ served) × (result.posts ≡ posts) }
-    ensures none { (result.none_started ≡ true) × (result.all_started ≡ true) × (result.is_told ≡ false) }
+    ensures none { (result.none_started ≡ true) × (result.all_started ≡ true)
+        × (result.is_told ≡ false) }
 {
     Over {
         served,
@@ -207,14 +224,20 @@ fn stop_and_join<'s, 'o, H: Hall, R: Threads + Wait, I: Read + Drop, W: Sink>(
     served: Vec<Served>,
     stop: I,
 ) -> Left<'o, W>
-    requires hired { AllAt (IsHired site.now.floor) 0 begin.hired.items × (vec_len begin.hired ≡ length site.now.floor.depot.channels.items) }
-    requires mail { FirstTakeMail (length site.now.grips.mail.items) (map serves_mail begin.hired.items) }
-    requires room { (served.items ≡ []) × (length site.now.floor.depot.channels.items ≤ vec_capacity served) }
+    requires hired { AllAt (IsHired site.now.floor) 0 begin.hired.items
+        × (vec_len begin.hired ≡ length site.now.floor.depot.channels.items) }
+    requires mail { FirstTakeMail (length site.now.grips.mail.items)
+        (map serves_mail begin.hired.items) }
+    requires room { (served.items ≡ [])
+        × (length site.now.floor.depot.channels.items ≤ vec_capacity served) }
     ensures served { AllAt (IsServed site.now.floor) 0 result.over.served.items ×
-        (vec_len result.over.served ≡ length site.now.floor.depot.channels.items) × (result.over.posts.items ≡ []) }
-    ensures mail { FirstTakeMail (length site.now.grips.mail.items) (map (λ s. s.mail) result.over.served.items) }
+        (vec_len result.over.served ≡ length site.now.floor.depot.channels.items)
+        × (result.over.posts.items ≡ []) }
+    ensures mail { FirstTakeMail (length site.now.grips.mail.items) (map (λ s.
+        s.mail) result.over.served.items) }
     ensures some { result.over.none_started ≡ false }
-    ensures all { (result.over.all_started ≡ begin.entry.all_started) × (result.over.is_told ≡ begin.entry.is_told) }
+    ensures all { (result.over.all_started ≡ begin.entry.all_started)
+        × (result.over.is_told ≡ begin.entry.is_told) }
     ensures same { result.announcer.output.ghost_name ≡ begin.entry.announcer.output.ghost_name }
     ensures written { result.announcer.output.now ≡ begin.entry.announcer.output.now }
 {
@@ -252,21 +275,34 @@ fn in_scope<'s, 'o, E, H: Hall + Send, R: Threads + Wait + Sync, I: Read + Drop,
     requires lanes { H.lanes ≡ Some site.now.floor.office.lanes.items }
     requires depot { H.depot ≡ Some site.now.floor.depot }
     requires house { IsHouse site.now.floor (length site.now.floor.depot.channels.items) }
-    requires grips { length site.now.grips.mail.items + length site.now.guests.items ≡ length site.now.floor.depot.channels.items }
+    requires grips { length site.now.grips.mail.items + length site.now.guests.items
+        ≡ length site.now.floor.depot.channels.items }
     requires client_grips { length site.now.grips.clients.items ≡ length site.now.guests.items }
     requires imap { All (λ v. v.user < vec_len site.now.sockets.imap) site.now.guests.items }
-    requires dealt { IsDealt site.now.floor (length site.now.grips.mail.items) (length site.now.guests.items) (manually_drop_value dealt) }
+    requires dealt { IsDealt site.now.floor (length site.now.grips.mail.items)
+        (length site.now.guests.items) (manually_drop_value dealt) }
     requires live { W.failed announcer.output.now ≡ false }
-    ensures served { result.over.none_started ≡ false → AllAt (IsServed site.now.floor) 0 result.over.served.items ×
-        (vec_len result.over.served ≡ length site.now.floor.depot.channels.items) × (result.over.posts.items ≡ []) }
-    ensures mail { result.over.none_started ≡ false → FirstTakeMail (length site.now.grips.mail.items) (map (λ s. s.mail) result.over.served.items) }
-    ensures none_started { result.over.none_started ≡ true → AllAt (IsPost site.now.floor) 0 result.over.posts.items ×
-        (vec_len result.over.posts ≡ length site.now.floor.depot.channels.items) × (result.over.served.items ≡ []) }
+    ensures served { result.over.none_started ≡ false
+        → AllAt (IsServed site.now.floor) 0 result.over.served.items ×
+        (vec_len result.over.served ≡ length site.now.floor.depot.channels.items)
+        × (result.over.posts.items ≡ []) }
+    ensures mail { result.over.none_started ≡ false
+        → FirstTakeMail (length site.now.grips.mail.items) (map (λ s.
+        s.mail) result.over.served.items) }
+    ensures none_started { result.over.none_started ≡ true
+        → AllAt (IsPost site.now.floor) 0 result.over.posts.items ×
+        (vec_len result.over.posts ≡ length site.now.floor.depot.channels.items)
+        × (result.over.served.items ≡ []) }
     ensures same { result.announcer.output.ghost_name ≡ announcer.entry.output.ghost_name }
-    ensures untried { result.over.none_started ≡ true → result.announcer.output.now ≡ announcer.entry.output.now }
-    ensures unsaid { result.over.all_started ≡ false → result.announcer.output.now ≡ announcer.entry.output.now }
-    ensures told { (n : ℕ) × Appends (W.taken announcer.entry.output.now) (W.taken result.announcer.output.now) (take n lines.now) }
-    ensures all { result.over.is_told ≡ true → Appends (W.taken announcer.entry.output.now) (W.taken result.announcer.output.now) lines.now }
+    ensures untried { result.over.none_started ≡ true
+        → result.announcer.output.now ≡ announcer.entry.output.now }
+    ensures unsaid { result.over.all_started ≡ false
+        → result.announcer.output.now ≡ announcer.entry.output.now }
+    ensures told { (n : ℕ) × Appends (W.taken announcer.entry.output.now)
+        (W.taken result.announcer.output.now) (take n lines.now) }
+    ensures all { result.over.is_told ≡ true
+        → Appends (W.taken announcer.entry.output.now) (W.taken result.announcer.output.now)
+        lines.now }
 {
     let Dealt {
         posts,
@@ -314,20 +350,28 @@ fn serve_in_threads<H: Hall + Send, R: Threads + Wait + Sync, I: Read + Drop, W:
     requires lanes { H.lanes ≡ Some site.now.floor.office.lanes.items }
     requires depot { H.depot ≡ Some site.now.floor.depot }
     requires house { IsHouse site.now.floor (length site.now.floor.depot.channels.items) }
-    requires grips { length site.now.grips.mail.items + length site.now.guests.items ≡ length site.now.floor.depot.channels.items }
+    requires grips { length site.now.grips.mail.items + length site.now.guests.items
+        ≡ length site.now.floor.depot.channels.items }
     requires client_grips { length site.now.grips.clients.items ≡ length site.now.guests.items }
     requires imap { All (λ v. v.user < vec_len site.now.sockets.imap) site.now.guests.items }
-    requires dealt { IsDealt site.now.floor (length site.now.grips.mail.items) (length site.now.guests.items) dealt }
+    requires dealt { IsDealt site.now.floor (length site.now.grips.mail.items)
+        (length site.now.guests.items) dealt }
     requires live { W.failed output.old ≡ false }
-    ensures served { result.none_started ≡ false → AllAt (IsServed site.now.floor) 0 result.served.items ×
-        (vec_len result.served ≡ length site.now.floor.depot.channels.items) × (result.posts.items ≡ []) }
-    ensures mail { result.none_started ≡ false → FirstTakeMail (length site.now.grips.mail.items) (map (λ s. s.mail) result.served.items) }
-    ensures none_started { result.none_started ≡ true → AllAt (IsPost site.now.floor) 0 result.posts.items ×
-        (vec_len result.posts ≡ length site.now.floor.depot.channels.items) × (result.served.items ≡ []) }
+    ensures served { result.none_started ≡ false
+        → AllAt (IsServed site.now.floor) 0 result.served.items ×
+        (vec_len result.served ≡ length site.now.floor.depot.channels.items)
+        × (result.posts.items ≡ []) }
+    ensures mail { result.none_started ≡ false
+        → FirstTakeMail (length site.now.grips.mail.items) (map (λ s. s.mail) result.served.items) }
+    ensures none_started { result.none_started ≡ true
+        → AllAt (IsPost site.now.floor) 0 result.posts.items ×
+        (vec_len result.posts ≡ length site.now.floor.depot.channels.items)
+        × (result.served.items ≡ []) }
     ensures untried { result.none_started ≡ true → output.new ≡ output.old }
     ensures unsaid { result.all_started ≡ false → output.new ≡ output.old }
     ensures told { (n : ℕ) × Appends (W.taken output.old) (W.taken output.new) (take n lines.now) }
-    ensures all { result.is_told ≡ true → Appends (W.taken output.old) (W.taken output.new) lines.now }
+    ensures all { result.is_told ≡ true
+        → Appends (W.taken output.old) (W.taken output.new) lines.now }
 {
     let dealt = packed(dealt);
     let announcer = Announcer { output };
@@ -335,23 +379,39 @@ fn serve_in_threads<H: Hall + Send, R: Threads + Wait + Sync, I: Read + Drop, W:
         thread::scope_env(),
         rt,
         |scope| -> Left<'_, W>
-            requires hall { IsSync R.row × (H.lanes ≡ Some site.now.floor.office.lanes.items) × (H.depot ≡ Some site.now.floor.depot) }
+            requires hall { IsSync R.row × (H.lanes ≡ Some site.now.floor.office.lanes.items)
+                × (H.depot ≡ Some site.now.floor.depot) }
             requires house { IsHouse site.now.floor (length site.now.floor.depot.channels.items) }
-            requires grips { length site.now.grips.mail.items + length site.now.guests.items ≡ length site.now.floor.depot.channels.items }
-            requires client_grips { length site.now.grips.clients.items ≡ length site.now.guests.items }
-            requires imap { All (λ v. v.user < vec_len site.now.sockets.imap) site.now.guests.items }
-            requires dealt { IsDealt site.now.floor (length site.now.grips.mail.items) (length site.now.guests.items) (manually_drop_value dealt) }
+            requires grips { length site.now.grips.mail.items + length site.now.guests.items
+                ≡ length site.now.floor.depot.channels.items }
+            requires client_grips { length site.now.grips.clients.items
+                ≡ length site.now.guests.items }
+            requires imap { All (λ v.
+                v.user < vec_len site.now.sockets.imap) site.now.guests.items }
+            requires dealt { IsDealt site.now.floor (length site.now.grips.mail.items)
+                (length site.now.guests.items) (manually_drop_value dealt) }
             requires live { W.failed announcer.output.now ≡ false }
-            ensures served { result.over.none_started ≡ false → AllAt (IsServed site.entry.now.floor) 0 result.over.served.items ×
-                (vec_len result.over.served ≡ length site.entry.now.floor.depot.channels.items) × (result.over.posts.items ≡ []) }
-            ensures mail { result.over.none_started ≡ false → FirstTakeMail (length site.entry.now.grips.mail.items) (map (λ s. s.mail) result.over.served.items) }
-            ensures none_started { result.over.none_started ≡ true → AllAt (IsPost site.entry.now.floor) 0 result.over.posts.items ×
-                (vec_len result.over.posts ≡ length site.entry.now.floor.depot.channels.items) × (result.over.served.items ≡ []) }
+            ensures served { result.over.none_started ≡ false
+                → AllAt (IsServed site.entry.now.floor) 0 result.over.served.items ×
+                (vec_len result.over.served ≡ length site.entry.now.floor.depot.channels.items)
+                × (result.over.posts.items ≡ []) }
+            ensures mail { result.over.none_started ≡ false
+                → FirstTakeMail (length site.entry.now.grips.mail.items) (map (λ s.
+                s.mail) result.over.served.items) }
+            ensures none_started { result.over.none_started ≡ true
+                → AllAt (IsPost site.entry.now.floor) 0 result.over.posts.items ×
+                (vec_len result.over.posts ≡ length site.entry.now.floor.depot.channels.items)
+                × (result.over.served.items ≡ []) }
             ensures same { result.announcer.output.ghost_name ≡ announcer.entry.output.ghost_name }
-            ensures untried { result.over.none_started ≡ true → result.announcer.output.now ≡ announcer.entry.output.now }
-            ensures unsaid { result.over.all_started ≡ false → result.announcer.output.now ≡ announcer.entry.output.now }
-            ensures told { (n : ℕ) × Appends (W.taken announcer.entry.output.now) (W.taken result.announcer.output.now) (take n lines.entry.now) }
-            ensures all { result.over.is_told ≡ true → Appends (W.taken announcer.entry.output.now) (W.taken result.announcer.output.now) lines.entry.now }
+            ensures untried { result.over.none_started ≡ true
+                → result.announcer.output.now ≡ announcer.entry.output.now }
+            ensures unsaid { result.over.all_started ≡ false
+                → result.announcer.output.now ≡ announcer.entry.output.now }
+            ensures told { (n : ℕ) × Appends (W.taken announcer.entry.output.now)
+                (W.taken result.announcer.output.now) (take n lines.entry.now) }
+            ensures all { result.over.is_told ≡ true
+                → Appends (W.taken announcer.entry.output.now) (W.taken result.announcer.output.now)
+                lines.entry.now }
         { in_scope(scope, rt, site, dealt, stop, lines, announcer) },
     );
     let Announcer { output: _told } = announcer;
@@ -369,13 +429,20 @@ struct Rooms<H: Hall> {
 // What so many workers and berths of a house want before the first thread. An error where memory is refused.
 fn make_rooms<H: Hall>(floor: &Floor, workers: usize, berths: usize) -> Result<Rooms<H>, AllocError>
     requires few { workers + berths < 256 }
-    ensures buffers { IfOk result (λ r. All (λ b. 0 < length b.input.items) r.equipment.buffers.items × (vec_len r.equipment.buffers ≡ workers)) }
-    ensures grips { IfOk result (λ r. (vec_len r.grips.mail ≡ workers) × (vec_len r.grips.clients ≡ berths)) }
+    ensures buffers { IfOk result (λ r.
+        All (λ b. 0 < length b.input.items) r.equipment.buffers.items
+        × (vec_len r.equipment.buffers ≡ workers)) }
+    ensures grips { IfOk result (λ r. (vec_len r.grips.mail ≡ workers)
+        × (vec_len r.grips.clients ≡ berths)) }
     ensures clients { IfOk result (λ r. vec_len r.equipment.client_buffers ≡ berths) }
-    ensures served { IfOk result (λ r. (r.served.items ≡ []) × (workers + berths ≤ vec_capacity r.served)) }
-    ensures clerks { IfOk result (λ r. (r.staff.clerks.items ≡ []) × (length floor.now.office.lanes.items ≤ vec_capacity r.staff.clerks)) }
-    ensures rooms { IfOk result (λ r. (r.staff.rooms.items ≡ []) × (length floor.now.office.lanes.items ≤ vec_capacity r.staff.rooms)) }
-    ensures stands { IfOk result (λ r. (r.staff.stands.items ≡ []) × (length floor.now.office.lanes.items ≤ vec_capacity r.staff.stands)) }
+    ensures served { IfOk result (λ r. (r.served.items ≡ [])
+        × (workers + berths ≤ vec_capacity r.served)) }
+    ensures clerks { IfOk result (λ r. (r.staff.clerks.items ≡ [])
+        × (length floor.now.office.lanes.items ≤ vec_capacity r.staff.clerks)) }
+    ensures rooms { IfOk result (λ r. (r.staff.rooms.items ≡ [])
+        × (length floor.now.office.lanes.items ≤ vec_capacity r.staff.rooms)) }
+    ensures stands { IfOk result (λ r. (r.staff.stands.items ≡ [])
+        × (length floor.now.office.lanes.items ≤ vec_capacity r.staff.stands)) }
 {
     let alloc = floor.alloc;
     let grips = grips_of_all(alloc, workers, berths)?;
@@ -402,11 +469,15 @@ fn give_up(
     posts: Vec<Post>,
     baskets: Baskets,
 ) -> ServeFault
-    requires some { (0 < length floor.depot.channels.items) × (0 < length floor.office.lanes.items) }
+    requires some { (0 < length floor.depot.channels.items)
+        × (0 < length floor.office.lanes.items) }
     requires none { (worked.items ≡ []) × (consumed.items ≡ []) }
-    requires stands { (vec_len stands ≡ length floor.office.lanes.items) × All (IsStandLeft (length floor.depot.channels.items)) stands.items }
-    requires posts { (vec_len posts ≡ length floor.depot.channels.items) × All (IsPostLeft (length floor.office.lanes.items)) posts.items }
-    requires baskets { AreBaskets (length floor.depot.channels.items) (length floor.office.lanes.items) baskets }
+    requires stands { (vec_len stands ≡ length floor.office.lanes.items)
+        × All (IsStandLeft (length floor.depot.channels.items)) stands.items }
+    requires posts { (vec_len posts ≡ length floor.depot.channels.items)
+        × All (IsPostLeft (length floor.office.lanes.items)) posts.items }
+    requires baskets { AreBaskets (length floor.depot.channels.items)
+        (length floor.office.lanes.items) baskets }
     ensures { result ≡ ServeFault.NoMemory }
 {
     let alloc = floor.alloc;
@@ -425,8 +496,10 @@ fn give_up(
 fn told(all_started: bool, is_told: bool, closes: Option<Closes>) -> Result<Closes, ServeFault>
     ensures spawn { all_started ≡ false → result ≡ Err ServeFault.Spawn }
     ensures device { all_started ≡ true → is_told ≡ false → result ≡ Err ServeFault.Device }
-    ensures torn { all_started ≡ true → is_told ≡ true → closes ≡ None → result ≡ Err ServeFault.Torn }
-    ensures done { (taken : Closes) → all_started ≡ true → is_told ≡ true → closes ≡ Some taken → result ≡ Ok taken }
+    ensures torn { all_started ≡ true → is_told ≡ true → closes ≡ None
+        → result ≡ Err ServeFault.Torn }
+    ensures done { (taken : Closes) → all_started ≡ true → is_told ≡ true → closes ≡ Some taken
+        → result ≡ Ok taken }
 {
     if !all_started {
         return Err(ServeFault::Spawn);
@@ -455,18 +528,26 @@ fn close_or_spend<H: Hall, R: Wait>(
     requires lanes { H.lanes ≡ Some site.floor.office.lanes.items }
     requires depot { H.depot ≡ Some site.floor.depot }
     requires house { IsHouse site.floor (length site.floor.depot.channels.items) }
-    requires some { (0 < length site.floor.depot.channels.items) × (0 < length site.floor.office.lanes.items) }
+    requires some { (0 < length site.floor.depot.channels.items)
+        × (0 < length site.floor.office.lanes.items) }
     requires clerks { vec_len site.clerks ≡ length site.floor.office.lanes.items }
-    requires rooms { AreRooms (length site.floor.office.lanes.items) (length site.floor.depot.channels.items) rooms }
-    requires stands { (stands.items ≡ []) × (length site.floor.office.lanes.items ≤ vec_capacity stands) }
+    requires rooms { AreRooms (length site.floor.office.lanes.items)
+        (length site.floor.depot.channels.items) rooms }
+    requires stands { (stands.items ≡ [])
+        × (length site.floor.office.lanes.items ≤ vec_capacity stands) }
     requires served { over.none_started ≡ false → AllAt (IsServed site.floor) 0 over.served.items ×
         (vec_len over.served ≡ length site.floor.depot.channels.items) × (over.posts.items ≡ []) }
-    requires mail { over.none_started ≡ false → FirstTakeMail (length site.grips.mail.items) (map (λ s. s.mail) over.served.items) }
-    requires none_started { over.none_started ≡ true → AllAt (IsPost site.floor) 0 over.posts.items ×
+    requires mail { over.none_started ≡ false
+        → FirstTakeMail (length site.grips.mail.items) (map (λ s. s.mail) over.served.items) }
+    requires none_started { over.none_started ≡ true
+        → AllAt (IsPost site.floor) 0 over.posts.items ×
         (vec_len over.posts ≡ length site.floor.depot.channels.items) × (over.served.items ≡ []) }
-    requires worked { (worked.items ≡ []) × (length site.floor.depot.channels.items ≤ vec_capacity worked) }
-    requires consumed { (consumed.items ≡ []) × (length site.floor.office.lanes.items ≤ vec_capacity consumed) }
-    requires baskets { AreBaskets (length site.floor.depot.channels.items) (length site.floor.office.lanes.items) baskets }
+    requires worked { (worked.items ≡ [])
+        × (length site.floor.depot.channels.items ≤ vec_capacity worked) }
+    requires consumed { (consumed.items ≡ [])
+        × (length site.floor.office.lanes.items ≤ vec_capacity consumed) }
+    requires baskets { AreBaskets (length site.floor.depot.channels.items)
+        (length site.floor.office.lanes.items) baskets }
     ensures setting { (fault : ConfigFault) → result ≢ Err (ServeFault.Config fault) }
     ensures whole { IfOk result (CameTo site.floor (length site.grips.mail.items)) }
     ensures told { OnOk result (over.is_told ≡ true) }
@@ -528,18 +609,21 @@ pub(crate) fn run_house_in<H: Hall + Send, R: Threads + Wait + Sync, I: Read + D
     requires lanes { H.lanes ≡ Some floor.office.lanes.items }
     requires depot { H.depot ≡ Some floor.depot }
     requires house { IsHouse floor (length floor.depot.channels.items) }
-    requires some { (0 < length floor.depot.channels.items) × (0 < length floor.office.lanes.items) }
+    requires some { (0 < length floor.depot.channels.items)
+        × (0 < length floor.office.lanes.items) }
     requires producers { workers + vec_len guests ≡ length floor.depot.channels.items }
     requires guests { vec_len bells ≡ vec_len guests }
     requires imap { All (λ v. v.user < vec_len sockets.imap) guests.items }
     requires crew { IsCrew floor (length floor.depot.channels.items) crew }
-    requires baskets { AreBaskets (length floor.depot.channels.items) (length floor.office.lanes.items) baskets }
+    requires baskets { AreBaskets (length floor.depot.channels.items)
+        (length floor.office.lanes.items) baskets }
     requires live { W.failed output.old ≡ false }
     ensures setting { (fault : ConfigFault) → result ≢ Err (ServeFault.Config fault) }
     ensures whole { IfOk result (CameTo floor workers) }
     ensures untried { result ≡ Err ServeFault.NoMemory → output.new ≡ output.old }
     ensures unsaid { result ≡ Err ServeFault.Spawn → output.new ≡ output.old }
-    ensures told { (n : ℕ) × Appends (W.taken output.old) (W.taken output.new) (take n lines.items) }
+    ensures told { (n : ℕ) × Appends (W.taken output.old) (W.taken output.new)
+        (take n lines.items) }
     ensures all { OnOk result (Appends (W.taken output.old) (W.taken output.new) lines.items) }
 {
     let Crew {

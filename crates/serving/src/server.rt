@@ -76,10 +76,12 @@ fn lay_out(alloc: Global, config: &Config) -> Result<Layout, ServeFault>
     requires range { IsInRange config.now }
     ensures directory { IfOk result (λ l. l.directory ≡ directory_for config.now) }
     ensures host { IfOk result (λ l. length config.now.host.items < 256) }
-    ensures named { IfOk result (λ l. All (λ v. user_numbered v.user l.directory.homes ≢ None) l.guests.items) }
+    ensures named { IfOk result (λ l.
+        All (λ v. user_numbered v.user l.directory.homes ≢ None) l.guests.items) }
     ensures few { IfOk result (λ l. config.now.workers + vec_len l.guests ≤ 255) }
     ensures right { IfOk result (λ l. server_fault config.now ≡ None) }
-    ensures wrong { (fault : ConfigFault) → result ≡ Err (ServeFault.Config fault) → server_fault config.now ≡ Some fault }
+    ensures wrong { (fault : ConfigFault) → result ≡ Err (ServeFault.Config fault)
+        → server_fault config.now ≡ Some fault }
     ensures fault { IfErr result IsOfSettings }
 {
     let directory = directory_of(alloc, config)?;
@@ -105,9 +107,12 @@ fn listen<R: Net<Listener = TcpListener, Stream = TcpStream>>(
     uidvalidity: Uidvalidity,
 ) -> Result<Listeners, ServeFault>
     requires range { IsInRange config.now }
-    ensures lines { IfOk result (λ l. l.lines.items ≡ announcement config.now.lmtp_port config.now.imap_port directory.now.homes uidvalidity) }
+    ensures lines { IfOk result (λ l.
+        l.lines.items ≡ announcement config.now.lmtp_port config.now.imap_port directory.now.homes
+        uidvalidity) }
     ensures fault { IfErr result IsOfSocket }
-    ensures imap { IfOk result (λ l. vec_len l.sockets.imap ≡ length (users_of directory.now.homes)) }
+    ensures imap { IfOk result (λ l. vec_len l.sockets.imap
+        ≡ length (users_of directory.now.homes)) }
 {
     let users = count_users(directory);
     let lines = announce(
@@ -152,13 +157,16 @@ pub fn serve<
     requires live { W.failed output.old ≡ false }
 
     // `Config` tells the settings' first fault, and then nothing was written. Without an error there is no fault.
-    ensures wrong { (fault : ConfigFault) → result ≡ Err (ServeFault.Config fault) → server_fault config.now ≡ Some fault }
-    ensures not_set { (fault : ConfigFault) → result ≡ Err (ServeFault.Config fault) → output.new ≡ output.old }
+    ensures wrong { (fault : ConfigFault) → result ≡ Err (ServeFault.Config fault)
+        → server_fault config.now ≡ Some fault }
+    ensures not_set { (fault : ConfigFault) → result ≡ Err (ServeFault.Config fault)
+        → output.new ≡ output.old }
     ensures right { OnOk result (server_fault config.now ≡ None) }
 
     // Wrong settings are told, or want of memory is, and nothing is written.
     ensures refused { (fault : ConfigFault) → server_fault config.now ≡ Some fault →
-        ((result ≡ Err (ServeFault.Config fault)) ⊎ (result ≡ Err ServeFault.NoMemory)) × (output.new ≡ output.old) }
+        ((result ≡ Err (ServeFault.Config fault)) ⊎ (result ≡ Err ServeFault.NoMemory))
+        × (output.new ≡ output.old) }
 
     // Where memory or a thread was refused nothing was written.
     ensures untried { result ≡ Err ServeFault.NoMemory → output.new ≡ output.old }
@@ -166,9 +174,11 @@ pub fn serve<
 
     // Nothing but a beginning of the lines was written, and all of them where it served.
     ensures told { (n : ℕ) × Appends (W.taken output.old) (W.taken output.new)
-        (take n (announcement config.now.lmtp_port config.now.imap_port (directory_for config.now).homes uidvalidity)) }
+        (take n (announcement config.now.lmtp_port config.now.imap_port
+        (directory_for config.now).homes uidvalidity)) }
     ensures all { OnOk result (Appends (W.taken output.old) (W.taken output.new)
-        (announcement config.now.lmtp_port config.now.imap_port (directory_for config.now).homes uidvalidity)) }
+        (announcement config.now.lmtp_port config.now.imap_port (directory_for config.now).homes
+        uidvalidity)) }
 {
     let Layout { directory, guests } = lay_out(alloc, config)?;
     let Listeners { sockets, lines } = listen(rt, alloc, config, &directory, uidvalidity)?;

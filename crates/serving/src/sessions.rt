@@ -77,7 +77,8 @@ fn gateway_of<H: Hall>(site: &Site<H>, session: u8) -> Gateway<'_>
     requires imap { All (λ v. v.user < vec_len site.now.sockets.imap) site.now.guests.items }
     ensures imap { result.user < vec_len result.sockets.now.imap }
     ensures floor { result.floor.now ≡ site.now.floor }
-    ensures user { IfSome (slice_get site.now.guests.items session) (λ guest. result.user ≡ guest.user) }
+    ensures user { IfSome (slice_get site.now.guests.items session) (λ guest.
+        result.user ≡ guest.user) }
 {
     let berth = usize::from(session);
     Gateway {
@@ -99,7 +100,8 @@ fn open_visit<'a, R: Wait, W: Sink + Drop>(
     output: W,
 ) -> Option<Visit<'a, R, Unhindered, W>>
     requires live { W.failed output ≡ false }
-    ensures { IfSome result (IsVisitOf gateway.entry.floor.now gateway.entry.user (W.taken output)) }
+    ensures { IfSome result (IsVisitOf gateway.entry.floor.now gateway.entry.user
+        (W.taken output)) }
 {
     let (floor, gate) = (gateway.floor, gateway.gate);
     let directory = &floor.office.directory;
@@ -128,7 +130,8 @@ fn attend_visit<'a, R: Wait, C: Courier>(
     buffer: &mut [u8],
 )
     requires ready { C.ready courier.old }
-    requires visit { (before : Option (List ℕ)) × IsVisitOf gateway.floor.now gateway.user before visit }
+    requires visit { (before : Option (List ℕ))
+        × IsVisitOf gateway.floor.now gateway.user before visit }
     ensures ready { C.ready courier.new }
     ensures kept { (first : C) → C.kept first courier.old → C.kept first courier.new }
 {
@@ -205,11 +208,14 @@ fn answer_clients<'a, R: Wait, S: Summons>(
     requires ready { IsReady courier.old.office.now courier.old.channel.now courier.old.desk }
     requires imap { gateway.user < vec_len gateway.sockets.now.imap }
     ensures ready { IsReady courier.new.office.now courier.new.channel.now courier.new.desk }
-    ensures same { IsSameDesk courier.old.office.now courier.new.office.now courier.old.channel.now courier.new.channel.now
+    ensures same { IsSameDesk courier.old.office.now courier.new.office.now courier.old.channel.now
+        courier.new.channel.now
         courier.old.desk courier.new.desk }
     ensures clients { courier.new.is_torn ≡ false
-        → AreAttended (premises_of courier.old.office.now) courier.old.desk.number 0 (received courier.old.desk.receiver) (map put_by courier.old.desk.permits.items)
-        → (clients : ℕ) × AreAttended (premises_of courier.old.office.now) courier.old.desk.number clients (received courier.new.desk.receiver)
+        → AreAttended (premises_of courier.old.office.now) courier.old.desk.number 0
+        (received courier.old.desk.receiver) (map put_by courier.old.desk.permits.items)
+        → (clients : ℕ) × AreAttended (premises_of courier.old.office.now) courier.old.desk.number
+        clients (received courier.new.desk.receiver)
         (map put_by courier.new.desk.permits.items) }
 {
     let door = Door {
@@ -238,10 +244,14 @@ fn leave<R: Wait, S: Summons>(
     session: u8,
     room: Vec<Ended<Job>>,
 ) -> Served
-    requires permits { ArePermits courier.office.now.lanes.items courier.desk.number courier.desk.permits.items }
-    requires room { (room.items ≡ []) × (length courier.office.now.lanes.items ≤ vec_capacity room) }
-    ensures ended { AreEnded courier.entry.office.now.lanes.items courier.entry.desk.number result.ended.items }
-    ensures said { HaveEnded courier.entry.desk.number (map put_by courier.entry.desk.permits.items) (map said result.ended.items) }
+    requires permits { ArePermits courier.office.now.lanes.items courier.desk.number
+        courier.desk.permits.items }
+    requires room { (room.items ≡ [])
+        × (length courier.office.now.lanes.items ≤ vec_capacity room) }
+    ensures ended { AreEnded courier.entry.office.now.lanes.items courier.entry.desk.number
+        result.ended.items }
+    ensures said { HaveEnded courier.entry.desk.number (map put_by courier.entry.desk.permits.items)
+        (map said result.ended.items) }
     ensures receiver { result.receiver ≡ courier.entry.desk.receiver }
     ensures torn { result.torn ≡ courier.entry.is_torn }
     ensures mail { result.mail ≡ false }
@@ -411,9 +421,12 @@ pub(crate) fn start_berths<'s, E, H: Hall + Send, R: Threads + Wait + Sync>(
     requires grips { length site.now.grips.clients.items ≡ length site.now.guests.items }
     requires bells { vec_len furnishings.bells ≡ length site.now.guests.items }
     requires buffers { vec_len furnishings.buffers ≡ length site.now.guests.items }
-    requires posts { AllAt (IsPost site.now.floor) (vec_len hired) posts.items × (vec_len posts ≡ length site.now.guests.items) }
-    requires all { vec_len hired + length site.now.guests.items ≡ length site.now.floor.depot.channels.items }
-    requires hired { AllAt (IsHired site.now.floor) 0 hired.items × (length site.now.floor.depot.channels.items ≤ vec_capacity hired) }
+    requires posts { AllAt (IsPost site.now.floor) (vec_len hired) posts.items
+        × (vec_len posts ≡ length site.now.guests.items) }
+    requires all { vec_len hired + length site.now.guests.items
+        ≡ length site.now.floor.depot.channels.items }
+    requires hired { AllAt (IsHired site.now.floor) 0 hired.items
+        × (length site.now.floor.depot.channels.items ≤ vec_capacity hired) }
     requires mail { All (λ h. serves_mail h ≡ true) hired.items }
     requires imap { All (λ v. v.user < vec_len site.now.sockets.imap) site.now.guests.items }
     ensures hired { AllAt (IsHired site.now.floor) 0 result.0.items }

@@ -62,17 +62,22 @@ fn serve_one<R: Wait, G: Gate, S: Summons>(
     stream: &TcpStream,
     buffers: &mut Buffers,
 ) -> bool
-    requires permits { AreInForce office.now.directory office.now.lanes.items desk.old.number desk.old.permits.items }
+    requires permits { AreInForce office.now.directory office.now.lanes.items desk.old.number
+        desk.old.permits.items }
     requires receiver { IsReceiver channel.now desk.old.receiver }
     requires lanes { office.now.directory.shards ≡ length office.now.lanes.items }
     requires host { length office.now.host.items < 256 }
     requires room { 0 < length buffers.old.input.items }
-    ensures permits { AreInForce office.now.directory office.now.lanes.items desk.old.number desk.new.permits.items }
+    ensures permits { AreInForce office.now.directory office.now.lanes.items desk.old.number
+        desk.new.permits.items }
     ensures receiver { IsReceiver channel.now desk.new.receiver }
     ensures number { desk.new.number ≡ desk.old.number }
     ensures room { length buffers.new.input.items ≡ length buffers.old.input.items }
-    ensures mail { result ≡ false → AreServed (premises_of office.now) desk.old.number serial (received desk.old.receiver) (map put_by desk.old.permits.items)
-        → AreServed (premises_of office.now) desk.old.number (serial + 1) (received desk.new.receiver) (map put_by desk.new.permits.items) }
+    ensures mail { result ≡ false
+        → AreServed (premises_of office.now) desk.old.number serial (received desk.old.receiver)
+        (map put_by desk.old.permits.items)
+        → AreServed (premises_of office.now) desk.old.number (serial
+        + 1) (received desk.new.receiver) (map put_by desk.new.permits.items) }
 {
     if prepare(stream, Patience::Limited).is_err() {
         return false;
@@ -114,17 +119,22 @@ fn attend<R: Wait, G: Gate, S: Summons>(
     stream: &TcpStream,
     buffers: &mut Buffers,
 ) -> bool
-    requires permits { AreInForce office.now.directory office.now.lanes.items desk.old.number desk.old.permits.items }
+    requires permits { AreInForce office.now.directory office.now.lanes.items desk.old.number
+        desk.old.permits.items }
     requires receiver { IsReceiver channel.now desk.old.receiver }
     requires lanes { office.now.directory.shards ≡ length office.now.lanes.items }
     requires host { length office.now.host.items < 256 }
     requires room { 0 < length buffers.old.input.items }
-    ensures permits { AreInForce office.now.directory office.now.lanes.items desk.old.number desk.new.permits.items }
+    ensures permits { AreInForce office.now.directory office.now.lanes.items desk.old.number
+        desk.new.permits.items }
     ensures receiver { IsReceiver channel.now desk.new.receiver }
     ensures number { desk.new.number ≡ desk.old.number }
     ensures room { length buffers.new.input.items ≡ length buffers.old.input.items }
-    ensures mail { result ≡ false → AreServed (premises_of office.now) desk.old.number serial (received desk.old.receiver) (map put_by desk.old.permits.items)
-        → AreServed (premises_of office.now) desk.old.number (serial + 1) (received desk.new.receiver) (map put_by desk.new.permits.items) }
+    ensures mail { result ≡ false
+        → AreServed (premises_of office.now) desk.old.number serial (received desk.old.receiver)
+        (map put_by desk.old.permits.items)
+        → AreServed (premises_of office.now) desk.old.number (serial
+        + 1) (received desk.new.receiver) (map put_by desk.new.permits.items) }
 {
     if !grip.hold(rt, stream) {
         return false;
@@ -155,16 +165,21 @@ fn serve_all<R: Wait, G: Gate, S: Summons>(
     grip: &Grip,
     buffers: &mut Buffers,
 ) -> bool
-    requires permits { AreInForce office.now.directory office.now.lanes.items desk.old.number desk.old.permits.items }
+    requires permits { AreInForce office.now.directory office.now.lanes.items desk.old.number
+        desk.old.permits.items }
     requires receiver { IsReceiver channel.now desk.old.receiver }
     requires lanes { office.now.directory.shards ≡ length office.now.lanes.items }
     requires host { length office.now.host.items < 256 }
     requires room { 0 < length buffers.old.input.items }
-    ensures permits { AreInForce office.now.directory office.now.lanes.items desk.old.number desk.new.permits.items }
+    ensures permits { AreInForce office.now.directory office.now.lanes.items desk.old.number
+        desk.new.permits.items }
     ensures receiver { IsReceiver channel.now desk.new.receiver }
     ensures number { desk.new.number ≡ desk.old.number }
-    ensures mail { result ≡ false → AreServed (premises_of office.now) desk.old.number 0 (received desk.old.receiver) (map put_by desk.old.permits.items)
-        → (connections : ℕ) × AreServed (premises_of office.now) desk.old.number connections (received desk.new.receiver)
+    ensures mail { result ≡ false
+        → AreServed (premises_of office.now) desk.old.number 0 (received desk.old.receiver)
+        (map put_by desk.old.permits.items)
+        → (connections : ℕ) × AreServed (premises_of office.now) desk.old.number connections
+        (received desk.new.receiver)
         (map put_by desk.new.permits.items) }
 {
     door.mark.await_start(rt);
@@ -199,7 +214,8 @@ pub(crate) fn serve_until_stopped<R: Wait, G: Gate, S: Summons>(
     grip: &Grip,
     mut buffers: Buffers,
 ) -> Served
-    requires permits { AreInForce office.now.directory office.now.lanes.items desk.number desk.permits.items }
+    requires permits { AreInForce office.now.directory office.now.lanes.items desk.number
+        desk.permits.items }
     requires receiver { IsReceiver channel.now desk.receiver }
     requires lanes { office.now.directory.shards ≡ length office.now.lanes.items }
     requires host { length office.now.host.items < 256 }
@@ -208,7 +224,8 @@ pub(crate) fn serve_until_stopped<R: Wait, G: Gate, S: Summons>(
     ensures ended { AreEnded office.now.lanes.items desk.number result.ended.items }
     ensures receiver { IsReceiver channel.now result.receiver }
     ensures mail { result.mail ≡ true }
-    ensures served { All IsNew desk.permits.items → result.torn ≡ false → HasServedMail (premises_of office.now) desk.number (received result.receiver)
+    ensures served { All IsNew desk.permits.items → result.torn ≡ false
+        → HasServedMail (premises_of office.now) desk.number (received result.receiver)
         (map said result.ended.items) }
 {
     let torn = serve_all(

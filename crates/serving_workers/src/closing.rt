@@ -70,7 +70,8 @@ fn hear_all_out<R: Wait>(
     ensures worked { AllAt (HasHeard floor.now) 0 result.items }
     ensures count { vec_len result ≡ vec_len served }
     ensures ended { map (λ w. w.ended.items) result.items ≡ map (λ s. s.ended.items) served.items }
-    ensures grew { GoOn (map (λ s. received s.receiver) served.items) (map (λ w. received w.receiver) result.items) }
+    ensures grew { GoOn (map (λ s. received s.receiver) served.items) (map (λ w.
+        received w.receiver) result.items) }
 {
     let mut left = served;
     for number in 0..left.len() {
@@ -102,11 +103,15 @@ fn are_quiet(worked: &[Worked]) -> bool {
 
 // Spends a house of which a clerk stood at another's position, so that no lane and no channel can be closed.
 fn spend_house(floor: Floor, worked: Vec<Worked>, consumed: Vec<Consumed>, baskets: Baskets)
-    requires some { (0 < length floor.depot.channels.items) × (0 < length floor.office.lanes.items) }
-    requires each { (vec_len worked ≡ length floor.depot.channels.items) × (vec_len consumed ≡ length floor.office.lanes.items) }
+    requires some { (0 < length floor.depot.channels.items)
+        × (0 < length floor.office.lanes.items) }
+    requires each { (vec_len worked ≡ length floor.depot.channels.items)
+        × (vec_len consumed ≡ length floor.office.lanes.items) }
     requires ended { All (λ w. vec_len w.ended ≡ length floor.office.lanes.items) worked.items }
-    requires senders { All (λ c. vec_len c.senders ≡ length floor.depot.channels.items) consumed.items }
-    requires baskets { AreBaskets (length floor.depot.channels.items) (length floor.office.lanes.items) baskets }
+    requires senders { All (λ c. vec_len c.senders
+        ≡ length floor.depot.channels.items) consumed.items }
+    requires baskets { AreBaskets (length floor.depot.channels.items)
+        (length floor.office.lanes.items) baskets }
 {
     let alloc = floor.alloc;
     let ran = Ran {
@@ -137,10 +142,12 @@ pub fn close_all<R: Wait>(
     requires served { AllAt (IsServed floor) 0 served.items }
     requires room { (worked.items ≡ []) × (vec_len served ≤ vec_capacity worked) }
     requires consumed { vec_len dismissed.consumed ≡ length floor.office.lanes.items }
-    requires permits { dismissed.in_order ≡ true → AreConsumers floor.office.lanes.items (map (λ c. c.permit) dismissed.consumed.items) }
+    requires permits { dismissed.in_order ≡ true
+        → AreConsumers floor.office.lanes.items (map (λ c. c.permit) dismissed.consumed.items) }
     requires hands { dismissed.in_order ≡ true → AreSenderEndedHands floor.depot.channels.items 0
         (map (λ c. c.senders.items) dismissed.consumed.items) }
-    requires senders { All (λ c. vec_len c.senders ≡ length floor.depot.channels.items) dismissed.consumed.items }
+    requires senders { All (λ c. vec_len c.senders
+        ≡ length floor.depot.channels.items) dismissed.consumed.items }
     requires baskets { AreBaskets (vec_len served) (length floor.office.lanes.items) baskets }
     ensures { IfSome result (WasClosed floor served.items dismissed) }
 {

@@ -164,12 +164,15 @@ fn start_next<'s, E, H: Hall + Send, R: Threads + Wait + Sync>(
     requires house { IsHouse floor.now (length floor.now.depot.channels.items) }
     requires number { number < length floor.now.depot.channels.items }
     requires posts { AllAt (IsPost floor.now) number posts.old.items × (0 < vec_len posts.old) }
-    requires buffers { All (λ b. 0 < length b.input.items) buffers.old.items × (0 < vec_len buffers.old) }
+    requires buffers { All (λ b. 0 < length b.input.items) buffers.old.items
+        × (0 < vec_len buffers.old) }
     requires hired { AllAt (IsHired floor.now) 0 hired.old.items × (vec_len hired.old ≡ number) }
     requires mail { All (λ h. serves_mail h ≡ true) hired.old.items }
     requires room { vec_len hired.old < vec_capacity hired.old }
-    ensures posts { AllAt (IsPost floor.now) (number + 1) posts.new.items × (vec_len posts.new + 1 ≡ vec_len posts.old) }
-    ensures buffers { All (λ b. 0 < length b.input.items) buffers.new.items × (vec_len buffers.new + 1 ≡ vec_len buffers.old) }
+    ensures posts { AllAt (IsPost floor.now) (number + 1) posts.new.items
+        × (vec_len posts.new + 1 ≡ vec_len posts.old) }
+    ensures buffers { All (λ b. 0 < length b.input.items) buffers.new.items
+        × (vec_len buffers.new + 1 ≡ vec_len buffers.old) }
     ensures hired { AllAt (IsHired floor.now) 0 hired.new.items × (vec_len hired.new ≡ number + 1) }
     ensures mail { All (λ h. serves_mail h ≡ true) hired.new.items }
     ensures room { vec_capacity hired.new ≡ vec_capacity hired.old }
@@ -214,9 +217,12 @@ pub fn start_workers<'s, E, H: Hall + Send, R: Threads + Wait + Sync>(
     requires grips { length grips.now ≤ length floor.now.depot.channels.items }
 
     // Each producer has its post, by its number, with nothing put or heard yet; and each worker has room to read into.
-    requires posts { AllAt (IsPost floor.now) 0 posts.items × (vec_len posts ≡ length floor.now.depot.channels.items) }
-    requires buffers { All (λ b. 0 < length b.input.items) buffers.items × (vec_len buffers ≡ length grips.now) }
-    requires room { (hired.items ≡ []) × (length floor.now.depot.channels.items ≤ vec_capacity hired) }
+    requires posts { AllAt (IsPost floor.now) 0 posts.items
+        × (vec_len posts ≡ length floor.now.depot.channels.items) }
+    requires buffers { All (λ b. 0 < length b.input.items) buffers.items
+        × (vec_len buffers ≡ length grips.now) }
+    requires room { (hired.items ≡ [])
+        × (length floor.now.depot.channels.items ≤ vec_capacity hired) }
 
     // For each worker, by its number: its thread, which will leave what that producer leaves, or what it has left without one.
     // Each is a worker's, who leaves what its connections submitted, one connection after another with serials from 0 on.
@@ -227,7 +233,8 @@ pub fn start_workers<'s, E, H: Hall + Send, R: Threads + Wait + Sync>(
 
     // The posts of the producers behind the workers are given back, in their order, with nothing put or heard yet.
     ensures posts { AllAt (IsPost floor.now) (length grips.now) result.posts.items }
-    ensures others { vec_len result.posts + length grips.now ≡ length floor.now.depot.channels.items }
+    ensures others { vec_len result.posts + length grips.now
+        ≡ length floor.now.depot.channels.items }
 {
     for position in 0..grips.len() {
         start_next(

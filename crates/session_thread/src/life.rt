@@ -46,10 +46,14 @@ fn wait_for<R: Wait, G: Gate>(
     turns: u64,
     out: &mut Vec<u8>,
 ) -> Result<(), AllocError>
-    ensures ok { OnOk result ((d : Dialogue) → StandsFor connection.old d → (next : Dialogue) × StandsFor connection.new next
-        × Awaits turns count (moment d store.old out.old.items) (moment next store.new out.new.items)) }
-    ensures err { OnErr result ((d : Dialogue) → StandsFor connection.old d → (next : Dialogue) × StandsFor connection.new next
-        × ((had : ℕ) × (had < turns) × Turns count (moment d store.old out.old.items) had (moment next store.new out.new.items)
+    ensures ok { OnOk result ((d : Dialogue) → StandsFor connection.old d
+        → (next : Dialogue) × StandsFor connection.new next
+        × Awaits turns count (moment d store.old out.old.items)
+        (moment next store.new out.new.items)) }
+    ensures err { OnErr result ((d : Dialogue) → StandsFor connection.old d
+        → (next : Dialogue) × StandsFor connection.new next
+        × ((had : ℕ) × (had < turns)
+        × Turns count (moment d store.old out.old.items) had (moment next store.new out.new.items)
         × (IsOver count (moment next store.new out.new.items) → ⊥))
         × IsShortInTurn (vec_capacity out.new) (moment next store.new out.new.items)) }
 {
@@ -82,12 +86,17 @@ fn make<R: Wait, G: Gate, C: Courier>(
     ensures ready { C.ready courier.new }
     ensures kept { (first : C) → C.kept first courier.old → C.kept first courier.new }
     ensures ok { OnOk result ((carried : List Carried) ×
-        ((done : List Carried) → C.carried courier.old done → C.carried courier.new (done ++ carried))
-        × ((d : Dialogue) → StandsFor connection.old d → (next : Dialogue) × StandsFor connection.new next
-        × Steps turns step.now carried (moment d store.old out.old.items) (moment next store.new out.new.items))) }
-    ensures err { IfErr result (λ why. (d : Dialogue) → StandsFor connection.old d → (next : Dialogue) × StandsFor connection.new next
+        ((done : List Carried) → C.carried courier.old done
+        → C.carried courier.new (done ++ carried))
+        × ((d : Dialogue) → StandsFor connection.old d
+        → (next : Dialogue) × StandsFor connection.new next
+        × Steps turns step.now carried (moment d store.old out.old.items)
+        (moment next store.new out.new.items))) }
+    ensures err { IfErr result (λ why. (d : Dialogue) → StandsFor connection.old d
+        → (next : Dialogue) × StandsFor connection.new next
         × (takes_more d.standing ≡ true)
-        × StopsIn turns (vec_capacity out.new) step.now why (moment d store.old out.old.items) (moment next store.new out.new.items)) }
+        × StopsIn turns (vec_capacity out.new) step.now why (moment d store.old out.old.items)
+        (moment next store.new out.new.items)) }
 {
     if !takes_more(connection) {
         return Ok(());
@@ -112,11 +121,16 @@ fn make_all<R: Wait, G: Gate, C: Courier>(
     ensures ready { C.ready courier.new }
     ensures kept { (first : C) → C.kept first courier.old → C.kept first courier.new }
     ensures ok { OnOk result ((carried : List Carried) ×
-        ((done : List Carried) → C.carried courier.old done → C.carried courier.new (done ++ carried))
-        × ((d : Dialogue) → StandsFor connection.old d → (next : Dialogue) × StandsFor connection.new next
-        × Lives turns (moment d store.old out.old.items) steps.now carried (moment next store.new out.new.items))) }
-    ensures err { IfErr result (λ why. (d : Dialogue) → StandsFor connection.old d → (next : Dialogue) × StandsFor connection.new next
-        × LivesInPart turns (vec_capacity out.new) (moment d store.old out.old.items) steps.now why (moment next store.new out.new.items)) }
+        ((done : List Carried) → C.carried courier.old done
+        → C.carried courier.new (done ++ carried))
+        × ((d : Dialogue) → StandsFor connection.old d
+        → (next : Dialogue) × StandsFor connection.new next
+        × Lives turns (moment d store.old out.old.items) steps.now carried
+        (moment next store.new out.new.items))) }
+    ensures err { IfErr result (λ why. (d : Dialogue) → StandsFor connection.old d
+        → (next : Dialogue) × StandsFor connection.new next
+        × LivesInPart turns (vec_capacity out.new) (moment d store.old out.old.items) steps.now why
+        (moment next store.new out.new.items)) }
 {
     for step in steps {
         make(alloc, connection, store, courier, step, turns, out)?;
@@ -173,18 +187,24 @@ pub fn live<R: Wait, G: Gate, C: Courier>(
 
     // Without an error the greeting and what all steps say stand behind `out`, their messages were carried, and the session left.
     ensures ok { OnOk result ((carried : List Carried) ×
-        ((done : List Carried) → C.carried courier.old done → C.carried courier.new (done ++ carried))
-        × ((last : Moment) × Lives turns (greeted_at most folders.items store.old (out.old.items ++ greeting)) steps.now carried last
+        ((done : List Carried) → C.carried courier.old done
+        → C.carried courier.new (done ++ carried))
+        × ((last : Moment) × Lives turns (greeted_at most folders.items store.old (out.old.items
+        ++ greeting)) steps.now carried last
         × (out.new.items ≡ last.text) × Departs last.selection store.new)) }
 
     // After an error nothing was said or done; or it was greeted, made its first steps, stopped in the next, and left or is forgotten;
     // or it made all, and is forgotten.
-    ensures err { IfErr result (λ why. (store.new ≡ store.old) × (out.new.items ≡ out.old.items) × (why ≡ Lost.NoMemory)
-        ⊎ ((last : Moment) × LivesInPart turns (vec_capacity out.new) (greeted_at most folders.items store.old (out.old.items ++ greeting))
+    ensures err { IfErr result (λ why. (store.new ≡ store.old) × (out.new.items ≡ out.old.items)
+        × (why ≡ Lost.NoMemory)
+        ⊎ ((last : Moment) × LivesInPart turns (vec_capacity out.new)
+        (greeted_at most folders.items store.old (out.old.items ++ greeting))
         steps.now why last
-        × (out.new.items ≡ last.text) × (Departs last.selection store.new ⊎ IsForgotten last.selection store.new))
+        × (out.new.items ≡ last.text)
+        × (Departs last.selection store.new ⊎ IsForgotten last.selection store.new))
         ⊎ (carried : List Carried) × ((last : Moment)
-        × Lives turns (greeted_at most folders.items store.old (out.old.items ++ greeting)) steps.now carried last
+        × Lives turns (greeted_at most folders.items store.old (out.old.items
+        ++ greeting)) steps.now carried last
         × (out.new.items ≡ last.text) × IsForgotten last.selection store.new × (why ≡ Lost.Torn))) }
 {
     let mut connection = ImapConnection::new(alloc, folders, most)?;

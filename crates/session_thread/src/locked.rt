@@ -52,7 +52,8 @@ fn choose_in(
     set: &SeqSet<'_>,
     by_uid: bool,
 ) -> Result<Option<Vec<Named>>, MailFault>
-    ensures chosen { IfOk result (λ chosen. (view : List ℕ) × DoesLook mailbox.now handle.now (Ok view)
+    ensures chosen { IfOk result (λ chosen. (view : List ℕ)
+        × DoesLook mailbox.now handle.now (Ok view)
         × (option_map (λ named. named.items) chosen ≡ messages_in by_uid set.now view)) }
     ensures not { IfErr result (λ fault. LooksNot by_uid set.now fault mailbox.now handle.now) }
     ensures faults { IfErr result (λ f. (f ≡ MailFault.Stranger) ⊎ (f ≡ MailFault.NoMemory)) }
@@ -73,9 +74,11 @@ pub(crate) fn choose<R: Wait>(
     set: &SeqSet<'_>,
     by_uid: bool,
 ) -> Result<Option<Vec<Named>>, MailFault>
-    ensures chosen { IfOk result (λ chosen. (view : List ℕ) × UnderLock (λ found left. (left ≡ found) × DoesLook found handle.now (Ok view))
+    ensures chosen { IfOk result (λ chosen. (view : List ℕ)
+        × UnderLock (λ found left. (left ≡ found) × DoesLook found handle.now (Ok view))
         × (option_map (λ named. named.items) chosen ≡ messages_in by_uid set.now view)) }
-    ensures not { IfErr result (λ fault. UnderLock (λ found left. (left ≡ found) × LooksNot by_uid set.now fault found handle.now)) }
+    ensures not { IfErr result (λ fault.
+        UnderLock (λ found left. (left ≡ found) × LooksNot by_uid set.now fault found handle.now)) }
     ensures faults { IfErr result (λ f. (f ≡ MailFault.Stranger) ⊎ (f ≡ MailFault.NoMemory)) }
 {
     // The set is lent, since a closure that captured it would lose its clauses.
@@ -86,10 +89,14 @@ pub(crate) fn choose<R: Wait>(
         &mut set,
         |mailbox: &mut Mailbox, set: &mut &SeqSet<'_>| -> Result<Option<Vec<Named>>, MailFault>
             ensures same { mailbox.new ≡ mailbox.old }
-            ensures chosen { IfOk result (λ chosen. (view : List ℕ) × DoesLook mailbox.old handle.entry.now (Ok view)
-                × (option_map (λ named. named.items) chosen ≡ messages_in by_uid set.old.now view)) }
-            ensures not { IfErr result (λ fault. LooksNot by_uid set.old.now fault mailbox.old handle.entry.now) }
-            ensures faults { IfErr result (λ f. (f ≡ MailFault.Stranger) ⊎ (f ≡ MailFault.NoMemory)) }
+            ensures chosen { IfOk result (λ chosen. (view : List ℕ)
+                × DoesLook mailbox.old handle.entry.now (Ok view)
+                × (option_map (λ named. named.items) chosen
+                ≡ messages_in by_uid set.old.now view)) }
+            ensures not { IfErr result (λ fault.
+                LooksNot by_uid set.old.now fault mailbox.old handle.entry.now) }
+            ensures faults { IfErr result (λ f. (f ≡ MailFault.Stranger)
+                ⊎ (f ≡ MailFault.NoMemory)) }
         { choose_in(alloc, mailbox, handle, set, by_uid) },
     )
 }
@@ -160,7 +167,8 @@ pub(crate) fn expunge<R: Wait>(
     out: &mut Vec<u8>,
 ) -> (Result<usize, MailFault>, CursorHandle)
     ensures event { UnderLock (λ found left.
-        DoesExpunge found handle (option_copied uids.entry) out.old.items out.new.items result.0 left result.1) }
+        DoesExpunge found handle (option_copied uids.entry) out.old.items out.new.items result.0
+        left result.1) }
     ensures room { vec_capacity out.old ≤ vec_capacity out.new }
 {
     match uids {
@@ -172,7 +180,8 @@ pub(crate) fn expunge<R: Wait>(
                 Result<usize, MailFault>,
                 CursorHandle,
             )
-                ensures event { DoesExpunge mailbox.old handle None out.old.items out.new.items result.0 mailbox.new result.1 }
+                ensures event { DoesExpunge mailbox.old handle None out.old.items out.new.items
+                    result.0 mailbox.new result.1 }
                 ensures room { vec_capacity out.old ≤ vec_capacity out.new }
             {
                 let gone = holds::expunge(mailbox, &mut handle, None, out);
@@ -187,7 +196,8 @@ pub(crate) fn expunge<R: Wait>(
                 Result<usize, MailFault>,
                 CursorHandle,
             )
-                ensures event { DoesExpunge mailbox.old handle (Some uids.entry.now) out.old.items out.new.items result.0 mailbox.new result.1 }
+                ensures event { DoesExpunge mailbox.old handle (Some uids.entry.now) out.old.items
+                    out.new.items result.0 mailbox.new result.1 }
                 ensures room { vec_capacity out.old ≤ vec_capacity out.new }
             {
                 let gone = holds::expunge(mailbox, &mut handle, Some(uids), out);
@@ -204,7 +214,8 @@ pub(crate) fn feed<R: Wait>(
     limit: usize,
     out: &mut Vec<u8>,
 ) -> (Result<usize, MailFault>, CursorHandle)
-    ensures event { UnderLock (λ found left. DoesFeed found handle limit out.old.items out.new.items result.0 left result.1) }
+    ensures event { UnderLock (λ found left.
+        DoesFeed found handle limit out.old.items out.new.items result.0 left result.1) }
     ensures few { IfOk result.0 (λ n. n ≤ limit) }
     ensures faults { IfErr result.0 (λ f. f ≢ MailFault.Spent) }
     ensures room { vec_capacity out.old ≤ vec_capacity out.new }
@@ -214,7 +225,8 @@ pub(crate) fn feed<R: Wait>(
         lock,
         out,
         move |mailbox: &mut Mailbox, out: &mut Vec<u8>| -> (Result<usize, MailFault>, CursorHandle)
-            ensures event { DoesFeed mailbox.old handle limit out.old.items out.new.items result.0 mailbox.new result.1 }
+            ensures event { DoesFeed mailbox.old handle limit out.old.items out.new.items result.0
+                mailbox.new result.1 }
             ensures few { IfOk result.0 (λ n. n ≤ limit) }
             ensures faults { IfErr result.0 (λ f. f ≢ MailFault.Spent) }
             ensures room { vec_capacity out.old ≤ vec_capacity out.new }

@@ -113,7 +113,8 @@ impl<'a, R: Wait, G: Gate> LockedStore<'a, R, G> {
         ensures kept { (first : C) → C.kept first courier.old → C.kept first courier.new }
 
         // Without an error the courier carried one message more: this one, with the verdict that is answered.
-        ensures carried { IfOk result (λ verdict. (done : List Carried) → C.carried courier.old done →
+        ensures carried { IfOk result (λ verdict. (done : List Carried)
+            → C.carried courier.old done →
             C.carried courier.new (done ++ carried_of append.now verdict ∷ [])) }
         ensures same { self.new ≡ self.old }
     {

@@ -37,10 +37,15 @@ fn hear_verdict<R: Wait, G: Gate, C: Courier>(
     ensures ready { C.ready courier.new }
     ensures kept { (first : C) → C.kept first courier.old → C.kept first courier.new }
     ensures unsent { OnOk result (connection.new.session.mailing.sent ≡ None) }
-    ensures told { OnOk result ((one : Carried) × ((done : List Carried) → C.carried courier.old done → C.carried courier.new (done ++ one ∷ []))
-        × ((d : Dialogue) → StandsFor connection.old d → (next : Dialogue) × StandsFor connection.new next
-        × TellsVerdict one (moment d store.old out.old.items) (moment next store.new out.new.items))) }
-    ensures same { OnErr result ((connection.new ≡ connection.old) × (store.new ≡ store.old) × (out.new.items ≡ out.old.items)) }
+    ensures told { OnOk result ((one : Carried)
+        × ((done : List Carried) → C.carried courier.old done
+        → C.carried courier.new (done ++ one ∷ []))
+        × ((d : Dialogue) → StandsFor connection.old d
+        → (next : Dialogue) × StandsFor connection.new next
+        × TellsVerdict one (moment d store.old out.old.items)
+        (moment next store.new out.new.items))) }
+    ensures same { OnErr result ((connection.new ≡ connection.old) × (store.new ≡ store.old)
+        × (out.new.items ≡ out.old.items)) }
 {
     out.reserve(connection.verdict_room())?;
     let Some(append) = connection.submission() else {
@@ -79,13 +84,18 @@ pub fn answer<R: Wait, G: Gate, C: Courier>(
 
     // Without an error the bytes were taken and answered, to their end or the session's, and the courier carried their messages and no others.
     ensures ok { OnOk result ((carried : List Carried) ×
-        ((done : List Carried) → C.carried courier.old done → C.carried courier.new (done ++ carried))
-        × ((d : Dialogue) → StandsFor connection.old d → (next : Dialogue) × StandsFor connection.new next
-        × Says bytes.now carried (moment d store.old out.old.items) (moment next store.new out.new.items))) }
+        ((done : List Carried) → C.carried courier.old done
+        → C.carried courier.new (done ++ carried))
+        × ((d : Dialogue) → StandsFor connection.old d
+        → (next : Dialogue) × StandsFor connection.new next
+        × Says bytes.now carried (moment d store.old out.old.items)
+        (moment next store.new out.new.items))) }
 
     // After an error some bytes were taken and answered, and it was short of room or memory (`NoMemory`), or no verdict came on its message.
-    ensures err { IfErr result (λ why. (d : Dialogue) → StandsFor connection.old d → (next : Dialogue) × StandsFor connection.new next
-        × SaysInPart (vec_capacity out.new) bytes.now why (moment d store.old out.old.items) (moment next store.new out.new.items)) }
+    ensures err { IfErr result (λ why. (d : Dialogue) → StandsFor connection.old d
+        → (next : Dialogue) × StandsFor connection.new next
+        × SaysInPart (vec_capacity out.new) bytes.now why (moment d store.old out.old.items)
+        (moment next store.new out.new.items)) }
 {
     let mut used = 0;
     loop {

@@ -27,11 +27,13 @@ pub fn idle_turn<R: Wait, G: Gate>(
     requires { is_idling connection.old.session ≡ true }
 
     // Without an error it had one turn, which showed as many changes as are answered.
-    ensures ok { IfOk result (λ count. (d : Dialogue) → StandsFor connection.old d → (next : Dialogue) × StandsFor connection.new next
+    ensures ok { IfOk result (λ count. (d : Dialogue) → StandsFor connection.old d
+        → (next : Dialogue) × StandsFor connection.new next
         × HasShown count (moment d store.old out.old.items) (moment next store.new out.new.items)) }
 
     // After an error it stands as before, and was short of room in `out`, or its mailbox refused it memory.
-    ensures err { OnErr result ((d : Dialogue) → StandsFor connection.old d → StandsFor connection.new d
+    ensures err { OnErr result ((d : Dialogue) → StandsFor connection.old d
+        → StandsFor connection.new d
         × (moment d store.new out.new.items ≡ moment d store.old out.old.items)
         × IsShortInTurn (vec_capacity out.new) (moment d store.new out.new.items)) }
 {

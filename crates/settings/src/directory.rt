@@ -27,14 +27,18 @@ fn borrowed_words(alloc: Global, words: &[Vec<u8>]) -> Result<Vec<&[u8]>, AllocE
 // The directory of the mailboxes, where all names are right.
 fn named_directory(alloc: Global, config: &Config) -> Result<Directory, ConfigFault>
     requires { 0 < config.now.shards }
-    ensures homes { IfOk result (λ d. words_read (config.now.host.items ∷ config.now.domain.items ∷ []) (words_of config.now) ≡ Ok d.homes) }
+    ensures homes { IfOk result (λ d.
+        words_read (config.now.host.items ∷ config.now.domain.items ∷ []) (words_of config.now)
+        ≡ Ok d.homes) }
     ensures domains { IfOk result (λ d. d.domains ≡ config.now.domain.items ∷ []) }
     ensures shards { IfOk result (λ d. d.shards ≡ config.now.shards) }
     ensures shut { IfOk result (λ d. d.shut ≡ none_shut config.now.shards) }
     ensures host { IfOk result (λ d. length config.now.host.items < 256) }
-    ensures fault { IfErr (words_read (config.now.host.items ∷ config.now.domain.items ∷ []) (words_of config.now))
+    ensures fault { IfErr (words_read (config.now.host.items ∷ config.now.domain.items
+        ∷ []) (words_of config.now))
         (λ fault. (result ≡ Err (fault_named fault)) ⊎ (result ≡ Err ConfigFault.NoMemory)) }
-    ensures made { IsOk (words_read (config.now.host.items ∷ config.now.domain.items ∷ []) (words_of config.now)) →
+    ensures made { IsOk (words_read (config.now.host.items ∷ config.now.domain.items
+        ∷ []) (words_of config.now)) →
         IsOkUnless result ConfigFault.NoMemory }
 {
     if config.mailboxes.len() > MOST_MAILBOXES {
@@ -118,7 +122,8 @@ pub fn directory_of(alloc: Global, config: &Config) -> Result<Directory, ConfigF
     ensures host { IfOk result (λ d. length config.now.host.items < 256) }
 
     // Where something is wrong, the first fault that holds is the error, or NoMemory.
-    ensures fault { IfSome (config_fault config.now) (λ fault. (result ≡ Err fault) ⊎ (result ≡ Err ConfigFault.NoMemory)) }
+    ensures fault { IfSome (config_fault config.now) (λ fault. (result ≡ Err fault)
+        ⊎ (result ≡ Err ConfigFault.NoMemory)) }
 
     // Where nothing is wrong, there is one, unless memory is refused.
     ensures made { config_fault config.now ≡ None → IsOkUnless result ConfigFault.NoMemory }

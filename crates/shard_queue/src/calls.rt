@@ -13,7 +13,8 @@ impl<T: Drop> PlainLane<T> {
     /// An empty lane with room for `capacity` entries, where each of the producers 0 to
     /// `producers - 1` may put. An error where memory is refused.
     pub fn new(alloc: Global, capacity: usize, producers: u8) -> Result<PlainLane<T>, AllocError>
-        ensures empty { IfOk result (λ l. l ≡ record { capacity = capacity; live = replicate producers true; waiting = [] }) }
+        ensures empty { IfOk result (λ l.
+            l ≡ record { capacity = capacity; live = replicate producers true; waiting = [] }) }
         ensures stands { IfOk result (λ l. StandsForLane producers capacity l empty_lane) }
     {
         let entries = VecDeque::with_capacity(alloc, capacity)?;
@@ -60,8 +61,12 @@ impl<T: Drop> PlainLane<T> {
         // Ok where there is room: the item waits behind all others. Else it comes back, and nothing has changed.
         ensures put { MatchResult result
             (λ _. (length self.old.waiting < self.old.capacity)
-            × (self.new ≡ record self.old { waiting = self.old.waiting ++ entries.Item producer item ∷ [] }))
-            (λ back. (back.0 ≡ item) × (length self.old.waiting ≡ self.old.capacity) × (self.new ≡ self.old)) }
+            × (self.new ≡ record self.old {
+              waiting = self.old.waiting ++ entries.Item producer item
+                  ∷ [];
+            }))
+            (λ back. (back.0 ≡ item) × (length self.old.waiting ≡ self.old.capacity)
+            × (self.new ≡ self.old)) }
         // After Ok: from each lane for which it stood, a legal move leads to one for which it stands.
         ensures moves { OnOk result (Makes self.old (Puts (entries.Item producer item)) self.new) }
     {
@@ -80,7 +85,10 @@ impl<T: Drop> PlainLane<T> {
         // Ok where there is room: the end waits behind all others, and the producer may put no more. Else nothing has changed.
         ensures put { MatchResult result
             (λ _. (length self.old.waiting < self.old.capacity)
-            × (self.new ≡ record self.old { waiting = self.old.waiting ++ entries.End producer ∷ []; live = slice_set self.old.live producer false }))
+            × (self.new ≡ record self.old {
+              waiting = self.old.waiting ++ entries.End producer ∷ [];
+              live = slice_set self.old.live producer false;
+            }))
             (λ _. (length self.old.waiting ≡ self.old.capacity) × (self.new ≡ self.old)) }
         // After Ok: from each lane for which it stood, a legal move leads to one for which it stands.
         ensures moves { OnOk result (Makes self.old (Puts (entries.End producer)) self.new) }
@@ -98,7 +106,8 @@ impl<T: Drop> PlainLane<T> {
     /// Takes the first entry that waits. Empty exactly where nothing waits.
     pub fn take(&mut self) -> Taken<T>
         // What was taken stood before all that waits now; nothing else has changed.
-        ensures taken { self.old ≡ record self.new { waiting = before_taking result self.new.waiting } }
+        ensures taken { self.old
+            ≡ record self.new { waiting = before_taking result self.new.waiting } }
         // Empty only where nothing waited.
         ensures empty { taken_entry result ≡ None → self.old.waiting ≡ [] }
         // Where something was taken: from each lane for which it stood, a legal move leads to one for which it stands.

@@ -91,7 +91,8 @@ impl<T: Drop> ShardQueue<T> {
     ) -> Result<(ShardQueue<T>, Vec<ProducerPermit<T>>, ConsumerPermit<T>), AllocError>
         requires { 0 < capacity }
         // The queue has so much room, and so many producers.
-        ensures queue { IfOk result (λ r. (capacity_of r.0 ≡ capacity) × (producers_of r.0 ≡ producers)) }
+        ensures queue { IfOk result (λ r. (capacity_of r.0 ≡ capacity)
+            × (producers_of r.0 ≡ producers)) }
         // There is a permit for each producer, in the order of their numbers, by which nothing was sent.
         ensures numbers { IfOk result (λ r. map number_of r.1.items ≡ numbers 0 producers) }
         ensures len { IfOk result (λ r. vec_len r.1 ≡ producers) }
@@ -126,13 +127,18 @@ impl<T: Drop> ShardQueue<T> {
         // The permit is of a producer of this queue that has not ended.
         requires permit { IsProducer self.now permit.old }
         // So it is afterwards, of the same producer.
-        ensures permit { IsProducer self.now permit.new × (number_of permit.new ≡ number_of permit.old) }
+        ensures permit { IsProducer self.now permit.new
+            × (number_of permit.new ≡ number_of permit.old) }
         // Ok: it has sent the item, last. Full: the item comes back, it has sent no more, and at one moment since it last put there was no room.
         ensures put { MatchResult result
-            (λ _. (sent permit.new ≡ sent permit.old ++ entries.Item (number_of permit.old) item ∷ [])
-            × IsPutBehind (put_seen permit.old) (entries.Item (number_of permit.old) item) (put_seen permit.new))
-            (λ back. (back.0 ≡ item) × (sent permit.new ≡ sent permit.old) × (put_seen permit.new ≡ put_seen permit.old)
-            × WasFull (producers_of self.now) (capacity_of self.now) (number_of permit.old) (sent permit.old) (put_seen permit.old)) }
+            (λ _. (sent permit.new ≡ sent permit.old ++ entries.Item (number_of permit.old) item
+            ∷ [])
+            × IsPutBehind (put_seen permit.old) (entries.Item (number_of permit.old) item)
+            (put_seen permit.new))
+            (λ back. (back.0 ≡ item) × (sent permit.new ≡ sent permit.old)
+            × (put_seen permit.new ≡ put_seen permit.old)
+            × WasFull (producers_of self.now) (capacity_of self.now) (number_of permit.old)
+            (sent permit.old) (put_seen permit.old)) }
     {
         let put = Entry::Item(permit.number, item);
         match self.queue.push_as::<Put, R>(rt, &mut permit.pass, put) {
@@ -158,7 +164,8 @@ impl<T: Drop> ShardQueue<T> {
         // Else the permit comes back, it has sent no more, and at one moment since it last put there was no room.
         ensures full { IfErr result (λ s. IsProducer self.now s × (number_of s ≡ number_of permit)
             × (sent s ≡ sent permit) × (put_seen s ≡ put_seen permit)
-            × WasFull (producers_of self.now) (capacity_of self.now) (number_of permit) (sent permit) (put_seen permit)) }
+            × WasFull (producers_of self.now) (capacity_of self.now) (number_of permit)
+            (sent permit) (put_seen permit)) }
     {
         let ProducerPermit { mut pass, number } = permit;
         match self
@@ -182,7 +189,8 @@ impl<T: Drop> ShardQueue<T> {
         // Empty: nothing was taken, and at one moment since the last take nothing waited. Else a producer's entry is the last that was taken.
         ensures taken { MatchOption (taken_entry result)
             ((got permit.new ≡ got permit.old) × (take_seen permit.new ≡ take_seen permit.old)
-            × WasEmpty (producers_of self.now) (capacity_of self.now) (got permit.old) (take_seen permit.old))
+            × WasEmpty (producers_of self.now) (capacity_of self.now) (got permit.old)
+            (take_seen permit.old))
             (λ e. (got permit.new ≡ got permit.old ++ e ∷ []) × (producer e < producers_of self.now)
             × IsLeftBy (take_seen permit.old) (got permit.new) (take_seen permit.new)) }
     {
@@ -209,10 +217,13 @@ impl<T: Drop> ShardQueue<T> {
         requires ended { All (IsEnded self) ended.items }
         // Ok: what is left tells all that was taken, and that is, of each producer, all that it sent.
         ensures history { IfOk result (λ c. history c ≡ got permit) }
-        ensures each { IfOk result (λ _. All (λ e. said e ≡ of (ended_number e) (got permit)) ended.items) }
+        ensures each { IfOk result (λ _.
+            All (λ e. said e ≡ of (ended_number e) (got permit)) ended.items) }
         // Ok: each producer has ended, its end was taken, and nobody else has sent anything.
-        ensures all { IfOk result (λ _. IsAll ended_number (producers_of self) ended.items (got permit)) }
-        ensures whole { IfOk result (λ _. IsWhole (producers_of self) (capacity_of self) (got permit)) }
+        ensures all { IfOk result (λ _.
+            IsAll ended_number (producers_of self) ended.items (got permit)) }
+        ensures whole { IfOk result (λ _.
+            IsWhole (producers_of self) (capacity_of self) (got permit)) }
         // NotAll: all comes back as it was given; an Ended is missing, or an end was not taken.
         ensures back { IfErr result (λ n. (n.queue ≡ self) × (n.ended ≡ ended) × (n.permit ≡ permit)
             × IsNotAll ended_number (producers_of self) ended.items (got permit)) }
@@ -256,8 +267,10 @@ impl<T: Drop> ShardQueue<T> {
     // Whether each producer has ended and its end was taken.
     fn are_all(&self, ended: &[Ended<T>], permit: &ConsumerPermit<T>) -> bool
         requires { IsConsumer self.now permit.now }
-        ensures all { result ≡ true → IsAll ended_number (producers_of self.now) ended.now (got permit.now) }
-        ensures lacks { result ≡ false → IsNotAll ended_number (producers_of self.now) ended.now (got permit.now) }
+        ensures all { result ≡ true
+            → IsAll ended_number (producers_of self.now) ended.now (got permit.now) }
+        ensures lacks { result ≡ false
+            → IsNotAll ended_number (producers_of self.now) ended.now (got permit.now) }
     {
         for p in 0..self.producers {
             if !permit.ended[usize::from(p)] {
@@ -294,9 +307,12 @@ fn hire<T>(
     pass: &mut Pass<Entry<T>, View<T>>,
     number: u8,
 ) -> ProducerPermit<T>
-    requires { IsPassOf queue.now pass.old × (view pass.old ≡ consumer producers number [] None []) × (number < producers) }
-    ensures pass { IsPassOf queue.now pass.new × (view pass.new ≡ consumer producers (number + 1) [] None []) }
-    ensures permit { IsPassOf queue.now result.pass × (view result.pass ≡ sender producers number [] []) × (result.number ≡ number) }
+    requires { IsPassOf queue.now pass.old × (view pass.old ≡ consumer producers number [] None [])
+        × (number < producers) }
+    ensures pass { IsPassOf queue.now pass.new
+        × (view pass.new ≡ consumer producers (number + 1) [] None []) }
+    ensures permit { IsPassOf queue.now result.pass
+        × (view result.pass ≡ sender producers number [] []) × (result.number ≡ number) }
 {
     let pass = queue.another::<Hire>(pass);
     ProducerPermit { pass, number }
@@ -305,9 +321,11 @@ fn hire<T>(
 // Hears a producer out: what it has sent is what was taken of it.
 fn hear_out<T>(queue: &Lane<T>, producers: u8, pass: &mut Pass<Entry<T>, View<T>>, ended: Ended<T>)
     requires pass { IsPassOf queue.now pass.old × HasAllEnds producers (view pass.old) }
-    requires ended { IsPassOf queue.now ended.pass × (view ended.pass ≡ sender producers ended.number (said ended) (end_seen ended))
+    requires ended { IsPassOf queue.now ended.pass
+        × (view ended.pass ≡ sender producers ended.number (said ended) (end_seen ended))
         × (has_end (said ended) ≡ true) }
-    ensures pass { IsPassOf queue.now pass.new × HasAllEnds producers (view pass.new) × (list_of (view pass.new) ≡ list_of (view pass.old)) }
+    ensures pass { IsPassOf queue.now pass.new × HasAllEnds producers (view pass.new)
+        × (list_of (view pass.new) ≡ list_of (view pass.old)) }
     ensures said { said ended ≡ of ended.number (list_of (view pass.old)) }
 {
     let Ended {
@@ -326,9 +344,11 @@ fn hear_all_out<T>(
     mut ended: Vec<Ended<T>>,
 )
     requires pass { IsPassOf queue.now pass.old × HasAllEnds producers (view pass.old) }
-    requires ended { All (λ e. IsPassOf queue.now e.pass × (view e.pass ≡ sender producers e.number (said e) (end_seen e))
+    requires ended { All (λ e. IsPassOf queue.now e.pass
+        × (view e.pass ≡ sender producers e.number (said e) (end_seen e))
         × (has_end (said e) ≡ true)) ended.items }
-    ensures pass { IsPassOf queue.now pass.new × HasAllEnds producers (view pass.new) × (list_of (view pass.new) ≡ list_of (view pass.old)) }
+    ensures pass { IsPassOf queue.now pass.new × HasAllEnds producers (view pass.new)
+        × (list_of (view pass.new) ≡ list_of (view pass.old)) }
     ensures said { All (λ e. said e ≡ of e.number (list_of (view pass.old))) ended.items }
 {
     while let Some(e) = ended.pop() {

@@ -90,7 +90,8 @@ impl<T: Drop> ReplyChannel<T> {
         // There is a permit for each sender, in the order of their numbers, by which nothing was sent.
         ensures numbers { IfOk result (λ r. map sender_number r.1.items ≡ numbers 0 senders) }
         ensures len { IfOk result (λ r. vec_len r.1 ≡ senders) }
-        ensures permits { IfOk result (λ r. All (λ s. IsSender r.0 s × (sent_on s ≡ [])) r.1.items) }
+        ensures permits { IfOk result (λ r.
+            All (λ s. IsSender r.0 s × (sent_on s ≡ [])) r.1.items) }
         // The last is the receiver's, by which nothing was received.
         ensures receiver { IfOk result (λ r. IsReceiver r.0 r.2 × (received r.2 ≡ [])) }
     {
@@ -124,13 +125,18 @@ impl<T: Drop> ReplyChannel<T> {
         // The permit is of a sender of this channel that has not ended.
         requires permit { IsSender self.now permit.old }
         // So it is afterwards, of the same sender.
-        ensures permit { IsSender self.now permit.new × (sender_number permit.new ≡ sender_number permit.old) }
+        ensures permit { IsSender self.now permit.new
+            × (sender_number permit.new ≡ sender_number permit.old) }
         // Ok: it has sent the item, last. Full: the item comes back, it has sent no more, and at one moment since it last sent there was no room.
         ensures sent { MatchResult result
-            (λ _. (sent_on permit.new ≡ sent_on permit.old ++ entries.Item (sender_number permit.old) item ∷ [])
-            × IsPutBehind (send_seen permit.old) (entries.Item (sender_number permit.old) item) (send_seen permit.new))
-            (λ back. (back.0 ≡ item) × (sent_on permit.new ≡ sent_on permit.old) × (send_seen permit.new ≡ send_seen permit.old)
-            × WasFull (senders_of self.now) (room_of self.now) (sender_number permit.old) (sent_on permit.old) (send_seen permit.old)) }
+            (λ _. (sent_on permit.new
+            ≡ sent_on permit.old ++ entries.Item (sender_number permit.old) item ∷ [])
+            × IsPutBehind (send_seen permit.old) (entries.Item (sender_number permit.old) item)
+            (send_seen permit.new))
+            (λ back. (back.0 ≡ item) × (sent_on permit.new ≡ sent_on permit.old)
+            × (send_seen permit.new ≡ send_seen permit.old)
+            × WasFull (senders_of self.now) (room_of self.now) (sender_number permit.old)
+            (sent_on permit.old) (send_seen permit.old)) }
     {
         let mut entry = Entry::Item(permit.number, item);
         // Both ends are here, so nobody is ever told that the other is gone. No clause of the channel
@@ -158,13 +164,16 @@ impl<T: Drop> ReplyChannel<T> {
         // The permit is of a sender of this channel that has not ended.
         requires permit { IsSender self.now permit }
         // Ok: it has sent its end, last, and what is left of the permit says all that it sent.
-        ensures ended { IfOk result (λ e. IsSenderEnded self.now e × (sender_ended_number e ≡ sender_number permit)
+        ensures ended { IfOk result (λ e. IsSenderEnded self.now e
+            × (sender_ended_number e ≡ sender_number permit)
             × (said_on e ≡ sent_on permit ++ entries.End (sender_number permit) ∷ [])
             × IsPutBehind (send_seen permit) (entries.End (sender_number permit)) (last_seen e)) }
         // Else the permit comes back, it has sent no more, and at one moment since it last sent there was no room.
-        ensures full { IfErr result (λ s. IsSender self.now s × (sender_number s ≡ sender_number permit) × (sent_on s ≡ sent_on permit)
+        ensures full { IfErr result (λ s. IsSender self.now s
+            × (sender_number s ≡ sender_number permit) × (sent_on s ≡ sent_on permit)
             × (send_seen s ≡ send_seen permit)
-            × WasFull (senders_of self.now) (room_of self.now) (sender_number permit) (sent_on permit) (send_seen permit)) }
+            × WasFull (senders_of self.now) (room_of self.now) (sender_number permit)
+            (sent_on permit) (send_seen permit)) }
     {
         let SenderPermit { mut pass, number } = permit;
         // As in `send_as`: whoever were told that the other end is gone would try again.
@@ -189,7 +198,8 @@ impl<T: Drop> ReplyChannel<T> {
         // So it is afterwards.
         ensures permit { IsReceiver self.now permit.new }
         // The entry is the last that was received, and one of the channel's senders sent it.
-        ensures received { (received permit.new ≡ received permit.old ++ result ∷ []) × (producer result < senders_of self.now)
+        ensures received { (received permit.new ≡ received permit.old ++ result ∷ [])
+            × (producer result < senders_of self.now)
             × IsLeftBy (receive_seen permit.old) (received permit.new) (receive_seen permit.new) }
     {
         for _ in rt.forever() {
@@ -218,12 +228,16 @@ impl<T: Drop> ReplyChannel<T> {
         requires ended { All (IsSenderEnded self) ended.items }
         // Ok: what is left tells all that was received, and that is, of each sender, all that it sent.
         ensures history { IfOk result (λ c. reply_history c ≡ received permit) }
-        ensures each { IfOk result (λ _. All (λ e. said_on e ≡ of (sender_ended_number e) (received permit)) ended.items) }
+        ensures each { IfOk result (λ _.
+            All (λ e. said_on e ≡ of (sender_ended_number e) (received permit)) ended.items) }
         // Ok: each sender has ended, its end was received, and nobody else has sent anything.
-        ensures all { IfOk result (λ _. IsAll sender_ended_number (senders_of self) ended.items (received permit)) }
-        ensures whole { IfOk result (λ _. IsWhole (senders_of self) (room_of self) (received permit)) }
+        ensures all { IfOk result (λ _.
+            IsAll sender_ended_number (senders_of self) ended.items (received permit)) }
+        ensures whole { IfOk result (λ _.
+            IsWhole (senders_of self) (room_of self) (received permit)) }
         // NotAll: all comes back as it was given; an Ended is missing, or an end was not received.
-        ensures back { IfErr result (λ n. (n.channel ≡ self) × (n.ended ≡ ended) × (n.permit ≡ permit)
+        ensures back { IfErr result (λ n. (n.channel ≡ self) × (n.ended ≡ ended)
+            × (n.permit ≡ permit)
             × IsNotAll sender_ended_number (senders_of self) ended.items (received permit)) }
     {
         if !self.are_all(ended.as_slice(), &permit) {
@@ -269,8 +283,10 @@ impl<T: Drop> ReplyChannel<T> {
     // Whether each sender has ended and its end was received.
     fn are_all(&self, ended: &[SenderEnded<T>], permit: &ReceiverPermit<T>) -> bool
         requires { IsReceiver self.now permit.now }
-        ensures all { result ≡ true → IsAll sender_ended_number (senders_of self.now) ended.now (received permit.now) }
-        ensures lacks { result ≡ false → IsNotAll sender_ended_number (senders_of self.now) ended.now (received permit.now) }
+        ensures all { result ≡ true
+            → IsAll sender_ended_number (senders_of self.now) ended.now (received permit.now) }
+        ensures lacks { result ≡ false
+            → IsNotAll sender_ended_number (senders_of self.now) ended.now (received permit.now) }
     {
         for p in 0..self.senders {
             if !permit.ended[usize::from(p)] {
@@ -293,7 +309,8 @@ fn has_ended<T>(ended: &[SenderEnded<T>], number: u8) -> bool
 // How many senders there will be, so that each of their permits knows it.
 fn announce<T: Drop>(ends: &Sends<T>, pass: &mut Pass<Entry<T>, View<T>>, senders: u8)
     requires { IsSeatAt (sends_on ends.now) pass.old × (view pass.old ≡ consumer 0 0 [] None []) }
-    ensures { IsSeatAt (sends_on ends.now) pass.new × (view pass.new ≡ consumer senders 0 [] None []) }
+    ensures { IsSeatAt (sends_on ends.now) pass.new
+        × (view pass.new ≡ consumer senders 0 [] None []) }
 {
     for _ in 0..senders {
         ends.another::<Announce>(pass);
@@ -307,9 +324,12 @@ fn hire<T: Drop>(
     pass: &mut Pass<Entry<T>, View<T>>,
     number: u8,
 ) -> SenderPermit<T>
-    requires { IsSeatAt (sends_on ends.now) pass.old × (view pass.old ≡ consumer senders number [] None []) × (number < senders) }
-    ensures pass { IsSeatAt (sends_on ends.now) pass.new × (view pass.new ≡ consumer senders (number + 1) [] None []) }
-    ensures permit { IsSeatAt (sends_on ends.now) result.pass × (view result.pass ≡ sender senders number [] []) × (result.number ≡ number) }
+    requires { IsSeatAt (sends_on ends.now) pass.old
+        × (view pass.old ≡ consumer senders number [] None []) × (number < senders) }
+    ensures pass { IsSeatAt (sends_on ends.now) pass.new
+        × (view pass.new ≡ consumer senders (number + 1) [] None []) }
+    ensures permit { IsSeatAt (sends_on ends.now) result.pass
+        × (view result.pass ≡ sender senders number [] []) × (result.number ≡ number) }
 {
     let pass = ends.another::<Hire>(pass);
     SenderPermit { pass, number }
@@ -323,9 +343,11 @@ fn hear_out<T: Drop>(
     ended: SenderEnded<T>,
 )
     requires pass { IsSeatAt (sends_on ends.now) pass.old × HasAllEnds senders (view pass.old) }
-    requires ended { IsSeatAt (sends_on ends.now) ended.pass × (view ended.pass ≡ sender senders ended.number (said_on ended) (last_seen ended))
+    requires ended { IsSeatAt (sends_on ends.now) ended.pass
+        × (view ended.pass ≡ sender senders ended.number (said_on ended) (last_seen ended))
         × (has_end (said_on ended) ≡ true) }
-    ensures pass { IsSeatAt (sends_on ends.now) pass.new × HasAllEnds senders (view pass.new) × (list_of (view pass.new) ≡ list_of (view pass.old)) }
+    ensures pass { IsSeatAt (sends_on ends.now) pass.new × HasAllEnds senders (view pass.new)
+        × (list_of (view pass.new) ≡ list_of (view pass.old)) }
     ensures said { said_on ended ≡ of ended.number (list_of (view pass.old)) }
 {
     let SenderEnded {
@@ -344,9 +366,11 @@ fn hear_all_out<T: Drop>(
     mut ended: Vec<SenderEnded<T>>,
 )
     requires pass { IsSeatAt (sends_on ends.now) pass.old × HasAllEnds senders (view pass.old) }
-    requires ended { All (λ e. IsSeatAt (sends_on ends.now) e.pass × (view e.pass ≡ sender senders e.number (said_on e) (last_seen e))
+    requires ended { All (λ e. IsSeatAt (sends_on ends.now) e.pass
+        × (view e.pass ≡ sender senders e.number (said_on e) (last_seen e))
         × (has_end (said_on e) ≡ true)) ended.items }
-    ensures pass { IsSeatAt (sends_on ends.now) pass.new × HasAllEnds senders (view pass.new) × (list_of (view pass.new) ≡ list_of (view pass.old)) }
+    ensures pass { IsSeatAt (sends_on ends.now) pass.new × HasAllEnds senders (view pass.new)
+        × (list_of (view pass.new) ≡ list_of (view pass.old)) }
     ensures said { All (λ e. said_on e ≡ of e.number (list_of (view pass.old))) ended.items }
 {
     while let Some(e) = ended.pop() {

@@ -80,7 +80,8 @@ fn position_of(view: &[u32], uid: u32) -> Option<usize>
 
 // Whether a message is there, which is then counted no more.
 fn drops(view: &mut Vec<u32>, uid: u32) -> bool
-    ensures { IsTrue result → Names view.old.items (Gone uid) × (view.new.items ≡ without uid view.old.items) }
+    ensures { IsTrue result → Names view.old.items (Gone uid)
+        × (view.new.items ≡ without uid view.old.items) }
 {
     let Some(index) = position_of(view.as_slice(), uid) else {
         return false;
@@ -91,7 +92,8 @@ fn drops(view: &mut Vec<u32>, uid: u32) -> bool
 
 // Whether a change is of a message that is there, if it isn't added. The client counts as it says.
 fn shows(view: &mut Vec<u32>, change: Change) -> Result<bool, AllocError>
-    ensures { IfOk result (λ may. IsTrue may → Names view.old.items change × (view.new.items ≡ shown view.old.items change)) }
+    ensures { IfOk result (λ may. IsTrue may
+        → Names view.old.items change × (view.new.items ≡ shown view.old.items change)) }
 {
     match change {
         Change::Add(uid) => {

@@ -374,7 +374,8 @@ fn talk<R: Wait, S: Summons>(
     stop: &AtomicBool,
     case: &Case,
 ) -> Result<bool, AllocError>
-    requires permits { AreInForce office.now.directory office.now.lanes.items desk.old.number desk.old.permits.items }
+    requires permits { AreInForce office.now.directory office.now.lanes.items desk.old.number
+        desk.old.permits.items }
     requires receiver { IsReceiver channel.now desk.old.receiver }
     requires lanes { office.now.directory.shards ≡ length office.now.lanes.items }
     requires host { length office.now.host.items < 256 }
@@ -435,7 +436,8 @@ fn with_clerk<R: Wait>(
     SenderPermit<Noted>,
     Result<bool, AllocError>,
 )
-    requires permits { AreInForce office.now.directory office.now.lanes.items desk.old.number desk.old.permits.items }
+    requires permits { AreInForce office.now.directory office.now.lanes.items desk.old.number
+        desk.old.permits.items }
     requires receiver { IsReceiver channel.now desk.old.receiver }
     requires lanes { office.now.directory.shards ≡ length office.now.lanes.items }
     requires host { length office.now.host.items < 256 }
@@ -486,7 +488,8 @@ struct Permits {
 }
 
 fn make_permits(alloc: Global) -> Result<Permits, AllocError>
-    ensures producer { IfOk result (λ s. IsProducer s.lane s.producer × (number_of s.producer ≡ 0)) }
+    ensures producer { IfOk result (λ s. IsProducer s.lane s.producer
+        × (number_of s.producer ≡ 0)) }
     ensures permit { IfOk result (λ s. IsConsumer s.lane s.permit) }
     ensures sender { IfOk result (λ s. IsSender s.channel s.sender) }
     ensures receiver { IfOk result (λ s. IsReceiver s.channel s.receiver) }
@@ -523,7 +526,8 @@ struct Room {
 }
 
 fn no_room(alloc: Global) -> Room
-    ensures { (result.lanes.items ≡ []) × (result.hand.items ≡ []) × (result.live.items ≡ []) × (result.ended.items ≡ []) × (result.back.items ≡ []) }
+    ensures { (result.lanes.items ≡ []) × (result.hand.items ≡ []) × (result.live.items ≡ [])
+        × (result.ended.items ≡ []) × (result.back.items ≡ []) }
 {
     Room {
         lanes: Vec::new(alloc),
@@ -535,7 +539,8 @@ fn no_room(alloc: Global) -> Room
 }
 
 fn spend_room(room: Room)
-    requires { (room.lanes.items ≡ []) × (room.hand.items ≡ []) × (room.live.items ≡ []) × (room.ended.items ≡ []) × (room.back.items ≡ []) }
+    requires { (room.lanes.items ≡ []) × (room.hand.items ≡ []) × (room.live.items ≡ [])
+        × (room.ended.items ≡ []) × (room.back.items ≡ []) }
 {
     let Room {
         lanes,
@@ -552,11 +557,14 @@ fn spend_room(room: Room)
 }
 
 fn reserve(room: &mut Room) -> Result<(), AllocError>
-    requires { (room.old.lanes.items ≡ []) × (room.old.hand.items ≡ []) × (room.old.live.items ≡ []) × (room.old.ended.items ≡ []) ×
+    requires { (room.old.lanes.items ≡ []) × (room.old.hand.items ≡ []) × (room.old.live.items ≡ [])
+        × (room.old.ended.items ≡ []) ×
         (room.old.back.items ≡ []) }
-    ensures empty { (room.new.lanes.items ≡ []) × (room.new.hand.items ≡ []) × (room.new.live.items ≡ []) × (room.new.ended.items ≡ []) ×
+    ensures empty { (room.new.lanes.items ≡ []) × (room.new.hand.items ≡ [])
+        × (room.new.live.items ≡ []) × (room.new.ended.items ≡ []) ×
         (room.new.back.items ≡ []) }
-    ensures room { OnOk result ((1 ≤ vec_capacity room.new.lanes) × (1 ≤ vec_capacity room.new.hand) × (1 ≤ vec_capacity room.new.live) ×
+    ensures room { OnOk result ((1 ≤ vec_capacity room.new.lanes) × (1 ≤ vec_capacity room.new.hand)
+        × (1 ≤ vec_capacity room.new.live) ×
         (1 ≤ vec_capacity room.new.ended) × (1 ≤ vec_capacity room.new.back)) }
 {
     room.lanes.reserve(1)?;
@@ -568,8 +576,10 @@ fn reserve(room: &mut Room) -> Result<(), AllocError>
 }
 
 fn make_room(alloc: Global) -> Result<Room, AllocError>
-    ensures empty { IfOk result (λ r. (r.lanes.items ≡ []) × (r.hand.items ≡ []) × (r.live.items ≡ []) × (r.ended.items ≡ []) × (r.back.items ≡ [])) }
-    ensures room { IfOk result (λ r. (1 ≤ vec_capacity r.lanes) × (1 ≤ vec_capacity r.hand) × (1 ≤ vec_capacity r.live) ×
+    ensures empty { IfOk result (λ r. (r.lanes.items ≡ []) × (r.hand.items ≡ [])
+        × (r.live.items ≡ []) × (r.ended.items ≡ []) × (r.back.items ≡ [])) }
+    ensures room { IfOk result (λ r. (1 ≤ vec_capacity r.lanes) × (1 ≤ vec_capacity r.hand)
+        × (1 ≤ vec_capacity r.live) ×
         (1 ≤ vec_capacity r.ended) × (1 ≤ vec_capacity r.back)) }
 {
     let mut room = no_room(alloc);
@@ -618,7 +628,8 @@ fn spend(
 )
     requires lanes { vec_len office.lanes ≡ 1 }
     requires permits { vec_len desk.permits ≡ 1 }
-    requires room { (vec_len back.live < vec_capacity back.live) × (vec_len back.ended < vec_capacity back.ended) }
+    requires room { (vec_len back.live < vec_capacity back.live)
+        × (vec_len back.ended < vec_capacity back.ended) }
 {
     let Office {
         directory: _,
@@ -669,10 +680,13 @@ fn play_in<R: Wait>(
 ) -> Result<bool, AllocError>
     requires shards { directory.shards ≡ 1 }
     requires host { vec_len host < 256 }
-    requires empty { (room.lanes.items ≡ []) × (room.hand.items ≡ []) × (room.live.items ≡ []) × (room.ended.items ≡ []) × (room.back.items ≡ []) }
-    requires room { (1 ≤ vec_capacity room.lanes) × (1 ≤ vec_capacity room.hand) × (1 ≤ vec_capacity room.live) ×
+    requires empty { (room.lanes.items ≡ []) × (room.hand.items ≡ []) × (room.live.items ≡ [])
+        × (room.ended.items ≡ []) × (room.back.items ≡ []) }
+    requires room { (1 ≤ vec_capacity room.lanes) × (1 ≤ vec_capacity room.hand)
+        × (1 ≤ vec_capacity room.live) ×
         (1 ≤ vec_capacity room.ended) × (1 ≤ vec_capacity room.back) }
-    requires producer { IsProducer permits.lane permits.producer × (number_of permits.producer ≡ 0) }
+    requires producer { IsProducer permits.lane permits.producer
+        × (number_of permits.producer ≡ 0) }
     requires permit { IsConsumer permits.lane permits.permit }
     requires sender { IsSender permits.channel permits.sender }
     requires receiver { IsReceiver permits.channel permits.receiver }

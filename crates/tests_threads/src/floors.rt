@@ -68,7 +68,8 @@ fn users_are_numbered_by_their_inboxes(rt: HostRuntime) -> Result<(), Fail> {
 
 // A session of this user alone, where there is such a user.
 fn guests_of(alloc: Global, directory: &Directory, user: u8) -> Result<Vec<Guest>, Fail>
-    ensures users { IfOk result (λ vs. All (λ v. user_numbered v.user directory.now.homes ≢ None) vs.items) }
+    ensures users { IfOk result (λ vs.
+        All (λ v. user_numbered v.user directory.now.homes ≢ None) vs.items) }
     ensures one { IfOk result (λ vs. vec_len vs ≡ 1) }
 {
     if is_nobody(directory, user) {

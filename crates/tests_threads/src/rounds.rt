@@ -161,10 +161,12 @@ fn put_all<H: Hall, R: Wait>(
     requires lanes { H.lanes ≡ Some floor.now.office.lanes.items }
     requires depot { H.depot ≡ Some floor.now.depot }
     requires shards { floor.now.office.directory.shards ≡ length floor.now.office.lanes.items }
-    requires permits { ArePermits floor.now.office.lanes.items desk.old.number desk.old.permits.items }
+    requires permits { ArePermits floor.now.office.lanes.items desk.old.number
+        desk.old.permits.items }
     requires receiver { IsReceiver channel.now desk.old.receiver }
     ensures number { desk.new.number ≡ desk.old.number }
-    ensures permits { ArePermits floor.now.office.lanes.items desk.old.number desk.new.permits.items }
+    ensures permits { ArePermits floor.now.office.lanes.items desk.old.number
+        desk.new.permits.items }
 {
     let help = Clerks::new(clerks, &floor.office.lanes, &floor.depot, &Unhindered);
     let number = desk.number;
@@ -191,7 +193,8 @@ fn labour<H: Hall, R: Wait + Abort>(
     requires depot { H.depot ≡ Some floor.now.depot }
     requires shards { floor.now.office.directory.shards ≡ length floor.now.office.lanes.items }
     requires post { IsOwnPost floor.now (manually_drop_value parcel) }
-    ensures { AreSomeones floor.now.office.lanes.items (manually_drop_value {X = Left} result).ended.items }
+    ensures { AreSomeones floor.now.office.lanes.items
+        (manually_drop_value {X = Left} result).ended.items }
 {
     let Post { mut desk, room } = ManuallyDrop::into_inner(parcel);
     let position = usize::from(desk.number);
@@ -276,7 +279,9 @@ fn collect_all(
     lists: &mut Vec<Vec<Ended<Job>>>,
     receivers: &mut Vec<ReceiverPermit<Noted>>,
 ) -> usize
-    requires ended { All (λ l. AreSomeones floor.now.office.lanes.items (manually_drop_value {X = Left} l).ended.items) left.items }
+    requires ended { All (λ l.
+        AreSomeones floor.now.office.lanes.items (manually_drop_value {X = Left} l).ended.items)
+        left.items }
     requires lists { EndedRows floor.now.office.lanes.items (map (λ v. v.items) lists.old.items) }
     requires count { vec_len lists.old ≡ length floor.now.office.lanes.items }
     requires room { All (λ v. vec_len v + vec_len left ≤ vec_capacity v) lists.old.items }
@@ -343,7 +348,9 @@ fn work_all<H: Hall + Send, T: Threads + Wait + Sync + Abort>(
     requires depot { H.depot ≡ Some floor.now.depot }
     requires shards { floor.now.office.directory.shards ≡ length floor.now.office.lanes.items }
     requires posts { All (λ p. IsOwnPost floor.now (manually_drop_value p)) parcels.items }
-    ensures left { All (λ l. AreSomeones floor.now.office.lanes.items (manually_drop_value {X = Left} l).ended.items) result.items }
+    ensures left { All (λ l.
+        AreSomeones floor.now.office.lanes.items (manually_drop_value {X = Left} l).ended.items)
+        result.items }
     ensures count { vec_len result ≡ vec_len parcels }
 {
     thread::map_vec(
@@ -364,12 +371,16 @@ fn work_off<H: Hall + Send, T: Threads + Wait + Sync + Abort>(
     requires lanes { H.lanes ≡ Some floor.now.office.lanes.items }
     requires depot { H.depot ≡ Some floor.now.depot }
     requires shards { floor.now.office.directory.shards ≡ length floor.now.office.lanes.items }
-    requires stands { AllAt (IsStand floor.now) 0 stands.items × (vec_len stands ≡ length floor.now.office.lanes.items) }
+    requires stands { AllAt (IsStand floor.now) 0 stands.items
+        × (vec_len stands ≡ length floor.now.office.lanes.items) }
     requires posts { AllAt (IsPost floor.now) 0 posts.items }
     ensures clerks { vec_len result.0.clerks ≡ length floor.now.office.lanes.items }
-    ensures rooms { AreRooms (length floor.now.office.lanes.items) (length floor.now.depot.channels.items) result.0.rooms }
+    ensures rooms { AreRooms (length floor.now.office.lanes.items)
+        (length floor.now.depot.channels.items) result.0.rooms }
     ensures stands { result.0.stands.items ≡ [] }
-    ensures left { All (λ l. AreSomeones floor.now.office.lanes.items (manually_drop_value {X = Left} l).ended.items) result.1.items }
+    ensures left { All (λ l.
+        AreSomeones floor.now.office.lanes.items (manually_drop_value {X = Left} l).ended.items)
+        result.1.items }
     ensures count { vec_len result.1 ≡ vec_len posts }
 {
     let alloc = floor.alloc;
@@ -391,7 +402,8 @@ fn dismiss<H: Hall, T: Wait + Abort>(
     requires lanes { H.lanes ≡ Some floor.now.office.lanes.items }
     requires depot { H.depot ≡ Some floor.now.depot }
     requires clerks { vec_len staff.clerks ≡ length floor.now.office.lanes.items }
-    requires rooms { AreRooms (length floor.now.office.lanes.items) (length floor.now.depot.channels.items) staff.rooms }
+    requires rooms { AreRooms (length floor.now.office.lanes.items)
+        (length floor.now.depot.channels.items) staff.rooms }
     requires stands { staff.stands.items ≡ [] }
     requires room { (room.items ≡ []) × (length floor.now.office.lanes.items ≤ vec_capacity room) }
     ensures count { vec_len result ≡ length floor.now.office.lanes.items }
@@ -415,7 +427,8 @@ fn close_all(
 ) -> (bool, Vec<Mutex<Mailbox>>)
     requires lists { EndedRows floor.office.lanes.items (map (λ v. v.items) lists.items) }
     requires permits { AreConsumers floor.office.lanes.items permits.items }
-    requires closed { (closed.items ≡ []) × (length floor.office.lanes.items ≤ vec_capacity closed) }
+    requires closed { (closed.items ≡ [])
+        × (length floor.office.lanes.items ≤ vec_capacity closed) }
     requires hands { vec_len hands ≤ length floor.depot.channels.items }
     requires receivers { vec_len receivers ≡ length floor.depot.channels.items }
 {
@@ -455,7 +468,8 @@ fn run_in<H: Hall + Send, T: Threads + Wait + Sync + Abort>(
     requires shards { floor.office.directory.shards ≡ length floor.office.lanes.items }
     requires few { length floor.office.lanes.items ≤ length floor.depot.channels.items }
     requires crew { IsCrew floor (length floor.depot.channels.items) crew }
-    requires baskets { AreBaskets (length floor.depot.channels.items) (length floor.office.lanes.items) baskets }
+    requires baskets { AreBaskets (length floor.depot.channels.items)
+        (length floor.office.lanes.items) baskets }
 {
     let alloc = floor.alloc;
     let Crew {
@@ -592,13 +606,15 @@ fn help_each<H: Hall + Send, T: Threads + Wait + Sync>(
         thread::scope_env(),
         rt,
         |scope| -> usize
-            requires { IsSync T.row × (H.lanes ≡ Some floor.now.office.lanes.items) × (H.depot ≡ Some floor.now.depot) }
+            requires { IsSync T.row × (H.lanes ≡ Some floor.now.office.lanes.items)
+                × (H.depot ≡ Some floor.now.depot) }
         {
             let mut made = 0usize;
             for shard in 0..shards {
                 let started = scope.spawn(
                     move || -> ()
-                        requires { IsSync T.row × (H.lanes ≡ Some floor.now.office.lanes.items) × (H.depot ≡ Some floor.now.depot) }
+                        requires { IsSync T.row × (H.lanes ≡ Some floor.now.office.lanes.items)
+                            × (H.depot ≡ Some floor.now.depot) }
                     { help_once::<H, T>(rt, floor, clerks, shard) },
                 );
                 if started.is_ok() {
@@ -620,7 +636,8 @@ fn idle_in<H: Hall + Send, T: Threads + Wait + Sync + Abort>(
     requires lanes { H.lanes ≡ Some floor.now.office.lanes.items }
     requires depot { H.depot ≡ Some floor.now.depot }
     requires some { 0 < length floor.now.office.lanes.items }
-    requires stands { AllAt (IsStand floor.now) 0 stands.items × (vec_len stands ≡ length floor.now.office.lanes.items) }
+    requires stands { AllAt (IsStand floor.now) 0 stands.items
+        × (vec_len stands ≡ length floor.now.office.lanes.items) }
 {
     let staff = Staff::<H>::with_room(floor.alloc, stands.len()).expect(rt, "memory");
     let staff = hire_all(floor, stands, staff);

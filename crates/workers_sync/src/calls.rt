@@ -124,7 +124,8 @@ pub fn feed(
     out: &mut Vec<u8>,
 ) -> Result<usize, MailFault>
     // After Ok it is one event: the lines of the next changes are written, and the handle goes on by as many. Else nothing has changed.
-    ensures event { DoesFeed mailbox.old handle.old limit out.old.items out.new.items result mailbox.new handle.new }
+    ensures event { DoesFeed mailbox.old handle.old limit out.old.items out.new.items result
+        mailbox.new handle.new }
     // It shows no more than were asked for, and is never refused as Spent, since it logs nothing.
     ensures few { IfOk result (λ n. n ≤ limit) }
     ensures faults { IfErr result (λ f. f ≢ MailFault.Spent) }
@@ -151,7 +152,8 @@ pub fn expunge(
     uids: Option<&[u32]>,
     out: &mut Vec<u8>,
 ) -> Result<usize, MailFault>
-    ensures event { DoesExpunge mailbox.old handle.old (option_copied uids.entry) out.old.items out.new.items result mailbox.new handle.new }
+    ensures event { DoesExpunge mailbox.old handle.old (option_copied uids.entry) out.old.items
+        out.new.items result mailbox.new handle.new }
     ensures room { vec_capacity out.old ≤ vec_capacity out.new }
 {
     every_mailbox_keeps(mailbox);

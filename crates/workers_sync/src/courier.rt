@@ -59,5 +59,12 @@ pub trait Courier {
         ensures kept { (first : Self) → kept first self.old → kept first self.new }
         // After Ok it has carried this message behind those before, and the answer is the verdict that it brought on it.
         ensures carried { IfOk result (λ verdict. (done : List Carried) → carried self.old done
-            → carried self.new (done ++ record { message = message; mailbox = mailbox; text = text.now; flags = flags; verdict = verdict } ∷ [])) };
+            → carried self.new (done
+            ++ record {
+              message = message;
+              mailbox = mailbox;
+              text = text.now;
+              flags = flags;
+              verdict = verdict;
+            } ∷ [])) };
 }

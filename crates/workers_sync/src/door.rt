@@ -27,7 +27,8 @@ pub fn under_with<R: Wait, A, T, F: FnOnce(&mut Mailbox, &mut A) -> T>(
     once: F,
 ) -> T
     requires { F.IsAlwaysCallable once }
-    ensures { UnderLock (λ found left. ReturnsLent F.FnOnce once found lent.old result left lent.new) }
+    ensures { UnderLock (λ found left.
+        ReturnsLent F.FnOnce once found lent.old result left lent.new) }
 {
     let mut held = lock.lock(rt);
     once(&mut held, lent)

@@ -41,9 +41,11 @@ impl<W: Write> Timely<W> {
     // Gives the writer these bytes, unless it was cut short before. Errors: `TimedOut` where it was, and what the writer answers.
     fn give(&mut self, bytes: &[u8]) -> io::Result<usize>
         ensures bound { WritesAtMost result bytes.now }
-        ensures bytes { WriteAppends (W.contents self.old.writer) (W.contents self.new.writer) result bytes.now }
+        ensures bytes { WriteAppends (W.contents self.old.writer) (W.contents self.new.writer)
+            result bytes.now }
         ensures over { self.old.is_late ≡ true → IsErr result × (self.new ≡ self.old) }
-        ensures late { IfOk result (λ n. self.new.is_late ≡ true ↔ ((n < length bytes.now) × (n < MOST_AT_ONCE))) }
+        ensures late { IfOk result (λ n. self.new.is_late ≡ true
+            ↔ ((n < length bytes.now) × (n < MOST_AT_ONCE))) }
     {
         if self.is_late {
             return Err(io::Error::from(ErrorKind::TimedOut));

@@ -24,8 +24,10 @@ pub fn in_every_world()
 
 /// An event that is allowed has an outcome in each world, and one that has an outcome is allowed.
 pub fn each_allowed_event_happens()
-    ensures outcome { (k : Config) (w : World) (e : Event) → Allowed k w e → (v : World) × Step k w e v }
-    ensures allowed { (k : Config) (w : World) (e : Event) (v : World) → Step k w e v → Allowed k w e }
+    ensures outcome { (k : Config) (w : World) (e : Event) → Allowed k w e
+        → (v : World) × Step k w e v }
+    ensures allowed { (k : Config) (w : World) (e : Event) (v : World) → Step k w e v
+        → Allowed k w e }
 {}
 
 /// One run: a session selects an empty mailbox, a copy goes from its seat to that mailbox and is
