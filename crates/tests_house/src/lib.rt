@@ -3,6 +3,8 @@
 #![tactic(auto)]
 
 #[cfg(test)]
+mod config;
+#[cfg(test)]
 mod connections;
 #[cfg(test)]
 mod events;
@@ -12,8 +14,6 @@ mod names;
 mod scripts;
 #[cfg(test)]
 mod sessions;
-#[cfg(test)]
-mod settings;
 #[cfg(test)]
 mod stores;
 #[cfg(test)]
