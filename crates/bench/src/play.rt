@@ -3,9 +3,9 @@
 ghost use Rattle.std.specs.Prelude.{◌<◌, length};
 
 use house::House;
-use settings::{Config, ConfigFault};
 use line_io::Watched;
 use script::{RunFault, drive};
+use settings::{Config, ConfigFault};
 use std::alloc::Global;
 use std::io;
 use std::io::{Error, ErrorKind};
