@@ -37,7 +37,8 @@ class Installed(Server):
     """A server that is run by the installed command, and stopped by a signal to the command, or to its group."""
 
     def __init__(self, command, number, is_to_all=False):
-        super().__init__(("alice", "bob"), command=["setsid", command])
+        # What a shell starts in the background has SIGINT ignored, and a script can't trap what it was started with ignored.
+        super().__init__(("alice", "bob"), command=["env", "--default-signal", "setsid", command])
         self.number, self.is_to_all = number, is_to_all
 
     def end(self):
