@@ -5,7 +5,7 @@ import sys
 
 sys.path.insert(0, os.path.join(os.path.dirname(os.path.abspath(__file__)), os.pardir, "tests"))
 
-from serving_house import House, connect, end_by_exit, processor_seconds, share  # noqa: E402,F401
+from serving_house import House, connect, end_by_exit, processor_seconds  # noqa: E402,F401
 
 
 def read_until(stream, end):

@@ -7,25 +7,14 @@
  * connections are greeted before the clock starts. The one line that is written, of words NAME=NUMBER, tells how many copies were answered
  * 250, how many otherwise, copies a second, microseconds of processor time that the process PID took for a copy (nan where no PID is given),
  * and how long a message was under way, in microseconds: the half of them, and all but one in a hundred, no longer.
- *
- * Processor time is the process's own clock, which counts nanoseconds and has the time of threads that ended.
  */
 #define _GNU_SOURCE
-#include <arpa/inet.h>
-#include <errno.h>
+#include "measuring.h"
 #include <getopt.h>
-#include <math.h>
-#include <netinet/tcp.h>
 #include <pthread.h>
-#include <stdio.h>
-#include <stdlib.h>
-#include <string.h>
-#include <sys/socket.h>
 #include <sys/uio.h>
-#include <time.h>
-#include <unistd.h>
 
-enum { MOST_RECIPIENTS = 100, MOST_WINDOW = 64, ENVELOPE = 128 + 64 * MOST_RECIPIENTS, LINE = 78 };
+enum { MOST_RECIPIENTS = 100, MOST_WINDOW = 64, ENVELOPE = 128 + 64 * MOST_RECIPIENTS };
 
 /* What is asked for. */
 struct plan {
@@ -51,34 +40,6 @@ struct peer {
     char input[65536 + 1];
     size_t input_length;
 };
-
-static void die(const char *what) {
-    fprintf(stderr, "lmtp_load: %s\n", what);
-    exit(1);
-}
-
-static double seconds_of(clockid_t clock) {
-    struct timespec now;
-    if (clock_gettime(clock, &now) != 0)
-        die("there is no such clock");
-    return (double)now.tv_sec + (double)now.tv_nsec / 1e9;
-}
-
-/* Lines up to this length in all, then the dot that ends them. */
-static void make_data(struct plan *plan) {
-    size_t size = (size_t)plan->size;
-    plan->data = malloc(size + 8);
-    if (!plan->data)
-        die("out of memory");
-    memset(plan->data, 'x', size);
-    for (size_t end = 0; end + 2 <= size; end += LINE) {
-        size_t break_at = end + 2 * LINE > size ? size : end + LINE;
-        memcpy(plan->data + break_at - 2, "\r\n", 2);
-    }
-    memcpy(plan->data, "Subject: load\r\n\r\n", 17);
-    memcpy(plan->data + size, ".\r\n", 3);
-    plan->data_length = size + 3;
-}
 
 /* Sends two pieces with as few calls as it takes. */
 static void send_both(int stream, struct iovec *pieces) {
@@ -136,10 +97,7 @@ static void take_reply(struct peer *peer, const char *line) {
 
 /* Reads what is there, behind what was read before. */
 static void read_more(struct peer *peer) {
-    ssize_t count = recv(peer->stream, peer->input + peer->input_length, sizeof peer->input - 1 - peer->input_length, 0);
-    if (count == 0 || (count < 0 && errno != EINTR))
-        die("a connection was closed");
-    peer->input_length += count < 0 ? 0 : (size_t)count;
+    peer->input_length += read_some(peer->stream, peer->input + peer->input_length, sizeof peer->input - 1 - peer->input_length);
 }
 
 /* Takes the whole lines of what was read. */
@@ -164,15 +122,8 @@ static int is_greeted(struct peer *peer) {
 }
 
 static void greet(struct peer *peer) {
-    struct sockaddr_in address = {.sin_family = AF_INET, .sin_port = htons((uint16_t)peer->plan->port)};
-    address.sin_addr.s_addr = htonl(INADDR_LOOPBACK);
-    int at_once = 1;
-    peer->stream = socket(AF_INET, SOCK_STREAM, 0);
-    if (peer->stream < 0 || connect(peer->stream, (struct sockaddr *)&address, sizeof address) != 0)
-        die("nobody listens there");
-    setsockopt(peer->stream, IPPROTO_TCP, TCP_NODELAY, &at_once, sizeof at_once);
-    struct iovec pieces[2] = {{(char *)"LHLO c.example\r\n", 16}, {NULL, 0}};
-    send_both(peer->stream, pieces);
+    peer->stream = connected(peer->plan->port);
+    send_all(peer->stream, "LHLO c.example\r\n", 16);
     while (!is_greeted(peer))
         read_more(peer);
 }
@@ -186,6 +137,8 @@ static void fill_window(struct peer *peer) {
 static void *run_peer(void *its_peer) {
     struct peer *peer = its_peer;
     greet(peer);
+    /* Once to say that it is greeted, and once to begin when the clocks were read. */
+    pthread_barrier_wait(&peer->plan->start);
     pthread_barrier_wait(&peer->plan->start);
     while (peer->done < peer->messages) {
         fill_window(peer);
@@ -214,20 +167,7 @@ static struct peer *start_peers(struct plan *plan) {
     return peers;
 }
 
-static int compare(const void *one, const void *other) {
-    double a = *(const double *)one, b = *(const double *)other;
-    return (a > b) - (a < b);
-}
-
-/* The clock of a process. */
-static clockid_t clock_of(long pid) {
-    clockid_t clock;
-    if (clock_getcpuclockid((pid_t)pid, &clock) != 0)
-        die("there is no such process");
-    return clock;
-}
-
-static void report(struct plan *plan, struct peer *peers, double seconds, double processor_seconds) {
+static void report(struct plan *plan, struct peer *peers, double seconds, double processor_time) {
     long stored = 0, refused = 0;
     for (long number = 0; number < plan->connections; number++) {
         stored += peers[number].stored;
@@ -235,22 +175,22 @@ static void report(struct plan *plan, struct peer *peers, double seconds, double
     }
     /* The peers' times lie behind one another. */
     double *took = peers[0].took;
-    qsort(took, (size_t)plan->count, sizeof *took, compare);
+    sort_values(took, plan->count);
     printf("copies=%ld refused=%ld rate=%.0f cpu=%.2f p50=%.1f p99=%.1f\n", stored, refused, (double)stored / seconds,
-           processor_seconds / (double)stored * 1e6, took[plan->count / 2] * 1e6, took[plan->count * 99 / 100] * 1e6);
+           processor_time / (double)stored * 1e6, value_at(took, plan->count, 50) * 1e6, value_at(took, plan->count, 99) * 1e6);
 }
 
 static void run(struct plan *plan) {
-    make_data(plan);
+    plan->data = made_data((size_t)plan->size, &plan->data_length);
     pthread_barrier_init(&plan->start, NULL, (unsigned)plan->connections + 1);
     struct peer *peers = start_peers(plan);
-    clockid_t clock = plan->pid ? clock_of(plan->pid) : CLOCK_MONOTONIC;
     pthread_barrier_wait(&plan->start);
-    double begun = seconds_of(CLOCK_MONOTONIC), processor_begun = seconds_of(clock);
+    double begun = seconds_of(CLOCK_MONOTONIC), processor_begun = processor_seconds(plan->pid);
+    pthread_barrier_wait(&plan->start);
     for (long number = 0; number < plan->connections; number++)
         pthread_join(peers[number].thread, NULL);
     double seconds = seconds_of(CLOCK_MONOTONIC) - begun;
-    report(plan, peers, seconds, plan->pid ? seconds_of(clock) - processor_begun : (double)NAN);
+    report(plan, peers, seconds, processor_seconds(plan->pid) - processor_begun);
 }
 
 /* Whether each number is one that can be worked with. */

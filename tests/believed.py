@@ -157,7 +157,7 @@ class Closure:
 
 def public_text(code):
     """What the clauses of a file say that another crate can see: those of public functions, of public traits and of what is written for a trait, and
-    what a model's value is."""
+    what a model's value and a public ghost field are."""
     text, block, end = [], None, None
     for line in code.split("\n"):
         if line.startswith("}"):
@@ -168,6 +168,8 @@ def public_text(code):
             block = "model" if found.group(1) else "impl"
         elif found := re.match(r"( *)pub (?:const |unsafe )*fn ", line):
             end = found.group(1) + "{"
+        if found := re.match(r" +pub ghost \w+: (\{.*?\})", line):
+            text.append(found.group(1))
         if block == "trait" or end is not None or (block == "model" and "ghost Value" in line):
             text.append(line)
         elif block == "impl" and re.match(r"\s+(ensures|requires|ghost (?!use))", line):

@@ -18,15 +18,15 @@ TOP = os.path.dirname(os.path.dirname(os.path.abspath(__file__)))
 
 # Each figure, in the order in which they are printed, and its limit.
 LIMITS = {
-    "crates": 40,
+    "crates": 43,
     "longest chain of crates": 12,
-    "product crates under 150 lines of code": 4,
+    "product crates under 150 lines of code": 5,
     "product functions with 8 arguments or more": 33,
     "most arguments of a product function": 14,
     "per mille of clauses that begin with a line over 100 columns": 0,
-    "lines of proofs": 78000,
+    "lines of proofs": 81000,
     "lines of docs/PROVING.md": 300,
-    "lines of code, definitions and proofs": 146000,
+    "lines of code, definitions and proofs": 151000,
     "files that name an option (ring_max)": 49,
     "files that name a setting of serve (lmtp_port)": 30,
     "files that name a refusal of a copy (MailboxFull)": 38,

@@ -8,17 +8,17 @@ use mailbox::{History, Limits, MailFault, Mailbox, Opening, Status, verdict_of};
 use std::alloc::{AllocError, Global};
 use workers_sync::{alter, count, deliver, enter, expunge, feed, leave, read, view};
 
-const DELETED: Flags = Flags {
+pub(crate) const DELETED: Flags = Flags {
     deleted: true,
     ..NO_FLAGS
 };
 
-const SEEN: Flags = Flags {
+pub(crate) const SEEN: Flags = Flags {
     seen: true,
     ..NO_FLAGS
 };
 
-const LIMITS: Limits = Limits {
+pub(crate) const LIMITS: Limits = Limits {
     messages: 2,
     ring: 16,
     ring_max: 0,

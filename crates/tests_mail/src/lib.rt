@@ -23,9 +23,13 @@ mod flags;
 #[cfg(test)]
 mod gates;
 #[cfg(test)]
+mod histories;
+#[cfg(test)]
 mod holds;
 #[cfg(test)]
 mod lanes;
+#[cfg(test)]
+mod locked_mailboxes;
 #[cfg(test)]
 mod mailboxes;
 #[cfg(test)]

@@ -1,0 +1,4 @@
+pub mod Follow
+pub mod Logs
+pub mod Parts
+pub mod Standing

@@ -1,0 +1,4 @@
+pub mod Events
+pub mod Laws
+pub mod Legal
+pub mod Views
