@@ -8,6 +8,7 @@ peers one serves at a time. That each number reaches its own setting the worked 
 """
 
 import os
+import re
 import select
 import socket
 import subprocess
@@ -34,6 +35,10 @@ REFUSED = (
     "serve --workers 0 alice",
     "serve --sessions 5 alice",
     "serve --imap-port 80 alice",
+    "serve --imap-port 1023 alice",
+    "serve --imap-port 65473 alice",
+    "serve --imap-port 00001 alice",
+    "serve --lmtp-port 65536 alice",
     (b"script", b"\xff"),
 )
 
@@ -48,6 +53,9 @@ WRONG = (
     ("script alice alice", "Twice"),
     (("script", ""), "BadName"),
     ("serve --lmtp-port 25 alice", "Ports"),
+    ("serve --lmtp-port 25 --imap-port 0 alice", "Ports"),
+    ("serve --lmtp-port 14301 alice bob", "Ports"),
+    ("serve --lmtp-port 0 --imap-port 0 alice alice", "Twice"),
     ("script --ring 2047 alice alice/Work", "Ring"),
     ("script --ring-max 2047 alice alice/Work", "Ring"),
     ("serve --lmtp-port 25 --ring 2047 alice", "Ring"),
@@ -66,6 +74,10 @@ RIGHT = (
 NAMES = "script --host=mail.b.example --domain b.example alice"
 NAMES_INPUT = "L1 LHLO c.example\nL1 MAIL FROM:<s@a.example>\nL1 RCPT TO:<alice@b.example>\nL1 RCPT TO:<alice@example.org>\n"
 NAMES_REPLIES = ("220 mail.b.example LMTP ready", "250-mail.b.example", "250 2.1.0 Sender OK", "250 2.1.5 Recipient OK", "550 5.1.2 Domain unknown")
+
+# Servers whose ports the system chooses, both of them or one: whether mail's port is given, and whether the first user's is.
+CHOSEN = ((False, False), (True, False), (False, True))
+CHOSEN_LINES = re.compile(r"LMTP 127\.0\.0\.1:([1-9]\d*)\nIMAP 127\.0\.0\.1:([1-9]\d*) alice\n")
 
 # Servers whose peers are so many at a time: the options, how many of them connect to each port, and how many are greeted at once there.
 CROWDS = (
@@ -105,6 +117,17 @@ def stops_at_once(program, more, behind):
     check(words, (ended.returncode, ended.stdout, ended.stderr) == (0, told, ""), ended)
 
 
+def chooses(program, gives_mail, gives_users):
+    """A server says the ports that it was left to choose, and those that it was given."""
+    given = [port if gives else 0 for port, gives in zip(free_ports(2), (gives_mail, gives_users))]
+    words = f"serve --lmtp-port={given[0]} --imap-port={given[1]} --uidvalidity=9 alice"
+    ended = run(program, words)
+    found = CHOSEN_LINES.fullmatch(ended.stdout)
+    ports = [int(port) for port in found.groups()] if found else []
+    are_right = len(set(ports)) == 2 and max(ports) < 65536 and all(wanted in (0, port) for wanted, port in zip(given, ports))
+    check(words, are_right and (ended.returncode, ended.stderr) == (0, ""), ended)
+
+
 def greeted(port, count):
     """How many of so many peers that connect one after another are greeted within a second."""
     peers = [socket.create_connection(("127.0.0.1", port)) for _ in range(count)]
@@ -131,10 +154,10 @@ def serves_crowd(program, options, count, wanted):
 
 
 def newest_version():
-    """The version that CHANGELOG.md tells of first."""
+    """The version that CHANGELOG.md tells of first, behind what no version has yet."""
     page = os.path.join(os.path.dirname(os.path.dirname(os.path.abspath(__file__))), "CHANGELOG.md")
     with open(page, encoding="utf-8") as text:
-        return next(line.split()[1] for line in text if line.startswith("## "))
+        return next(line.split()[1] for line in text if line.startswith("## ") and line != "## Unreleased\n")
 
 
 def main():
@@ -156,12 +179,16 @@ def main():
         "--workers <workers>",
         "1 to 8, and 4 where it is not given",
         "example.org where it is not given",
+        "neither 25 nor a user's; 0 for a free one: 0 to 65535, and 2424 where it is not given",
+        "0 for free ones: 0 to 65472, and 14300 where it is not given",
     )
     check("serve --help", (ended.returncode, ended.stderr) == (0, "") and all(help in ended.stdout for help in helps), ended)
     ended = run(program, "--version")
     check("--version", (ended.returncode, ended.stderr) == (0, "") and ended.stdout.startswith(f"post_house {newest_version()}, proved with logic "), ended)
     stops_at_once(program, "--depth=4", WARNING)
     stops_at_once(program, "--uidvalidity=9", "")
+    for gives in CHOSEN:
+        chooses(program, *gives)
     ended = run(program, NAMES, NAMES_INPUT)
     replies = [line.removeprefix("L1 ") for line in ended.stdout.splitlines() if line[3:] in NAMES_REPLIES]
     check(NAMES, ended.returncode == 0 and tuple(replies) == NAMES_REPLIES, ended)
@@ -169,7 +196,7 @@ def main():
         serves_crowd(program, options, count, wanted)
     for failure in failures:
         print(failure)
-    total = len(REFUSED) + len(WRONG) + len(RIGHT) + 5 + len(CROWDS)
+    total = len(REFUSED) + len(WRONG) + len(RIGHT) + 5 + len(CHOSEN) + len(CROWDS)
     print(f"{total - len(failures)} of {total} command lines")
     sys.exit(1 if failures else 0)
 

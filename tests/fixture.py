@@ -1,6 +1,6 @@
 #!/usr/bin/env python3
-"""The fixture of examples/pytest on a built program: its tests by unittest, and by pytest where that is installed; a port that somebody else takes before the server
-does; and a server that doesn't start.
+"""The fixture of examples/pytest on a built program: its tests by unittest, and by pytest where that is installed; two servers at a time; and a server that doesn't
+start.
 
     tests/fixture.py PROGRAM
 """
@@ -15,7 +15,6 @@ FOLDER = Path(__file__).resolve().parent.parent / "examples" / "pytest"
 sys.path.insert(0, str(FOLDER))
 sys.dont_write_bytecode = True
 
-import post_house_server
 from post_house_server import Fault, Server
 
 
@@ -26,20 +25,17 @@ def run_tests(program, *words):
     return "" if ran.returncode == 0 else ran.stdout + ran.stderr
 
 
-def lose_a_race(program):
-    """Somebody else has the first ports that the server is to have."""
-    with Server(("alice",), command=[program]) as first:
-        find, found = post_house_server.free_ports, [first.lmtp_port]
-        post_house_server.free_ports = lambda count: found.pop() if found else find(count)
-        try:
-            with Server(("bob",), command=[program]) as second:
-                return "" if second.lmtp_port != first.lmtp_port and second.messages("bob") == [] else "both have one port"
-        finally:
-            post_house_server.free_ports = find
+def stand_side_by_side(program):
+    """Two servers have ports of their own, and each its own mail."""
+    with Server(("alice", "alice/Work", "bob"), command=[program]) as first, Server(("alice",), command=[program]) as second:
+        first.deliver(b"hi\r\n", ["alice@example.org"])
+        ports = {first.lmtp_port, second.lmtp_port, *first.imap_ports.values(), *second.imap_ports.values()}
+        found = len(ports), list(first.imap_ports), len(first.messages("alice")), len(second.messages("alice"))
+        return "" if found == (5, ["alice", "bob"], 1, 0) else f"it finds {found}"
 
 
 def be_refused(program):
-    """A name that is no mailbox's: no second trial, and it is said why."""
+    """A name that is no mailbox's: it is said why."""
     try:
         with Server(("alice", "alice"), command=[program]):
             return "it serves"
@@ -49,7 +45,7 @@ def be_refused(program):
 
 def main(program):
     program = os.path.abspath(program)
-    checks = {"unittest": run_tests(program, "unittest"), "a port that is taken": lose_a_race(program), "a name twice": be_refused(program)}
+    checks = {"unittest": run_tests(program, "unittest"), "two at a time": stand_side_by_side(program), "a name twice": be_refused(program)}
     if importlib.util.find_spec("pytest"):
         checks["pytest"] = run_tests(program, "pytest", "-q", "-p", "no:cacheprovider")
     for name, fault in checks.items():

@@ -3,7 +3,7 @@
 
     tests/serving.py PROGRAM
 
-- A server says each listener on a line, listens on 127.0.0.1 alone, and ends with its input.
+- A server says each listener on a line, listens on 127.0.0.1 alone, and ends with its input. Where a port is 0 the system chooses it, and the line names it.
 - Mail is taken, and shown to a session that idles, until the server stops; a connection that vanishes within a message harms nobody. At the stop a connection
   between commands is told `421`; one within a message is told nothing, and no copy of that is made; a session is told `BYE`, whatever it was about.
 - What a client appends is answered with its UID, and shown to another of the same user.
@@ -25,9 +25,9 @@ import subprocess
 import sys
 
 from hostile.checks import PATIENCE, Tally, end
-from serving_house import ADDRESS, DoesNotServe, House, end_by_exit, free_ports, is_gone
+from serving_house import ADDRESS, DoesNotServe, House, connect, end_by_exit, free_ports, is_gone
 from talks import DELIVERED, GREETING, HELLO, RECIPIENT_OK, SENDER_OK, START_INPUT
-from talks import MailTalk, Wrong, data_of, envelope, mail, opening, session, standing
+from talks import ImapTalk, MailTalk, Wrong, data_of, envelope, mail, opening, session, standing
 
 WARNING = b"UIDVALIDITY is the same at each start: give --uidvalidity a number that grows, as the time in seconds\n"
 DEVICE_FAULT, TOO_MANY = b"post_house: device fault\n", b"post_house: bad configuration: TooMany\n"
@@ -62,6 +62,9 @@ REFUSED = ((62, 4, 8), (64, 4, 4))
 LISTENS, LOOPBACK = "0A", f"{int.from_bytes(socket.inet_aton(ADDRESS), sys.byteorder):08X}"
 # An address of this machine that isn't the one on which a server listens.
 OTHER_ADDRESS = "127.0.0.2"
+
+# What a server of alice and bob says whose ports the system chooses.
+CHOSEN = re.compile(rb"LMTP 127\.0\.0\.1:([1-9]\d*)\nIMAP 127\.0\.0\.1:([1-9]\d*) alice\nIMAP 127\.0\.0\.1:([1-9]\d*) bob\n")
 
 # Who finds his port taken: mail, the first user and the second.
 PORTS = ("mail", "the first user", "the second user")
@@ -98,6 +101,26 @@ def run(program, port, mailboxes, options=(), shell=(), **streams):
             raise
     expect("whether it is gone", is_gone(running.pid), True)
     return running.returncode, output, faults
+
+
+@contextlib.contextmanager
+def choosing(program, mail_port, first):
+    """A server of alice and bob on these ports, where 0 is left to the system. Gives the ports that it says, on which it listens and on no others."""
+    words = [program, "serve", "--lmtp-port", str(mail_port), "--imap-port", str(first), "--uidvalidity", "7", "alice", "alice/Work", "bob"]
+    pipe = subprocess.PIPE
+    with subprocess.Popen(words, stdin=pipe, stdout=pipe, stderr=pipe, bufsize=0, start_new_session=True) as running:
+        try:
+            said = b"".join(running.stdout.readline() for _ in range(3))
+            found = CHOSEN.fullmatch(said)
+            expect("whether it says its ports", (said, bool(found)), (said, True))
+            ports = [int(port) for port in found.groups()]
+            expect("where it listens", listens_on(running.pid, "tcp"), sorted(f"{LOOPBACK}:{port:04X}" for port in ports))
+            yield ports
+            output, faults = running.communicate(timeout=PATIENCE)
+        except BaseException:
+            running.kill()
+            raise
+    expect("the end", (running.returncode, output, faults), (0, b"", b""))
 
 
 @contextlib.contextmanager
@@ -222,6 +245,24 @@ def listen_on_loopback(program):
         expect("where it listens by IPv6", listens_on(house.pid, "tcp6"), [])
         expect("what is taken of another address", [port for port in ports if is_bound(OTHER_ADDRESS, port)], [])
         expect("what is taken of its own", [port for port in ports if is_bound(ADDRESS, port)], ports)
+
+
+def choose_ports(program, gives_mail, gives_users):
+    """Ports that aren't given are chosen by the system, for each user another; so it is with a second server beside this one."""
+    free = free_ports(3)
+    wanted = [free if gives_mail else 0, free + 1 if gives_users else 0]
+    with choosing(program, *wanted) as ports, choosing(program, 0, 0) as others:
+        expect("how many ports differ", len({*ports, *others}), 6)
+        expect("mail's port", ports[0], wanted[0] or ports[0])
+        expect("the users' ports", ports[1:], [free + 1, free + 2] if gives_users else ports[1:])
+        for mail_port, *users in (ports, others):
+            peer = MailTalk(connect(mail_port))
+            peer.say(WHOLE)
+            expect_last(peer, REPLIES)
+            for port, count in zip(users, (1, 0)):
+                looking = ImapTalk(connect(port)).open()
+                select(looking, count)
+                looking.close()
 
 
 def take_mail(program, last, last_words):
@@ -419,6 +460,9 @@ def checks():
     """Each check: its name, what is done, and with what beside the program."""
     yield "each listener has a line", tell_listeners
     yield "it listens on the loopback address alone", listen_on_loopback
+    yield "all ports are chosen", choose_ports, False, False
+    yield "the users' ports are chosen", choose_ports, True, False
+    yield "mail's port is chosen", choose_ports, False, True
     yield "mail is taken and shown until the server stops", take_mail, mail, DISMISSED
     yield "a message that isn't whole is dropped as the server stops", take_mail, begin, NOTHING
     yield "what is appended is answered and shown", append

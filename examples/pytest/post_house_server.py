@@ -10,10 +10,9 @@ The program is that of the variable POST_HOUSE, or the one that a package has pu
 
 import imaplib
 import os
-import random
+import re
 import select
 import smtplib
-import socket
 import subprocess
 import time
 
@@ -24,36 +23,12 @@ INSTALLED = "/usr/lib/post_house/post_house"
 if "IMAP4REV2" not in imaplib.AllowedVersions:
     imaplib.AllowedVersions += ("IMAP4REV2",)
 
-# Ports below those that the system gives to clients, which could take one between the look and the start.
-LOWEST, HIGHEST = 10_240, 32_000
-# So often a server is started that finds a port taken, and so many seconds it may take to listen, and to end.
-TRIALS, PATIENCE = 5, 20
-# The status of a server that finds a port taken.
-IS_TAKEN = 4
+# So many seconds a server may take to listen, and to end.
+PATIENCE = 20
 
 
 class Fault(RuntimeError):
     """The server doesn't start, or doesn't end as it has to."""
-
-
-def is_free(port):
-    """Whether nobody listens on this port now."""
-    with socket.socket() as listener:
-        listener.setsockopt(socket.SOL_SOCKET, socket.SO_REUSEADDR, 1)
-        try:
-            listener.bind((ADDRESS, port))
-        except OSError:
-            return False
-    return True
-
-
-def free_ports(count):
-    """The first of so many ports that follow one another and are free now. Somebody else may take one before it is used."""
-    for _ in range(1000):
-        first = random.SystemRandom().randrange(LOWEST, HIGHEST - count)
-        if all(is_free(first + more) for more in range(count)):
-            return first
-    raise Fault(f"there are no {count} free ports in a row")
 
 
 class Server:
@@ -78,23 +53,17 @@ class Server:
                 raise
 
     def start(self):
-        """Starts it, and waits until it listens on all its ports."""
-        for _ in range(TRIALS):
-            self.lmtp_port = free_ports(1 + len(self.users))
-            self.imap_ports = {user: self.lmtp_port + 1 + number for number, user in enumerate(self.users)}
-            ports = ["--lmtp-port", str(self.lmtp_port), "--imap-port", str(self.lmtp_port + 1)]
-            words = [*self.command, "serve", "--uidvalidity", str(int(time.time())), *ports, *self.options, *self.mailboxes]
-            self.process = subprocess.Popen(words, stdin=subprocess.PIPE, stdout=subprocess.PIPE, stderr=subprocess.PIPE)
-            if self._listens():
-                return
+        """Starts it, and waits until it listens on all its ports, which the system chooses."""
+        ports = ["--lmtp-port", "0", "--imap-port", "0"]
+        words = [*self.command, "serve", "--uidvalidity", str(int(time.time())), *ports, *self.options, *self.mailboxes]
+        self.process = subprocess.Popen(words, stdin=subprocess.PIPE, stdout=subprocess.PIPE, stderr=subprocess.PIPE)
+        if not self._listens():
             self.process.kill()
             _, faults = self.process.communicate()
-            if self.process.returncode != IS_TAKEN:
-                break
-        raise Fault(f"it doesn't serve: status {self.process.returncode}, {faults!r}")
+            raise Fault(f"it doesn't serve: status {self.process.returncode}, {faults!r}")
 
     def _listens(self):
-        """Whether it has said each of its listeners, as it does once it listens on all ports."""
+        """Whether it has said each of its listeners, as it does once it listens on all ports. Their lines name the ports."""
         said, until = b"", time.monotonic() + PATIENCE
         while said.count(b"\n") < 1 + len(self.users):
             if not select.select([self.process.stdout], [], [], max(0, until - time.monotonic()))[0]:
@@ -105,6 +74,8 @@ class Server:
                 self.process.wait(PATIENCE)
                 return False
             said += piece
+        self.lmtp_port = int(re.search(rb"^LMTP .*:(\d+)$", said, re.M)[1])
+        self.imap_ports = {user.decode(): int(port) for port, user in re.findall(rb"^IMAP .*:(\d+) (\S+)$", said, re.M)}
         return True
 
     def end(self):

@@ -8,5 +8,5 @@ mod staff;
 mod turn;
 
 pub use clerk::{Clerk, Hall};
-pub use helping::{Clerks, Unhindered};
+pub use helping::{Clerks, Unhindered, copies_at_once};
 pub use staff::{Dismissed, Staff, dismiss_all, hire_all, stand_down};

@@ -16,7 +16,7 @@ use Rattle.world.specs.World as world
 use Rattle.world.specs.World.{Config, MayPut, World, put_full, put_joins, put_no_memory, put_shut}
 use Rattle.world.proofs.Always.{always}
 use Rattle.world.proofs.Base.{Every, Rising, all_of_every, every_append, every_weaker, rising_pair, rising_push}
-use Rattle.house_peers.specs.Folders.{folders_of}
+use Rattle.imap_session.specs.Folders.{folders_of}
 use Rattle.house_peers.specs.Visitor.{more_waits}
 use Rattle.house_peers.specs.SeatedVisitor as seated
 use Rattle.house_peers.specs.SeatedVisitor.{GoesOn, SeatedVisitor, Works, answers, copies_of, keys_of, rests, seated_greeted, sent_by, stalls, told, unread, works}

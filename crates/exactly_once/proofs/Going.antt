@@ -23,7 +23,7 @@ use Rattle.house.specs.Printing.{Speaks, Prints, prints_all, prints_none}
 use Rattle.house.specs.Printing.{marked_session, of_session, with_session}
 use Rattle.house_peers.specs.Visitor.{more_waits as visitor_more_waits}
 use Rattle.house_peers.specs.SeatedVisitor.{SeatedVisitor, seated_greeted}
-use Rattle.house_peers.specs.Folders.{folders_of}
+use Rattle.imap_session.specs.Folders.{folders_of}
 use Rattle.house.proofs.Carried.{speaks_carried}
 use Rattle.imap_session.specs.Exchange as calls
 use Rattle.imap_session.specs.Store.{Met}

@@ -31,7 +31,7 @@ use Rattle.imap_session.specs.declared.standing.After.TheVariants as afters
 use Rattle.imap_session.specs.declared.standing.Selected.{Selected}
 use Rattle.imap_session.specs.Exchange as ex
 use Rattle.imap_session.specs.Exchange.{Answer, Appending, ForVerdict, Mailing, Call, Entered, Looked, Found, Counted, Altered, Expunged, Fed, Left, Refused, Starved, Exchange, Folder, Standing, Turn, played, refused, refusal_text, refusal_after, saying, having, closed, tagged, bye, is_idling}
-use Rattle.imap_session.specs.Commands.{appending, is_over, last_number, most_unasked, nowhere, number_named, on_rest, on_text, over, wanting, closing, completed, counting, entering, expunge_set, fetch_messages, fetched, fetching, folder_of, greeting, idle_turn_in, messages_done, on_chosen, on_command, on_found, on_idle_line, says, showing, store_messages, storing, unlimited, wrong_state, notice, noticing}
+use Rattle.imap_session.specs.Commands.{appending, is_over, last_number, most_unasked, nowhere, number_named, on_rest, on_text, over, wanting, wanting_for, closing, completed, counting, entering, expunge_set, fetch_messages, fetched, fetching, folder_of, greeting, idle_turn_in, messages_done, on_chosen, on_command, on_found, on_idle_line, says, showing, store_messages, storing, unlimited, wrong_state, notice, noticing}
 use Rattle.imap_session.specs.Commands as commands_of
 use Rattle.imap_session.proofs.Unkept.{unkept_by}
 use Rattle.imap_session.specs.Store.{AnswersVerdict, IdleTurns}
@@ -42,6 +42,8 @@ use Rattle.house_peers.specs.SeatedVisitor as seated
 use Rattle.house_peers.specs.SeatedVisitor.{GoesOn, SeatedVisitor}
 use Rattle.imap_session.specs.Dialogue as dialogue
 use Rattle.imap_session.specs.Dialogue.{AnswersLine, AnswersOne, Converses, Sends, goes_on, parts, reads, silent, too_long}
+use Rattle.imap_session.specs.declared.texts.ResponseText.TheVariants as texts
+use Rattle.imap_session.specs.Texts.{response_text}
 
 -- nothing, or lines of which the last one has ended
 abbrev pub IsWhole : List ℕ → Type 0
@@ -88,10 +90,10 @@ closed_whole now (afters.Literal due) = inl refl
 closed_whole now afters.Submit = inl refl
 
 refusal_whole : (tag : List ℕ) (fault : MailFault) → IsWhole (refusal_text tag fault)
-refusal_whole tag Stranger = bye_whole (codes "Internal fault")
-refusal_whole tag Lapped = bye_whole (codes "Too many changes were missed")
-refusal_whole tag Spent = tagged_whole tag (codes "NO Mailbox is spent")
-refusal_whole tag NoMemory = tagged_whole tag (codes "NO Out of memory")
+refusal_whole tag Stranger = bye_whole (response_text texts.InternalFault)
+refusal_whole tag Lapped = bye_whole (response_text texts.ChangesMissed)
+refusal_whole tag Spent = tagged_whole tag (response_text texts.MailboxSpent)
+refusal_whole tag NoMemory = tagged_whole tag (response_text texts.OutOfMemory)
 
 refused_whole : (tag : List ℕ) (now : Standing) (fault : MailFault) → IsWhole (refused tag now fault).bytes
 refused_whole tag now fault = whole_append (refusal_text tag fault) (closed now (refusal_after fault)).bytes (refusal_whole tag fault) (closed_whole now (refusal_after fault))
@@ -144,7 +146,7 @@ played_whole tag now (ex.Wait bytes waits) ((Fed a b) ∷ more) p = tt
 played_whole tag now (ex.Wait bytes waits) ((Left a) ∷ more) p = tt
 played_whole tag now (ex.Wait bytes waits) ((Refused a) ∷ more) p = tt
 played_whole tag now (ex.Wait bytes waits) (Starved n ∷ []) p =
-    unkept_by TurnWhole tt tag now (refused_whole tag now NoMemory) (λ flags size. inl refl) (whole_append (ex.bye (codes "Out of memory")) [] (bye_whole (codes "Out of memory")) (inl refl)) waits n
+    unkept_by TurnWhole tt tag now (refused_whole tag now NoMemory) (λ flags size. inl refl) (whole_append (ex.bye (response_text texts.ByeOutOfMemory)) [] (bye_whole (response_text texts.ByeOutOfMemory)) (inl refl)) waits n
 played_whole tag now (ex.Wait bytes waits) (Starved n ∷ d ∷ more) p = tt
 played_whole tag now (ex.Write bytes x) [] p = then_saying bytes (played tag now x []) p.0 (played_whole tag now x [] p.1)
 played_whole tag now (ex.Write bytes x) ((Entered a) ∷ more) p = then_saying bytes (played tag now x ((Entered a) ∷ more)) p.0 (played_whole tag now x ((Entered a) ∷ more) p.1)
@@ -281,7 +283,7 @@ in_found next gone p q (Some a) = p a
 
 in_closing : (selected : Option Selected) (x : Exchange) → SaysWhole x → SaysWhole (closing selected x)
 in_closing None x p = p
-in_closing (Some selected) x p = (inr (codes "* OK [CLOSED] Previous mailbox is closed", refl), p)
+in_closing (Some selected) x p = (ends (codes "* ") (response_text texts.PreviousClosed), p)
 
 in_chosen : (chosen : Option (List ℕ)) (next : List ℕ → Exchange) → ((uids : List ℕ) → SaysWhole (next uids)) → SaysWhole (on_chosen chosen next)
 in_chosen None next p = tt
@@ -339,7 +341,7 @@ if_whole false x y p q = q
 pub list_whole : (reference pattern : List ℕ) (names : List (List ℕ)) → IsWhole (list_answer reference pattern names)
 list_whole reference pattern names = if_whole (asks_for_root reference pattern) root_answer _ (inr (codes "* LIST (\\Noselect) \"/\" \"\"", refl)) (each_listed (reference ++ pattern) names)
 
-in_folder : (next : Folder → Exchange) → ((folder : Folder) → SaysWhole (next folder)) → (found : Option Folder) → SaysWhole (on_found next (says (codes "NO [NONEXISTENT] No such mailbox")) found)
+in_folder : (next : Folder → Exchange) → ((folder : Folder) → SaysWhole (next folder)) → (found : Option Folder) → SaysWhole (on_found next (says (response_text texts.NoSuchMailbox)) found)
 in_folder next p found = in_found next _ p tt found
 
 -- ---- APPEND
@@ -351,19 +353,19 @@ in_over (Some most) = tt
 in_append : (most : Option ℕ) (folders : List Folder) (a : Append) → SaysWhole (appending most folders a)
 in_append most folders a =
     in_either a.literal.waits _ _
-    (inl refl, in_found _ nowhere (λ (mailbox : ℕ). in_either (is_over most a.literal.size) (over most) _ (in_over most) (inr (codes "+ ready", refl))) tt (number_named a.name folders))
-    (in_either (nat_lt most_unasked a.literal.size) _ _ (bye_whole (codes "Literal too big")) (inl refl))
+    (inl refl, in_found _ nowhere (λ (mailbox : ℕ). in_either (is_over most a.literal.size) (over most) _ (in_over most) (ends (codes "+ ") (response_text texts.Ready))) tt (number_named a.name folders))
+    (in_either (nat_lt most_unasked a.literal.size) _ _ (bye_whole (response_text texts.LiteralTooBig)) (inl refl))
 
 in_text : (mailing : Mailing) (a : Appending) (text : List ℕ) (mailbox : ℕ) → SaysWhole (on_text mailing a text mailbox)
 in_text mailing a text mailbox =
     in_either (is_over mailing.most a.size) (over mailing.most) _ (in_over mailing.most)
-    (in_either (list_any (λ b. b == 0) text) (says (codes "NO NUL byte")) _ tt
-    (in_either (nat_le last_number mailing.number) (says (codes "NO Mailbox is spent")) (wanting (ex.Wait [] (ForVerdict mailbox a.flags text))) tt (inl refl, inl refl)))
+    (in_either (list_any (λ b. b == 0) text) (says (response_text texts.NulByte)) _ tt
+    (in_either (nat_le last_number mailing.number) (says (response_text texts.MailboxSpent)) (wanting (ex.Wait [] (ForVerdict mailbox a.flags text))) tt (inl refl, inl refl)))
 
 in_rest : (mailing : Mailing) (a : Appending) (empty : Bool) → SaysWhole (on_rest mailing a empty)
 in_rest mailing a empty =
-    in_found _ (says (codes "NO Out of memory"))
-    (λ (text : List ℕ). in_either empty (on_found (on_text mailing a text) nowhere a.mailbox) (says (codes "BAD Invalid arguments")) (in_found (on_text mailing a text) nowhere (in_text mailing a text) tt a.mailbox) tt) tt a.text
+    in_found _ (says (response_text texts.OutOfMemory))
+    (λ (text : List ℕ). in_either empty (on_found (on_text mailing a text) nowhere a.mailbox) (says (response_text texts.InvalidArguments)) (in_found (on_text mailing a text) nowhere (in_text mailing a text) tt a.mailbox) tt) tt a.text
 
 in_notice : (said : Option (List ℕ)) (x : Exchange) → SaysWhole x → SaysWhole (noticing said x)
 in_notice None x whole = whole
@@ -371,8 +373,8 @@ in_notice (Some words) x whole = (ends (codes "* ") words, whole)
 
 command_whole : (now : Standing) (command : Command) → SaysWhole (on_command now command)
 command_whole now commands.Noop = in_showing now.selected _ tt
-command_whole now commands.Logout = (bye_whole (codes "Logging out"), tt)
-command_whole now commands.Idle = inr (codes "+ idling", refl)
+command_whole now commands.Logout = (bye_whole (response_text texts.LoggingOut), tt)
+command_whole now commands.Idle = ends (codes "+ ") (response_text texts.Idling)
 command_whole now commands.Login = tt
 command_whole now commands.Authenticate = tt
 command_whole now commands.StartTls = tt
@@ -387,7 +389,7 @@ command_whole now (commands.Status name items) = (
 command_whole now commands.Close = in_found _ wrong_state (λ s. tt) tt now.selected
 command_whole now commands.Unselect = in_found _ wrong_state (λ s. tt) tt now.selected
 command_whole now commands.Expunge = in_found _ wrong_state (λ (s : Selected). in_either s.read_only _ _ tt tt) tt now.selected
-command_whole now (commands.UidExpunge set) = in_found _ wrong_state (λ (s : Selected). in_either s.read_only _ (expunge_set set) tt (λ view. in_chosen (named_in true set view) (λ uids. wanting (ex.Expunge (Some uids) (ex.Feed unlimited (completed (commands.UidExpunge set))))) (λ uids. (inl refl, tt)))) tt now.selected
+command_whole now (commands.UidExpunge set) = in_found _ wrong_state (λ (s : Selected). in_either s.read_only _ (expunge_set set) tt (λ view. in_chosen (named_in true set view) (λ uids. wanting_for uids (ex.Expunge (Some uids) (ex.Feed unlimited (completed (commands.UidExpunge set))))) (elim [ [] ↦ tt | uid ∷ uids ↦ (inl refl, tt) ]))) tt now.selected
 command_whole now (commands.Fetch fetch) =
     in_found (fetch_messages fetch) wrong_state
     (λ (s : Selected). (inl refl, λ view. in_chosen (named_in fetch.by_uid fetch.set view) _ (λ uids. in_fetching fetch _ view (messages_done (commands.Fetch fetch) fetch.by_uid) (in_done (commands.Fetch fetch) fetch.by_uid) uids false))) tt now.selected
@@ -401,10 +403,10 @@ command_whole now command = in_notice (notice command) (completed command) tt
 -- ---- lines
 
 fault_whole : (fault : ImapFault) (now : Standing) (answers : List Answer) → TurnWhole (commands_of.on_read now (Err fault) answers)
-fault_whole faults.NoTag now [] = whole_append _ [] (inr (codes "* BAD Missing tag", refl)) (inl refl)
-fault_whole (faults.Unknown tag) now [] = whole_append _ [] (tagged_whole tag (codes "BAD Unknown command")) (inl refl)
-fault_whole (faults.LeftOut tag) now [] = whole_append _ [] (tagged_whole tag (codes "NO [CANNOT] Not offered here")) (inl refl)
-fault_whole (faults.Arguments tag) now [] = whole_append _ [] (tagged_whole tag (codes "BAD Invalid arguments")) (inl refl)
+fault_whole faults.NoTag now [] = whole_append _ [] (ends (codes "* ") (response_text texts.MissingTag)) (inl refl)
+fault_whole (faults.Unknown tag) now [] = whole_append _ [] (tagged_whole tag (response_text texts.UnknownCommand)) (inl refl)
+fault_whole (faults.LeftOut tag) now [] = whole_append _ [] (tagged_whole tag (response_text texts.NotOffered)) (inl refl)
+fault_whole (faults.Arguments tag) now [] = whole_append _ [] (tagged_whole tag (response_text texts.InvalidArguments)) (inl refl)
 fault_whole fault now (answer ∷ more) = tt
 
 read_whole : (now : Standing) (line : Result (List ℕ × Command) ImapFault) (answers : List Answer) → TurnWhole (commands_of.on_read now line answers)
@@ -424,9 +426,9 @@ some_whole : (o : Option Turn) (turn : Turn) → TurnWhole o → o ≡ Some turn
 some_whole o turn p e = subst TurnWhole e p
 
 long_whole : (begun : Option Appending) (idling : Option (List ℕ)) → IsWhole (commands_of.long_text begun idling)
-long_whole None None = inr (codes "* BAD Line too long", refl)
-long_whole None (Some tag) = tagged_whole tag (codes "BAD Expected DONE")
-long_whole (Some a) idling = tagged_whole a.tag (commands_of.long_rest_words a.text)
+long_whole None None = ends (codes "* ") (response_text texts.LineTooLong)
+long_whole None (Some tag) = tagged_whole tag (response_text texts.ExpectedDone)
+long_whole (Some a) idling = tagged_whole a.tag (response_text (commands_of.long_rest_text a.text))
 
 line_answered : {S : Type 0} (step : S → Call → Answer → S → Type 0) (now : Standing) (l : List ℕ) (old new : S) (said : List ℕ) (how : After) (next : Standing) → AnswersLine step now l old new [] said how next → IsWhole said
 line_answered step now l old new said how next (reads few a) = subst IsWhole (sym a.wrote) (some_whole _ _ (behind_whole now.mailing.begun now l a.answers) a.played)
@@ -493,4 +495,4 @@ pub idles_whole : {S : Type 0} (step : S → Call → Answer → S → Type 0) (
 idles_whole step now old new said count next t = subst IsWhole (sym t.wrote) (some_whole _ _ (idle_whole now.selected (is_idling now) now t.answers) t.played)
 
 pub greeting_whole : IsWhole greeting
-greeting_whole = inr (codes "* PREAUTH IMAP4rev2 server ready", refl)
+greeting_whole = ends (codes "* ") (response_text texts.Greeting)

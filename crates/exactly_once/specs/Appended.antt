@@ -10,7 +10,7 @@ use Rattle.imap_session.specs.Exchange.{Call, Answer as StoreAnswer}
 use Rattle.house.specs.Meets.{Meets}
 use Rattle.world.specs.World.{Event as WorldEvent, IsWorld, World}
 use Rattle.world.specs.Law.{StandsOnce, pairs}
-use Rattle.house_peers.specs.Folders.{folders_of}
+use Rattle.imap_session.specs.Folders.{folders_of}
 use Rattle.house_peers.specs.Visitor.{more_waits}
 use Rattle.house_peers.specs.SeatedVisitor.{GoesOn, SeatedVisitor, answers, keys_of, rests, seated_greeted, sent_by, stalls, waits, works}
 use Rattle.house.specs.Setup.{Setup, session_seat}

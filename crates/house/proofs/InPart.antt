@@ -12,7 +12,7 @@ use Rattle.house.specs.Scene as scene
 use Rattle.house.specs.Scene.{BytesPlay, ConnectionHears, ConnectionPuts, HearPlay, Parts, Plays, PutPlay, Scene, SessionGoes, SessionHears, SessionIdles, SessionPuts, SessionTalks, VanishPlay, connection_hears, connection_puts, goes_on, opens, parts, place_of, remains, session_hears, session_puts}
 use Rattle.imap_session.specs.Exchange.{Call, Answer as Told}
 use Rattle.house.specs.Meets.{Meets}
-use Rattle.house_peers.specs.Folders.{folders_of}
+use Rattle.imap_session.specs.Folders.{folders_of}
 use Rattle.world.specs.World.{World}
 use Rattle.house_peers.specs.Visitor.{more_waits as visitor_more_waits}
 use Rattle.house_peers.specs.SeatedVisitor.{SeatedVisitor, seated_greeted}

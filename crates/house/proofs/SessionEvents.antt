@@ -23,7 +23,7 @@ use Rattle.imap_session.specs.Exchange as calls
 use Rattle.house.specs.declared.core_store.CoreStore.{CoreStore}
 use Rattle.house.specs.CoreStore.{Serves}
 use Rattle.house.proofs.Served.{carries}
-use Rattle.house_peers.specs.Folders.{folders_of, has_user}
+use Rattle.imap_session.specs.Folders.{folders_of, has_user}
 use Rattle.house_peers.specs.Visitor.{more_waits}
 use Rattle.house_peers.specs.SeatedVisitor.{SeatedVisitor, copies_of, seated_greeted, sent_by, unread}
 use Rattle.house_peers.specs.SeatedSession.{HearsVerdict, SeatedSession, StandsForSeated, due, noted_put, submitted_at, with_nobody_there}

@@ -9,7 +9,7 @@ use Rattle.imap_session.specs.Exchange as calls
 use Rattle.imap_session.specs.Exchange.{is_idling}
 use Rattle.house.specs.Meets.{Meets}
 use Rattle.house_peers.specs.Caller.{Caller, greeted, more_waits, unread}
-use Rattle.house_peers.specs.Folders.{folders_of, has_user}
+use Rattle.imap_session.specs.Folders.{folders_of, has_user}
 use Rattle.house_peers.specs.Visitor.{Visitor}
 use Rattle.house_peers.specs.SeatedVisitor.{Awaits, IsSettled, SeatedVisitor, seated_greeted}
 use Rattle.house_peers.specs.SeatedVisitor.{unread as unread_session}

@@ -21,7 +21,7 @@ use Rattle.house.specs.House.{House}
 use Rattle.house.specs.Setup.{Setup}
 use Rattle.house.specs.Scene.{Scene, HasNothing, Plays, most_serials, place_of, seat_of}
 use Rattle.imap_session.specs.Exchange.{is_idling}
-use Rattle.house_peers.specs.Folders.{has_user}
+use Rattle.imap_session.specs.Folders.{has_user}
 use Rattle.house.specs.Stands.{StandsFor}
 use Rattle.house_peers.specs.SeatedSession.{SeatedSession}
 use Rattle.house_peers.specs.SeatedSession as seat

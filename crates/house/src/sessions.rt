@@ -26,8 +26,8 @@ use crate::house::{House, index_of, put_copy};
 use crate::printing::go_on;
 use delivery_core::{DeliveryCore, HearFault};
 use delivery_token::{Noted, Refusal, Verdict};
-use house_peers::{SeatedSession, folders_of, has_user};
-use imap_session::{Folder, Store};
+use house_peers::SeatedSession;
+use imap_session::{Folder, Store, folders_of, has_user};
 use std::alloc::{AllocError, Global};
 
 // Whether a session is at a place whose client is gone.

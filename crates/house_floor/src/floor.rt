@@ -3,7 +3,7 @@
 use crossbeam_utils::sync::Unparker;
 use delivery_token::{Job, Noted};
 use lane_work::{Consumed, Depot, Desk, Office, Stall, Worked};
-use session_thread::Step;
+use settings::Step;
 use shard_queue::{Ended, SenderEnded};
 use std::alloc::Global;
 

@@ -6,7 +6,6 @@ pub mod Efforts
 pub mod Arrivals
 mod Waiting
 pub mod Going
-pub mod FolderLaws
 pub mod Seating
 pub mod Rising
 pub mod SessionPutting

@@ -6,7 +6,6 @@ pub mod ConnectionStands
 pub mod Laws
 pub mod Visitor
 pub mod HouseSession
-pub mod Folders
 pub mod SeatedVisitor
 pub mod SeatedSession
 pub mod inner

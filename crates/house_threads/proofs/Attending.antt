@@ -6,7 +6,7 @@ use Rattle.delivery_token.specs.declared.log.Noted.{Noted}
 use Rattle.house_floor.specs.Users.{user_numbered}
 use Rattle.house_floor.specs.declared.floor.Floor.{Floor}
 use Rattle.house_floor.specs.declared.floor.Guest.{Guest}
-use Rattle.house_peers.specs.Folders.{folders_of}
+use Rattle.imap_session.specs.Folders.{folders_of}
 use Rattle.imap_session.specs.Commands.{greeting}
 use Rattle.lane_work.specs.Account.{AreAccountedFor, AreBooksOf, HaveEnded, notes_tell}
 use Rattle.lane_work.specs.Copies.{rooms_of}
@@ -21,7 +21,8 @@ use Rattle.shard_queue.specs.Reply.{received}
 use Rattle.lane_work.specs.Permits.{put_by}
 use Rattle.shard_queue.specs.Shared.{IsStartOf}
 use Rattle.shard_queue.specs.declared.lane.Entry.{Entry}
-use Rattle.house_floor.specs.Left.{SessionAccount, most_of}
+use Rattle.house_floor.specs.Left.{most_of}
+use Rattle.reckoning.specs.Produced.{SessionAccount}
 use Rattle.house_threads.specs.inner.Crew.{HasLived}
 
 -- books of the same desk, by its own number and serial

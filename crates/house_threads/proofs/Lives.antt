@@ -20,7 +20,8 @@ use Rattle.shard_queue.specs.declared.reply.ReceiverPermit.{ReceiverPermit}
 use Rattle.house_floor.specs.declared.floor.Guest.{Guest}
 use Rattle.lane_work.specs.Consuming.{IsConsumed}
 use Rattle.house_floor.specs.declared.floor.Floor.{Floor}
-use Rattle.house_floor.specs.Left.{IsProduceOf, IsServiceOf, Plans}
+use Rattle.house_floor.specs.Left.{IsServiceOf, Plans}
+use Rattle.reckoning.specs.Produced.{IsProduceOf}
 use Rattle.house_floor.proofs.Finding.{found_at}
 
 -- what a worker at its position left

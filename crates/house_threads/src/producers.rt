@@ -4,14 +4,14 @@
 ghost use Rattle.std.specs.Prelude.{ℕ, ◌≡◌, ◌≤◌, ◌<◌, ◌+◌, [], length, vec_len, vec_capacity};
 ghost use Rattle.std.specs.Mem.{manually_drop_value};
 ghost use Rattle.house_floor.specs.Crew.{AllAt, AreGuests, IsHouse, IsPost};
-ghost use Rattle.house_floor.specs.Left.{IsProduceOf};
+ghost use Rattle.reckoning.specs.Produced.{IsProduceOf};
 ghost use Rattle.house_threads.specs.inner.Crew.{IsHired};
 
 use crate::aside::stand_down;
 use crate::parcels::{Manned, mark, packed};
 use crate::sessions::attend;
 use house_floor::{Floor, Guest, Post};
-use lane_work::{Worked, work};
+use lane_work::{Context, Worked, work};
 use std::mem::ManuallyDrop;
 use std::sync::Wait;
 use std::sync::atomic::Ordering;
@@ -35,7 +35,7 @@ pub struct Produces<'a> {
 
 impl<'a> Promise<ManuallyDrop<Worked>> for Produces<'a> {
     ghost use Rattle.std.specs.Mem.{manually_drop_value};
-    ghost use Rattle.house_floor.specs.Left.{IsProduceOf};
+    ghost use Rattle.reckoning.specs.Produced.{IsProduceOf};
 
     ghost kept_by = { λ p r. IsProduceOf p.floor.now p.plans.now p.guests.now p.number (manually_drop_value r) };
 }
@@ -73,19 +73,16 @@ fn work_at<R: Wait, G: Gate>(
     ensures { IsProduceOf floor.now plans.now guests.now number result }
 {
     let position = usize::from(number);
-    let mut pace = Pace::new(gate, Actor::Worker(number));
-    let Post { desk, room } = post;
-    work(
+    let context = Context {
         rt,
-        floor.alloc,
-        &mut pace,
-        &floor.office,
-        &floor.bells,
-        &floor.depot.channels[position],
-        desk,
-        room,
-        plans[position].as_slice(),
-    )
+        alloc: floor.alloc,
+        office: &floor.office,
+        summons: &floor.bells,
+        channel: &floor.depot.channels[position],
+    };
+    let pace = Pace::new(gate, Actor::Worker(number));
+    let Post { desk, room } = post;
+    work(&context, pace, desk, room, plans[position].as_slice())
 }
 
 // A session's life.

@@ -6,7 +6,8 @@ ghost use Rattle.std.specs.Mem.{manually_drop_value};
 ghost use Rattle.std.specs.Thread.{IsSync};
 ghost use Rattle.house_floor.specs.Crew.{AllAt, AreGuests, IsCrew, IsHouse, IsPost};
 ghost use Rattle.house_floor.specs.declared.floor.Floor.{Floor};
-ghost use Rattle.house_floor.specs.Left.{IsPostLeft, IsProduceOf, IsServiceOf, IsSpendable, LeavesAll};
+ghost use Rattle.house_floor.specs.Left.{IsPostLeft, IsServiceOf, IsSpendable, LeavesAll};
+ghost use Rattle.reckoning.specs.Produced.{IsProduceOf};
 
 use crate::aside::end_first;
 use crate::consumers::{Kept, join_consumers, start_consumers};

@@ -14,8 +14,8 @@ ghost use Rattle.house_threads.specs.inner.Crew.{HasLived, IsAttended};
 use crossbeam_utils::sync::Unparker;
 use delivery_token::{Noted, WorkerLog};
 use house_floor::{Floor, Guest, Post, inbox_numbered, most_of};
-use house_peers::folders_of;
-use lane_work::{Fate, LaneCourier, Worked, finish};
+use imap_session::folders_of;
+use lane_work::{Context, Fate, LaneCourier, Producer, Worked, finish};
 use session_thread::{LockedStore, live};
 use shard_queue::ReplyChannel;
 use std::sync::Wait;
@@ -31,11 +31,14 @@ fn live_through<R: Wait, G: Gate>(
     courier: &mut LaneCourier<'_, R, Vec<Unparker>, WorkerLog>,
     replies: &mut Vec<Vec<u8>>,
 ) -> Fate
-    requires ready { IsReady courier.old.office.now courier.old.channel.now courier.old.desk }
+    requires ready { IsReady courier.old.context.office.now courier.old.context.channel.now
+        courier.old.desk }
     requires empty { replies.old.items ≡ [] }
-    ensures ready { IsReady courier.new.office.now courier.new.channel.now courier.new.desk }
-    ensures same { IsSameDesk courier.old.office.now courier.new.office.now courier.old.channel.now
-        courier.new.channel.now courier.old.desk
+    ensures ready { IsReady courier.new.context.office.now courier.new.context.channel.now
+        courier.new.desk }
+    ensures same { IsSameDesk courier.old.context.office.now courier.new.context.office.now
+        courier.old.context.channel.now
+        courier.new.context.channel.now courier.old.desk
         courier.new.desk }
     ensures serial { courier.new.serial ≡ courier.old.serial }
     ensures only { courier.new.is_torn ≡ false
@@ -44,9 +47,9 @@ fn live_through<R: Wait, G: Gate>(
     ensures began { result ≢ Fate.NotBegun }
     ensures whole { result ≡ Fate.Whole → (carried : List Carried)
         × ((done : List Carried)
-        → HasCarried courier.old.office.now courier.old.desk courier.old.serial
+        → HasCarried courier.old.context.office.now courier.old.desk courier.old.serial
         (notes_tell courier.old.book.notes) done
-        → HasCarried courier.new.office.now courier.new.desk courier.new.serial
+        → HasCarried courier.new.context.office.now courier.new.desk courier.new.serial
         (notes_tell courier.new.book.notes) (done ++ carried))
         × ((text : List ℕ) × HasLived floor.now user.now locked.old guest.now carried text
         × (map (λ b. b.items) replies.new.items ≡ text ∷ [])) }
@@ -109,11 +112,15 @@ pub(crate) fn attend<R: Wait, G: Gate>(
     let mailboxes = &floor.depot.mailboxes;
     let bells = &floor.depot.sessions[usize::from(inbox)];
     let mut locked = LockedStore::new(rt, gate, session, mailboxes, bells);
-    let mut courier = LaneCourier {
+    let context = Context {
         rt,
+        alloc: floor.alloc,
         office: &floor.office,
         summons: &floor.bells,
         channel,
+    };
+    let mut courier = LaneCourier {
+        context,
         serial: 0,
         book: WorkerLog::new(floor.alloc, desk.number),
         desk,
@@ -123,19 +130,14 @@ pub(crate) fn attend<R: Wait, G: Gate>(
     let mut replies = Vec::new(floor.alloc);
     let fate = live_through(floor, user, guest, &mut locked, &mut courier, &mut replies);
     let LaneCourier {
-        rt: _,
-        office: _,
-        summons: _,
-        channel: _,
+        context,
         desk,
         serial: _,
-        book: log,
+        book,
         is_torn,
     } = courier;
     let fate = unless_torn(fate, is_torn);
-    let mut pace = locked.into_pace();
-    let (office, summons) = (&floor.office, &floor.bells);
-    finish(
-        rt, &mut pace, office, summons, channel, desk, room, log, replies, fate,
-    )
+    let pace = locked.into_pace();
+    let producer = Producer { pace, desk, book };
+    finish(&context, producer, room, replies, fate)
 }

@@ -1,13 +1,15 @@
 -- What is said of a message that a client appends.
 use Rattle.std.specs.Prelude.{nat_lt, if◌then◌else◌}
 use Rattle.std.proofs.lemmas.Bool.Decides.{nat_tests}
-use Rattle.std.proofs.Common.{◌≡◌, ◌<◌, ◌≤◌, arith, ℕ, Bool, true, false, codes, Option, List, [], ◌∷◌, ◌++◌, None, Some, ap, sym, ◌∙◌, append-nil, length, refl, subst}
+use Rattle.std.proofs.Common.{◌≡◌, ◌<◌, ◌≤◌, arith, ℕ, Bool, true, false, Option, List, [], ◌∷◌, ◌++◌, None, Some, ap, sym, ◌∙◌, append-nil, length, refl, subst}
 use Rattle.imap_session.specs.declared.standing.After.TheVariants.{Go, Bye, Literal}
 use Rattle.imap_session.specs.Exchange.{Coming, Dropped, Exchange, Folder, ForLiteral, ForNothing, ForVerdict, Standing, Starved, Wait, Waiting, after_waiting, bye, most_in_place, played, tagged, text_before, waiting}
 use Rattle.change_ring.specs.declared.change.Flags.{Flags}
 use Rattle.imap_grammar.specs.declared.command.Append.{Append}
 use Rattle.imap_session.specs.inner.Appends.{Leads}
 use Rattle.imap_session.specs.Commands.{appending, asking, coming, most_unasked, nowhere, is_over, number_named, on_found, over, says, wanting}
+use Rattle.imap_session.specs.declared.texts.ResponseText.TheVariants as texts
+use Rattle.imap_session.specs.Texts.{response_text}
 
 -- ---- what was said behind what was written before
 
@@ -28,11 +30,11 @@ leads_waits tag bytes waits now next x before text e w same =
     ([], bytes ++ [], ap (λ y. played tag now y []) e, w ∙ ap (λ t. before ++ t) (sym (append-nil bytes)))
 
 -- memory is refused before anything is done
-pub leads_starved : (tag : List ℕ) (now next : Standing) (x y : Exchange) (before text : List ℕ) → x ≡ wanting y → text ≡ before ++ tagged tag (codes "NO Out of memory") → next ≡ now
+pub leads_starved : (tag : List ℕ) (now next : Standing) (x y : Exchange) (before text : List ℕ) → x ≡ wanting y → text ≡ before ++ tagged tag (response_text texts.OutOfMemory) → next ≡ now
     → Leads tag now x before text Go next
 leads_starved tag now next x y before text e w same =
     subst (λ (n : Standing). Leads tag now x before text Go n) (sym same)
-    (Starved 0 ∷ [], tagged tag (codes "NO Out of memory") ++ [], ap (λ z. played tag now z (Starved 0 ∷ [])) e, w ∙ ap (λ t. before ++ t) (sym (append-nil (tagged tag (codes "NO Out of memory")))))
+    (Starved 0 ∷ [], tagged tag (response_text texts.OutOfMemory) ++ [], ap (λ z. played tag now z (Starved 0 ∷ [])) e, w ∙ ap (λ t. before ++ t) (sym (append-nil (tagged tag (response_text texts.OutOfMemory)))))
 
 -- memory that may be wanted is there
 pub leads_wanting_says : (tag words : List ℕ) (now next : Standing) (x : Exchange) (before text : List ℕ) → x ≡ wanting (says words) → text ≡ before ++ tagged tag words → next ≡ now
@@ -78,14 +80,14 @@ leads_dropping tag mailbox flags size now next before text w same =
     subst (λ (n : Standing). Leads tag now (coming mailbox flags size) before text (Literal size) n) (sym same)
     (Starved 0 ∷ [], [], refl, w ∙ sym (append-nil before))
 
-pub leads_parting : (tag : List ℕ) (mailbox : Option ℕ) (flags : Flags) (size : ℕ) (now next : Standing) (before text : List ℕ) → most_in_place < length tag → text ≡ before ++ bye (codes "Out of memory")
+pub leads_parting : (tag : List ℕ) (mailbox : Option ℕ) (flags : Flags) (size : ℕ) (now next : Standing) (before text : List ℕ) → most_in_place < length tag → text ≡ before ++ bye (response_text texts.ByeOutOfMemory)
     → next ≡ record now { ended = true } → Leads tag now (coming mailbox flags size) before text Bye next
 leads_parting tag mailbox flags size now next before text long w same =
     subst (λ (n : Standing). Leads tag now (coming mailbox flags size) before text Bye n) (sym same) (
       Starved 1 ∷ [],
-      bye (codes "Out of memory") ++ [],
-      ap (λ (b : Bool). if b then Some (record { events = []; bytes = bye (codes "Out of memory") ++ []; after = Bye; standing = record now { ended = true } }) else None) (less_true most_in_place (length tag) long),
-      w ∙ ap (λ t. before ++ t) (sym (append-nil (bye (codes "Out of memory")))),
+      bye (response_text texts.ByeOutOfMemory) ++ [],
+      ap (λ (b : Bool). if b then Some (record { events = []; bytes = bye (response_text texts.ByeOutOfMemory) ++ []; after = Bye; standing = record now { ended = true } }) else None) (less_true most_in_place (length tag) long),
+      w ∙ ap (λ t. before ++ t) (sym (append-nil (bye (response_text texts.ByeOutOfMemory)))),
     )
 
 -- a literal that is asked for
@@ -96,7 +98,7 @@ pub asked : (most : Option ℕ) (folders : List Folder) (a : Append) → a.liter
 asked most folders a e = rw e refl
 
 abbrev pub sent_at : Option ℕ → Append → Option ℕ → Exchange
-sent_at most a o = if nat_lt most_unasked a.literal.size then Wait (bye (codes "Literal too big")) ForNothing else coming o a.flags a.literal.size
+sent_at most a o = if nat_lt most_unasked a.literal.size then Wait (bye (response_text texts.LiteralTooBig)) ForNothing else coming o a.flags a.literal.size
 
 pub unasked : (most : Option ℕ) (folders : List Folder) (a : Append) → a.literal.waits ≡ false → appending most folders a ≡ sent_at most a (number_named a.name folders)
 unasked most folders a e = rw e refl
@@ -117,9 +119,9 @@ asked_over most number folders a e some big =
     asked most folders a e ∙ ap (λ o. wanting (asked_at most a o)) some ∙ ap (if_fits most a number) big
 
 if_asked : Option ℕ → Append → Option ℕ → Bool → Exchange
-if_asked most a o big = if big then Wait (bye (codes "Literal too big")) ForNothing else coming o a.flags a.literal.size
+if_asked most a o big = if big then Wait (bye (response_text texts.LiteralTooBig)) ForNothing else coming o a.flags a.literal.size
 
-pub sent_too_big : (most : Option ℕ) (folders : List Folder) (a : Append) → a.literal.waits ≡ false → most_unasked < a.literal.size → appending most folders a ≡ Wait (bye (codes "Literal too big")) ForNothing
+pub sent_too_big : (most : Option ℕ) (folders : List Folder) (a : Append) → a.literal.waits ≡ false → most_unasked < a.literal.size → appending most folders a ≡ Wait (bye (response_text texts.LiteralTooBig)) ForNothing
 unfolding if_asked
 sent_too_big most folders a e big = unasked most folders a e ∙ ap (if_asked most a (number_named a.name folders)) (less_true most_unasked a.literal.size big)
 

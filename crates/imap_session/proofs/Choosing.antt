@@ -1,5 +1,5 @@
 -- Sets of messages, found in the view.
-use Rattle.std.proofs.Common.{◌≡◌, ◌∙◌, ℕ, zero, suc, ◌<◌, Bool, codes, List, [], ◌∷◌, length, map, get_or, Option, Some, None, Result, refl, ap, subst, arith}
+use Rattle.std.proofs.Common.{◌≡◌, ◌∙◌, ℕ, zero, suc, ◌<◌, Bool, List, [], ◌∷◌, length, map, get_or, Option, Some, None, Result, refl, ap, subst, arith}
 use Rattle.std.specs.Prelude.{option_map}
 use Rattle.std.proofs.lemmas.List.{length-map}
 use Rattle.imap_grammar.specs.Sets.{named_at, named_in}
@@ -13,6 +13,8 @@ use Rattle.mailbox.specs.declared.clients.MailFault.{MailFault}
 use Rattle.imap_session.specs.inner.Store.{Does, Reaches}
 use Rattle.imap_session.proofs.Saying.{does_then}
 use Rattle.imap_session.proofs.Runs.{reaches_look}
+use Rattle.imap_session.specs.declared.texts.ResponseText.TheVariants as texts
+use Rattle.imap_session.specs.Texts.{response_text}
 
 pub reaches_chosen : {S : Type 0} (step : S → Call → Answer → S → Type 0) (by_uid : Bool) (set : List SeqRange) (next : List ℕ → List ℕ → Exchange) (view uids : List ℕ) (s : S) (text : Response)
     → step s (ex.Look by_uid set) (Looked view) s → named_in by_uid set view ≡ Some uids
@@ -36,7 +38,7 @@ chosen_none view (Some uids) e = cc
 
 pub reaches_too_high : {S : Type 0} (step : S → Call → Answer → S → Type 0) (by_uid : Bool) (set : List SeqRange) (next : List ℕ → List ℕ → Exchange) (view : List ℕ) (s : S) (text : Response)
     → step s (ex.Look by_uid set) (Looked view) s → None ≡ option_map (map (named_at view)) (named_in by_uid set view)
-    → (tag : List ℕ) (now : Standing) → Reaches step tag now now (on_set by_uid set next) (says (codes "BAD Sequence number too high")) s s text text
+    → (tag : List ℕ) (now : Standing) → Reaches step tag now now (on_set by_uid set next) (says (response_text texts.SequenceTooHigh)) s s text text
 reaches_too_high step by_uid set next view s text looked none tag now =
     let P : Option (List ℕ) → Type 0 = λ o. Reaches step tag now now (on_set by_uid set next) (on_chosen o (next view)) s s text text in
     subst P (chosen_none view (named_in by_uid set view) none) (reaches_look step tag now by_uid set (λ w. on_chosen (named_in by_uid set w) (next w)) view s text looked)

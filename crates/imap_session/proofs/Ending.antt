@@ -1,5 +1,5 @@
 -- How an exchange ends: the last words are written, and the whole answers a line.
-use Rattle.std.proofs.Common.{◌≡◌, ℕ, Bool, false, codes, List, [], ◌++◌, Option, Some, None, Result, Ok, Err, refl, ap, sym, ◌∙◌, subst, append_assoc, append-nil}
+use Rattle.std.proofs.Common.{◌≡◌, ℕ, Bool, false, List, [], ◌++◌, Option, Some, None, Result, Ok, Err, refl, ap, sym, ◌∙◌, subst, append_assoc, append-nil}
 use Rattle.mailbox.specs.declared.clients.MailFault.{MailFault}
 use Rattle.imap_grammar.specs.declared.command.Command.{Command}
 use Rattle.imap_grammar.specs.declared.command.Command.TheVariants as commands
@@ -14,6 +14,10 @@ use Rattle.imap_session.specs.Store.{Met}
 use Rattle.imap_session.specs.Response.{Response}
 use Rattle.imap_session.specs.inner.Store.{Reaches, Stops, Does, Moves, Plays, after_command, behind_first_line, ending, first_line, notice_line, last_words, after_result, onward}
 use Rattle.imap_session.proofs.Runs.{Met-append, reaches_here}
+use Rattle.imap_session.specs.declared.texts.ResponseText.TheVariants as texts
+use Rattle.imap_session.specs.Texts.{response_text}
+use Rattle.imap_grammar.specs.declared.command.Verb.TheVariants as verbs
+use Rattle.imap_session.specs.declared.texts.ResponseText.{ResponseText}
 
 -- what is done where the selected mailbox stays
 pub moves_still : {S V : Type 0} (step : S → Call → Answer → S → Type 0) (sel : Option Selected) (x : Exchange) (y : V → Exchange) (old new : S) (before after : Response) (r : Result V MailFault)
@@ -57,10 +61,11 @@ ends step tag now next x old new before mid final events bytes words how whole p
 }
 
 -- an exchange that was done but for its last line, and then that line, or what is said of the fault that stopped it
-pub plays_moved : {S : Type 0} (step : S → Call → Answer → S → Type 0) (now : Standing) (to : Option Selected) (after : After) (x : Exchange) (old new : S) (before mid : Response) (final : List ℕ) (r : Result (List ℕ) MailFault)
+pub plays_moved : {S : Type 0} (step : S → Call → Answer → S → Type 0) (now : Standing) (to : Option Selected) (after : After) (x : Exchange) (old new : S) (before mid : Response) (final : List ℕ) (r : Result ResponseText MailFault)
     → Moves step now.selected to x (ending after) old new before mid r → final ≡ mid.text ++ last_words mid.tag r
     → Plays step before.tag now (record now { selected = to }) x old new before.text final (after_result after r)
-plays_moved step now to after x old new before mid final (Ok words) m e =
+plays_moved step now to after x old new before mid final (Ok text) m e =
+    let words : List ℕ = response_text text in
     let p = m before.tag now refl in
     let next : Standing = record now { selected = to } in
     let led = p.leads [] (saying (tagged before.tag words) (closed next after)) refl in
@@ -76,7 +81,7 @@ standing_of : List Folder → Option Selected → Option (List ℕ) → Bool →
 standing_of folders selected idling ended mailing = record { folders = folders; selected = selected; idling = idling; ended = ended; mailing = mailing }
 
 -- a command that was carried out behind its first line, and its last line
-pub plays_command : {S : Type 0} (step : S → Call → Answer → S → Type 0) (now : Standing) (folders : List Folder) (from to : Option Selected) (idling : Option (List ℕ)) (ended : Bool) (mailing : Mailing) (command : Command) (old new : S) (before mid : Response) (final : List ℕ) (r : Result (List ℕ) MailFault) (after how : After)
+pub plays_command : {S : Type 0} (step : S → Call → Answer → S → Type 0) (now : Standing) (folders : List Folder) (from to : Option Selected) (idling : Option (List ℕ)) (ended : Bool) (mailing : Mailing) (command : Command) (old new : S) (before mid : Response) (final : List ℕ) (r : Result ResponseText MailFault) (after how : After)
     → (let s : Standing = record { folders = folders; selected = from; idling = idling; ended = ended; mailing = mailing } in s) ≡ now → now.ended ≡ false → now.idling ≡ None
     → Moves step from to (behind_first_line (record { folders = folders; selected = from; idling = None; ended = false; mailing = mailing }) command) (ending (after_command command)) old new before mid r
     → after ≡ after_command command → final ≡ mid.text ++ last_words mid.tag r → how ≡ after_result after r
@@ -122,7 +127,7 @@ pub plays_first_line : {S : Type 0} (step : S → Call → Answer → S → Type
     → mid ≡ before ++ first_line command → Plays step tag now next (behind_first_line now command) old new mid final how
     → Plays step tag now next (on_command now command) old new before final how
 plays_first_line step tag now next commands.Logout old new before mid final how e p =
-    plays_put step tag (first_line commands.Logout) now next (ex.Done (codes "OK LOGOUT completed") Bye) old new before mid final how e p
+    plays_put step tag (first_line commands.Logout) now next (ex.Done (response_text (texts.Completed verbs.Logout)) Bye) old new before mid final how e p
 plays_first_line step tag now next command old new before mid final how e p =
     subst (λ (x : Exchange). Plays step tag now next x old new before final how) (sym (said_first now command))
     (plays_noticed step tag now next (notice command) (behind_first_line now command) old new before mid final how e p)

@@ -18,3 +18,5 @@ pub mod Feeding
 pub mod Conversing
 pub mod Carried
 pub mod Asking
+pub mod FolderLaws
+pub mod TextLaws

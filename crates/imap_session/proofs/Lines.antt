@@ -1,5 +1,5 @@
 -- Whole lines, answered: a fault, a command, IDLE, and the line that ends it.
-use Rattle.std.proofs.Common.{◌≡◌, ℕ, List, [], ◌∷◌, ◌++◌, Bool, true, false, codes, Option, Some, None, Result, Ok, Err, refl, ap, sym, ◌∙◌, subst, append-nil, if◌then◌else◌, ◌⊎◌, inl, inr, length, ◌<◌, ◌==◌, IfOk}
+use Rattle.std.proofs.Common.{◌≡◌, ℕ, List, [], ◌∷◌, ◌++◌, Bool, true, false, Option, Some, None, Result, Ok, Err, refl, ap, sym, ◌∙◌, subst, append-nil, if◌then◌else◌, ◌⊎◌, inl, inr, length, ◌<◌, ◌==◌, IfOk}
 use Rattle.std.specs.Prelude.{zero}
 use Rattle.std.proofs.lemmas.Bool.{lt-ltb}
 use Rattle.mailbox.specs.declared.clients.MailFault.{MailFault}
@@ -11,7 +11,7 @@ use Rattle.imap_session.specs.declared.standing.After.{After}
 use Rattle.imap_session.specs.declared.standing.After.TheVariants.{Go, Idle}
 use Rattle.imap_session.specs.declared.standing.SessionFault.{SessionFault}
 use Rattle.imap_session.specs.declared.standing.Selected.{Selected}
-use Rattle.imap_session.specs.Exchange.{Answer, Appending, Call, Standing, Starved, closed, tagged}
+use Rattle.imap_session.specs.Exchange.{Answer, Appending, Call, Standing, Starved, closed, tagged, continuing}
 use Rattle.imap_session.specs.Commands.{completed, fault_text, on_command, on_idle_line, on_read, says, appending, showing, on_rest, turn_behind, turn_of, turn_while, without_begun}
 use Rattle.imap_session.specs.Store.{Answers}
 use Rattle.imap_session.specs.Response.{Response}
@@ -23,6 +23,9 @@ use Rattle.imap_session.specs.declared.mailing.Appending as begun
 use Rattle.imap_session.specs.inner.Seen.{appending_of}
 use Rattle.imap_session.proofs.Ending.{moves_still, plays_moved}
 use Rattle.imap_session.proofs.Runs.{reaches_here}
+use Rattle.imap_session.specs.declared.texts.ResponseText.TheVariants as texts
+use Rattle.imap_session.specs.Texts.{response_text}
+use Rattle.imap_session.specs.declared.texts.ResponseText.{ResponseText}
 
 -- a line of a session that doesn't idle
 awake_turn : (now : Standing) (line : List ℕ) (answers : List Answer) → now.mailing.begun ≡ None → now.idling ≡ None → turn_of now line answers ≡ on_read now (read line) answers
@@ -111,33 +114,33 @@ idle_is _ e = absurd cc
 
 pub answers_idle : {S : Type 0} (step : S → Call → Answer → S → Type 0) (now next : Standing) (line : List ℕ) (response : Response) (command : Command) (s : S) (before after : List ℕ) (how : After) → now.mailing.begun ≡ None → now.idling ≡ None
     → read line ≡ Ok (response.tag, command) → response.text ≡ before → is_idle command ≡ true → ((how ≡ Idle) ⊎ (how ≡ Go))
-    → (how ≡ Idle → (next ≡ record now { idling = Some response.tag }) × (after ≡ response.text ++ codes "+ idling\r\n"))
-    → (how ≡ Go → (32 < length response.tag) × (next ≡ now) × (after ≡ response.text ++ tagged response.tag (codes "NO Out of memory")))
+    → (how ≡ Idle → (next ≡ record now { idling = Some response.tag }) × (after ≡ response.text ++ continuing (response_text texts.Idling)))
+    → (how ≡ Go → (32 < length response.tag) × (next ≡ now) × (after ≡ response.text ++ tagged response.tag (response_text texts.OutOfMemory)))
     → Answers step now line s s before after how next
 answers_idle step now next line response command s before after Idle alone awake h kept i on begun starved =
     subst (λ (n : Standing). Answers step now line s s before after Idle n) (sym (begun refl).0) (record {
       answers = [];
       events = [];
-      bytes = codes "+ idling\r\n";
+      bytes = continuing (response_text texts.Idling);
       played = awake_turn now line [] alone awake ∙ ap (λ r. on_read now r []) (h ∙ ap (λ c. Ok (response.tag, c)) (idle_is command i));
       met = refl;
-      wrote = (begun refl).1 ∙ ap (λ t. t ++ codes "+ idling\r\n") kept;
+      wrote = (begun refl).1 ∙ ap (λ t. t ++ continuing (response_text texts.Idling)) kept;
     })
 answers_idle step now next line response command s before after Go alone awake h kept i on begun starved =
     subst (λ (n : Standing). Answers step now line s s before after Go n) (sym (starved refl).1) (record {
       answers = Starved zero ∷ [];
       events = [];
-      bytes = tagged response.tag (codes "NO Out of memory") ++ [];
+      bytes = tagged response.tag (response_text texts.OutOfMemory) ++ [];
       played = awake_turn now line (Starved zero ∷ []) alone awake ∙ ap (λ r. on_read now r (Starved zero ∷ [])) (h ∙ ap (λ c. Ok (response.tag, c)) (idle_is command i))
-          ∙ ap (λ (b : Bool). if b then Some (record { events = []; bytes = tagged response.tag (codes "NO Out of memory") ++ []; after = Go; standing = now }) else None) (lt-ltb 32 (length response.tag) (starved refl).0);
+          ∙ ap (λ (b : Bool). if b then Some (record { events = []; bytes = tagged response.tag (response_text texts.OutOfMemory) ++ []; after = Go; standing = now }) else None) (lt-ltb 32 (length response.tag) (starved refl).0);
       met = refl;
-      wrote = (starved refl).2 ∙ ap (λ t. t ++ tagged response.tag (codes "NO Out of memory")) kept ∙ ap (λ t. before ++ t) (sym (append-nil (tagged response.tag (codes "NO Out of memory"))));
+      wrote = (starved refl).2 ∙ ap (λ t. t ++ tagged response.tag (response_text texts.OutOfMemory)) kept ∙ ap (λ t. before ++ t) (sym (append-nil (tagged response.tag (response_text texts.OutOfMemory))));
     })
 answers_idle step now next line response command s before after how alone awake h kept i (inl e) begun starved = absurd cc
 answers_idle step now next line response command s before after how alone awake h kept i (inr e) begun starved = absurd cc
 
 -- the line that ends it
-pub plays_idle_line : {S : Type 0} (step : S → Call → Answer → S → Type 0) (now : Standing) (line : List ℕ) (old new : S) (before mid : Response) (final : List ℕ) (r : Result (List ℕ) MailFault) (how : After)
+pub plays_idle_line : {S : Type 0} (step : S → Call → Answer → S → Type 0) (now : Standing) (line : List ℕ) (old new : S) (before mid : Response) (final : List ℕ) (r : Result ResponseText MailFault) (how : After)
     → Does step (on_idle_line now.selected line) last old new before mid r → final ≡ mid.text ++ last_words mid.tag r → how ≡ after_result Go r
     → Plays step before.tag now now (on_idle_line now.selected line) old new before.text final how
 plays_idle_line step now line old new before mid final r how d f h =
@@ -155,13 +158,13 @@ answers_idle_line {S} step now next tag line old new before after how alone awak
 
 -- what the line says: it isn't DONE, or it is, and what is pending was shown
 pub says_not_done : {S : Type 0} (step : S → Call → Answer → S → Type 0) (tag : List ℕ) (now : Standing) (selected : Option Selected) (line : List ℕ) (s : S) (text : Response) → is_done line ≡ false
-    → Reaches step tag now now (on_idle_line selected line) (says (codes "BAD Expected DONE")) s s text text
+    → Reaches step tag now now (on_idle_line selected line) (says (response_text texts.ExpectedDone)) s s text text
 says_not_done step tag now selected line s text e =
-    subst (λ (b : Bool). Reaches step tag now now (if b then showing selected (completed commands.Idle) else says (codes "BAD Expected DONE")) (says (codes "BAD Expected DONE")) s s text text) (sym e)
-    (reaches_here step tag now (says (codes "BAD Expected DONE")) s text)
+    subst (λ (b : Bool). Reaches step tag now now (if b then showing selected (completed commands.Idle) else says (response_text texts.ExpectedDone)) (says (response_text texts.ExpectedDone)) s s text text) (sym e)
+    (reaches_here step tag now (says (response_text texts.ExpectedDone)) s text)
 
 pub says_done : {S : Type 0} (step : S → Call → Answer → S → Type 0) (tag : List ℕ) (now : Standing) (selected : Option Selected) (line : List ℕ) (old new : S) (before after : Response) → is_done line ≡ true
     → Reaches step tag now now (showing selected (completed commands.Idle)) (completed commands.Idle) old new before after
     → Reaches step tag now now (on_idle_line selected line) (completed commands.Idle) old new before after
 says_done step tag now selected line old new before after e r =
-    subst (λ (b : Bool). Reaches step tag now now (if b then showing selected (completed commands.Idle) else says (codes "BAD Expected DONE")) (completed commands.Idle) old new before after) (sym e) r
+    subst (λ (b : Bool). Reaches step tag now now (if b then showing selected (completed commands.Idle) else says (response_text texts.ExpectedDone)) (completed commands.Idle) old new before after) (sym e) r

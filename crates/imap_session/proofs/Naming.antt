@@ -1,5 +1,5 @@
 -- Mailboxes by name, and parts of an exchange that follow one another where the selected mailbox may change.
-use Rattle.std.proofs.Common.{◌≡◌, ℕ, Bool, false, codes, List, [], if◌then◌else◌, Option, Some, None, Result, Ok, Err, refl}
+use Rattle.std.proofs.Common.{◌≡◌, ℕ, Bool, false, List, [], Option, Some, None, Result, Ok, Err, refl}
 use Rattle.mailbox.specs.declared.clients.MailFault.{MailFault}
 use Rattle.mailbox.specs.declared.clients.MailFault.TheVariants.{NoMemory}
 use Rattle.mailbox.specs.declared.clients.Opening.{Opening}
@@ -7,13 +7,16 @@ use Rattle.mailbox.specs.declared.mailbox.Status.{Status}
 use Rattle.imap_session.specs.declared.standing.Selected.{Selected}
 use Rattle.imap_session.specs.Exchange as ex
 use Rattle.imap_session.specs.Exchange.{Call, Answer, Counted, Refused, Exchange, Folder, Standing, nothing_sent}
-use Rattle.imap_session.specs.Commands.{closing, entering, folder_of, on_folder, opened, says, selecting, wanting}
+use Rattle.imap_session.specs.Commands.{closing, entering, folder_of, on_folder, opened, says, selecting, wanting, entered_text}
 use Rattle.imap_answers.specs.Answers.{opening_text}
 use Rattle.imap_session.specs.Response.{Response}
 use Rattle.imap_session.specs.inner.Response.{Adds, adding}
 use Rattle.imap_session.specs.inner.Store.{Reaches, Stops, Does, Moves, last}
 use Rattle.imap_session.proofs.Runs.{added, nothing_added, reaches_count, reaches_here, reaches_put, reaches_then, reaches_write, stops_count, stops_then, stops_write}
 use Rattle.imap_session.proofs.Saying.{does_then}
+use Rattle.imap_session.specs.declared.texts.ResponseText.TheVariants as texts
+use Rattle.imap_session.specs.Texts.{response_text}
+use Rattle.imap_session.specs.declared.texts.ResponseText.{ResponseText}
 
 -- ---- one after the other
 
@@ -61,8 +64,8 @@ moves_holding step from to x z old new before between after (Err fault) h p = λ
 
 -- no folder has the name
 pub reaches_missing : {S : Type 0} (step : S → Call → Answer → S → Type 0) (tag : List ℕ) (now : Standing) (name : List ℕ) (folders : List Folder) (next : Folder → Exchange) (s : S) (text : Response)
-    → folder_of name folders ≡ None → Reaches step tag now now (on_folder name folders next) (says (codes "NO [NONEXISTENT] No such mailbox")) s s text text
-reaches_missing step tag now name folders next s text h = rw h (reaches_here step tag now (says (codes "NO [NONEXISTENT] No such mailbox")) s text)
+    → folder_of name folders ≡ None → Reaches step tag now now (on_folder name folders next) (says (response_text texts.NoSuchMailbox)) s s text text
+reaches_missing step tag now name folders next s text h = rw h (reaches_here step tag now (says (response_text texts.NoSuchMailbox)) s text)
 
 -- the same where memory was wanted first
 pub reaches_wanted : {S : Type 0} (step : S → Call → Answer → S → Type 0) (tag : List ℕ) (now : Standing) (x y : Exchange) (s : S) (text : Response)
@@ -78,13 +81,13 @@ starves_write step tag now bytes x fault s before after f e = rw (f, e) (stops_w
 
 -- ---- a mailbox that was entered
 
-pub tells_opening : {S : Type 0} (step : S → Call → Answer → S → Type 0) (read_only : Bool) (name : List ℕ) (opening : Opening) (words : List ℕ) (s : S) (before after : Response)
+pub tells_opening : {S : Type 0} (step : S → Call → Answer → S → Type 0) (read_only : Bool) (name : List ℕ) (opening : Opening) (text : ResponseText) (s : S) (before after : Response)
     → Adds (opening_text read_only name opening) before after
-    → words ≡ (if read_only then codes "OK [READ-ONLY] EXAMINE completed" else codes "OK [READ-WRITE] SELECT completed")
-    → Does step (opened read_only name opening) last s s before after (Ok words)
-tells_opening step read_only name opening words s before after t w = λ tag now. rw w
+    → text ≡ entered_text read_only
+    → Does step (opened read_only name opening) last s s before after (Ok text)
+tells_opening step read_only name opening text s before after t w = λ tag now. rw w
     (reaches_put step tag now (opening_text read_only name opening)
-    (says (if read_only then codes "OK [READ-ONLY] EXAMINE completed" else codes "OK [READ-WRITE] SELECT completed")) s before after t)
+    (says (response_text (entered_text read_only))) s before after t)
 
 pub entering_then : {S V : Type 0} (step : S → Call → Answer → S → Type 0) (from to : Option Selected) (read_only : Bool) (folder : Folder) (number : ℕ) (name : List ℕ) (opening : Opening) (z : V → Exchange) (old mid new : S) (before after : Response) (r : Result V MailFault)
     → number ≡ folder.mailbox → name ≡ folder.name

@@ -1,16 +1,18 @@
 -- Mailboxes selected and left.
-use Rattle.std.proofs.Common.{◌≡◌, ℕ, true, false, codes, List, Option, Some, None, is_none, Ok, refl}
+use Rattle.std.proofs.Common.{◌≡◌, ℕ, true, false, List, Option, Some, None, is_none, Ok, refl}
 use Rattle.imap_session.specs.declared.standing.Selected.{Selected}
 use Rattle.imap_session.specs.Exchange as ex
-use Rattle.imap_session.specs.Exchange.{Call, Answer, Left, Exchange, Standing}
+use Rattle.imap_session.specs.Exchange.{Call, Answer, Left, Exchange, Standing, untagged}
 use Rattle.imap_session.specs.Commands.{closing}
 use Rattle.imap_session.specs.Response.{Response}
 use Rattle.imap_session.specs.inner.Response.{Adds}
 use Rattle.imap_session.specs.inner.Store.{Reaches, Moves}
 use Rattle.imap_session.proofs.Runs.{reaches_here, reaches_leave, reaches_put, reaches_then}
+use Rattle.imap_session.specs.declared.texts.ResponseText.TheVariants as texts
+use Rattle.imap_session.specs.Texts.{response_text}
 
 abbrev pub closed_line : List ℕ
-closed_line = codes "* OK [CLOSED] Previous mailbox is closed\r\n"
+closed_line = untagged (response_text texts.PreviousClosed)
 
 pub closing_some : (sel : Option Selected) (x : Exchange) → is_none sel ≡ false → closing sel x ≡ ex.Leave false (ex.Put closed_line x)
 closing_some None x h = cc

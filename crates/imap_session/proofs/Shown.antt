@@ -15,10 +15,12 @@ use Rattle.imap_grammar.specs.declared.command.Store.{Store}
 use Rattle.imap_session.specs.declared.standing.Selected.{Selected}
 use Rattle.std.specs.Prelude.{nat_lt}
 use Rattle.imap_grammar.specs.declared.command.Append.{Append}
-use Rattle.imap_session.specs.Exchange.{Exchange, Expunge, Feed, Folder, ForNothing, Standing, Wait, Write, bye}
-use Rattle.imap_session.specs.Commands.{asking, coming, most_unasked, nowhere, is_over, number_named, over, wanting, on_command, on_idle_line, counting, folder_of, showing, completed, closing, entering, on_folder, on_chosen, messages_done, on_found, fetching, storing, fetched, stored, if_writable, expunge_set, store_messages, fetch_messages, unlimited, wrong_state, says, notice, noticing}
+use Rattle.imap_session.specs.Exchange.{Exchange, Expunge, Feed, Folder, ForNothing, Standing, Wait, Write, bye, untagged}
+use Rattle.imap_session.specs.Commands.{asking, coming, most_unasked, nowhere, is_over, number_named, over, wanting, wanting_for, on_command, on_idle_line, counting, folder_of, showing, completed, closing, entering, on_folder, on_chosen, messages_done, on_found, fetching, storing, fetched, stored, if_writable, expunge_set, store_messages, fetch_messages, unlimited, wrong_state, says, notice, noticing}
 use Rattle.imap_session.proofs.Appends.{asked_at, sent_at}
 use Rattle.imap_session.specs.Shows.{DoneShowsInOrder, IsFetchLine, IsNotice, MaySay, ShowsBefore, ShowsInOrder, may_show}
+use Rattle.imap_session.specs.declared.texts.ResponseText.TheVariants as texts
+use Rattle.imap_session.specs.Texts.{response_text}
 
 no_must : (b : Bool) (o : Option Selected) → o ≡ None → (b && is_some o) ≡ true → ⊥
 no_must true None n e = cc
@@ -38,11 +40,11 @@ in_showing now command m None is = λ must. absurd (no_must (may_show command) n
 in_showing now command m (Some selected) is = (m, refl, refl)
 
 in_folder : (now : Standing) (command : Command) (next : Folder → Exchange) → ((folder : Folder) → ShowsInOrder now command (next folder)) → (found : Option Folder)
-    → ShowsInOrder now command (on_found next (says (codes "NO [NONEXISTENT] No such mailbox")) found)
+    → ShowsInOrder now command (on_found next (says (response_text texts.NoSuchMailbox)) found)
 in_folder now command next p None = λ must. refl
 in_folder now command next p (Some folder) = p folder
 
-in_closing : (now : Standing) (command : Command) (selected : Option Selected) (x : Exchange) → MaySay now command (codes "* OK [CLOSED] Previous mailbox is closed\r\n")
+in_closing : (now : Standing) (command : Command) (selected : Option Selected) (x : Exchange) → MaySay now command (untagged (response_text texts.PreviousClosed))
     → ShowsInOrder now command x → ShowsInOrder now command (closing selected x)
 in_closing now command None x s p = p
 in_closing now command (Some selected) x s p = (s, p)
@@ -93,7 +95,7 @@ in_found now command (Some s) next p = p s
 
 in_writable : (now : Standing) (command : Command) (selected : Option Selected) (x : Exchange) → ShowsInOrder now command x
     → ShowsInOrder now command (on_found (if_writable x) wrong_state selected)
-in_writable now command selected x p = in_found now command selected (if_writable x) (λ s. in_either now command s.read_only (says (codes "NO Mailbox is read-only")) x (λ must. refl) p)
+in_writable now command selected x p = in_found now command selected (if_writable x) (λ s. in_either now command s.read_only (says (response_text texts.ReadOnly)) x (λ must. refl) p)
 
 may_not_be : (c : Bool) → (false && c) ≡ false
 may_not_be c = refl
@@ -113,7 +115,7 @@ in_append now most a found =
       in_named now (commands.Append a) (λ m. if is_over most a.literal.size then over most else asking m a.flags a.literal.size)
           (λ m. in_either now (commands.Append a) (is_over most a.literal.size) (over most) (asking m a.flags a.literal.size) (in_over now (commands.Append a) most) (inr (inl refl), refl)) found,
     )
-    (in_either now (commands.Append a) (nat_lt most_unasked a.literal.size) (Wait (bye (codes "Literal too big")) ForNothing) (coming found a.flags a.literal.size)
+    (in_either now (commands.Append a) (nat_lt most_unasked a.literal.size) (Wait (bye (response_text texts.LiteralTooBig)) ForNothing) (coming found a.flags a.literal.size)
     (inr (inr refl), refl) (inl refl, refl))
 
 notice_shown : (now : Standing) (command : Command) (said : Option (List ℕ)) → ((bytes : List ℕ) → IsNotice said bytes → MaySay now command bytes) → may_show command ≡ false
@@ -150,7 +152,7 @@ shown_in_order now commands.Expunge = in_writable now commands.Expunge now.selec
 shown_in_order now (commands.UidExpunge set) =
     in_writable now (commands.UidExpunge set) now.selected (expunge_set set)
     (λ view. in_chosen now (commands.UidExpunge set) (named_in true set view)
-    (λ uids. wanting (Expunge (Some uids) (Feed unlimited (completed (commands.UidExpunge set))))) (λ uids. (refl, (refl, (refl, refl, refl)))))
+    (λ uids. wanting_for uids (Expunge (Some uids) (Feed unlimited (completed (commands.UidExpunge set))))) (elim [ [] ↦ (refl, (refl, refl, refl)) | uid ∷ uids ↦ (refl, (refl, (refl, refl, refl))) ]))
 shown_in_order now (commands.Fetch fetch) =
     in_found now (commands.Fetch fetch) now.selected (fetch_messages fetch)
     (λ s. (
@@ -167,7 +169,7 @@ shown_in_order now (commands.Append append) = in_append now now.mailing.most app
 shown_in_order now command = notice_shown now command (notice command) (λ bytes is. is) refl
 
 in_idle_line : (b : Bool) (selected : Option Selected)
-    → ShowsBefore (completed commands.Idle) (λ bytes. ⊥) b (b && is_some selected) false (if b then showing selected (completed commands.Idle) else says (codes "BAD Expected DONE"))
+    → ShowsBefore (completed commands.Idle) (λ bytes. ⊥) b (b && is_some selected) false (if b then showing selected (completed commands.Idle) else says (response_text texts.ExpectedDone))
 in_idle_line true None = λ must. absurd (no_must true None refl must)
 in_idle_line true (Some s) = (refl, refl, refl)
 in_idle_line false selected = λ must. refl

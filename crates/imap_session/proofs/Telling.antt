@@ -21,15 +21,18 @@ use Rattle.imap_grammar.specs.declared.command.ImapFault.{ImapFault}
 use Rattle.imap_grammar.specs.declared.command.ImapFault.TheVariants as faults
 use Rattle.imap_grammar.specs.declared.command.Store.{Store}
 use Rattle.imap_grammar.specs.declared.command.Verb.TheVariants as verbs
-use Rattle.delivery_token.specs.declared.Refusal.{Refusal}
-use Rattle.delivery_token.specs.declared.Refusal.TheVariants.{Full, MailboxFull, NoMemory, UidSpent, Shut}
+use Rattle.imap_grammar.specs.Verbs.{verb_of}
 use Rattle.delivery_token.specs.declared.Verdict.{Verdict}
 use Rattle.delivery_token.specs.declared.Verdict.TheVariants.{Stored, Refused}
 use Rattle.imap_session.specs.declared.standing.Selected.{Selected}
 use Rattle.imap_session.specs.Exchange.{Appending, Exchange, Expunge, Feed, Folder, ForNothing, ForVerdict, Mailing, Standing, Wait, Write, bye, kept_behind, kept_tag, refusal_text}
-use Rattle.imap_session.specs.Commands.{appended_words, asking, coming, closing, completed, counting, entering, expunge_set, fault_text, fetch_messages, fetching, folder_of, if_writable, is_over, last_number, long_rest_words, long_text, most_unasked, messages_done, nowhere, number_named, on_chosen, on_command, on_folder, on_found, on_idle_line, on_rest, on_text, on_verdict, over, refused_words, says, showing, store_messages, storing, turn_of_long_line, unlimited, verb_text, wanting, wrong_state}
+use Rattle.imap_session.specs.Commands.{appended_words, asking, coming, closing, completed, counting, entering, expunge_set, fault_text, fetch_messages, fetching, folder_of, if_writable, is_over, last_number, long_rest_text, long_text, most_unasked, messages_done, nowhere, number_named, on_chosen, on_command, on_folder, on_found, on_idle_line, on_rest, on_text, on_verdict, over, refused_text, says, showing, store_messages, storing, turn_of_long_line, unlimited, wanting, wanting_for, wrong_state, entered_text}
 use Rattle.imap_session.specs.Telling.{LineTellsNoUid, RefusalTellsNoUid, TellsNoUid, VerdictTellsUid, WordsTellWhich, fault_tag, tells_uid}
 use Rattle.imap_session.proofs.Appends.{asked_at, sent_at}
+use Rattle.imap_session.specs.declared.texts.ResponseText.TheVariants as texts
+use Rattle.imap_session.specs.Texts.{response_text}
+use Rattle.imap_grammar.specs.declared.command.Verb.{Verb}
+use Rattle.imap_session.specs.declared.texts.ResponseText.{ResponseText}
 
 -- ---- what an exchange is made of
 
@@ -50,10 +53,10 @@ in_found next gone p q None = q
 in_found next gone p q (Some a) = p a
 
 in_folder : (name : List ℕ) (folders : List Folder) (next : Folder → Exchange) → ((folder : Folder) → TellsNoUid (next folder)) → TellsNoUid (on_folder name folders next)
-in_folder name folders next p = in_found next (says (codes "NO [NONEXISTENT] No such mailbox")) p refl (folder_of name folders)
+in_folder name folders next p = in_found next (says (response_text texts.NoSuchMailbox)) p refl (folder_of name folders)
 
 in_writable : (selected : Option Selected) (x : Exchange) → TellsNoUid x → TellsNoUid (on_found (if_writable x) wrong_state selected)
-in_writable selected x p = in_found (if_writable x) wrong_state (λ (s : Selected). in_either s.read_only (says (codes "NO Mailbox is read-only")) x refl p) refl selected
+in_writable selected x p = in_found (if_writable x) wrong_state (λ (s : Selected). in_either s.read_only (says (response_text texts.ReadOnly)) x refl p) refl selected
 
 in_chosen : (chosen : Option (List ℕ)) (next : List ℕ → Exchange) → ((uids : List ℕ) → TellsNoUid (next uids)) → TellsNoUid (on_chosen chosen next)
 in_chosen None next p = refl
@@ -80,18 +83,14 @@ in_storing store view done p [] gone = p gone
 in_storing store view done p (uid ∷ uids) gone =
     elim [ None ↦ in_storing store view done p uids true | Some flags ↦ in_silence store.silent _ _ (in_storing store view done p uids gone) ]
 
--- the words of FETCH and STORE, and of their UID forms
-fetch_words : (by_uid : Bool) → tells_uid (codes "OK " ++ verb_text (if by_uid then verbs.UidFetch else verbs.Fetch) ++ codes " completed") ≡ false
-fetch_words true = refl
-fetch_words false = refl
+done_tells_none : (verb : Verb) → tells_uid (response_text (texts.Completed verb)) ≡ false
+done_tells_none verbs.Noop = refl
+done_tells_none _ = refl
 
-store_words : (by_uid : Bool) → tells_uid (codes "OK " ++ verb_text (if by_uid then verbs.UidStore else verbs.Store) ++ codes " completed") ≡ false
-store_words true = refl
-store_words false = refl
-
-entered_words : (read_only : Bool) → tells_uid (if read_only then codes "OK [READ-ONLY] EXAMINE completed" else codes "OK [READ-WRITE] SELECT completed") ≡ false
-entered_words true = refl
-entered_words false = refl
+-- no text of the table tells a UID
+pub row_tells_none : (text : ResponseText) → tells_uid (response_text text) ≡ false
+row_tells_none (texts.Completed verb) = done_tells_none verb
+row_tells_none _ = refl
 
 over_tells_none : (most : Option ℕ) → TellsNoUid (over most)
 over_tells_none None = refl
@@ -101,14 +100,14 @@ over_tells_none (Some most) = refl
 
 selecting_tells_none : (now : Standing) (read_only : Bool) (name : List ℕ) → TellsNoUid (closing now.selected (wanting (on_folder name now.folders (entering read_only))))
 selecting_tells_none now read_only name =
-    in_closing now.selected (wanting (on_folder name now.folders (entering read_only))) (in_folder name now.folders (entering read_only) (λ folder opening. entered_words read_only))
+    in_closing now.selected (wanting (on_folder name now.folders (entering read_only))) (in_folder name now.folders (entering read_only) (λ folder opening. row_tells_none (entered_text read_only)))
 
 append_tells_none : (most : Option ℕ) (a : Append) (found : Option ℕ) → TellsNoUid (if a.literal.waits then wanting (asked_at most a found) else sent_at most a found)
 append_tells_none most a found =
     in_either a.literal.waits (wanting (asked_at most a found)) (sent_at most a found)
     (in_found (λ m. if is_over most a.literal.size then over most else asking m a.flags a.literal.size) nowhere
     (λ m. in_either (is_over most a.literal.size) (over most) (asking m a.flags a.literal.size) (over_tells_none most) tt) refl found)
-    (in_either (nat_lt most_unasked a.literal.size) (Wait (bye (codes "Literal too big")) ForNothing) (coming found a.flags a.literal.size) tt tt)
+    (in_either (nat_lt most_unasked a.literal.size) (Wait (bye (response_text texts.LiteralTooBig)) ForNothing) (coming found a.flags a.literal.size) tt tt)
 
 pub command_tells_none : (now : Standing) (command : Command) → TellsNoUid (on_command now command)
 command_tells_none now commands.Noop = in_showing now.selected (completed commands.Noop) refl
@@ -123,15 +122,15 @@ command_tells_none now commands.Unselect = in_found _ wrong_state (λ s. refl) r
 command_tells_none now commands.Expunge = in_writable now.selected (Expunge None (Feed unlimited (completed commands.Expunge))) refl
 command_tells_none now (commands.UidExpunge set) =
     in_writable now.selected (expunge_set set)
-    (λ view. in_chosen (named_in true set view) (λ uids. wanting (Expunge (Some uids) (Feed unlimited (completed (commands.UidExpunge set))))) (λ uids. refl))
+    (λ view. in_chosen (named_in true set view) (λ uids. wanting_for uids (Expunge (Some uids) (Feed unlimited (completed (commands.UidExpunge set))))) (elim [ [] ↦ refl | uid ∷ uids ↦ refl ]))
 command_tells_none now (commands.Fetch fetch) =
     in_found (fetch_messages fetch) wrong_state
     (λ s view. in_chosen (named_in fetch.by_uid fetch.set view) _
-    (λ uids. in_fetching fetch _ view _ (λ gone. in_done (commands.Fetch fetch) fetch.by_uid gone (fetch_words fetch.by_uid)) uids false)) refl now.selected
+    (λ uids. in_fetching fetch _ view _ (λ gone. in_done (commands.Fetch fetch) fetch.by_uid gone (row_tells_none (texts.Completed (verb_of (commands.Fetch fetch))))) uids false)) refl now.selected
 command_tells_none now (commands.Store store) =
     in_writable now.selected (store_messages store)
     (λ view. in_chosen (named_in store.by_uid store.set view) _
-    (λ uids. in_storing store view _ (λ gone. in_done (commands.Store store) store.by_uid gone (store_words store.by_uid)) uids false))
+    (λ uids. in_storing store view _ (λ gone. in_done (commands.Store store) store.by_uid gone (row_tells_none (texts.Completed (verb_of (commands.Store store))))) uids false))
 command_tells_none now (commands.Append append) = append_tells_none now.mailing.most append (number_named append.name now.folders)
 command_tells_none now _ = refl
 
@@ -139,43 +138,39 @@ command_tells_none now _ = refl
 
 pub idling_tells_none : (selected : Option Selected) (line : List ℕ) → TellsNoUid (on_idle_line selected line)
 idling_tells_none selected line =
-    in_either (is_done line) (showing selected (completed commands.Idle)) (says (codes "BAD Expected DONE")) (in_showing selected (completed commands.Idle) refl) refl
+    in_either (is_done line) (showing selected (completed commands.Idle)) (says (response_text texts.ExpectedDone)) (in_showing selected (completed commands.Idle) refl) refl
 
 text_tells_none : (mailing : Mailing) (a : Appending) (text : List ℕ) (mailbox : ℕ) → TellsNoUid (on_text mailing a text mailbox)
 text_tells_none mailing a text mailbox =
     in_either (is_over mailing.most a.size) (over mailing.most) _ (over_tells_none mailing.most)
-    (in_either (list_any (λ b. b == 0) text) (says (codes "NO NUL byte")) _ refl
-    (in_either (nat_le last_number mailing.number) (says (codes "NO Mailbox is spent")) (wanting (Wait [] (ForVerdict mailbox a.flags text))) refl tt))
+    (in_either (list_any (λ b. b == 0) text) (says (response_text texts.NulByte)) _ refl
+    (in_either (nat_le last_number mailing.number) (says (response_text texts.MailboxSpent)) (wanting (Wait [] (ForVerdict mailbox a.flags text))) refl tt))
 
 pub rest_tells_none : (mailing : Mailing) (a : Appending) (empty : Bool) → TellsNoUid (on_rest mailing a empty)
 rest_tells_none mailing a empty =
-    in_found (λ text. if empty then on_found (on_text mailing a text) nowhere a.mailbox else says (codes "BAD Invalid arguments")) (says (codes "NO Out of memory"))
-    (λ text. in_either empty (on_found (on_text mailing a text) nowhere a.mailbox) (says (codes "BAD Invalid arguments")) (in_found (on_text mailing a text) nowhere (text_tells_none mailing a text) refl a.mailbox) refl)
+    in_found (λ text. if empty then on_found (on_text mailing a text) nowhere a.mailbox else says (response_text texts.InvalidArguments)) (says (response_text texts.OutOfMemory))
+    (λ text. in_either empty (on_found (on_text mailing a text) nowhere a.mailbox) (says (response_text texts.InvalidArguments)) (in_found (on_text mailing a text) nowhere (text_tells_none mailing a text) refl a.mailbox) refl)
     refl a.text
 
 pub fault_tells_none : (fault : ImapFault) → LineTellsNoUid (fault_tag fault) (fault_text fault)
-fault_tells_none faults.NoTag = (codes "BAD Missing tag\r\n", refl)
-fault_tells_none (faults.Unknown tag) = (codes "BAD Unknown command", refl, refl)
-fault_tells_none (faults.LeftOut tag) = (codes "NO [CANNOT] Not offered here", refl, refl)
-fault_tells_none (faults.Arguments tag) = (codes "BAD Invalid arguments", refl, refl)
-
-long_rest_tells_none : (text : Option (List ℕ)) → tells_uid (long_rest_words text) ≡ false
-long_rest_tells_none None = refl
-long_rest_tells_none (Some text) = refl
+fault_tells_none faults.NoTag = (response_text texts.MissingTag ++ codes "\r\n", refl)
+fault_tells_none (faults.Unknown tag) = (response_text texts.UnknownCommand, refl, refl)
+fault_tells_none (faults.LeftOut tag) = (response_text texts.NotOffered, refl, refl)
+fault_tells_none (faults.Arguments tag) = (response_text texts.InvalidArguments, refl, refl)
 
 long_tells_none : (begun : Option Appending) (idling : Option (List ℕ)) → LineTellsNoUid (kept_behind begun idling) (long_text begun idling)
-long_tells_none None None = (codes "BAD Line too long\r\n", refl)
-long_tells_none None (Some tag) = (codes "BAD Expected DONE", refl, refl)
-long_tells_none (Some a) idling = (long_rest_words a.text, refl, long_rest_tells_none a.text)
+long_tells_none None None = (response_text texts.LineTooLong ++ codes "\r\n", refl)
+long_tells_none None (Some tag) = (response_text texts.ExpectedDone, refl, refl)
+long_tells_none (Some a) idling = (response_text (long_rest_text a.text), refl, row_tells_none (long_rest_text a.text))
 
 pub long_line_tells_none : (now : Standing) → LineTellsNoUid (kept_tag now) (turn_of_long_line now).bytes
 long_line_tells_none now = long_tells_none now.mailing.begun now.idling
 
 pub refusal_tells_none : (tag : List ℕ) (fault : MailFault) → RefusalTellsNoUid tag (refusal_text tag fault)
-refusal_tells_none tag mail_faults.Stranger = inl (codes "BYE Internal fault\r\n", refl)
-refusal_tells_none tag mail_faults.Lapped = inl (codes "BYE Too many changes were missed\r\n", refl)
-refusal_tells_none tag mail_faults.Spent = inr (codes "NO Mailbox is spent", refl, refl)
-refusal_tells_none tag mail_faults.NoMemory = inr (codes "NO Out of memory", refl, refl)
+refusal_tells_none tag mail_faults.Stranger = inl (codes "BYE " ++ response_text texts.InternalFault ++ codes "\r\n", refl)
+refusal_tells_none tag mail_faults.Lapped = inl (codes "BYE " ++ response_text texts.ChangesMissed ++ codes "\r\n", refl)
+refusal_tells_none tag mail_faults.Spent = inr (response_text texts.MailboxSpent, refl, refl)
+refusal_tells_none tag mail_faults.NoMemory = inr (response_text texts.OutOfMemory, refl, refl)
 
 -- ---- verdicts
 
@@ -216,13 +211,6 @@ words_tell_which v n w m v_fits n_fits w_fits m_fits same =
     let parts = both_same (decimal v) (decimal n) (decimal w) (decimal m) (sym (cut_again v n v_fits n_fits) ∙ ap (slice_split (λ b. b == 32)) inner ∙ cut_again w m w_fits m_fits) in
     (decimal_injective v w v_fits w_fits parts.0, decimal_injective n m n_fits m_fits parts.1)
 
-refused_tells_none : (why : Refusal) → tells_uid (refused_words why) ≡ false
-refused_tells_none Full = refl
-refused_tells_none MailboxFull = refl
-refused_tells_none NoMemory = refl
-refused_tells_none UidSpent = refl
-refused_tells_none Shut = refl
-
 pub verdict_tells : (selected : Option Selected) (mailbox : ℕ) (verdict : Verdict) → VerdictTellsUid selected mailbox verdict (on_verdict selected mailbox verdict)
 verdict_tells selected mailbox (Stored uid) = (refl, λ status. refl)
-verdict_tells selected mailbox (Refused why) = refused_tells_none why
+verdict_tells selected mailbox (Refused why) = row_tells_none (refused_text why)

@@ -8,11 +8,13 @@ use Rattle.std.proofs.lemmas.Fmt.{length-decimal-le}
 use Rattle.delivery_token.specs.declared.Verdict.{Verdict}
 use Rattle.delivery_token.specs.declared.Verdict.TheVariants.{Stored, Refused}
 use Rattle.delivery_token.specs.declared.Refusal.{Refusal}
-use Rattle.delivery_token.specs.declared.Refusal.TheVariants.{Full, MailboxFull, NoMemory, UidSpent, Shut}
+use Rattle.delivery_token.specs.declared.Refusal.TheVariants.{Full}
 use Rattle.imap_session.specs.declared.standing.Selected.{Selected}
 use Rattle.imap_session.specs.Exchange.{Appending, Exchange, ForVerdict, Mailing, Standing, Wait, tagged}
-use Rattle.imap_session.specs.Commands.{appended_words, is_over, kept_text, last_number, nowhere, on_found, on_rest, on_text, on_verdict, refused_words, says, showing, over, taking, wanting, with_bytes}
+use Rattle.imap_session.specs.Commands.{appended_words, is_over, kept_text, last_number, nowhere, on_found, on_rest, on_text, on_verdict, refused_text, says, showing, over, taking, wanting, with_bytes}
 use Rattle.imap_session.specs.Shows.{IsNoOk, RestShowsNone, ShowsBefore, VerdictShowsInOrder}
+use Rattle.imap_session.specs.declared.texts.ResponseText.TheVariants as texts
+use Rattle.imap_session.specs.Texts.{response_text}
 
 pub ten_digits : (n : ℕ) → n < 2 ^ 32 → length (decimal n) ≤ 10
 ten_digits n l = length-decimal-le 10 n (omega arith) (omega (arith, l)) (omega (arith, l))
@@ -43,17 +45,17 @@ over_none (Some most) = refl
 text_none : (mailing : Mailing) (a : Appending) (text : List ℕ) (mailbox : ℕ) → RestShowsNone (on_text mailing a text mailbox)
 text_none mailing a text mailbox =
     none_either (is_over mailing.most a.size) (over mailing.most) _ (over_none mailing.most)
-    (none_either (list_any (λ b. b == 0) text) (says (codes "NO NUL byte")) _ refl
-    (none_either (nat_le last_number mailing.number) (says (codes "NO Mailbox is spent")) (wanting (Wait [] (ForVerdict mailbox a.flags text))) refl (refl, (refl, refl))))
+    (none_either (list_any (λ b. b == 0) text) (says (response_text texts.NulByte)) _ refl
+    (none_either (nat_le last_number mailing.number) (says (response_text texts.MailboxSpent)) (wanting (Wait [] (ForVerdict mailbox a.flags text))) refl (refl, (refl, refl))))
 
 named_none : (mailing : Mailing) (a : Appending) (text : List ℕ) (mailbox : Option ℕ) → RestShowsNone (on_found (on_text mailing a text) nowhere mailbox)
 named_none mailing a text None = refl
 named_none mailing a text (Some mailbox) = text_none mailing a text mailbox
 
 kept_none : (mailing : Mailing) (a : Appending) (empty : Bool) (text : Option (List ℕ))
-    → RestShowsNone (on_found (λ text. if empty then on_found (on_text mailing a text) nowhere a.mailbox else says (codes "BAD Invalid arguments")) (says (codes "NO Out of memory")) text)
+    → RestShowsNone (on_found (λ text. if empty then on_found (on_text mailing a text) nowhere a.mailbox else says (response_text texts.InvalidArguments)) (says (response_text texts.OutOfMemory)) text)
 kept_none mailing a empty None = refl
-kept_none mailing a empty (Some text) = none_either empty (on_found (on_text mailing a text) nowhere a.mailbox) (says (codes "BAD Invalid arguments")) (named_none mailing a text a.mailbox) refl
+kept_none mailing a empty (Some text) = none_either empty (on_found (on_text mailing a text) nowhere a.mailbox) (says (response_text texts.InvalidArguments)) (named_none mailing a text a.mailbox) refl
 
 pub rest_none : (mailing : Mailing) (a : Appending) (empty : Bool) → RestShowsNone (on_rest mailing a empty)
 rest_none mailing a empty = kept_none mailing a empty a.text
@@ -63,12 +65,9 @@ shown_before : (selected : Option Selected) (words : List ℕ)
 shown_before None words = λ must. absurd cc
 shown_before (Some selected) words = (refl, refl, refl)
 
-refused_says : (why : Refusal) → IsNoOk (refused_words why)
+refused_says : (why : Refusal) → IsNoOk (response_text (refused_text why))
 refused_says Full = refl
-refused_says MailboxFull = refl
-refused_says NoMemory = refl
-refused_says UidSpent = refl
-refused_says Shut = refl
+refused_says _ = refl
 
 pub verdict_shown : (selected : Option Selected) (mailbox : ℕ) (verdict : Verdict) → VerdictShowsInOrder selected verdict (on_verdict selected mailbox verdict)
 verdict_shown selected mailbox (Stored uid) = λ status. shown_before selected (appended_words status.uidvalidity uid)

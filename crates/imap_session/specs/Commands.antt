@@ -19,18 +19,21 @@ use Rattle.delivery_token.specs.declared.Refusal.{Refusal}
 use Rattle.delivery_token.specs.declared.Refusal.TheVariants as refusals
 use Rattle.delivery_token.specs.declared.Verdict.{Verdict}
 use Rattle.delivery_token.specs.declared.Verdict.TheVariants as verdicts
-use Rattle.imap_grammar.specs.declared.command.Verb.{Verb}
 use Rattle.imap_grammar.specs.declared.command.ImapFault.{ImapFault}
 use Rattle.imap_grammar.specs.declared.command.ImapFault.TheVariants as faults
 use Rattle.imap_grammar.specs.Sets.{named_in}
-use Rattle.imap_grammar.specs.Verbs.{word_of, stands_behind_uid, verb_of}
+use Rattle.imap_grammar.specs.Verbs.{verb_of}
 use Rattle.imap_grammar.specs.Reading.{is_done, read}
 use Rattle.imap_grammar.specs.Items.{marks_seen}
-use Rattle.imap_answers.specs.Answers.{crlf, flags_answer, is_inbox, list_answer, opening_text, row_answer, status_answer}
+use Rattle.imap_answers.specs.Answers.{flags_answer, is_inbox, list_answer, opening_text, row_answer, status_answer}
 use Rattle.imap_session.specs.declared.standing.After.TheVariants.{Go, Bye}
 use Rattle.imap_session.specs.declared.standing.After.TheVariants as afters
 use Rattle.imap_session.specs.declared.standing.Selected.{Selected}
-use Rattle.imap_session.specs.Exchange.{Answer, Appending, Mailing, Sent, Fed, Refused, having, saying, nothing_more, refused, is_idling, Turn, Standing, Folder, Exchange, ForDone, ForLiteral, ForVerdict, ForNothing, Done, Wait, Write, Put, Enter, Look, Read, Count, Alter, Expunge, Feed, Leave, tagged, bye, played, Asked, Unasked}
+use Rattle.imap_session.specs.Exchange.{Answer, Appending, Mailing, Sent, Fed, Refused, having, saying, nothing_more, refused, is_idling, Turn, Standing, Folder, Exchange, ForDone, ForLiteral, ForVerdict, ForNothing, Done, Wait, Write, Put, Enter, Look, Read, Count, Alter, Expunge, Feed, Leave, tagged, bye, played, Asked, Unasked, untagged, continuing}
+use Rattle.imap_session.specs.declared.texts.ResponseText.TheVariants as texts
+use Rattle.imap_session.specs.Texts.{response_text}
+use Rattle.imap_session.specs.declared.texts.ResponseText.{ResponseText}
+use Rattle.imap_grammar.specs.declared.command.Verb.TheVariants as verbs
 
 -- ---- how an answer ends
 
@@ -38,11 +41,8 @@ use Rattle.imap_session.specs.Exchange.{Answer, Appending, Mailing, Sent, Fed, R
 abbrev pub says : List ℕ → Exchange
 says words = Done words Go
 
-abbrev pub verb_text : Verb → List ℕ
-verb_text verb = if stands_behind_uid verb then codes "UID " ++ word_of verb else word_of verb
-
 abbrev pub completed : Command → Exchange
-completed command = says (codes "OK " ++ verb_text (verb_of command) ++ codes " completed")
+completed command = says (response_text (texts.Completed (verb_of command)))
 
 -- more changes than any mailbox has pending
 abbrev pub unlimited : ℕ
@@ -55,7 +55,7 @@ showing (Some selected) x = Feed unlimited x
 
 -- an untagged line, in room that was reserved
 abbrev pub untagged_in_room : List ℕ → Exchange → Exchange
-untagged_in_room words x = Put (codes "* " ++ words ++ crlf) x
+untagged_in_room words x = Put (untagged words) x
 
 -- ---- mailboxes by name
 
@@ -73,25 +73,35 @@ on_found found gone None = gone
 on_found found gone (Some x) = found x
 
 abbrev pub on_folder : List ℕ → List Folder → (Folder → Exchange) → Exchange
-on_folder name folders next = on_found next (says (codes "NO [NONEXISTENT] No such mailbox")) (folder_of name folders)
+on_folder name folders next = on_found next (says (response_text texts.NoSuchMailbox)) (folder_of name folders)
 
 -- memory is wanted here, for a name or for what will be told, and nothing is written
 abbrev pub wanting : Exchange → Exchange
 wanting x = Write [] x
 
+-- memory is wanted for these UIDs, and where there is none nothing is
+abbrev pub wanting_for : List ℕ → Exchange → Exchange
+wanting_for [] x = x
+wanting_for (uid ∷ uids) x = wanting x
+
 -- ---- SELECT and EXAMINE
+
+-- what the last line says then
+abbrev pub entered_text : (read_only : Bool) → ResponseText
+entered_text true = texts.ExamineCompleted
+entered_text false = texts.SelectCompleted
 
 -- What is told of the mailbox that was entered. Room for it was reserved where memory was wanted, before the mailbox was entered, so memory can't be refused to it.
 abbrev pub opened : Bool → List ℕ → Opening → Exchange
 opened read_only name opening =
     Put (opening_text read_only name opening)
-    (says (if read_only then codes "OK [READ-ONLY] EXAMINE completed" else codes "OK [READ-WRITE] SELECT completed"))
+    (says (response_text (entered_text read_only)))
 
 -- The mailbox that was selected is left first, also where the new one isn't there, and that is told: room for this line was reserved before anything was
 -- done, so memory can't be refused to it.
 abbrev pub closing : Option Selected → Exchange → Exchange
 closing None x = x
-closing (Some selected) x = Leave false (untagged_in_room (codes "OK [CLOSED] Previous mailbox is closed") x)
+closing (Some selected) x = Leave false (untagged_in_room (response_text texts.PreviousClosed) x)
 
 abbrev pub entering : Bool → Folder → Exchange
 entering read_only folder = Enter (record { mailbox = folder.mailbox; read_only = read_only }) (opened read_only folder.name)
@@ -105,7 +115,7 @@ selecting now read_only name = closing now.selected (wanting (on_folder name now
 
 -- goes on with the view and the messages that a set names in it; nothing is done where one isn't there
 abbrev pub on_chosen : Option (List ℕ) → (List ℕ → Exchange) → Exchange
-on_chosen None next = says (codes "BAD Sequence number too high")
+on_chosen None next = says (response_text texts.SequenceTooHigh)
 on_chosen (Some uids) next = next uids
 
 abbrev pub on_set : Bool → List SeqRange → (List ℕ → List ℕ → Exchange) → Exchange
@@ -114,7 +124,7 @@ on_set by_uid set next = Look by_uid set (λ view. on_chosen (named_in by_uid se
 -- after the last message of a FETCH or STORE: only the UID forms show changes, and they don't tell that messages are gone
 abbrev pub messages_done : Command → Bool → Bool → Exchange
 messages_done command true gone = Feed unlimited (completed command)
-messages_done command false true = says (codes "NO [EXPUNGEISSUED] Some messages are gone")
+messages_done command false true = says (response_text texts.MessagesGone)
 messages_done command false false = completed command
 
 -- the answer for a message that was read, at its position in the view
@@ -142,14 +152,14 @@ storing store view done (uid ∷ uids) gone =
 -- ---- commands
 
 abbrev pub wrong_state : Exchange
-wrong_state = says (codes "BAD Wrong state")
+wrong_state = says (response_text texts.WrongState)
 
 abbrev pub in_selected : Standing → (Selected → Exchange) → Exchange
 in_selected now next = on_found next wrong_state now.selected
 
 -- where the selected mailbox may be changed
 abbrev pub if_writable : Exchange → Selected → Exchange
-if_writable x selected = if selected.read_only then says (codes "NO Mailbox is read-only") else x
+if_writable x selected = if selected.read_only then says (response_text texts.ReadOnly) else x
 
 abbrev pub in_writable : Standing → Exchange → Exchange
 in_writable now x = in_selected now (if_writable x)
@@ -166,9 +176,9 @@ store_messages store =
     on_set store.by_uid store.set (λ view uids.
     storing store view (messages_done (commands.Store store) store.by_uid) uids false)
 
--- The set is resolved on the view before the changes are shown, and what they showed can't come into it. Then memory is wanted, for the UIDs that it names.
+-- The set is resolved on the view before the changes are shown, and what they showed can't come into it. Then memory is wanted, for the UIDs that it names, where it names one.
 abbrev pub expunge_set : List SeqRange → Exchange
-expunge_set set = on_set true set (λ view uids. wanting (Expunge (Some uids) (Feed unlimited (completed (commands.UidExpunge set)))))
+expunge_set set = on_set true set (λ view uids. wanting_for uids (Expunge (Some uids) (Feed unlimited (completed (commands.UidExpunge set)))))
 
 -- the mailbox is counted as it is, and then what is pending is shown
 abbrev pub counting : Standing → List ℕ → List StatusItem → Folder → Exchange
@@ -177,7 +187,7 @@ counting now name items folder =
 
 -- no last line: the client may send DONE
 abbrev pub begins_idling : Exchange
-begins_idling = Wait (codes "+ idling\r\n") ForDone
+begins_idling = Wait (continuing (response_text texts.Idling)) ForDone
 
 -- ---- APPEND
 
@@ -186,7 +196,7 @@ abbrev pub number_named : List ℕ → List Folder → Option ℕ
 number_named name folders = option_map (λ (folder : Folder). folder.mailbox) (folder_of name folders)
 
 abbrev pub nowhere : Exchange
-nowhere = says (codes "NO [TRYCREATE] No such mailbox")
+nowhere = says (response_text texts.TryCreate)
 
 -- a message of this size isn't taken, since none is or since it is too big
 abbrev pub is_over : Option ℕ → ℕ → Bool
@@ -194,12 +204,12 @@ is_over None size = true
 is_over (Some most) size = nat_lt most size
 
 abbrev pub over : Option ℕ → Exchange
-over None = says (codes "NO [CANNOT] Not offered here")
-over (Some most) = says (codes "NO Message too big")
+over None = says (response_text texts.NotOffered)
+over (Some most) = says (response_text texts.MessageTooBig)
 
 -- the client is asked for its literal
 abbrev pub asking : (mailbox : ℕ) → Flags → (size : ℕ) → Exchange
-asking mailbox flags size = Wait (codes "+ ready\r\n") (ForLiteral Asked (Some mailbox) flags size)
+asking mailbox flags size = Wait (continuing (response_text texts.Ready)) (ForLiteral Asked (Some mailbox) flags size)
 
 -- its literal comes without that, and nothing is said
 abbrev pub coming : (mailbox : Option ℕ) → Flags → (size : ℕ) → Exchange
@@ -215,7 +225,7 @@ appending most folders append =
     if append.literal.waits
     then wanting (on_found (λ mailbox. if is_over most append.literal.size then over most else asking mailbox append.flags append.literal.size)
     nowhere (number_named append.name folders))
-    else (if nat_lt most_unasked append.literal.size then Wait (bye (codes "Literal too big")) ForNothing
+    else (if nat_lt most_unasked append.literal.size then Wait (bye (response_text texts.LiteralTooBig)) ForNothing
     else coming (number_named append.name folders) append.flags append.literal.size)
 
 -- message numbers have 32 bits, and the last is never given
@@ -226,20 +236,20 @@ last_number = 4294967295
 abbrev pub on_text : Mailing → Appending → List ℕ → ℕ → Exchange
 on_text mailing a text mailbox =
     if is_over mailing.most a.size then over mailing.most
-    else if list_any (λ b. b == 0) text then says (codes "NO NUL byte")
-    else if nat_le last_number mailing.number then says (codes "NO Mailbox is spent")
+    else if list_any (λ b. b == 0) text then says (response_text texts.NulByte)
+    else if nat_le last_number mailing.number then says (response_text texts.MailboxSpent)
     else wanting (Wait [] (ForVerdict mailbox a.flags text))
 
 -- the rest of the line, without its CRLF, behind the literal. A rest that is too long is told as no empty one
 abbrev pub on_rest : Mailing → Appending → Bool → Exchange
-on_rest mailing a empty = on_found (λ text. if empty then on_found (on_text mailing a text) nowhere a.mailbox else says (codes "BAD Invalid arguments")) (says (codes "NO Out of memory")) a.text
+on_rest mailing a empty = on_found (λ text. if empty then on_found (on_text mailing a text) nowhere a.mailbox else says (response_text texts.InvalidArguments)) (says (response_text texts.OutOfMemory)) a.text
 
-abbrev pub refused_words : Refusal → List ℕ
-refused_words refusals.Full = codes "NO Shard full"
-refused_words refusals.MailboxFull = codes "NO Mailbox full"
-refused_words refusals.NoMemory = codes "NO Out of memory"
-refused_words refusals.UidSpent = codes "NO No UID left"
-refused_words refusals.Shut = codes "NO Shard closed"
+abbrev pub refused_text : Refusal → ResponseText
+refused_text refusals.Full = texts.ShardFull
+refused_text refusals.MailboxFull = texts.MailboxFull
+refused_text refusals.NoMemory = texts.OutOfMemory
+refused_text refusals.UidSpent = texts.NoUidLeft
+refused_text refusals.Shut = texts.ShardClosed
 
 abbrev pub appended_words : ℕ → ℕ → List ℕ
 appended_words uidvalidity uid = codes "OK [APPENDUID " ++ decimal uidvalidity ++ codes " " ++ decimal uid ++ codes "] APPEND completed"
@@ -247,12 +257,12 @@ appended_words uidvalidity uid = codes "OK [APPENDUID " ++ decimal uidvalidity +
 -- The verdict on the message. Where it was stored, its mailbox is counted for its UIDVALIDITY, and what is pending in the selected one is shown.
 abbrev pub on_verdict : Option Selected → ℕ → Verdict → Exchange
 on_verdict selected mailbox (verdicts.Stored uid) = Count mailbox (λ status. showing selected (says (appended_words status.uidvalidity uid)))
-on_verdict selected mailbox (verdicts.Refused why) = says (refused_words why)
+on_verdict selected mailbox (verdicts.Refused why) = says (response_text (refused_text why))
 
 -- What a command says of the server, whatever the state (RFC 9051, 6.1.1 and 6.3.10). One that isn't here says nothing of it.
 abbrev pub notice : Command → Option (List ℕ)
-notice commands.Capability = Some (codes "CAPABILITY IMAP4rev2 IDLE")
-notice commands.Namespace = Some (codes "NAMESPACE ((\"\" \"/\")) NIL NIL")
+notice commands.Capability = Some (response_text texts.Capabilities)
+notice commands.Namespace = Some (response_text texts.Namespaces)
 notice _ = None
 
 -- what is said of the server, where something is, and then this
@@ -262,7 +272,7 @@ noticing (Some words) x = untagged_in_room words x
 
 abbrev pub on_command : Standing → Command → Exchange
 on_command now commands.Noop = showing now.selected (completed commands.Noop)
-on_command now commands.Logout = Put (bye (codes "Logging out")) (Done (codes "OK LOGOUT completed") Bye)
+on_command now commands.Logout = Put (bye (response_text texts.LoggingOut)) (Done (response_text (texts.Completed verbs.Logout)) Bye)
 on_command now commands.Idle = begins_idling
 on_command now commands.Login = wrong_state
 on_command now commands.Authenticate = wrong_state
@@ -287,10 +297,10 @@ on_command now command = noticing (notice command) (completed command)
 
 -- the line that answers one that is no command. Room for it was reserved
 abbrev pub fault_text : ImapFault → List ℕ
-fault_text faults.NoTag = codes "* BAD Missing tag\r\n"
-fault_text (faults.Unknown tag) = tagged tag (codes "BAD Unknown command")
-fault_text (faults.LeftOut tag) = tagged tag (codes "NO [CANNOT] Not offered here")
-fault_text (faults.Arguments tag) = tagged tag (codes "BAD Invalid arguments")
+fault_text faults.NoTag = untagged (response_text texts.MissingTag)
+fault_text (faults.Unknown tag) = tagged tag (response_text texts.UnknownCommand)
+fault_text (faults.LeftOut tag) = tagged tag (response_text texts.NotOffered)
+fault_text (faults.Arguments tag) = tagged tag (response_text texts.InvalidArguments)
 
 -- a line that asks nothing of the store
 abbrev pub only_says : List ℕ → Standing → List Answer → Option Turn
@@ -303,7 +313,7 @@ on_read now (Err fault) answers = only_says (fault_text fault) now answers
 
 -- the line that ends an IDLE: DONE, or any other, which isn't read as a command
 abbrev pub on_idle_line : Option Selected → List ℕ → Exchange
-on_idle_line selected line = if is_done line then showing selected (completed commands.Idle) else says (codes "BAD Expected DONE")
+on_idle_line selected line = if is_done line then showing selected (completed commands.Idle) else says (response_text texts.ExpectedDone)
 
 abbrev pub turn_while : Option (List ℕ) → Standing → List ℕ → List Answer → Option Turn
 turn_while None now line answers = on_read now (read line) answers
@@ -355,21 +365,21 @@ turn_of_verdict now verdict answers = turn_with now.mailing.sent now verdict ans
 -- ---- what comes without a line of its own
 
 abbrev pub greeting : List ℕ
-greeting = codes "* PREAUTH IMAP4rev2 server ready\r\n"
+greeting = untagged (response_text texts.Greeting)
 
 -- the answer to a line that is too long, of a session that idles with this tag or doesn't idle
 abbrev pub long_idle_text : Option (List ℕ) → List ℕ
-long_idle_text None = codes "* BAD Line too long\r\n"
-long_idle_text (Some tag) = tagged tag (codes "BAD Expected DONE")
+long_idle_text None = untagged (response_text texts.LineTooLong)
+long_idle_text (Some tag) = tagged tag (response_text texts.ExpectedDone)
 
 -- the same behind a literal
-abbrev pub long_rest_words : Option (List ℕ) → List ℕ
-long_rest_words None = codes "NO Out of memory"
-long_rest_words (Some text) = codes "BAD Invalid arguments"
+abbrev pub long_rest_text : Option (List ℕ) → ResponseText
+long_rest_text None = texts.OutOfMemory
+long_rest_text (Some text) = texts.InvalidArguments
 
 abbrev pub long_text : Option Appending → Option (List ℕ) → List ℕ
 long_text None idling = long_idle_text idling
-long_text (Some a) idling = tagged a.tag (long_rest_words a.text)
+long_text (Some a) idling = tagged a.tag (response_text (long_rest_text a.text))
 
 abbrev pub long_line_text : Standing → List ℕ
 long_line_text now = long_text now.mailing.begun now.idling

@@ -16,6 +16,8 @@ use Rattle.imap_session.specs.declared.standing.After.TheVariants.{Go, Bye}
 use Rattle.imap_session.specs.declared.standing.After.TheVariants as afters
 use Rattle.imap_session.specs.declared.standing.Selected.{Selected}
 use Rattle.imap_session.specs.declared.standing.Append.{Append}
+use Rattle.imap_session.specs.Texts.{response_text}
+use Rattle.imap_session.specs.declared.texts.ResponseText.TheVariants as texts
 
 -- ---- the store
 
@@ -216,6 +218,13 @@ closed now Go = nothing_more Go now
 closed now Bye = nothing_more Bye (record now { ended = true })
 closed now how = nothing_more how now
 
+abbrev pub untagged : List ℕ → List ℕ
+untagged words = codes "* " ++ words ++ codes "\r\n"
+
+-- the client may go on
+abbrev pub continuing : List ℕ → List ℕ
+continuing words = codes "+ " ++ words ++ codes "\r\n"
+
 abbrev pub bye : List ℕ → List ℕ
 bye words = codes "* BYE " ++ words ++ codes "\r\n"
 
@@ -224,10 +233,10 @@ tagged tag words = tag ++ codes " " ++ words ++ codes "\r\n"
 
 -- what is said where the store refuses, or memory is refused
 abbrev pub refusal_text : List ℕ → MailFault → List ℕ
-refusal_text tag Stranger = bye (codes "Internal fault")
-refusal_text tag Lapped = bye (codes "Too many changes were missed")
-refusal_text tag Spent = tagged tag (codes "NO Mailbox is spent")
-refusal_text tag NoMemory = tagged tag (codes "NO Out of memory")
+refusal_text tag Stranger = bye (response_text texts.InternalFault)
+refusal_text tag Lapped = bye (response_text texts.ChangesMissed)
+refusal_text tag Spent = tagged tag (response_text texts.MailboxSpent)
+refusal_text tag NoMemory = tagged tag (response_text texts.OutOfMemory)
 
 abbrev pub refusal_after : MailFault → After
 refusal_after Stranger = Bye
@@ -257,7 +266,7 @@ abbrev pub unkept : List ℕ → Waiting → Standing → ℕ → Option Turn
 unkept tag ForDone now zero = where_long tag (refused tag now NoMemory)
 unkept tag (ForLiteral Asked mailbox flags size) now zero = where_long tag (refused tag now NoMemory)
 unkept tag (ForLiteral Unasked mailbox flags size) now zero = Some (waits_so tag [] (ForLiteral Dropped None flags size) now)
-unkept tag (ForLiteral Unasked mailbox flags size) now (suc zero) = where_long tag (waits_so tag (bye (codes "Out of memory")) ForNothing now)
+unkept tag (ForLiteral Unasked mailbox flags size) now (suc zero) = where_long tag (waits_so tag (bye (response_text texts.ByeOutOfMemory)) ForNothing now)
 unkept tag waits now n = None
 
 -- Where an exchange leads with these answers; nowhere where they are none to its calls. Memory is refused to the session itself only where it

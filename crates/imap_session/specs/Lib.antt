@@ -1,7 +1,9 @@
+pub mod Texts
 pub mod Exchange
 pub mod Commands
 pub mod Response
 pub mod Store
+pub mod Folders
 pub mod Shows
 pub mod Telling
 pub mod Dialogue

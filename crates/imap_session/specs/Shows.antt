@@ -10,11 +10,13 @@ use Rattle.imap_grammar.specs.declared.command.Command.TheVariants as commands
 use Rattle.imap_grammar.specs.Reading.{is_done}
 use Rattle.delivery_token.specs.declared.Verdict.{Verdict}
 use Rattle.delivery_token.specs.declared.Verdict.TheVariants.{Stored, Refused}
-use Rattle.imap_answers.specs.Answers.{crlf, list_answer, opening_text}
+use Rattle.imap_answers.specs.Answers.{list_answer, opening_text}
 use Rattle.imap_session.specs.declared.standing.After.TheVariants.{Submit}
 use Rattle.imap_session.specs.declared.standing.Selected.{Selected}
-use Rattle.imap_session.specs.Exchange.{Exchange, Folder, Standing, Done, Wait, Write, Put, Enter, Look, Read, Count, Alter, Expunge, Feed, Leave, after_waiting, bye}
+use Rattle.imap_session.specs.Exchange.{Exchange, Folder, Standing, Done, Wait, Write, Put, Enter, Look, Read, Count, Alter, Expunge, Feed, Leave, after_waiting, bye, untagged, continuing}
 use Rattle.imap_session.specs.Commands.{appended_words, completed, notice, says as last_line, unlimited}
+use Rattle.imap_session.specs.declared.texts.ResponseText.TheVariants as texts
+use Rattle.imap_session.specs.Texts.{response_text}
 
 -- the command may show changes right before its tagged OK
 abbrev pub may_show : Command → Bool
@@ -42,19 +44,19 @@ IsFetchLine bytes = (k : ℕ) × (rest : List ℕ) × (bytes ≡ codes "* " ++ d
 -- a name, and what is told of the mailbox that was left, or of the one that was entered
 abbrev pub IsOfSelect : Bool → List ℕ → Type 0
 IsOfSelect read_only bytes =
-    (bytes ≡ []) ⊎ (bytes ≡ codes "* OK [CLOSED] Previous mailbox is closed\r\n")
+    (bytes ≡ []) ⊎ (bytes ≡ untagged (response_text texts.PreviousClosed))
     ⊎ ((name : List ℕ) × (opening : Opening) × (bytes ≡ opening_text read_only name opening))
 
 -- a line about the server, of a command that has one
 abbrev pub IsNotice : Option (List ℕ) → List ℕ → Type 0
 IsNotice None bytes = ⊥
-IsNotice (Some words) bytes = bytes ≡ codes "* " ++ words ++ crlf
+IsNotice (Some words) bytes = bytes ≡ untagged words
 
 -- The kinds of lines that a command says beside its last one and beside the changes that it shows. None of them shows a change: those that
 -- tell of messages are FETCH lines under FETCH and STORE, and the EXISTS line of a mailbox that is entered. A command that isn't here says what it
 -- has to say of the server, or nothing.
 abbrev pub MaySay : Standing → Command → List ℕ → Type 0
-MaySay now commands.Logout bytes = bytes ≡ codes "* BYE Logging out\r\n"
+MaySay now commands.Logout bytes = bytes ≡ bye (response_text texts.LoggingOut)
 MaySay now (commands.Select name) bytes = IsOfSelect false bytes
 MaySay now (commands.Examine name) bytes = IsOfSelect true bytes
 MaySay now (commands.List reference pattern) bytes = bytes ≡ list_answer reference pattern (map (λ (folder : Folder). folder.name) now.folders)
@@ -62,8 +64,8 @@ MaySay now (commands.Status name items) bytes = (bytes ≡ []) ⊎ ((rest : List
 MaySay now (commands.Fetch fetch) bytes = (bytes ≡ []) ⊎ IsFetchLine bytes
 MaySay now (commands.Store store) bytes = IsFetchLine bytes
 MaySay now (commands.UidExpunge set) bytes = bytes ≡ []
-MaySay now commands.Idle bytes = bytes ≡ codes "+ idling\r\n"
-MaySay now (commands.Append append) bytes = (bytes ≡ []) ⊎ (bytes ≡ codes "+ ready\r\n") ⊎ (bytes ≡ bye (codes "Literal too big"))
+MaySay now commands.Idle bytes = bytes ≡ continuing (response_text texts.Idling)
+MaySay now (commands.Append append) bytes = (bytes ≡ []) ⊎ (bytes ≡ continuing (response_text texts.Ready)) ⊎ (bytes ≡ bye (response_text texts.LiteralTooBig))
 MaySay now command bytes = IsNotice (notice command) bytes
 
 -- ---- where

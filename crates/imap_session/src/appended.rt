@@ -4,13 +4,14 @@
 ghost use Rattle.std.specs.Prelude.{◌≡◌, ◌⊎◌, ◌+◌, ◌≤◌, ◌++◌, ℕ, length, OnOk};
 ghost use Rattle.delivery_token.specs.declared.Verdict.TheVariants.{Stored};
 ghost use Rattle.imap_session.specs.Exchange.{Exchange, Count, Standing, tagged};
-ghost use Rattle.imap_session.specs.Commands.{appended_words, on_verdict, refused_words, showing};
+ghost use Rattle.imap_session.specs.Commands.{appended_words, on_verdict, refused_text, showing};
 ghost use Rattle.imap_session.specs.inner.Store.{Does, Plays};
 
 use crate::expunge::show_pending;
-use crate::response::{LastWords, Response};
+use crate::response::Response;
 use crate::standing::{After, Selected};
 use crate::store::Store;
+use crate::texts::ResponseText;
 use delivery_token::{Refusal, Verdict};
 use line_io::put;
 use mailbox::MailFault;
@@ -19,15 +20,15 @@ use mailbox::MailFault;
 pub(crate) const STORED: usize = 56;
 
 // What the last line says where the message was refused.
-fn refused_words(why: Refusal) -> LastWords
-    ensures { result ≡ refused_words why }
+fn refused_text(why: Refusal) -> ResponseText
+    ensures { result ≡ refused_text why }
 {
     match why {
-        Refusal::Full => LastWords(b"NO Shard full"),
-        Refusal::MailboxFull => LastWords(b"NO Mailbox full"),
-        Refusal::NoMemory => LastWords(b"NO Out of memory"),
-        Refusal::UidSpent => LastWords(b"NO No UID left"),
-        Refusal::Shut => LastWords(b"NO Shard closed"),
+        Refusal::Full => ResponseText::ShardFull,
+        Refusal::MailboxFull => ResponseText::MailboxFull,
+        Refusal::NoMemory => ResponseText::OutOfMemory,
+        Refusal::UidSpent => ResponseText::NoUidLeft,
+        Refusal::Shut => ResponseText::ShardClosed,
     }
 }
 
@@ -108,7 +109,7 @@ pub(crate) fn tell_verdict<S: Store>(
     ensures only { (result ≡ After.Go) ⊎ (result ≡ After.Bye) }
 {
     match verdict {
-        Verdict::Refused(why) => response.conclude(After::Go, Ok(refused_words(why)), out),
+        Verdict::Refused(why) => response.conclude(After::Go, Ok(refused_text(why)), out),
         Verdict::Stored { uid } => tell_stored(mailbox, uid, selected, store, response, out),
     }
 }

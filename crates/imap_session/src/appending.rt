@@ -3,14 +3,14 @@
 
 use crate::folders::find_folder;
 use crate::mailing::{Appending, begin_text, refused_size};
-use crate::response::{LastWords, Response};
-use crate::say::{READY, put_tagged};
+use crate::response::Response;
+use crate::say::{put_bye, put_continuing, put_tagged};
 use crate::session::Session;
 use crate::standing::After;
 use crate::tag::Tag;
+use crate::texts::ResponseText;
 use change_ring::Flags;
 use imap_grammar::{Append as AppendCommand, Name};
-use line_io::put;
 use std::alloc::{AllocError, Global};
 
 /// A literal that the client sends without being asked has at most so many bytes.
@@ -86,14 +86,14 @@ impl Session {
         let size = append.literal.size as usize;
         let tag = response.release(out);
         let Ok(own_tag) = Tag::new(alloc, tag) else {
-            put_tagged(tag, b"NO Out of memory", out);
+            put_tagged(tag, ResponseText::OutOfMemory, out);
             return After::Go;
         };
         let Ok(text) = begin_text(alloc, size) else {
-            put_tagged(tag, b"NO Out of memory", out);
+            put_tagged(tag, ResponseText::OutOfMemory, out);
             return After::Go;
         };
-        put(READY, out);
+        put_continuing(ResponseText::Ready, out);
         self.begin_literal(own_tag, Some(mailbox), append.flags, size, Some(text))
     }
 
@@ -128,15 +128,15 @@ impl Session {
         ensures sends { result ≡ may_send self.new }
     {
         let Ok(mailbox) = self.number_of(alloc, &append.name) else {
-            response.end(LastWords(b"NO Out of memory"), out);
+            response.end(ResponseText::OutOfMemory, out);
             return After::Go;
         };
         let Some(number) = mailbox else {
-            response.end(LastWords(b"NO [TRYCREATE] No such mailbox"), out);
+            response.end(ResponseText::TryCreate, out);
             return After::Go;
         };
-        if let Some(words) = refused_size(self.mailing.most, append.literal.size) {
-            response.end(words, out);
+        if let Some(text) = refused_size(self.mailing.most, append.literal.size) {
+            response.end(text, out);
             return After::Go;
         }
         self.await_literal(alloc, number, append, response, out)
@@ -184,7 +184,7 @@ impl Session {
         let prepared = self.prepare(alloc, append, size);
         let tag = response.release(out);
         let Ok(tag) = Tag::new(alloc, tag) else {
-            put(b"* BYE Out of memory\r\n", out);
+            put_bye(ResponseText::ByeOutOfMemory, out);
             self.ended = true;
             return After::Bye;
         };
@@ -219,7 +219,7 @@ impl Session {
         }
         if append.literal.size > MOST_UNASKED {
             response.release(out);
-            put(b"* BYE Literal too big\r\n", out);
+            put_bye(ResponseText::LiteralTooBig, out);
             self.ended = true;
             return After::Bye;
         }

@@ -10,11 +10,12 @@ ghost use Rattle.imap_session.specs.inner.Store.{Does, last};
 
 use crate::expunge::show_pending;
 use crate::folders::find_folder;
-use crate::response::{LastWords, Response, hold_room};
+use crate::response::{Response, hold_room};
 use crate::standing::{Folder, Selected};
 use crate::store::Store;
+use crate::texts::ResponseText;
 use imap_answers::{write_list, write_status};
-use imap_grammar::{Name, StatusItems};
+use imap_grammar::{Name, StatusItems, Verb};
 use mailbox::{MailFault, Status};
 use std::alloc::{AllocError, Global};
 
@@ -61,7 +62,7 @@ fn count_named<S: Store>(
     selected: Option<Selected>,
     store: &mut S,
     response: &mut Response<'_>,
-) -> Result<LastWords, MailFault>
+) -> Result<ResponseText, MailFault>
     ensures { Does S.step
         (on_folder name.now folders.now
         (counting (record {
@@ -75,10 +76,10 @@ fn count_named<S: Store>(
         last store.old store.new response.old response.new result }
 {
     let Some(folder) = find_folder(name, folders) else {
-        return Ok(LastWords(b"NO [NONEXISTENT] No such mailbox"));
+        return Ok(ResponseText::NoSuchMailbox);
     };
     count_folder(folder, items, selected, store, response)?;
-    Ok(LastWords(b"OK STATUS completed"))
+    Ok(ResponseText::Completed(Verb::Status))
 }
 
 // STATUS: tells the numbers of the mailbox of this name. Answers what the last line says.
@@ -90,7 +91,7 @@ pub(crate) fn count_mailbox<S: Store>(
     selected: Option<Selected>,
     store: &mut S,
     response: &mut Response<'_>,
-) -> Result<LastWords, MailFault>
+) -> Result<ResponseText, MailFault>
     ensures { Does S.step
         (wanting (on_folder name.now folders.now
         (counting (record {
@@ -151,7 +152,7 @@ pub(crate) fn list_folders<S: Store>(
     selected: Option<Selected>,
     store: &mut S,
     response: &mut Response<'_>,
-) -> Result<LastWords, MailFault>
+) -> Result<ResponseText, MailFault>
     ensures { Does S.step
         (Write (list_answer reference.now pattern.now
         (map (λ (folder : FolderSpec). folder.name) folders.now))
@@ -160,5 +161,5 @@ pub(crate) fn list_folders<S: Store>(
 {
     write_names(alloc, folders, reference, pattern, response)?;
     show_pending(selected, store, response)?;
-    Ok(LastWords(b"OK LIST completed"))
+    Ok(ResponseText::Completed(Verb::List))
 }

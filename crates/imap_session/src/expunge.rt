@@ -1,16 +1,17 @@
 //! EXPUNGE and UID EXPUNGE (RFC 9051, 6.4.3 and 6.4.9), and what is pending, shown where a mailbox is selected.
 
-ghost use Rattle.std.specs.Prelude.{◌≡◌, None, IfOk, map};
+ghost use Rattle.std.specs.Prelude.{◌≡◌, ◌<◌, None, IfOk, OnErr, length, map};
 ghost use Rattle.std.specs.Option.{option_copied};
 ghost use Rattle.imap_grammar.specs.declared.command.Command.TheVariants as commands;
 ghost use Rattle.imap_session.specs.Exchange.{Exchange, Expunge, Feed};
 ghost use Rattle.imap_session.specs.Commands.{completed, expunge_set, showing, unlimited};
 ghost use Rattle.imap_session.specs.inner.Store.{Does, last};
 
-use crate::response::{LastWords, Response};
+use crate::response::Response;
 use crate::standing::Selected;
 use crate::store::Store;
-use imap_grammar::{Named, SeqSet};
+use crate::texts::ResponseText;
+use imap_grammar::{Named, SeqSet, Verb};
 use mailbox::MailFault;
 use std::alloc::{AllocError, Global};
 
@@ -51,18 +52,22 @@ fn remove_and_show<S: Store>(
 pub(crate) fn expunge_all<S: Store>(
     store: &mut S,
     response: &mut Response<'_>,
-) -> Result<LastWords, MailFault>
+) -> Result<ResponseText, MailFault>
     ensures { Does S.step (Expunge None (Feed unlimited
         (completed commands.Expunge))) last store.old store.new response.old response.new result }
 {
     remove_and_show(None, store, response)?;
-    Ok(LastWords(b"OK EXPUNGE completed"))
+    Ok(ResponseText::Completed(Verb::Expunge))
 }
 
-// The UIDs of these messages.
+// The UIDs of these messages. No memory is wanted where there is none.
 fn uids_of(alloc: Global, messages: &[Named]) -> Result<Vec<u32>, AllocError>
-    ensures { IfOk result (λ uids. uids.items ≡ map (λ message. message.uid) messages.now) }
+    ensures uids { IfOk result (λ uids. uids.items ≡ map (λ message. message.uid) messages.now) }
+    ensures memory { OnErr result (0 < length messages.now) }
 {
+    if messages.is_empty() {
+        return Ok(Vec::new(alloc));
+    }
     messages.iter().map(|message| message.uid).collect(alloc)
 }
 
@@ -72,14 +77,14 @@ pub(crate) fn expunge_set<S: Store>(
     set: &SeqSet<'_>,
     store: &mut S,
     response: &mut Response<'_>,
-) -> Result<LastWords, MailFault>
+) -> Result<ResponseText, MailFault>
     ensures { Does S.step (expunge_set set.now) last store.old store.new response.old response.new
         result }
 {
     let Some(messages) = store.choose(alloc, set, true)? else {
-        return Ok(LastWords(b"BAD Sequence number too high"));
+        return Ok(ResponseText::SequenceTooHigh);
     };
     let uids = uids_of(alloc, messages.as_slice())?;
     remove_and_show(Some(uids.as_slice()), store, response)?;
-    Ok(LastWords(b"OK UID EXPUNGE completed"))
+    Ok(ResponseText::Completed(Verb::UidExpunge))
 }

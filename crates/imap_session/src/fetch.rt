@@ -9,10 +9,11 @@ ghost use Rattle.imap_session.specs.inner.Response.{adding};
 ghost use Rattle.imap_session.specs.inner.Store.{Does, last};
 ghost use Rattle.imap_grammar.specs.declared.command.Command.TheVariants as commands;
 
-use crate::response::{LastWords, Response, hold_room};
+use crate::response::{Response, hold_room};
 use crate::store::Store;
+use crate::texts::ResponseText;
 use imap_answers::write_row;
-use imap_grammar::{Fetch, FetchItem, Named};
+use imap_grammar::{Fetch, FetchItem, Named, Verb};
 use mailbox::{MailFault, Row};
 use std::alloc::Global;
 
@@ -87,18 +88,18 @@ fn finish_fetch<S: Store>(
     gone: bool,
     store: &mut S,
     response: &mut Response<'_>,
-) -> Result<LastWords, MailFault>
+) -> Result<ResponseText, MailFault>
     ensures { Does S.step
         (messages_done (commands.Fetch fetch.now) fetch.now.by_uid gone) last store.old store.new
         response.old response.new result }
 {
     if fetch.by_uid {
         response.show(usize::MAX, store)?;
-        Ok(LastWords(b"OK UID FETCH completed"))
+        Ok(ResponseText::Completed(Verb::UidFetch))
     } else if gone {
-        Ok(LastWords(b"NO [EXPUNGEISSUED] Some messages are gone"))
+        Ok(ResponseText::MessagesGone)
     } else {
-        Ok(LastWords(b"OK FETCH completed"))
+        Ok(ResponseText::Completed(Verb::Fetch))
     }
 }
 
@@ -109,7 +110,7 @@ pub(crate) fn fetch_messages<S: Store>(
     mark_seen: bool,
     store: &mut S,
     response: &mut Response<'_>,
-) -> Result<LastWords, MailFault>
+) -> Result<ResponseText, MailFault>
     ensures { Does S.step
         (wanting (on_set fetch.now.by_uid fetch.now.set (λ view uids.
         fetching fetch.now mark_seen view
@@ -119,7 +120,7 @@ pub(crate) fn fetch_messages<S: Store>(
     let items = fetch.items.list(alloc)?;
     let items = items.as_slice();
     let Some(messages) = store.choose(alloc, &fetch.set, fetch.by_uid)? else {
-        return Ok(LastWords(b"BAD Sequence number too high"));
+        return Ok(ResponseText::SequenceTooHigh);
     };
     let gone = fetch_all(
         fetch,

@@ -9,7 +9,9 @@ ghost use Rattle.imap_session.specs.Exchange.{Appending, Mailing, Standing, kept
 ghost use Rattle.imap_session.specs.Commands.{appended_words, fault_text, on_command, on_idle_line, on_rest, on_verdict, turn_of_long_line, with_bytes};
 ghost use Rattle.imap_session.specs.Shows.{DoneShowsInOrder, RestShowsNone, ShowsInOrder, VerdictShowsInOrder};
 ghost use Rattle.imap_session.specs.Telling.{LineTellsNoUid, RefusalTellsNoUid, TellsNoUid, VerdictTellsUid, WordsTellWhich, fault_tag, tells_uid};
+ghost use Rattle.imap_session.specs.Texts.{IsLineText, response_text};
 ghost use Rattle.imap_session.specs.declared.standing.Selected.{Selected};
+ghost use Rattle.imap_session.specs.declared.texts.ResponseText.{ResponseText};
 
 /// Changes are shown right before the tagged OK of NOOP, EXPUNGE, STATUS, LIST, UID FETCH, UID STORE and UID EXPUNGE, and as EXPUNGE and
 /// UID EXPUNGE remove messages: nowhere else, and no other line that these commands say is of that kind. Where a mailbox is selected no such
@@ -71,4 +73,10 @@ pub fn literals_may_be_cut()
     ensures { (now : Standing) (front back : List ℕ) (kept also_kept : Bool) →
         with_bytes also_kept back (with_bytes kept front now)
         ≡ with_bytes (kept && also_kept) (front ++ back) now }
+{}
+
+/// Each text of the table goes on one line, whatever it is said behind: it isn't empty, all its bytes are printable ASCII, so that it has no CR, LF or
+/// NUL, and it announces no literal (RFC 9051, 4.3 and 9: resp-text).
+pub fn texts_go_on_a_line()
+    ensures { (text : ResponseText) → IsLineText (response_text text) }
 {}

@@ -1,6 +1,6 @@
 //! One IMAP session over any store of mailboxes: what is answered to each line, and what is asked of the store for it, in which order
 //! (RFC 9051, 6 and 7). How lines are spelled is told in `imap_grammar`; the store's mailboxes stand elsewhere.
-//! The connection that cuts one client's bytes into lines and literals is here too.
+//! The connection that cuts one client's bytes into lines and literals is here too, and which mailboxes a user knows by name.
 #![tactic(auto)]
 
 mod appended;
@@ -21,13 +21,17 @@ mod set_flags;
 mod standing;
 mod store;
 mod tag;
+mod texts;
 mod turn;
+mod users;
 
 pub use connection::{ImapConnection, Progress};
 pub use laws::{
     changes_are_shown_in_order, done_shows_in_order, literals_may_be_cut,
-    only_a_stored_verdict_tells_a_uid, rest_shows_none, verdicts_show_in_order,
+    only_a_stored_verdict_tells_a_uid, rest_shows_none, texts_go_on_a_line, verdicts_show_in_order,
 };
 pub use session::Session;
 pub use standing::{After, Append, Folder, Selected, SessionFault};
 pub use store::Store;
+pub use texts::{MOST_TEXT, ResponseText};
+pub use users::{folders_of, has_user};

@@ -5,14 +5,15 @@ ghost use Rattle.std.specs.Prelude.{◌≡◌, ◌^◌, ◌<◌, ◌≤◌, ◌=
 ghost use Rattle.std.specs.Vec.{vec_capacity};
 ghost use Rattle.std.specs.List.{list_any};
 ghost use Rattle.std.specs.Option.{option_map};
-ghost use Rattle.imap_session.specs.Commands.{is_over, on_rest, over, says, taking, wanting};
+ghost use Rattle.imap_session.specs.Commands.{is_over, long_rest_text, on_rest, over, says, taking, wanting};
 ghost use Rattle.imap_session.specs.Exchange.{Appending as AppendingSpec, Mailing as MailingSpec, ForVerdict, Wait};
 ghost use Rattle.imap_session.specs.Store.{IsBeyondRoom, most_first_room};
+ghost use Rattle.imap_session.specs.Texts.{response_text};
 ghost use Rattle.imap_session.specs.inner.Seen.{HasFirstRoom, appending_of};
 
-use crate::response::LastWords;
 use crate::standing::Append;
 use crate::tag::Tag;
+use crate::texts::ResponseText;
 use change_ring::Flags;
 use std::alloc::{AllocError, Global};
 use std::marker::Model;
@@ -113,19 +114,29 @@ fn has_nul(text: &[u8]) -> bool
 }
 
 // What is said where a message of this size isn't taken.
-pub(crate) fn refused_size(most: Option<u32>, size: u64) -> Option<LastWords>
+pub(crate) fn refused_size(most: Option<u32>, size: u64) -> Option<ResponseText>
     ensures taken { result ≡ None → is_over most size ≡ false }
     ensures fits { result ≡ None → size < 2 ^ 32 }
-    ensures refused { IfSome result (λ words. (is_over most size ≡ true)
-        × (over most ≡ says words)) }
+    ensures refused { IfSome result (λ text. (is_over most size ≡ true)
+        × (over most ≡ says (response_text text))) }
 {
     let Some(most) = most else {
-        return Some(LastWords(b"NO [CANNOT] Not offered here"));
+        return Some(ResponseText::NotOffered);
     };
     if size > most as u64 {
-        return Some(LastWords(b"NO Message too big"));
+        return Some(ResponseText::MessageTooBig);
     }
     None
+}
+
+/// What is said behind a literal where the rest of the line is too long.
+pub(crate) fn long_rest_text(begun: &Appending) -> ResponseText
+    ensures { result ≡ long_rest_text (appending_of begun.now).text }
+{
+    match &begun.text {
+        None => ResponseText::OutOfMemory,
+        Some(_) => ResponseText::InvalidArguments,
+    }
 }
 
 // The message whose bytes are all there, or what is said of it.
@@ -136,11 +147,11 @@ pub(crate) fn judge(
     most: Option<u32>,
     number: u32,
     empty: bool,
-) -> Result<(u8, Vec<u8>), LastWords>
-    ensures says { IfErr result (λ words. (mailing : MailingSpec) (a : AppendingSpec)
+) -> Result<(u8, Vec<u8>), ResponseText>
+    ensures says { IfErr result (λ told. (mailing : MailingSpec) (a : AppendingSpec)
         → mailing.most ≡ most → mailing.number ≡ number →
         a.mailbox ≡ mailbox → a.size ≡ size → a.text ≡ option_map (λ t. t.items) text →
-        on_rest mailing a empty ≡ says words) }
+        on_rest mailing a empty ≡ says (response_text told)) }
     ensures ready { IfOk result (λ made. (mailing : MailingSpec) (a : AppendingSpec)
         → mailing.most ≡ most → mailing.number ≡ number →
         a.mailbox ≡ mailbox → a.size ≡ size → a.text ≡ option_map (λ t. t.items) text →
@@ -148,22 +159,22 @@ pub(crate) fn judge(
     ensures numbered { IfOk result (λ made. number < 4294967295) }
 {
     let Some(mut text) = text else {
-        return Err(LastWords(b"NO Out of memory"));
+        return Err(ResponseText::OutOfMemory);
     };
     if !empty {
-        return Err(LastWords(b"BAD Invalid arguments"));
+        return Err(ResponseText::InvalidArguments);
     }
     let Some(mailbox) = mailbox else {
-        return Err(LastWords(b"NO [TRYCREATE] No such mailbox"));
+        return Err(ResponseText::TryCreate);
     };
-    if let Some(words) = refused_size(most, size as u64) {
-        return Err(words);
+    if let Some(text) = refused_size(most, size as u64) {
+        return Err(text);
     }
     if has_nul(&text) {
-        return Err(LastWords(b"NO NUL byte"));
+        return Err(ResponseText::NulByte);
     }
     if number >= LAST_NUMBER {
-        return Err(LastWords(b"NO Mailbox is spent"));
+        return Err(ResponseText::MailboxSpent);
     }
     trim(&mut text);
     Ok((mailbox, text))

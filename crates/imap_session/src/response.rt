@@ -3,36 +3,21 @@
 
 ghost use Rattle.std.specs.Prelude.{◌≡◌, ◌+◌, ◌≤◌, ◌++◌, OnOk, OnErr, IfErr, vec_len, length, take, drop};
 ghost use Rattle.std.specs.Vec.{vec_capacity};
+ghost use Rattle.imap_session.specs.Exchange.{tagged};
+ghost use Rattle.imap_session.specs.Texts.{response_text};
 
-use crate::say::put_tagged;
+use crate::say::{put_bye, put_tagged, put_untagged};
 use crate::standing::After;
 use crate::store::Store;
+use crate::texts::ResponseText;
 use imap_answers::{OPENING_ROOM, put_opening};
 use line_io::put;
 use mailbox::{MailFault, Opening};
 use std::marker::Model;
 use std::mem;
 
-/// What a last line says behind its tag has at most so many bytes.
-pub(crate) const MOST_WORDS: usize = 45;
-
 /// Room for the last line of any answer beside its tag, a space and CRLF among it; and for a line that says BYE.
 pub(crate) const LAST: usize = 48;
-
-/// What a last line says behind its tag: no more than fits in the room that is held.
-#[derive(Drop)]
-pub(crate) struct LastWords(pub(crate) &'static [u8]);
-
-impl Model for LastWords {
-    ghost use Rattle.std.specs.Prelude.{◌≤◌, length, List, ℕ};
-    ghost use Rattle.imap_session.specs.declared.response.TheConstants.{MOST_WORDS};
-
-    ghost Value = { List ℕ };
-
-    ghost view = { λ w. w.0.now };
-
-    ghost invariant = { λ w. length w.0.now ≤ MOST_WORDS };
-}
 
 /// The response to a command of this tag, written behind those before it. It has the bytes of `out` meanwhile, and gives them back where it ends:
 /// with its last line, or with what is said while the session waits.
@@ -55,6 +40,15 @@ impl<'a> Model for Response<'a> {
     ghost view = { λ r. record { tag = r.tag.now; held = r.held; text = r.out.items } };
 
     ghost invariant = { λ r. (length r.tag.now + LAST ≤ r.held) × (vec_len r.out + r.held ≤ vec_capacity r.out) };
+}
+
+/// Writes a last line with a text in the room that is held for any.
+#[tactic(auto, using(crate::proofs::TextLaws::text_short))]
+pub(crate) fn put_last(tag: &[u8], text: ResponseText, out: &mut Vec<u8>)
+    requires fits { vec_len out.old + (length tag.now + LAST) ≤ vec_capacity out.old }
+    ensures { out.new.items ≡ out.old.items ++ tagged tag.now (response_text text) }
+{
+    put_tagged(tag, text, out);
 }
 
 // Takes bytes out of their place, and leaves none. A response that borrowed them would be harder to prove.
@@ -99,7 +93,8 @@ impl<'a> Response<'a> {
     ghost use Rattle.std.specs.Prelude.{◌≡◌, ◌≢◌, ◌+◌, ◌≤◌, ◌++◌, OnOk, OnErr, IfErr, vec_len, length};
     ghost use Rattle.std.specs.Option.{option_copied};
     ghost use Rattle.std.specs.Vec.{vec_capacity};
-    ghost use Rattle.imap_session.specs.Exchange.{Exchange, Expunge, Feed, tagged};
+    ghost use Rattle.imap_session.specs.Exchange.{Exchange, Expunge, Feed, tagged, untagged};
+    ghost use Rattle.imap_session.specs.Texts.{response_text};
     ghost use Rattle.imap_session.specs.Store.{Feeds};
     ghost use Rattle.imap_answers.specs.Answers.{opening_text};
     ghost use Rattle.imap_session.specs.inner.Response.{Adds, adding};
@@ -122,13 +117,13 @@ impl<'a> Response<'a> {
         }
     }
 
-    /// Writes a line in room that is held beside the last line's.
-    pub(crate) fn put(&mut self, line: &[u8])
-        requires fits { length self.old.tag + (LAST + length line.now) ≤ self.old.held }
-        ensures { Adds line.now self.old self.new }
+    /// Writes an untagged line in room that is held beside the last line's.
+    pub(crate) fn put_untagged(&mut self, text: ResponseText)
+        requires fits { length self.old.tag + (LAST + (length (response_text text) + 4))
+            ≤ self.old.held }
+        ensures { Adds (untagged (response_text text)) self.old self.new }
     {
-        put(line, &mut self.out);
-        self.held -= line.len();
+        self.held -= put_untagged(text, &mut self.out);
     }
 
     /// Holds room besides for what is told of a mailbox of this name once it is entered.
@@ -236,18 +231,19 @@ impl<'a> Response<'a> {
     }
 
     /// Ends with a last line, which says this behind the tag.
-    pub(crate) fn end(self, words: LastWords, out: &mut Vec<u8>)
-        ensures { out.new.items ≡ self.entry.text ++ tagged self.entry.tag words }
+    pub(crate) fn end(self, text: ResponseText, out: &mut Vec<u8>)
+        ensures { out.new.items
+            ≡ self.entry.text ++ tagged self.entry.tag (response_text text) }
     {
         let tag = self.release(out);
-        put_tagged(tag, words.0, out);
+        put_last(tag, text, out);
     }
 
     /// Ends with a last line, or with what is said of the fault that stopped the command.
     pub(crate) fn conclude(
         self,
         after: After,
-        done: Result<LastWords, MailFault>,
+        done: Result<ResponseText, MailFault>,
         out: &mut Vec<u8>,
     ) -> After
         ensures text { out.new.items ≡ self.entry.text ++ last_words self.entry.tag done }
@@ -255,24 +251,24 @@ impl<'a> Response<'a> {
     {
         let tag = self.release(out);
         match done {
-            Ok(words) => {
-                put_tagged(tag, words.0, out);
+            Ok(text) => {
+                put_last(tag, text, out);
                 after
             }
             Err(MailFault::Stranger) => {
-                put(b"* BYE Internal fault\r\n", out);
+                put_bye(ResponseText::InternalFault, out);
                 After::Bye
             }
             Err(MailFault::Lapped) => {
-                put(b"* BYE Too many changes were missed\r\n", out);
+                put_bye(ResponseText::ChangesMissed, out);
                 After::Bye
             }
             Err(MailFault::Spent) => {
-                put_tagged(tag, b"NO Mailbox is spent", out);
+                put_tagged(tag, ResponseText::MailboxSpent, out);
                 After::Go
             }
             Err(MailFault::NoMemory) => {
-                put_tagged(tag, b"NO Out of memory", out);
+                put_tagged(tag, ResponseText::OutOfMemory, out);
                 After::Go
             }
         }

@@ -1,29 +1,66 @@
-//! Lines, written in room that was reserved; and what a session says whatever its line was.
+//! Lines, each with one text, written in room that was reserved.
 
 ghost use Rattle.std.specs.Prelude.{◌≡◌, ◌+◌, ◌≤◌, ◌++◌, vec_len, length};
 ghost use Rattle.std.specs.Vec.{vec_capacity};
-ghost use Rattle.imap_session.specs.Exchange.{tagged};
+ghost use Rattle.imap_session.specs.Exchange.{bye, continuing, tagged, untagged};
+ghost use Rattle.imap_session.specs.Texts.{response_text};
 
+use crate::texts::ResponseText;
 use line_io::put;
 
-pub(crate) const GREETING: &[u8] = b"* PREAUTH IMAP4rev2 server ready\r\n";
-
-pub(crate) const LONG_LINE: &[u8] = b"* BAD Line too long\r\n";
-
-pub(crate) const IDLING: &[u8] = b"+ idling\r\n";
-
-pub(crate) const NOT_DONE: &[u8] = b"BAD Expected DONE";
-
-pub(crate) const READY: &[u8] = b"+ ready\r\n";
-
-// Writes the tag and the words behind it, as a line, in room that was reserved.
-pub(crate) fn put_tagged(tag: &[u8], words: &[u8], out: &mut Vec<u8>)
-    requires fits { vec_len out.old + (length tag.now + length words.now + 3)
+// Writes a text as a line: behind a tag and a space.
+pub(crate) fn put_tagged(tag: &[u8], text: ResponseText, out: &mut Vec<u8>)
+    requires fits { vec_len out.old + (length tag.now + length (response_text text) + 3)
         ≤ vec_capacity out.old }
-    ensures text { out.new.items ≡ out.old.items ++ tagged tag.now words.now }
+    ensures text { out.new.items ≡ out.old.items ++ tagged tag.now (response_text text) }
 {
     put(tag, out);
     put(b" ", out);
+    put(text.bytes(), out);
+    put(b"\r\n", out);
+}
+
+// The same behind a star. Answers how many bytes the line has, as do the next two.
+pub(crate) fn put_untagged(text: ResponseText, out: &mut Vec<u8>) -> usize
+    requires fits { vec_len out.old + (length (response_text text) + 4) ≤ vec_capacity out.old }
+    ensures text { out.new.items ≡ out.old.items ++ untagged (response_text text) }
+    ensures length { result ≡ length (response_text text) + 4 }
+    ensures len { vec_len out.new ≡ vec_len out.old + result }
+    ensures capacity { vec_capacity out.old ≤ vec_capacity out.new }
+{
+    let words = text.bytes();
+    put(b"* ", out);
     put(words, out);
     put(b"\r\n", out);
+    words.len() + 4
+}
+
+// The same behind BYE.
+pub(crate) fn put_bye(text: ResponseText, out: &mut Vec<u8>) -> usize
+    requires fits { vec_len out.old + (length (response_text text) + 8) ≤ vec_capacity out.old }
+    ensures text { out.new.items ≡ out.old.items ++ bye (response_text text) }
+    ensures length { result ≡ length (response_text text) + 8 }
+    ensures len { vec_len out.new ≡ vec_len out.old + result }
+    ensures capacity { vec_capacity out.old ≤ vec_capacity out.new }
+{
+    let words = text.bytes();
+    put(b"* BYE ", out);
+    put(words, out);
+    put(b"\r\n", out);
+    words.len() + 8
+}
+
+// The same behind a plus: the client may go on.
+pub(crate) fn put_continuing(text: ResponseText, out: &mut Vec<u8>) -> usize
+    requires fits { vec_len out.old + (length (response_text text) + 4) ≤ vec_capacity out.old }
+    ensures text { out.new.items ≡ out.old.items ++ continuing (response_text text) }
+    ensures length { result ≡ length (response_text text) + 4 }
+    ensures len { vec_len out.new ≡ vec_len out.old + result }
+    ensures capacity { vec_capacity out.old ≤ vec_capacity out.new }
+{
+    let words = text.bytes();
+    put(b"+ ", out);
+    put(words, out);
+    put(b"\r\n", out);
+    words.len() + 4
 }

@@ -1,16 +1,17 @@
 //! SELECT and EXAMINE (RFC 9051, 6.3.2 and 6.3.3), CLOSE and UNSELECT (6.4.1 and 6.4.2): mailboxes entered and left.
 
-ghost use Rattle.std.specs.Prelude.{◌≡◌, ◌+◌, ◌≤◌, codes, false, length, OnOk, OnErr, None, Some, if◌then◌else◌};
+ghost use Rattle.std.specs.Prelude.{◌≡◌, ◌+◌, ◌≤◌, false, length, OnOk, OnErr, None, Some, if◌then◌else◌};
 ghost use Rattle.mailbox.specs.declared.clients.Opening.{Opening as OpeningSpec};
 ghost use Rattle.imap_session.specs.Exchange.{Exchange, Enter, Leave, nothing_sent};
-ghost use Rattle.imap_session.specs.Commands.{closing, entering, on_folder, selecting, wanting};
+ghost use Rattle.imap_session.specs.Commands.{closing, entered_text, entering, on_folder, selecting, wanting};
 ghost use Rattle.imap_session.specs.Response.{Response as ResponseSpec};
 ghost use Rattle.imap_session.specs.inner.Store.{Moves, last};
 
 use crate::folders::find_folder;
-use crate::response::{LAST, LastWords, Response};
+use crate::response::{LAST, Response};
 use crate::standing::{Folder, Selected};
 use crate::store::Store;
+use crate::texts::ResponseText;
 use crate::turn::FIRST;
 use imap_grammar::Name;
 use mailbox::{MailFault, Opening};
@@ -33,7 +34,7 @@ fn leave_previous<S: Store>(
     }
     store.leave(false)?;
     *selected = None;
-    response.put(b"* OK [CLOSED] Previous mailbox is closed\r\n");
+    response.put_untagged(ResponseText::PreviousClosed);
     Ok(())
 }
 
@@ -71,14 +72,13 @@ pub(crate) fn leave_mailbox<S: Store>(
 }
 
 // What the last line says after a mailbox was entered.
-fn entered_words(read_only: bool) -> LastWords
-    ensures { result ≡ (if read_only then codes "OK [READ-ONLY] EXAMINE completed" else
-        codes "OK [READ-WRITE] SELECT completed") }
+fn entered_text(read_only: bool) -> ResponseText
+    ensures { result ≡ entered_text read_only }
 {
     if read_only {
-        LastWords(b"OK [READ-ONLY] EXAMINE completed")
+        ResponseText::ExamineCompleted
     } else {
-        LastWords(b"OK [READ-WRITE] SELECT completed")
+        ResponseText::SelectCompleted
     }
 }
 
@@ -89,7 +89,7 @@ fn enter_folder<S: Store>(
     selected: &mut Option<Selected>,
     store: &mut S,
     response: &mut Response<'_>,
-) -> Result<LastWords, MailFault>
+) -> Result<ResponseText, MailFault>
     ensures { Moves S.step selected.old selected.new
         (wanting (entering read_only folder.now)) last store.old store.new response.old response.new
         result }
@@ -102,7 +102,7 @@ fn enter_folder<S: Store>(
     };
     let opening = enter_mailbox(wanted, selected, store)?;
     response.put_opening(read_only, name, &opening);
-    Ok(entered_words(read_only))
+    Ok(entered_text(read_only))
 }
 
 // Enters the first folder of this name. Answers what the last line says.
@@ -113,13 +113,13 @@ fn enter_named<S: Store>(
     selected: &mut Option<Selected>,
     store: &mut S,
     response: &mut Response<'_>,
-) -> Result<LastWords, MailFault>
+) -> Result<ResponseText, MailFault>
     ensures { Moves S.step selected.old selected.new
         (wanting (on_folder name.now folders.now (entering read_only))) last store.old store.new
         response.old response.new result }
 {
     match find_folder(name, folders) {
-        None => Ok(LastWords(b"NO [NONEXISTENT] No such mailbox")),
+        None => Ok(ResponseText::NoSuchMailbox),
         Some(folder) => enter_folder(folder, read_only, selected, store, response),
     }
 }
@@ -134,7 +134,7 @@ pub(crate) fn select_mailbox<S: Store>(
     selected: &mut Option<Selected>,
     store: &mut S,
     response: &mut Response<'_>,
-) -> Result<LastWords, MailFault>
+) -> Result<ResponseText, MailFault>
     requires long { length response.old.tag + (LAST + FIRST) ≤ response.old.held }
     ensures { Moves S.step selected.old selected.new
         (selecting (record {

@@ -8,16 +8,18 @@ ghost use Rattle.imap_grammar.specs.declared.command.Command.TheVariants as comm
 ghost use Rattle.imap_session.specs.Exchange.{Exchange, Expunge, Feed, Leave};
 ghost use Rattle.imap_session.specs.Commands.{completed, expunge_set, fetch_messages, if_writable, on_found, says, store_messages, unlimited, wrong_state};
 ghost use Rattle.imap_session.specs.Response.{Response as ResponseSpec};
+ghost use Rattle.imap_session.specs.Texts.{response_text};
 ghost use Rattle.imap_session.specs.inner.Store.{Does, Moves, last};
 
 use crate::expunge::{expunge_all, expunge_set};
 use crate::fetch::fetch_messages;
-use crate::response::{LastWords, Response};
+use crate::response::Response;
 use crate::select::leave_mailbox;
 use crate::set_flags::store_messages;
 use crate::standing::Selected;
 use crate::store::Store;
-use imap_grammar::{Fetch, SeqSet, Store as StoreCommand};
+use crate::texts::ResponseText;
+use imap_grammar::{Fetch, SeqSet, Store as StoreCommand, Verb};
 use mailbox::MailFault;
 use std::alloc::Global;
 
@@ -29,17 +31,17 @@ fn sets_seen(command: &Fetch<'_>, mailbox: Selected) -> bool
 }
 
 // Why a command that changes the mailbox is refused, where it is: what its last line says.
-fn refusal(selected: Option<Selected>) -> Option<LastWords>
-    ensures refused { IfSome result (λ words. (x : Exchange)
-        → on_found (if_writable x) wrong_state selected ≡ says words) }
+fn refusal(selected: Option<Selected>) -> Option<ResponseText>
+    ensures refused { IfSome result (λ text. (x : Exchange)
+        → on_found (if_writable x) wrong_state selected ≡ says (response_text text)) }
     ensures taken { IfNone result ((x : Exchange)
         → on_found (if_writable x) wrong_state selected ≡ x) }
 {
     match selected {
-        None => Some(LastWords(b"BAD Wrong state")),
+        None => Some(ResponseText::WrongState),
         Some(mailbox) => {
             if mailbox.read_only {
-                Some(LastWords(b"NO Mailbox is read-only"))
+                Some(ResponseText::ReadOnly)
             } else {
                 None
             }
@@ -54,13 +56,13 @@ pub(crate) fn fetch<S: Store>(
     selected: Option<Selected>,
     store: &mut S,
     response: &mut Response<'_>,
-) -> Result<LastWords, MailFault>
+) -> Result<ResponseText, MailFault>
     ensures { Does S.step
         (on_found (fetch_messages command.now) wrong_state selected) last store.old store.new
         response.old response.new result }
 {
     match selected {
-        None => Ok(LastWords(b"BAD Wrong state")),
+        None => Ok(ResponseText::WrongState),
         Some(mailbox) => {
             let mark_seen = sets_seen(command, mailbox);
             fetch_messages(alloc, command, mark_seen, store, response)
@@ -75,13 +77,13 @@ pub(crate) fn store_flags<S: Store>(
     selected: Option<Selected>,
     store: &mut S,
     response: &mut Response<'_>,
-) -> Result<LastWords, MailFault>
+) -> Result<ResponseText, MailFault>
     ensures { Does S.step (on_found (if_writable
         (store_messages command.now)) wrong_state selected) last store.old store.new response.old
         response.new result }
 {
     match refusal(selected) {
-        Some(words) => Ok(words),
+        Some(text) => Ok(text),
         None => store_messages(alloc, command, store, response),
     }
 }
@@ -91,13 +93,13 @@ pub(crate) fn expunge<S: Store>(
     selected: Option<Selected>,
     store: &mut S,
     response: &mut Response<'_>,
-) -> Result<LastWords, MailFault>
+) -> Result<ResponseText, MailFault>
     ensures { Does S.step (on_found (if_writable
         (Expunge None (Feed unlimited (completed commands.Expunge)))) wrong_state selected)
         last store.old store.new response.old response.new result }
 {
     match refusal(selected) {
-        Some(words) => Ok(words),
+        Some(text) => Ok(text),
         None => expunge_all(store, response),
     }
 }
@@ -109,13 +111,13 @@ pub(crate) fn uid_expunge<S: Store>(
     selected: Option<Selected>,
     store: &mut S,
     response: &mut Response<'_>,
-) -> Result<LastWords, MailFault>
+) -> Result<ResponseText, MailFault>
     ensures { Does S.step (on_found (if_writable
         (expunge_set set.now)) wrong_state selected) last store.old store.new response.old
         response.new result }
 {
     match refusal(selected) {
-        Some(words) => Ok(words),
+        Some(text) => Ok(text),
         None => expunge_set(alloc, set, store, response),
     }
 }
@@ -124,31 +126,31 @@ pub(crate) fn uid_expunge<S: Store>(
 pub(crate) fn close<S: Store>(
     selected: &mut Option<Selected>,
     store: &mut S,
-) -> Result<LastWords, MailFault>
+) -> Result<ResponseText, MailFault>
     ensures { (response : ResponseSpec) → Moves S.step selected.old selected.new
         (on_found (λ mailbox. Leave (not mailbox.read_only) (completed commands.Close)) wrong_state
         selected.old)
         last store.old store.new response response result }
 {
     let Some(mailbox) = *selected else {
-        return Ok(LastWords(b"BAD Wrong state"));
+        return Ok(ResponseText::WrongState);
     };
     leave_mailbox(!mailbox.read_only, selected, store)?;
-    Ok(LastWords(b"OK CLOSE completed"))
+    Ok(ResponseText::Completed(Verb::Close))
 }
 
 // UNSELECT.
 pub(crate) fn unselect<S: Store>(
     selected: &mut Option<Selected>,
     store: &mut S,
-) -> Result<LastWords, MailFault>
+) -> Result<ResponseText, MailFault>
     ensures { (response : ResponseSpec) → Moves S.step selected.old selected.new
         (on_found (λ mailbox. Leave false (completed commands.Unselect)) wrong_state selected.old)
         last store.old store.new response response result }
 {
     let Some(_) = *selected else {
-        return Ok(LastWords(b"BAD Wrong state"));
+        return Ok(ResponseText::WrongState);
     };
     leave_mailbox(false, selected, store)?;
-    Ok(LastWords(b"OK UNSELECT completed"))
+    Ok(ResponseText::Completed(Verb::Unselect))
 }

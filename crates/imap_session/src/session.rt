@@ -2,18 +2,18 @@
 //! What it answers to a line is told in specs/Commands.antt, and how one line is carried out in `turn`.
 
 use crate::appended::{STORED, tell_verdict};
-use crate::mailing::{Appending, Mailing, Sent, judge};
-use crate::response::{LAST, LastWords, Response};
-use crate::say::{GREETING, IDLING, LONG_LINE, NOT_DONE, put_tagged};
+use crate::mailing::{Appending, Mailing, Sent, judge, long_rest_text};
+use crate::response::{LAST, Response, put_last};
+use crate::say::{put_continuing, put_tagged, put_untagged};
 use crate::standing::{After, Append, Folder, Selected, SessionFault};
 use crate::store::Store;
 use crate::tag::Tag;
+use crate::texts::ResponseText;
 use crate::turn::{
-    FIRST, after_command, append_of, carry_out, end_idle, first_line, is_idle, put_fault,
+    FIRST, after_command, append_of, carry_out, end_idle, is_idle, put_fault, put_first_line,
 };
 use delivery_token::{Text, Verdict};
 use imap_grammar::{Command, read_line};
-use line_io::put;
 use mailbox::MailFault;
 use std::alloc::{AllocError, Global};
 use std::marker::Model;
@@ -48,7 +48,9 @@ impl Session {
     ghost use Rattle.std.specs.Prelude.{◌≡◌, ◌≢◌, ◌==◌, ◌^◌, ◌⊎◌, ◌+◌, ◌<◌, ◌≤◌, ◌++◌, ◌↔◌, ℕ, List, IfErr, take, min, if◌then◌else◌, true, false, [], codes, length, is_some, None, Some, Err, OnOk, OnErr, IfOk, vec_len};
     ghost use Rattle.std.specs.Option.{option_copied, option_map};
     ghost use Rattle.std.specs.Vec.{vec_capacity};
-    ghost use Rattle.imap_session.specs.Exchange.{Sent as SentSpec, kept_tag, nothing_sent, Feed, Refused, closed, is_idling, may_send, refusal_text, tagged};
+    ghost use Rattle.imap_session.specs.Exchange.{Sent as SentSpec, kept_tag, nothing_sent, Feed, Refused, closed, is_idling, may_send, refusal_text, continuing, tagged};
+    ghost use Rattle.imap_session.specs.Texts.{response_text};
+    ghost use Rattle.imap_session.specs.declared.texts.ResponseText.TheVariants as texts;
     ghost use Rattle.imap_session.specs.Commands.{due_of, on_rest, on_verdict, greeting, long_line_text, most_changes, on_idle_line, turn_of_long_line};
     ghost use Rattle.imap_session.specs.inner.Seen.{HasFirstRoom, appending_of, sent_of};
     ghost use Rattle.imap_session.specs.inner.Appends.{Leads};
@@ -88,8 +90,9 @@ impl Session {
         ensures err { OnErr result (out.new.items ≡ out.old.items) }
         ensures memory { OnErr result (vec_capacity out.old < vec_len out.old + length greeting) }
     {
-        out.reserve(GREETING.len())?;
-        put(GREETING, out);
+        let text = ResponseText::Greeting;
+        out.reserve(text.bytes().len() + 4)?;
+        put_untagged(text, out);
         Ok(())
     }
 
@@ -160,20 +163,20 @@ impl Session {
     fn begin_idling(&mut self, alloc: Global, response: Response<'_>, out: &mut Vec<u8>) -> After
         ensures begun { result ≡ After.Idle
             → (self.new ≡ record self.old { idling = Some response.entry.tag }) ×
-            (out.new.items ≡ response.entry.text ++ codes "+ idling\r\n") }
+            (out.new.items ≡ response.entry.text ++ continuing (response_text texts.Idling)) }
         ensures starved { result ≡ After.Go
             → (32 < length response.entry.tag) × (self.new ≡ self.old) ×
             (out.new.items ≡ response.entry.text
-            ++ tagged response.entry.tag (codes "NO Out of memory")) }
+            ++ tagged response.entry.tag (response_text texts.OutOfMemory)) }
         ensures only { (result ≡ After.Idle) ⊎ (result ≡ After.Go) }
     {
         let tag = response.release(out);
         let Ok(kept) = Tag::new(alloc, tag) else {
-            put_tagged(tag, b"NO Out of memory", out);
+            put_tagged(tag, ResponseText::OutOfMemory, out);
             return After::Go;
         };
         self.idling = Some(kept);
-        put(IDLING, out);
+        put_continuing(ResponseText::Idling, out);
         After::Idle
     }
 
@@ -253,9 +256,8 @@ impl Session {
                     let response = Response::new(tag, LAST, out);
                     return Ok(self.begin_idling(alloc, response, out));
                 }
-                let first = first_line(&command);
-                put(first, out);
-                let response = Response::new(tag, LAST + (FIRST - first.len()), out);
+                let first = put_first_line(&command, out);
+                let response = Response::new(tag, LAST + (FIRST - first), out);
                 Ok(self.answer(alloc, &command, store, response, out))
             }
         }
@@ -444,15 +446,15 @@ impl Session {
         self.idling = None;
         match self.submit(begun, line.is_empty()) {
             Ok(()) => Ok(After::Submit),
-            Err((tag, words)) => {
-                put_tagged(tag.as_slice(), words.0, out);
+            Err((tag, text)) => {
+                put_last(tag.as_slice(), text, out);
                 Ok(After::Go)
             }
         }
     }
 
     // Submits a message whose bytes are all there, or gives its tag back with what the last line says.
-    fn submit(&mut self, begun: Appending, ends: bool) -> Result<(), (Tag, LastWords)>
+    fn submit(&mut self, begun: Appending, ends: bool) -> Result<(), (Tag, ResponseText)>
         requires going { self.old.ended ≡ false }
         requires awake { self.old.idling ≡ None }
         requires alone { self.old.mailing.begun ≡ None }
@@ -463,7 +465,7 @@ impl Session {
             After.Submit self.new) }
         ensures refused { IfErr result (λ told. (before : List ℕ)
             → Leads begun.tag self.old (on_rest self.old.mailing (appending_of begun) ends)
-            before (before ++ tagged told.0 told.1) After.Go self.new) }
+            before (before ++ tagged told.0 (response_text told.1)) After.Go self.new) }
         ensures tag { IfErr result (λ told. told.0 ≡ begun.tag) }
         ensures folders { self.new.folders ≡ self.old.folders }
         ensures waits { OnOk result (may_send self.new ≡ After.Submit) }
@@ -480,10 +482,10 @@ impl Session {
         let most = self.mailing.most;
         let message = self.mailing.number;
         match judge(text, mailbox, size, most, message, ends) {
-            Err(words) => Err((tag, words)),
+            Err(text) => Err((tag, text)),
             Ok((mailbox, text)) => {
                 let Ok(text) = Text::new(text) else {
-                    return Err((tag, LastWords(b"NO Out of memory")));
+                    return Err((tag, ResponseText::OutOfMemory));
                 };
                 self.mailing.number = message + 1;
                 self.mailing.sent = Some(Sent {
@@ -629,26 +631,25 @@ impl Session {
             return Err(SessionFault::Ended);
         }
         if let Some(begun) = &self.mailing.begun {
-            let words: &[u8] = match &begun.text {
-                None => b"NO Out of memory",
-                Some(_) => b"BAD Invalid arguments",
-            };
+            let text = long_rest_text(begun);
             let tag = begun.tag.as_slice();
-            out.reserve(tag.len() + words.len() + 3)?;
-            put_tagged(tag, words, out);
+            out.reserve(tag.len() + text.bytes().len() + 3)?;
+            put_tagged(tag, text, out);
             self.mailing.begun = None;
             self.idling = None;
             return Ok(After::Go);
         }
         match &self.idling {
             None => {
-                out.reserve(LONG_LINE.len())?;
-                put(LONG_LINE, out);
+                let text = ResponseText::LineTooLong;
+                out.reserve(text.bytes().len() + 4)?;
+                put_untagged(text, out);
             }
             Some(tag) => {
                 let tag = tag.as_slice();
-                out.reserve(tag.len() + NOT_DONE.len() + 3)?;
-                put_tagged(tag, NOT_DONE, out);
+                let text = ResponseText::ExpectedDone;
+                out.reserve(tag.len() + text.bytes().len() + 3)?;
+                put_tagged(tag, text, out);
                 self.idling = None;
             }
         }

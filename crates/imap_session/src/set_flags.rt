@@ -9,11 +9,12 @@ ghost use Rattle.imap_answers.specs.Answers.{flags_answer};
 ghost use Rattle.imap_session.specs.inner.Response.{adding};
 ghost use Rattle.imap_session.specs.inner.Store.{Does, last};
 
-use crate::response::{LastWords, Response, hold_room};
+use crate::response::{Response, hold_room};
 use crate::store::Store;
+use crate::texts::ResponseText;
 use change_ring::Flags;
 use imap_answers::write_stored;
-use imap_grammar::{Named, Store as StoreCommand};
+use imap_grammar::{Named, Store as StoreCommand, Verb};
 use mailbox::MailFault;
 use std::alloc::Global;
 
@@ -89,18 +90,18 @@ fn finish_store<S: Store>(
     gone: bool,
     store: &mut S,
     response: &mut Response<'_>,
-) -> Result<LastWords, MailFault>
+) -> Result<ResponseText, MailFault>
     ensures { Does S.step
         (messages_done (commands.Store command.now) command.now.by_uid gone) last store.old
         store.new response.old response.new result }
 {
     if command.by_uid {
         response.show(usize::MAX, store)?;
-        Ok(LastWords(b"OK UID STORE completed"))
+        Ok(ResponseText::Completed(Verb::UidStore))
     } else if gone {
-        Ok(LastWords(b"NO [EXPUNGEISSUED] Some messages are gone"))
+        Ok(ResponseText::MessagesGone)
     } else {
-        Ok(LastWords(b"OK STORE completed"))
+        Ok(ResponseText::Completed(Verb::Store))
     }
 }
 
@@ -110,14 +111,14 @@ pub(crate) fn store_messages<S: Store>(
     command: &StoreCommand<'_>,
     store: &mut S,
     response: &mut Response<'_>,
-) -> Result<LastWords, MailFault>
+) -> Result<ResponseText, MailFault>
     ensures { Does S.step
         (on_set command.now.by_uid command.now.set (λ view uids. storing command.now view
         (messages_done (commands.Store command.now) command.now.by_uid) uids false))
         last store.old store.new response.old response.new result }
 {
     let Some(messages) = store.choose(alloc, &command.set, command.by_uid)? else {
-        return Ok(LastWords(b"BAD Sequence number too high"));
+        return Ok(ResponseText::SequenceTooHigh);
     };
     let gone = store_all(command, messages.as_slice(), store, response)?;
     finish_store(command, gone, store, response)

@@ -10,14 +10,14 @@ ghost use Rattle.imap_session.specs.inner.Store.{Does, Moves, after_command, beh
 
 use crate::count::{count_mailbox, list_folders};
 use crate::expunge::show_pending;
-use crate::response::{LAST, LastWords, Response};
-use crate::say::put_tagged;
+use crate::response::{LAST, Response};
+use crate::say::{put_bye, put_tagged, put_untagged};
 use crate::select::select_mailbox;
 use crate::selected::{close, expunge, fetch, store_flags, uid_expunge, unselect};
 use crate::standing::{After, Folder, Selected};
 use crate::store::Store;
-use imap_grammar::{Append, Command, ImapFault, is_done};
-use line_io::put;
+use crate::texts::ResponseText;
+use imap_grammar::{Append, Command, ImapFault, Verb, is_done};
 use mailbox::MailFault;
 use std::alloc::Global;
 
@@ -30,10 +30,16 @@ pub(crate) fn put_fault(fault: &ImapFault<'_>, out: &mut Vec<u8>)
     ensures text { out.new.items ≡ out.old.items ++ fault_text fault.now }
 {
     match fault {
-        ImapFault::NoTag => put(b"* BAD Missing tag\r\n", out),
-        ImapFault::Unknown(tag) => put_tagged(tag.as_bytes(), b"BAD Unknown command", out),
-        ImapFault::LeftOut(tag) => put_tagged(tag.as_bytes(), b"NO [CANNOT] Not offered here", out),
-        ImapFault::Arguments(tag) => put_tagged(tag.as_bytes(), b"BAD Invalid arguments", out),
+        ImapFault::NoTag => {
+            put_untagged(ResponseText::MissingTag, out);
+        }
+        ImapFault::Unknown(tag) => put_tagged(tag.as_bytes(), ResponseText::UnknownCommand, out),
+        ImapFault::LeftOut(tag) => put_tagged(tag.as_bytes(), ResponseText::NotOffered, out),
+        ImapFault::Arguments(tag) => put_tagged(
+            tag.as_bytes(),
+            ResponseText::InvalidArguments,
+            out,
+        ),
     }
 }
 
@@ -72,15 +78,15 @@ pub(crate) fn end_idle<S: Store>(
     selected: Option<Selected>,
     store: &mut S,
     response: &mut Response<'_>,
-) -> Result<LastWords, MailFault>
+) -> Result<ResponseText, MailFault>
     ensures { Does S.step (on_idle_line selected line.now) last store.old store.new response.old
         response.new result }
 {
     if !is_done(line) {
-        return Ok(LastWords(b"BAD Expected DONE"));
+        return Ok(ResponseText::ExpectedDone);
     }
     show_pending(selected, store, response)?;
-    Ok(LastWords(b"OK IDLE completed"))
+    Ok(ResponseText::Completed(Verb::Idle))
 }
 
 // NOOP: what is pending is shown, where a mailbox is selected.
@@ -88,24 +94,28 @@ fn note_nothing<S: Store>(
     selected: Option<Selected>,
     store: &mut S,
     response: &mut Response<'_>,
-) -> Result<LastWords, MailFault>
+) -> Result<ResponseText, MailFault>
     ensures { Does S.step (showing selected (completed commands.Noop)) last store.old store.new
         response.old response.new result }
 {
     show_pending(selected, store, response)?;
-    Ok(LastWords(b"OK NOOP completed"))
+    Ok(ResponseText::Completed(Verb::Noop))
 }
 
-/// What a command says of the server before all else, with its CRLF. Most say nothing.
-pub(crate) fn first_line(command: &Command<'_>) -> &'static [u8]
-    ensures line { result.now ≡ first_line command.now }
-    ensures short { length result.now ≤ FIRST }
+/// Writes what a command says of the server before all else, in room that was reserved, and answers how many bytes that is. Most say nothing.
+pub(crate) fn put_first_line(command: &Command<'_>, out: &mut Vec<u8>) -> usize
+    requires fits { vec_len out.old + FIRST ≤ vec_capacity out.old }
+    ensures line { out.new.items ≡ out.old.items ++ first_line command.now }
+    ensures length { result ≡ length (first_line command.now) }
+    ensures len { vec_len out.new ≡ vec_len out.old + result }
+    ensures short { result ≤ FIRST }
+    ensures capacity { vec_capacity out.old ≤ vec_capacity out.new }
 {
     match command {
-        Command::Capability => b"* CAPABILITY IMAP4rev2 IDLE\r\n",
-        Command::Namespace => b"* NAMESPACE ((\"\" \"/\")) NIL NIL\r\n",
-        Command::Logout => b"* BYE Logging out\r\n",
-        _ => b"",
+        Command::Capability => put_untagged(ResponseText::Capabilities, out),
+        Command::Namespace => put_untagged(ResponseText::Namespaces, out),
+        Command::Logout => put_bye(ResponseText::LoggingOut, out),
+        _ => 0,
     }
 }
 
@@ -117,7 +127,7 @@ pub(crate) fn carry_out<S: Store>(
     selected: &mut Option<Selected>,
     store: &mut S,
     response: &mut Response<'_>,
-) -> Result<LastWords, MailFault>
+) -> Result<ResponseText, MailFault>
     requires other { is_open command.now ≡ false }
     requires long { length response.old.tag + (LAST + FIRST)
         ≤ response.old.held + length (first_line command.now) }
@@ -132,15 +142,15 @@ pub(crate) fn carry_out<S: Store>(
         (ending (after_command command.now)) store.old store.new response.old response.new result }
 {
     match command {
-        Command::Capability => Ok(LastWords(b"OK CAPABILITY completed")),
-        Command::Namespace => Ok(LastWords(b"OK NAMESPACE completed")),
+        Command::Capability => Ok(ResponseText::Completed(Verb::Capability)),
+        Command::Namespace => Ok(ResponseText::Completed(Verb::Namespace)),
         Command::Noop => note_nothing(*selected, store, response),
-        Command::Logout => Ok(LastWords(b"OK LOGOUT completed")),
+        Command::Logout => Ok(ResponseText::Completed(Verb::Logout)),
         Command::Idle => unreachable!(),
         Command::Append(_) => unreachable!(),
-        Command::Login => Ok(LastWords(b"BAD Wrong state")),
-        Command::Authenticate => Ok(LastWords(b"BAD Wrong state")),
-        Command::StartTls => Ok(LastWords(b"BAD Wrong state")),
+        Command::Login => Ok(ResponseText::WrongState),
+        Command::Authenticate => Ok(ResponseText::WrongState),
+        Command::StartTls => Ok(ResponseText::WrongState),
         Command::Select(name) => {
             select_mailbox(alloc, folders, false, name, selected, store, response)
         }

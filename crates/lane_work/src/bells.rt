@@ -17,7 +17,7 @@ pub trait Summons {
     /// no harm.
     fn summon<R: Wait>(&self, rt: &R, shard: usize);
 
-    /// How many copies of one message may be put before it is called for them. It is 1 where the
+    /// How many copies of one message may be put on a shard's lane before it is called for them. It is 1 where the
     /// consumer may sleep until it is called, since a gate may make the producer wait for it then.
     fn at_once(&self) -> usize
         ensures { 0 < result }

@@ -14,27 +14,21 @@ ghost use Rattle.lane_work.specs.Ends.{CountsEnds};
 ghost use Rattle.lane_work.specs.Permits.{AreLive, ArePermits, put_by};
 
 use crate::bells::Summons;
-use crate::desk::{Desk, Office};
+use crate::desk::Desk;
 use crate::hearing::{Torn, hear_one};
 use crate::notebook::Notebook;
+use crate::producer::Context;
 use crate::putting::put_copy;
 use change_ring::Flags;
-use delivery_token::{CopyKey, Noted, Text, Verdict};
-use shard_queue::ReplyChannel;
+use delivery_token::{CopyKey, Text, Verdict};
 use std::sync::Wait;
 use workers_sync::{Courier, Gate, Lost, Pace};
 
 /// Carries the messages of one seat's sessions: each goes into the lane of its mailbox's shard, for which
 /// is summoned, and the verdict on it is awaited and noted.
 pub struct LaneCourier<'a, R: Wait, S: Summons, N: Notebook> {
-    /// What it waits by, where a lane or a lock is taken.
-    pub rt: &'a R,
-    /// What it shares with all who put copies: the lanes, and which shard keeps a mailbox.
-    pub office: &'a Office,
-    /// Whom it summons for a copy that it put.
-    pub summons: &'a S,
-    /// The seat's reply channel, on which its verdicts come.
-    pub channel: &'a ReplyChannel<Noted>,
+    /// What it works with; the channel is the seat's.
+    pub context: Context<'a, R, S>,
     /// What it holds for the seat: its number, its permits and its end of the channel.
     pub desk: Desk,
     /// Which session of its seat it carries for, from 0.
@@ -47,53 +41,55 @@ pub struct LaneCourier<'a, R: Wait, S: Summons, N: Notebook> {
 
 // Puts a copy, and hears the verdict on it.
 fn judge<R: Wait, G: Gate, S: Summons>(
-    rt: &R,
+    context: &Context<'_, R, S>,
     pace: &mut Pace<'_, G>,
-    office: &Office,
-    summons: &S,
-    channel: &ReplyChannel<Noted>,
     desk: &mut Desk,
     key: CopyKey,
     mailbox: u8,
     text: &Text,
     flags: Flags,
 ) -> Result<Verdict, Torn>
-    requires permits { ArePermits office.now.lanes.items desk.old.number desk.old.permits.items }
-    requires receiver { IsReceiver channel.now desk.old.receiver }
-    requires lanes { office.now.directory.shards ≡ length office.now.lanes.items }
+    requires permits { ArePermits context.now.office.now.lanes.items desk.old.number
+        desk.old.permits.items }
+    requires receiver { IsReceiver context.now.channel.now desk.old.receiver }
+    requires lanes { context.now.office.now.directory.shards
+        ≡ length context.now.office.now.lanes.items }
     requires live { AreLive desk.old.permits.items }
-    ensures permits { ArePermits office.now.lanes.items desk.old.number desk.new.permits.items }
-    ensures receiver { IsReceiver channel.now desk.new.receiver }
+    ensures permits { ArePermits context.now.office.now.lanes.items desk.old.number
+        desk.new.permits.items }
+    ensures receiver { IsReceiver context.now.channel.now desk.new.receiver }
     ensures number { desk.new.number ≡ desk.old.number }
     ensures live { AreLive desk.new.permits.items }
     ensures ends { CountsEnds desk.old desk.new }
     ensures grew { IsStartOf (received desk.old.receiver) (received desk.new.receiver) }
     ensures only { OnOk result (HearsItsOwn desk.old desk.new) }
     ensures judged { IfOk result (λ verdict.
-        WasJudged office.now.directory (rooms_of office.now.lanes.items) desk.old.number
+        WasJudged context.now.office.now.directory (rooms_of context.now.office.now.lanes.items)
+        desk.old.number
         (record { key = key; mailbox = mailbox; text = text.now; flags = flags }) verdict
         (received desk.new.receiver) (map put_by desk.old.permits.items)
         (map put_by desk.new.permits.items)) }
 {
-    match put_copy(rt, pace, office, summons, desk, key, mailbox, text, flags) {
+    match put_copy(context, pace, desk, key, mailbox, text, flags) {
         Some(verdict) => Ok(verdict),
-        None => hear_one(rt, pace, channel, desk, key, mailbox),
+        None => hear_one(context, pace, desk, key, mailbox),
     }
 }
 
 impl<'a, R: Wait, S: Summons, N: Notebook> Courier for LaneCourier<'a, R, S, N> {
     // It has the seat's own permit on each lane, none of them over, and the receiver of its channel.
-    ghost ready = { λ c. IsReady c.office.now c.channel.now c.desk };
+    ghost ready = { λ c. IsReady c.context.office.now c.context.channel.now c.desk };
 
     // Its books tell of just these messages of its session, and of the verdicts on them.
-    ghost carried = { λ c done. HasCarried c.office.now c.desk c.serial (N.tells c.book) done };
+    ghost carried = { λ c done. HasCarried c.context.office.now c.desk c.serial (N.tells c.book) done };
 
     // Office, channel, number, serial and the book's owner are the same, and no end was counted that wasn't heard. Unless it is torn, as
     // many verdicts were heard as copies were put, and these were of some messages of its session, which it carried behind those before.
-    ghost kept = { λ first now. IsSameDesk first.office.now now.office.now first.channel.now now.channel.now first.desk now.desk
+    ghost kept = { λ first now. IsSameDesk first.context.office.now now.context.office.now first.context.channel.now now.context.channel.now first.desk now.desk
         × (now.serial ≡ first.serial) × (N.owner now.book ≡ N.owner first.book)
         × (now.is_torn ≡ false → (first.is_torn ≡ false) × HearsItsOwn first.desk now.desk
-        × ((carried : List Carried) × CarriesOn first.office.now first.serial first.desk carried now.desk)) };
+        × ((carried : List Carried)
+        × CarriesOn first.context.office.now first.serial first.desk carried now.desk)) };
 
     fn carry<G: Gate>(
         &mut self,
@@ -113,11 +109,8 @@ impl<'a, R: Wait, S: Summons, N: Notebook> Courier for LaneCourier<'a, R, S, N> 
             message,
             recipient: 0,
         };
-        let (rt, office, summons, channel) = (self.rt, self.office, self.summons, self.channel);
-        let desk = &mut self.desk;
-        let Ok(verdict) = judge(
-            rt, pace, office, summons, channel, desk, key, mailbox, text, flags,
-        ) else {
+        let (context, desk) = (&self.context, &mut self.desk);
+        let Ok(verdict) = judge(context, pace, desk, key, mailbox, text, flags) else {
             self.is_torn = true;
             return Err(Lost::Torn);
         };

@@ -9,6 +9,7 @@ ghost use Rattle.lane_work.specs.inner.Closing.{KeepsDesk, Marks, closings_at};
 use crate::bells::Summons;
 use crate::desk::{Closing, Desk, LanePermit, Office};
 use crate::ending::end_one;
+use crate::producer::Context;
 use delivery_token::Job;
 use envelope::Directory;
 use shard_queue::ShardQueue;
@@ -80,26 +81,25 @@ fn left_at<R: Wait, G: Gate, S: Summons>(
 // Ends the permits that aren't over on shards that are shut. Each permit is taken from the front and put
 // back behind the others, so that they stand as before when all have gone round.
 fn end_where_shut<R: Wait, G: Gate, S: Summons>(
-    rt: &R,
+    context: &Context<'_, R, S>,
     pace: &mut Pace<'_, G>,
-    office: &Office,
-    summons: &S,
     desk: &mut Desk,
     directory: &Directory,
 )
-    requires { AreInForce directory.now office.now.lanes.items desk.old.number
+    requires { AreInForce directory.now context.now.office.now.lanes.items desk.old.number
         desk.old.permits.items }
-    ensures permits { AreInForce directory.now office.now.lanes.items desk.old.number
+    ensures permits { AreInForce directory.now context.now.office.now.lanes.items desk.old.number
         desk.new.permits.items }
     ensures kept { KeepsDesk desk.old desk.new }
-    ensures over { (lane : ℕ) → lane < length office.now.lanes.items
+    ensures over { (lane : ℕ) → lane < length context.now.office.now.lanes.items
         → is_shut directory.now lane ≡ true →
         slice_index_or (overs desk.new.permits.items) lane false ≡ true }
 {
-    for lane in 0..office.lanes.len() {
+    for lane in 0..context.office.lanes.len() {
         let permit = desk.permits.remove(0);
         let shut = directory.is_shut(lane);
-        let left = left_at(rt, pace, &office.lanes[lane], summons, lane, permit, shut);
+        let at = &context.office.lanes[lane];
+        let left = left_at(context.rt, pace, at, context.summons, lane, permit, shut);
         desk.permits.push_reserved(left);
     }
 }
@@ -108,32 +108,35 @@ fn end_where_shut<R: Wait, G: Gate, S: Summons>(
 /// own directory, and its permits there are over. Where a lane is full it tries again until there is room
 /// for the end.
 pub(crate) fn close_due<R: Wait, G: Gate, S: Summons>(
-    rt: &R,
+    context: &Context<'_, R, S>,
     pace: &mut Pace<'_, G>,
-    office: &Office,
-    summons: &S,
     desk: &mut Desk,
     directory: &mut Directory,
     connection: usize,
 )
     // The desk has its own permit on each lane, over only where `directory` marks the shard as shut.
-    requires permits { AreInForce directory.old office.now.lanes.items desk.old.number
+    requires permits { AreInForce directory.old context.now.office.now.lanes.items desk.old.number
         desk.old.permits.items }
-    requires lanes { directory.old.shards ≡ length office.now.lanes.items }
+    requires lanes { directory.old.shards ≡ length context.now.office.now.lanes.items }
     requires marks { length directory.old.shut ≡ directory.old.shards }
 
     // The same holds after, with the new marks; nothing is put or heard.
-    ensures permits { AreInForce directory.new office.now.lanes.items desk.old.number
+    ensures permits { AreInForce directory.new context.now.office.now.lanes.items desk.old.number
         desk.new.permits.items }
     ensures kept { KeepsDesk desk.old desk.new }
 
     // Just the shards are marked in addition that this worker closes before this connection, and on each marked one the permit is over.
-    ensures marks { Marks connection (closings_at office.now desk.old.number) directory.old
+    ensures marks { Marks connection (closings_at context.now.office.now desk.old.number)
+        directory.old
         directory.new }
-    ensures over { (lane : ℕ) → lane < length office.now.lanes.items
+    ensures over { (lane : ℕ) → lane < length context.now.office.now.lanes.items
         → is_shut directory.new lane ≡ true →
         slice_index_or (overs desk.new.permits.items) lane false ≡ true }
 {
-    mark_due(closings_of(office, desk.number), connection, directory);
-    end_where_shut(rt, pace, office, summons, desk, directory);
+    mark_due(
+        closings_of(context.office, desk.number),
+        connection,
+        directory,
+    );
+    end_where_shut(context, pace, desk, directory);
 }

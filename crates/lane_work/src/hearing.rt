@@ -15,10 +15,12 @@ ghost use Rattle.lane_work.specs.Awaiting.{verdicts_in};
 ghost use Rattle.lane_work.specs.Ends.{CountsEnds, ends_in};
 ghost use Rattle.lane_work.specs.Permits.{AreLive, overs};
 
+use crate::bells::Summons;
 use crate::desk::{Desk, LanePermit};
-use delivery_token::{CopyKey, Noted, Verdict, Verdicts};
+use crate::producer::Context;
+use delivery_token::{CopyKey, Verdict, Verdicts};
 use lmtp_machine::Submission;
-use shard_queue::{Entry, ReplyChannel};
+use shard_queue::Entry;
 use std::sync::Wait;
 use workers_sync::{Gate, Pace};
 
@@ -38,16 +40,15 @@ fn is_over_at(permits: &[LanePermit], shard: u8) -> bool
 
 /// Hears verdicts until each of the message's is known; Torn where what comes isn't awaited. The end of
 /// a shard on whose lane the permit is over is counted, and no more.
-pub(crate) fn hear_all<R: Wait, G: Gate>(
-    rt: &R,
+pub(crate) fn hear_all<R: Wait, G: Gate, S: Summons>(
+    context: &Context<'_, R, S>,
     pace: &mut Pace<'_, G>,
-    channel: &ReplyChannel<Noted>,
     desk: &mut Desk,
     message: &Submission,
     verdicts: &mut Verdicts,
 ) -> Result<(), Torn>
-    requires { IsReceiver channel.now desk.old.receiver }
-    ensures receiver { IsReceiver channel.now desk.new.receiver }
+    requires { IsReceiver context.now.channel.now desk.old.receiver }
+    ensures receiver { IsReceiver context.now.channel.now desk.new.receiver }
     ensures same { SameButReceiver desk.old desk.new }
     ensures ends { CountsEnds desk.old desk.new }
 
@@ -72,12 +73,12 @@ pub(crate) fn hear_all<R: Wait, G: Gate>(
 {
     let keys = message.keys.as_slice();
     let mailboxes = message.mailboxes.as_slice();
-    for _ in rt.forever() {
+    for _ in context.rt.forever() {
         if verdicts.are_known(keys.len()) {
             return Ok(());
         }
         pace.pass();
-        match channel.recv_as(rt, &mut desk.receiver) {
+        match context.channel.recv_as(context.rt, &mut desk.receiver) {
             Entry::Item(_, noted) => {
                 if !verdicts.hear_awaited(keys, mailboxes, &noted) {
                     return Err(Torn);
@@ -95,16 +96,15 @@ pub(crate) fn hear_all<R: Wait, G: Gate>(
 }
 
 /// Hears the verdict on the only copy that is under way; Torn where something else comes.
-pub(crate) fn hear_one<R: Wait, G: Gate>(
-    rt: &R,
+pub(crate) fn hear_one<R: Wait, G: Gate, S: Summons>(
+    context: &Context<'_, R, S>,
     pace: &mut Pace<'_, G>,
-    channel: &ReplyChannel<Noted>,
     desk: &mut Desk,
     key: CopyKey,
     mailbox: u8,
 ) -> Result<Verdict, Torn>
-    requires { IsReceiver channel.now desk.old.receiver }
-    ensures receiver { IsReceiver channel.now desk.new.receiver }
+    requires { IsReceiver context.now.channel.now desk.old.receiver }
+    ensures receiver { IsReceiver context.now.channel.now desk.new.receiver }
     ensures same { SameButReceiver desk.old desk.new }
     ensures ends { CountsEnds desk.old desk.new }
 
@@ -122,7 +122,7 @@ pub(crate) fn hear_one<R: Wait, G: Gate>(
         < length (received desk.new.receiver)) }
 {
     pace.pass();
-    match channel.recv_as(rt, &mut desk.receiver) {
+    match context.channel.recv_as(context.rt, &mut desk.receiver) {
         Entry::Item(_, noted) => {
             if noted.key != key {
                 return Err(Torn);

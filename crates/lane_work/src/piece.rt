@@ -12,16 +12,13 @@ ghost use Rattle.lane_work.specs.Copies.{rooms_of};
 ghost use Rattle.lane_work.specs.inner.Pieces.{TookPiece, SaidByThen};
 
 use crate::bells::Summons;
-use crate::desk::{Desk, Office};
 use crate::notebook::Notebook;
+use crate::producer::{Context, Producer};
 use crate::worker::{Stop, turn};
-use delivery_token::Noted;
 use lmtp_machine::{LmtpMachine, What};
-use shard_queue::ReplyChannel;
-use std::alloc::Global;
 use std::sync::Wait;
 use std::sync::atomic::{AtomicBool, Ordering};
-use workers_sync::{Gate, Pace};
+use workers_sync::Gate;
 
 // What is to be done behind a piece, once its replies are sent.
 #[derive(Clone, Copy, Debug, PartialEq, Eq)]
@@ -34,67 +31,69 @@ pub(crate) enum Next {
 
 // Takes a piece turn by turn. `stop` is looked at before the first turn, and behind each that submitted a message.
 pub(crate) fn take_piece<R: Wait, G: Gate, S: Summons, N: Notebook>(
-    rt: &R,
-    alloc: Global,
-    pace: &mut Pace<'_, G>,
-    office: &Office,
-    summons: &S,
-    channel: &ReplyChannel<Noted>,
-    desk: &mut Desk,
-    book: &mut N,
+    context: &Context<'_, R, S>,
+    producer: &mut Producer<'_, G, N>,
     machine: &mut LmtpMachine,
     piece: &[u8],
     stop: &AtomicBool,
     out: &mut Vec<u8>,
 ) -> Result<Next, Stop>
     // The desk has its own permit on each lane, over only where the office marks the shard as shut; its receiver is of `channel`.
-    requires permits { AreInForce office.now.directory office.now.lanes.items desk.old.number
-        desk.old.permits.items }
-    requires receiver { IsReceiver channel.now desk.old.receiver }
-    requires lanes { office.now.directory.shards ≡ length office.now.lanes.items }
+    requires permits { AreInForce context.now.office.now.directory
+        context.now.office.now.lanes.items producer.old.desk.number
+        producer.old.desk.permits.items }
+    requires receiver { IsReceiver context.now.channel.now producer.old.desk.receiver }
+    requires lanes { context.now.office.now.directory.shards
+        ≡ length context.now.office.now.lanes.items }
 
     // No message of the connection waits for its verdicts.
     requires quiet { machine.old.pending ≡ [] }
 
     // The same holds after; no end was counted that wasn't heard.
-    ensures permits { AreInForce office.now.directory office.now.lanes.items desk.old.number
-        desk.new.permits.items }
-    ensures receiver { IsReceiver channel.now desk.new.receiver }
-    ensures number { desk.new.number ≡ desk.old.number }
-    ensures ends { CountsEnds desk.old desk.new }
+    ensures permits { AreInForce context.now.office.now.directory
+        context.now.office.now.lanes.items producer.old.desk.number
+        producer.new.desk.permits.items }
+    ensures receiver { IsReceiver context.now.channel.now producer.new.desk.receiver }
+    ensures number { producer.new.desk.number ≡ producer.old.desk.number }
+    ensures ends { CountsEnds producer.old.desk producer.new.desk }
 
     // What was heard before stands in front of what was heard since; after `Torn` something was.
-    ensures grew { IsStartOf (received desk.old.receiver) (received desk.new.receiver) }
+    ensures grew { IsStartOf (received producer.old.desk.receiver) (received
+        producer.new.desk.receiver) }
     ensures torn { result ≡ Err Stop.Torn
-        → length (received desk.old.receiver) < length (received desk.new.receiver) }
+        → length (received producer.old.desk.receiver) < length (received
+        producer.new.desk.receiver) }
 
     // The book stays its owner's; without an error no message waits, and the connection's setting and host are the same.
-    ensures owner { N.owner book.new ≡ N.owner book.old }
+    ensures owner { N.owner producer.new.book ≡ N.owner producer.old.book }
     ensures quiet { OnOk result (machine.new.pending ≡ []) }
     ensures same { OnOk result ((machine.new.setting ≡ machine.old.setting)
         × (machine.new.host ≡ machine.old.host)) }
 
     // Without an error: as it stood for `bytes`, so it does with a front of the piece, which is all of it at `Read` unless the dialogue ended.
     ensures took { IfOk result (λ next. (done : List Judged) (bytes told : List ℕ)
-        → Stands office.now.directory office.now.directory (rooms_of office.now.lanes.items)
-        desk.old.number done bytes false machine.old (told
-        ++ out.old.items) (N.tells book.old) (received desk.old.receiver)
-        (map put_by desk.old.permits.items)
-        → TookPiece office.now.directory (rooms_of office.now.lanes.items) desk.old.number done
+        → Stands context.now.office.now.directory context.now.office.now.directory (rooms_of
+        context.now.office.now.lanes.items)
+        producer.old.desk.number done bytes false machine.old (told
+        ++ out.old.items) (N.tells producer.old.book) (received producer.old.desk.receiver)
+        (map put_by producer.old.desk.permits.items)
+        → TookPiece context.now.office.now.directory (rooms_of context.now.office.now.lanes.items)
+        producer.old.desk.number done
         bytes piece.now next machine.new (told
-        ++ out.new.items) (N.tells book.new) (received desk.new.receiver)
-        (map put_by desk.new.permits.items)) }
+        ++ out.new.items) (N.tells producer.new.book) (received producer.new.desk.receiver)
+        (map put_by producer.new.desk.permits.items)) }
 
     // After `NoMemory`: `told`, then `out`, is the replies to `bytes` and a front of the piece, whose messages are in the books.
     ensures no_memory { result ≡ Err Stop.NoMemory → (done : List Judged) (bytes told : List ℕ)
-        → Stands office.now.directory office.now.directory (rooms_of office.now.lanes.items)
-        desk.old.number done bytes false machine.old (told
-        ++ out.old.items) (N.tells book.old) (received desk.old.receiver)
-        (map put_by desk.old.permits.items)
-        → SaidByThen machine.old.setting machine.old.host office.now.directory
-        (rooms_of office.now.lanes.items) desk.old.number done bytes piece.now (told
-        ++ out.new.items) (N.tells book.new)
-        (received desk.new.receiver) (map put_by desk.new.permits.items) }
+        → Stands context.now.office.now.directory context.now.office.now.directory (rooms_of
+        context.now.office.now.lanes.items)
+        producer.old.desk.number done bytes false machine.old (told
+        ++ out.old.items) (N.tells producer.old.book) (received producer.old.desk.receiver)
+        (map put_by producer.old.desk.permits.items)
+        → SaidByThen machine.old.setting machine.old.host context.now.office.now.directory
+        (rooms_of context.now.office.now.lanes.items) producer.old.desk.number done bytes piece.now (told
+        ++ out.new.items) (N.tells producer.new.book)
+        (received producer.new.desk.receiver) (map put_by producer.new.desk.permits.items) }
 {
     if stop.load(Ordering::SeqCst) {
         return Ok(Next::Shut);
@@ -103,15 +102,9 @@ pub(crate) fn take_piece<R: Wait, G: Gate, S: Summons, N: Notebook>(
     while used < piece.len() {
         let said = out.len();
         let fed = match turn(
-            rt,
-            alloc,
-            pace,
-            office,
-            &office.directory,
-            summons,
-            channel,
-            desk,
-            book,
+            context,
+            producer,
+            &context.office.directory,
             machine,
             &piece[used..],
             out,

@@ -1,7 +1,7 @@
 //! A message's copies are put, each into the lane of its mailbox's shard. What is heard of them does
 //! not belong here.
 
-ghost use Rattle.std.specs.Prelude.{◌≡◌, ◌≤◌, ◌<◌, ◌+◌, ◌++◌, ◌∷◌, [], length, map, Some, None, IfSome, MatchOption, true, false, not, ◌==◌, slice_get, slice_index_or, slice_set, vec_len};
+ghost use Rattle.std.specs.Prelude.{◌≡◌, ◌≤◌, ◌<◌, ◌+◌, ◌++◌, ◌∷◌, ◌||◌, ℕ, [], drop, length, map, Some, None, IfSome, MatchOption, true, false, not, ◌==◌, slice_get, slice_index_or, slice_set, vec_len};
 ghost use Rattle.std.specs.List.{list_all};
 ghost use Rattle.shard_queue.specs.declared.lane.Entry.TheVariants as entries;
 ghost use Rattle.delivery_token.specs.declared.Refusal.TheVariants as refusals;
@@ -16,10 +16,11 @@ ghost use Rattle.delivery_token.specs.Verdicts.{unknown};
 ghost use Rattle.lane_work.specs.Awaiting.{copies_in};
 ghost use Rattle.lane_work.specs.Copies.{FilledAlone, IsAtOnce, copies_of, room_at, room_of, rooms_of};
 ghost use Rattle.lane_work.specs.inner.Copies.{HavePut, WereTried};
-ghost use Rattle.lane_work.specs.inner.Summoning.{is_last_at, rest_of_group};
+ghost use Rattle.lane_work.specs.inner.Summoning.{is_last_at};
 
 use crate::bells::Summons;
 use crate::desk::{Desk, LanePermit, Office};
+use crate::producer::Context;
 use change_ring::{Flags, NO_FLAGS};
 use delivery_token::{CopyKey, Job, Refusal, Text, Verdict, Verdicts};
 use envelope::Directory;
@@ -144,33 +145,42 @@ fn try_copy<R: Wait>(
     )
 }
 
+// Summons whoever takes this mailbox's copies.
+fn summon_for<R: Wait, S: Summons>(context: &Context<'_, R, S>, mailbox: u8) {
+    let shard = context.office.directory.shard_of(mailbox);
+    context.summons.summon(context.rt, shard);
+}
+
 // So often a copy is tried before it is refused for want of room: others may fill a short lane as soon as it was emptied.
 const TRIES: u32 = 16;
 
 // The same; where there is no room the consumer is summoned, and the copy is tried again.
 fn put_or_make_room<R: Wait, G: Gate, S: Summons>(
-    rt: &R,
+    context: &Context<'_, R, S>,
     pace: &mut Pace<'_, G>,
-    office: &Office,
-    summons: &S,
     desk: &mut Desk,
     key: CopyKey,
     mailbox: u8,
     text: &Text,
     flags: Flags,
 ) -> Option<Verdict>
-    requires permits { ArePermits office.now.lanes.items desk.old.number desk.old.permits.items }
-    requires lanes { office.now.directory.shards ≡ length office.now.lanes.items }
-    ensures permits { ArePermits office.now.lanes.items desk.old.number desk.new.permits.items }
+    requires permits { ArePermits context.now.office.now.lanes.items desk.old.number
+        desk.old.permits.items }
+    requires lanes { context.now.office.now.directory.shards
+        ≡ length context.now.office.now.lanes.items }
+    ensures permits { ArePermits context.now.office.now.lanes.items desk.old.number
+        desk.new.permits.items }
     ensures same { SameButPermits desk.old desk.new }
-    ensures within { shard_of office.now.directory mailbox < length office.now.lanes.items }
+    ensures within { shard_of context.now.office.now.directory mailbox < length
+        context.now.office.now.lanes.items }
 
     // Where the mailbox's permit isn't over: just the copy was put, on its lane; or it is refused, for want of room or memory, and nothing put.
     ensures put { slice_index_or (overs desk.old.permits.items)
-        (shard_of office.now.directory mailbox) false ≡ false → MatchOption result
+        (shard_of context.now.office.now.directory mailbox) false ≡ false → MatchOption result
         (map put_by desk.new.permits.items
-        ≡ slice_set (map put_by desk.old.permits.items) (shard_of office.now.directory mailbox)
-        (slice_index_or (map put_by desk.old.permits.items) (shard_of office.now.directory mailbox)
+        ≡ slice_set (map put_by desk.old.permits.items) (shard_of context.now.office.now.directory
+        mailbox)
+        (slice_index_or (map put_by desk.old.permits.items) (shard_of context.now.office.now.directory mailbox)
         []
         ++ entries.Item desk.old.number (record {
           key = key;
@@ -179,53 +189,56 @@ fn put_or_make_room<R: Wait, G: Gate, S: Summons>(
           flags = flags;
         }) ∷ []))
         (λ v. (map put_by desk.new.permits.items ≡ map put_by desk.old.permits.items)
-        × IsAtOnce (FilledAlone (room_at (rooms_of office.now.lanes.items)
-        (shard_of office.now.directory mailbox)) desk.old.number
-        (slice_index_or (map put_by desk.old.permits.items) (shard_of office.now.directory mailbox)
+        × IsAtOnce (FilledAlone (room_at (rooms_of context.now.office.now.lanes.items)
+        (shard_of context.now.office.now.directory mailbox)) desk.old.number
+        (slice_index_or (map put_by desk.old.permits.items) (shard_of context.now.office.now.directory mailbox)
         [])) v) }
 
     // Where it is over, the copy is refused as `Shut`, and nothing is put.
     ensures over { slice_index_or (overs desk.old.permits.items)
-        (shard_of office.now.directory mailbox) false ≡ true
+        (shard_of context.now.office.now.directory mailbox) false ≡ true
         → (result ≡ Some (verdicts.Refused refusals.Shut))
         × (map put_by desk.new.permits.items ≡ map put_by desk.old.permits.items) }
 {
     pace.pass();
     for _ in 1..TRIES {
-        match try_copy(rt, office, desk, key, mailbox, text, flags) {
+        match try_copy(context.rt, context.office, desk, key, mailbox, text, flags) {
             Some(Verdict::Refused(Refusal::Full)) => {
-                summons.summon(rt, office.directory.shard_of(mailbox));
+                summon_for(context, mailbox);
             }
             known => return known,
         }
     }
-    try_copy(rt, office, desk, key, mailbox, text, flags)
+    try_copy(context.rt, context.office, desk, key, mailbox, text, flags)
 }
 
 /// The same, and the consumer is summoned for it.
 pub(crate) fn put_copy<R: Wait, G: Gate, S: Summons>(
-    rt: &R,
+    context: &Context<'_, R, S>,
     pace: &mut Pace<'_, G>,
-    office: &Office,
-    summons: &S,
     desk: &mut Desk,
     key: CopyKey,
     mailbox: u8,
     text: &Text,
     flags: Flags,
 ) -> Option<Verdict>
-    requires permits { ArePermits office.now.lanes.items desk.old.number desk.old.permits.items }
-    requires lanes { office.now.directory.shards ≡ length office.now.lanes.items }
-    ensures permits { ArePermits office.now.lanes.items desk.old.number desk.new.permits.items }
+    requires permits { ArePermits context.now.office.now.lanes.items desk.old.number
+        desk.old.permits.items }
+    requires lanes { context.now.office.now.directory.shards
+        ≡ length context.now.office.now.lanes.items }
+    ensures permits { ArePermits context.now.office.now.lanes.items desk.old.number
+        desk.new.permits.items }
     ensures same { SameButPermits desk.old desk.new }
-    ensures within { shard_of office.now.directory mailbox < length office.now.lanes.items }
+    ensures within { shard_of context.now.office.now.directory mailbox < length
+        context.now.office.now.lanes.items }
 
     // Where the mailbox's permit isn't over: just the copy was put, on its lane; or it is refused, for want of room or memory, and nothing put.
     ensures put { slice_index_or (overs desk.old.permits.items)
-        (shard_of office.now.directory mailbox) false ≡ false → MatchOption result
+        (shard_of context.now.office.now.directory mailbox) false ≡ false → MatchOption result
         (map put_by desk.new.permits.items
-        ≡ slice_set (map put_by desk.old.permits.items) (shard_of office.now.directory mailbox)
-        (slice_index_or (map put_by desk.old.permits.items) (shard_of office.now.directory mailbox)
+        ≡ slice_set (map put_by desk.old.permits.items) (shard_of context.now.office.now.directory
+        mailbox)
+        (slice_index_or (map put_by desk.old.permits.items) (shard_of context.now.office.now.directory mailbox)
         []
         ++ entries.Item desk.old.number (record {
           key = key;
@@ -234,30 +247,43 @@ pub(crate) fn put_copy<R: Wait, G: Gate, S: Summons>(
           flags = flags;
         }) ∷ []))
         (λ v. (map put_by desk.new.permits.items ≡ map put_by desk.old.permits.items)
-        × IsAtOnce (FilledAlone (room_at (rooms_of office.now.lanes.items)
-        (shard_of office.now.directory mailbox)) desk.old.number
-        (slice_index_or (map put_by desk.old.permits.items) (shard_of office.now.directory mailbox)
+        × IsAtOnce (FilledAlone (room_at (rooms_of context.now.office.now.lanes.items)
+        (shard_of context.now.office.now.directory mailbox)) desk.old.number
+        (slice_index_or (map put_by desk.old.permits.items) (shard_of context.now.office.now.directory mailbox)
         [])) v) }
 
     // Where it is over, the copy is refused as `Shut`, and nothing is put.
     ensures over { slice_index_or (overs desk.old.permits.items)
-        (shard_of office.now.directory mailbox) false ≡ true
+        (shard_of context.now.office.now.directory mailbox) false ≡ true
         → (result ≡ Some (verdicts.Refused refusals.Shut))
         × (map put_by desk.new.permits.items ≡ map put_by desk.old.permits.items) }
 {
-    let verdict = put_or_make_room(rt, pace, office, summons, desk, key, mailbox, text, flags);
-    summons.summon(rt, office.directory.shard_of(mailbox));
+    let verdict = put_or_make_room(context, pace, desk, key, mailbox, text, flags);
+    summon_for(context, mailbox);
     verdict
 }
 
-// Of the mailboxes behind this position those that are in the same group, of so many at a time.
-fn rest_of_group(mailboxes: &[u8], at_once: usize, position: usize) -> &[u8]
-    requires within { position < length mailboxes.now }
-    requires some { 0 < at_once }
-    ensures { result.now ≡ rest_of_group at_once mailboxes.now position }
+// So many shards a house has at most.
+const MOST_SHARDS: usize = 8;
+
+// Counts one copy more that waits on this shard's lane. Whether so many wait there as are put at once: then they are counted anew.
+fn is_group_full(waiting: &mut [usize], shard: usize, at_once: usize) -> bool
+    requires { 0 < at_once }
+    ensures more { result ≡ false → (count : ℕ) → slice_get waiting.old shard ≡ Some count
+        → (count + 1 < at_once) × (waiting.new ≡ slice_set waiting.old shard (count + 1)) }
+    ensures full { result ≡ true → (count : ℕ) → slice_get waiting.old shard ≡ Some count
+        → (at_once ≤ count + 1) × (waiting.new ≡ slice_set waiting.old shard 0) }
 {
-    let behind = &mailboxes[position + 1..];
-    &behind[..behind.len().min(at_once - 1 - position % at_once)]
+    if shard >= waiting.len() {
+        return true;
+    }
+    let count = waiting[shard];
+    if count < at_once - 1 {
+        waiting[shard] = count + 1;
+        return false;
+    }
+    waiting[shard] = 0;
+    true
 }
 
 // Whether none of these mailboxes is this shard's.
@@ -270,71 +296,73 @@ fn has_none_at(directory: &Directory, shard: usize, mailboxes: &[u8]) -> bool
         .all(|mailbox| directory.shard_of(*mailbox) != shard)
 }
 
-// Whether a summons is due behind the copy at this position: it is the last of its group that is for its shard.
-fn is_due(directory: &Directory, at_once: usize, mailboxes: &[u8], position: usize) -> bool
-    requires within { position < length mailboxes.now }
-    requires some { 0 < at_once }
+// Whether a summons is due behind the copy at this position: as many wait on its lane as are put at once, or it is the last one for its shard.
+fn is_due(directory: &Directory, is_full: bool, mailboxes: &[u8], position: usize) -> bool
+    requires { position < length mailboxes.now }
     ensures { IfSome (slice_get mailboxes.now position) (λ mailbox.
-        result ≡ is_last_at directory.now mailbox (rest_of_group at_once mailboxes.now position)) }
+        result ≡ is_full || is_last_at directory.now mailbox (drop (position + 1) mailboxes.now)) }
 {
     let shard = directory.shard_of(mailboxes[position]);
-    let rest = rest_of_group(mailboxes, at_once, position);
-    has_none_at(directory, shard, rest)
+    is_full || has_none_at(directory, shard, &mailboxes[position + 1..])
 }
 
-// Summons whoever takes the copy at this position, where that is due.
+// Summons whoever takes the copy at this position, where that is due. Of each shard it is counted how many copies wait on its lane.
 fn summon_where_due<R: Wait, S: Summons>(
-    rt: &R,
-    office: &Office,
-    summons: &S,
+    context: &Context<'_, R, S>,
+    waiting: &mut [usize],
     mailboxes: &[u8],
     position: usize,
 )
     requires { position < length mailboxes.now }
 {
-    if is_due(&office.directory, summons.at_once(), mailboxes, position) {
-        summons.summon(rt, office.directory.shard_of(mailboxes[position]));
+    let shard = context.office.directory.shard_of(mailboxes[position]);
+    let is_full = is_group_full(waiting, shard, context.summons.at_once());
+    if is_due(&context.office.directory, is_full, mailboxes, position) {
+        context.summons.summon(context.rt, shard);
     }
 }
 
 /// Puts each copy of a message, in the order of its recipients; one for a lane on which the permit is over is refused as Shut. In `verdicts`, which
 /// has room for as many as there are, is then of each what was known of it at once, or None where it is under way.
 pub(crate) fn put_all<R: Wait, G: Gate, S: Summons>(
-    rt: &R,
+    context: &Context<'_, R, S>,
     pace: &mut Pace<'_, G>,
-    office: &Office,
-    summons: &S,
     desk: &mut Desk,
     message: &Submission,
     verdicts: &mut Verdicts,
 )
-    requires permits { ArePermits office.now.lanes.items desk.old.number desk.old.permits.items }
-    requires lanes { office.now.directory.shards ≡ length office.now.lanes.items }
+    requires permits { ArePermits context.now.office.now.lanes.items desk.old.number
+        desk.old.permits.items }
+    requires lanes { context.now.office.now.directory.shards
+        ≡ length context.now.office.now.lanes.items }
     requires mailboxes { vec_len message.now.mailboxes ≡ vec_len message.now.keys }
     requires slots { (verdicts.old.slots ≡ []) × (vec_len message.now.keys ≤ verdicts.old.most) }
-    ensures permits { ArePermits office.now.lanes.items desk.old.number desk.new.permits.items }
+    ensures permits { ArePermits context.now.office.now.lanes.items desk.old.number
+        desk.new.permits.items }
     ensures same { SameButPermits desk.old desk.new }
     ensures slots { length verdicts.new.slots ≡ vec_len message.now.keys }
     // So many copies were put as verdicts are unknown.
     ensures counts { copies_in (map put_by desk.new.permits.items)
         ≡ copies_in (map put_by desk.old.permits.items) + unknown verdicts.new.slots }
     // Where no permit is over that a copy is for.
-    ensures tried { AreOpenTo office.now.directory message.now.mailboxes.items
+    ensures tried { AreOpenTo context.now.office.now.directory message.now.mailboxes.items
         desk.old.permits.items
-        → WereTried office.now.directory (rooms_of office.now.lanes.items) desk.old.number
+        → WereTried context.now.office.now.directory (rooms_of context.now.office.now.lanes.items)
+        desk.old.number
         (copies_of (submission_of message.now)) verdicts.new.slots
         (map put_by desk.old.permits.items) }
-    ensures put { AreOpenTo office.now.directory message.now.mailboxes.items desk.old.permits.items
-        → HavePut office.now.directory desk.old.number (copies_of (submission_of message.now))
+    ensures put { AreOpenTo context.now.office.now.directory message.now.mailboxes.items
+        desk.old.permits.items
+        → HavePut context.now.office.now.directory desk.old.number (copies_of (submission_of
+        message.now))
         verdicts.new.slots (map put_by desk.old.permits.items)
         (map put_by desk.new.permits.items) }
 {
+    let mut waiting = [0usize; MOST_SHARDS];
     for i in 0..message.keys.len() {
         let verdict = put_or_make_room(
-            rt,
+            context,
             pace,
-            office,
-            summons,
             desk,
             message.keys[i],
             message.mailboxes[i],
@@ -342,6 +370,6 @@ pub(crate) fn put_all<R: Wait, G: Gate, S: Summons>(
             NO_FLAGS,
         );
         verdicts.note_put(verdict);
-        summon_where_due(rt, office, summons, &message.mailboxes, i);
+        summon_where_due(context, &mut waiting, &message.mailboxes, i);
     }
 }

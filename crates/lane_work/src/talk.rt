@@ -17,22 +17,21 @@ ghost use Rattle.lane_work.specs.Copies.{rooms_of};
 ghost use Rattle.lane_work.specs.Streaming.{IsPlayed};
 
 use crate::bells::Summons;
-use crate::desk::{Desk, Office};
+use crate::desk::Office;
 use crate::notebook::Notebook;
 use crate::outcome::{Ending, TalkFault};
 use crate::piece::{Next, take_piece};
+use crate::producer::{Context, Producer};
 use crate::reading::read_piece;
 use crate::shutting::{give_up, shut_down};
 use crate::worker::Stop;
-use delivery_token::Noted;
 use line_io::{Sink, send};
 use lmtp_machine::{Limits, LmtpMachine};
-use shard_queue::ReplyChannel;
 use std::alloc::{AllocError, Global};
 use std::io::Read;
 use std::sync::Wait;
 use std::sync::atomic::{AtomicBool, Ordering};
-use workers_sync::{Gate, Pace};
+use workers_sync::Gate;
 
 // A new connection of this worker, and its greeting in `out`, which is empty.
 fn open(
@@ -62,14 +61,8 @@ fn open(
 
 // Sends what was said, reads, and takes what came, over and over.
 fn go_on<R: Wait, G: Gate, S: Summons, N: Notebook, I: Read, O: Sink>(
-    rt: &R,
-    alloc: Global,
-    pace: &mut Pace<'_, G>,
-    office: &Office,
-    summons: &S,
-    channel: &ReplyChannel<Noted>,
-    desk: &mut Desk,
-    book: &mut N,
+    context: &Context<'_, R, S>,
+    producer: &mut Producer<'_, G, N>,
     machine: &mut LmtpMachine,
     input: &mut I,
     output: &mut O,
@@ -77,37 +70,43 @@ fn go_on<R: Wait, G: Gate, S: Summons, N: Notebook, I: Read, O: Sink>(
     buffer: &mut [u8],
     out: &mut Vec<u8>,
 ) -> Result<Ending, TalkFault>
-    requires permits { AreInForce office.now.directory office.now.lanes.items desk.old.number
-        desk.old.permits.items }
-    requires receiver { IsReceiver channel.now desk.old.receiver }
-    requires lanes { office.now.directory.shards ≡ length office.now.lanes.items }
+    requires permits { AreInForce context.now.office.now.directory
+        context.now.office.now.lanes.items producer.old.desk.number
+        producer.old.desk.permits.items }
+    requires receiver { IsReceiver context.now.channel.now producer.old.desk.receiver }
+    requires lanes { context.now.office.now.directory.shards
+        ≡ length context.now.office.now.lanes.items }
     requires quiet { machine.old.pending ≡ [] }
-    requires host { machine.old.host ≡ office.now.host.items }
+    requires host { machine.old.host ≡ context.now.office.now.host.items }
     requires live { O.failed output.old ≡ false }
     requires room { 0 < length buffer.old }
-    ensures permits { AreInForce office.now.directory office.now.lanes.items desk.old.number
-        desk.new.permits.items }
-    ensures receiver { IsReceiver channel.now desk.new.receiver }
-    ensures number { desk.new.number ≡ desk.old.number }
-    ensures ends { CountsEnds desk.old desk.new }
-    ensures grew { IsStartOf (received desk.old.receiver) (received desk.new.receiver) }
+    ensures permits { AreInForce context.now.office.now.directory
+        context.now.office.now.lanes.items producer.old.desk.number
+        producer.new.desk.permits.items }
+    ensures receiver { IsReceiver context.now.channel.now producer.new.desk.receiver }
+    ensures number { producer.new.desk.number ≡ producer.old.desk.number }
+    ensures ends { CountsEnds producer.old.desk producer.new.desk }
+    ensures grew { IsStartOf (received producer.old.desk.receiver) (received
+        producer.new.desk.receiver) }
     ensures torn { result ≡ Err TalkFault.Torn
-        → length (received desk.old.receiver) < length (received desk.new.receiver) }
-    ensures owner { N.owner book.new ≡ N.owner book.old }
+        → length (received producer.old.desk.receiver) < length (received
+        producer.new.desk.receiver) }
+    ensures owner { N.owner producer.new.book ≡ N.owner producer.old.book }
     ensures len { length buffer.new ≡ length buffer.old }
     ensures live { OnOk result (O.failed output.new ≡ false) }
     ensures failed { result ≡ Err TalkFault.Write → O.failed output.new ≡ true }
     ensures played { (done : List Judged)
-        → Stands office.now.directory office.now.directory
-        (rooms_of office.now.lanes.items) desk.old.number done [] false machine.old out.old.items
-        (N.tells book.old) (received desk.old.receiver)
-        (map put_by desk.old.permits.items)
-        → IsPlayed (premises_of office.now) machine.old.setting desk.old.number done
+        → Stands context.now.office.now.directory context.now.office.now.directory
+        (rooms_of context.now.office.now.lanes.items) producer.old.desk.number done [] false machine.old out.old.items
+        (N.tells producer.old.book) (received producer.old.desk.receiver)
+        (map put_by producer.old.desk.permits.items)
+        → IsPlayed (premises_of context.now.office.now) machine.old.setting
+        producer.old.desk.number done
         (I.remaining input.old) (I.remaining input.new)
         (O.taken output.old) (O.taken output.new) (O.failed output.new)
-        (N.tells book.new) (received desk.new.receiver) (map put_by desk.new.permits.items) result }
+        (N.tells producer.new.book) (received producer.new.desk.receiver) (map put_by producer.new.desk.permits.items) result }
 {
-    for _ in rt.forever() {
+    for _ in context.rt.forever() {
         let Ok(()) = send(output, out.as_slice()) else {
             return Err(TalkFault::Write);
         };
@@ -115,27 +114,14 @@ fn go_on<R: Wait, G: Gate, S: Summons, N: Notebook, I: Read, O: Sink>(
         if machine.has_ended() {
             return Ok(Ending::Quit);
         }
-        let Ok(count) = read_piece(rt, input, buffer) else {
+        let Ok(count) = read_piece(context.rt, input, buffer) else {
             return Err(TalkFault::Read);
         };
         // Who stops the house shuts the side that is read, so that a peer's end may be the house's.
         if count == 0 && !stop.load(Ordering::SeqCst) {
             return Ok(Ending::Gone);
         }
-        match take_piece(
-            rt,
-            alloc,
-            pace,
-            office,
-            summons,
-            channel,
-            desk,
-            book,
-            machine,
-            &buffer[..count],
-            stop,
-            out,
-        ) {
+        match take_piece(context, producer, machine, &buffer[..count], stop, out) {
             Ok(Next::Read) => {}
             Ok(Next::Shut) => return shut_down(machine, output, out),
             Err(Stop::NoMemory) => return Err(give_up(output, out.as_slice())),
@@ -163,14 +149,8 @@ fn go_on<R: Wait, G: Gate, S: Summons, N: Notebook, I: Read, O: Sink>(
 /// refused; what was said by then was offered to the sink, and no copy was put that has no verdict. `Torn`
 /// where something came that was not awaited, a verdict or a shard's end; copies may be under way then.
 pub fn converse<R: Wait, G: Gate, S: Summons, N: Notebook, I: Read, O: Sink>(
-    rt: &R,
-    alloc: Global,
-    pace: &mut Pace<'_, G>,
-    office: &Office,
-    summons: &S,
-    channel: &ReplyChannel<Noted>,
-    desk: &mut Desk,
-    book: &mut N,
+    context: &Context<'_, R, S>,
+    producer: &mut Producer<'_, G, N>,
     serial: u64,
     input: &mut I,
     output: &mut O,
@@ -179,28 +159,33 @@ pub fn converse<R: Wait, G: Gate, S: Summons, N: Notebook, I: Read, O: Sink>(
     out: &mut Vec<u8>,
 ) -> Result<Ending, TalkFault>
     // The desk has its own permit on each lane, over only where the office marks the shard as shut; its receiver is of `channel`.
-    requires permits { AreInForce office.now.directory office.now.lanes.items desk.old.number
-        desk.old.permits.items }
-    requires receiver { IsReceiver channel.now desk.old.receiver }
-    requires lanes { office.now.directory.shards ≡ length office.now.lanes.items }
-    requires host { length office.now.host.items < 256 }
+    requires permits { AreInForce context.now.office.now.directory
+        context.now.office.now.lanes.items producer.old.desk.number
+        producer.old.desk.permits.items }
+    requires receiver { IsReceiver context.now.channel.now producer.old.desk.receiver }
+    requires lanes { context.now.office.now.directory.shards
+        ≡ length context.now.office.now.lanes.items }
+    requires host { length context.now.office.now.host.items < 256 }
     requires live { O.failed output.old ≡ false }
     requires room { 0 < length buffer.old }
 
     // The same holds after, so that the next connection may follow; no end was counted that wasn't heard.
-    ensures permits { AreInForce office.now.directory office.now.lanes.items desk.old.number
-        desk.new.permits.items }
-    ensures receiver { IsReceiver channel.now desk.new.receiver }
-    ensures number { desk.new.number ≡ desk.old.number }
-    ensures ends { CountsEnds desk.old desk.new }
+    ensures permits { AreInForce context.now.office.now.directory
+        context.now.office.now.lanes.items producer.old.desk.number
+        producer.new.desk.permits.items }
+    ensures receiver { IsReceiver context.now.channel.now producer.new.desk.receiver }
+    ensures number { producer.new.desk.number ≡ producer.old.desk.number }
+    ensures ends { CountsEnds producer.old.desk producer.new.desk }
 
     // What was heard before stands in front of what was heard since; after `Torn` something was.
-    ensures grew { IsStartOf (received desk.old.receiver) (received desk.new.receiver) }
+    ensures grew { IsStartOf (received producer.old.desk.receiver) (received
+        producer.new.desk.receiver) }
     ensures torn { result ≡ Err TalkFault.Torn
-        → length (received desk.old.receiver) < length (received desk.new.receiver) }
+        → length (received producer.old.desk.receiver) < length (received
+        producer.new.desk.receiver) }
 
     // The book stays its owner's, and `buffer` as long as it was.
-    ensures owner { N.owner book.new ≡ N.owner book.old }
+    ensures owner { N.owner producer.new.book ≡ N.owner producer.old.book }
     ensures len { length buffer.new ≡ length buffer.old }
 
     // Without an error the sink hasn't failed; after `Write` it has.
@@ -209,28 +194,29 @@ pub fn converse<R: Wait, G: Gate, S: Summons, N: Notebook, I: Read, O: Sink>(
 
     // If the books told of `done`: what was taken is a conversation, its replies were sent as `result` says, and, unless `Torn`, it is booked.
     ensures played { (done : List Judged)
-        → AreBooks office.now.directory (rooms_of office.now.lanes.items) desk.old.number done
-        (N.tells book.old) (received desk.old.receiver)
-        (map put_by desk.old.permits.items)
-        → IsPlayed (premises_of office.now)
-        (setting_at (premises_of office.now) desk.old.number serial) desk.old.number done
+        → AreBooks context.now.office.now.directory (rooms_of context.now.office.now.lanes.items)
+        producer.old.desk.number done
+        (N.tells producer.old.book) (received producer.old.desk.receiver)
+        (map put_by producer.old.desk.permits.items)
+        → IsPlayed (premises_of context.now.office.now)
+        (setting_at (premises_of context.now.office.now) producer.old.desk.number serial) producer.old.desk.number done
         (I.remaining input.old) (I.remaining input.new) (O.taken output.old) (O.taken output.new)
         (O.failed output.new)
-        (N.tells book.new) (received desk.new.receiver) (map put_by desk.new.permits.items) result }
+        (N.tells producer.new.book) (received producer.new.desk.receiver) (map put_by producer.new.desk.permits.items) result }
 {
     out.clear();
-    let Ok(mut machine) = open(alloc, office, desk.number, serial, out) else {
+    let Ok(mut machine) = open(
+        context.alloc,
+        context.office,
+        producer.desk.number,
+        serial,
+        out,
+    ) else {
         return Err(TalkFault::NoMemory);
     };
     go_on(
-        rt,
-        alloc,
-        pace,
-        office,
-        summons,
-        channel,
-        desk,
-        book,
+        context,
+        producer,
         &mut machine,
         input,
         output,

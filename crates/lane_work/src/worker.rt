@@ -24,16 +24,17 @@ ghost use Rattle.lane_work.specs.Copies.{rooms_of};
 
 use crate::bells::Summons;
 use crate::closing::close_due;
-use crate::desk::{Desk, Office};
+use crate::desk::Desk;
 use crate::ending::{end_all, hear_ends};
 use crate::hearing::hear_all;
 use crate::notebook::Notebook;
+use crate::producer::{Context, Producer};
 use crate::putting::put_all;
 use delivery_token::{Job, Noted, Verdict, Verdicts, WorkerLog};
 use envelope::Directory;
 use lmtp_machine::{ANSWER_ROOM, Fed, Limits, LmtpMachine, Submission, What};
-use shard_queue::{Ended, ReceiverPermit, ReplyChannel};
-use std::alloc::{AllocError, Global};
+use shard_queue::{Ended, ReceiverPermit};
+use std::alloc::AllocError;
 use std::sync::Wait;
 use workers_sync::{Gate, Pace};
 
@@ -72,63 +73,66 @@ pub enum Fate {
 
 // Puts the copies of a message, hears the verdict on each, and notes them. All memory that this takes is asked for before the first copy is put.
 fn put_and_hear<R: Wait, G: Gate, S: Summons, N: Notebook>(
-    rt: &R,
-    alloc: Global,
-    pace: &mut Pace<'_, G>,
-    office: &Office,
-    summons: &S,
-    channel: &ReplyChannel<Noted>,
-    desk: &mut Desk,
-    book: &mut N,
+    context: &Context<'_, R, S>,
+    producer: &mut Producer<'_, G, N>,
     message: &Submission,
 ) -> Result<Vec<Verdict>, Stop>
-    requires permits { ArePermits office.now.lanes.items desk.old.number desk.old.permits.items }
-    requires receiver { IsReceiver channel.now desk.old.receiver }
-    requires lanes { office.now.directory.shards ≡ length office.now.lanes.items }
+    requires permits { ArePermits context.now.office.now.lanes.items producer.old.desk.number
+        producer.old.desk.permits.items }
+    requires receiver { IsReceiver context.now.channel.now producer.old.desk.receiver }
+    requires lanes { context.now.office.now.directory.shards
+        ≡ length context.now.office.now.lanes.items }
     requires mailboxes { vec_len message.now.mailboxes ≡ vec_len message.now.keys }
-    ensures permits { ArePermits office.now.lanes.items desk.old.number desk.new.permits.items }
-    ensures receiver { IsReceiver channel.now desk.new.receiver }
-    ensures number { desk.new.number ≡ desk.old.number }
-    ensures ends { CountsEnds desk.old desk.new }
-    ensures overs { overs desk.new.permits.items ≡ overs desk.old.permits.items }
-    ensures owner { N.owner book.new ≡ N.owner book.old }
-    ensures only { OnOk result (HearsItsOwn desk.old desk.new) }
+    ensures permits { ArePermits context.now.office.now.lanes.items producer.old.desk.number
+        producer.new.desk.permits.items }
+    ensures receiver { IsReceiver context.now.channel.now producer.new.desk.receiver }
+    ensures number { producer.new.desk.number ≡ producer.old.desk.number }
+    ensures ends { CountsEnds producer.old.desk producer.new.desk }
+    ensures overs { overs producer.new.desk.permits.items ≡ overs producer.old.desk.permits.items }
+    ensures owner { N.owner producer.new.book ≡ N.owner producer.old.book }
+    ensures only { OnOk result (HearsItsOwn producer.old.desk producer.new.desk) }
     ensures verdicts { IfOk result (λ vs. vec_len vs ≡ vec_len message.now.keys) }
     // Where no permit is over that a copy is for.
     ensures books { IfOk result (λ vs.
-        AreOpenTo office.now.directory message.now.mailboxes.items desk.old.permits.items →
-        (judged : List Judged) → AreBooks office.now.directory (rooms_of office.now.lanes.items)
-        desk.old.number judged (N.tells book.old)
-        (received desk.old.receiver) (map put_by desk.old.permits.items)
-        → AreBooks office.now.directory (rooms_of office.now.lanes.items) desk.old.number (judged
+        AreOpenTo context.now.office.now.directory message.now.mailboxes.items
+        producer.old.desk.permits.items →
+        (judged : List Judged) → AreBooks context.now.office.now.directory (rooms_of context.now.office.now.lanes.items)
+        producer.old.desk.number judged (N.tells producer.old.book)
+        (received producer.old.desk.receiver) (map put_by producer.old.desk.permits.items)
+        → AreBooks context.now.office.now.directory (rooms_of context.now.office.now.lanes.items)
+        producer.old.desk.number (judged
         ++ record { message = submission_of message.now; verdicts = vs.items }
-        ∷ []) (N.tells book.new) (received desk.new.receiver)
-        (map put_by desk.new.permits.items)) }
+        ∷ []) (N.tells producer.new.book) (received producer.new.desk.receiver)
+        (map put_by producer.new.desk.permits.items)) }
     ensures err { result ≡ Err Stop.NoMemory
-        → (map put_by desk.new.permits.items ≡ map put_by desk.old.permits.items) ×
-        (received desk.new.receiver ≡ received desk.old.receiver) }
+        → (map put_by producer.new.desk.permits.items ≡ map put_by producer.old.desk.permits.items)
+        ×
+        (received producer.new.desk.receiver ≡ received producer.old.desk.receiver) }
     ensures noted { result ≡ Err Stop.NoMemory → (copies : List (Job × Verdict))
-        → N.tells book.old copies → N.tells book.new copies }
+        → N.tells producer.old.book copies → N.tells producer.new.book copies }
     ensures torn { result ≡ Err Stop.Torn
-        → length (received desk.old.receiver) < length (received desk.new.receiver) }
-    ensures grew { IsStartOf (received desk.old.receiver) (received desk.new.receiver) }
+        → length (received producer.old.desk.receiver) < length (received
+        producer.new.desk.receiver) }
+    ensures grew { IsStartOf (received producer.old.desk.receiver) (received
+        producer.new.desk.receiver) }
 {
     let count = message.keys.len();
-    book.reserve(count)?;
-    let mut heard = Verdicts::with_room(alloc, count)?;
-    let room = Vec::with_capacity(alloc, count)?;
-    put_all(rt, pace, office, summons, desk, message, &mut heard);
-    let Ok(()) = hear_all(rt, pace, channel, desk, message, &mut heard) else {
+    producer.book.reserve(count)?;
+    let mut heard = Verdicts::with_room(context.alloc, count)?;
+    let room = Vec::with_capacity(context.alloc, count)?;
+    let (pace, desk) = (&mut producer.pace, &mut producer.desk);
+    put_all(context, pace, desk, message, &mut heard);
+    let Ok(()) = hear_all(context, pace, desk, message, &mut heard) else {
         return Err(Stop::Torn);
     };
     let verdicts = heard.known_in(room);
-    book.note_all(message, verdicts.as_slice());
+    producer.book.note_all(message, verdicts.as_slice());
     Ok(verdicts)
 }
 
 /// Takes bytes from the front of a piece: one line, or one end of data. A message that is submitted by
 /// it is put and heard of before anything more is taken: its copies are put, each into the lane of its mailbox's
-/// shard, for which `summons` is asked; the verdict on each is awaited, and noted in `book`; and then
+/// shard, whose consumer is summoned; the verdict on each is awaited, and noted in the producer's book; and then
 /// they are said. Replies go to `out`, behind what stands there; what was said before may have been
 /// sent. `directory` is the producer's own, which may have more marks than the office's.
 ///
@@ -136,41 +140,38 @@ fn put_and_hear<R: Wait, G: Gate, S: Summons, N: Notebook>(
 /// something came that wasn't awaited, a verdict or a shard's end; copies may be under way then. After
 /// either, bytes may have been taken and replies written, and what stood in `out` stands there still.
 pub fn turn<R: Wait, G: Gate, S: Summons, N: Notebook>(
-    rt: &R,
-    alloc: Global,
-    pace: &mut Pace<'_, G>,
-    office: &Office,
+    context: &Context<'_, R, S>,
+    producer: &mut Producer<'_, G, N>,
     directory: &Directory,
-    summons: &S,
-    channel: &ReplyChannel<Noted>,
-    desk: &mut Desk,
-    book: &mut N,
     machine: &mut LmtpMachine,
     piece: &[u8],
     out: &mut Vec<u8>,
 ) -> Result<Fed, Stop>
     // The desk has its own permit on each lane, over only where `directory` marks the shard as shut; its receiver is of `channel`.
-    requires permits { AreInForce directory.now office.now.lanes.items desk.old.number
-        desk.old.permits.items }
-    requires receiver { IsReceiver channel.now desk.old.receiver }
+    requires permits { AreInForce directory.now context.now.office.now.lanes.items
+        producer.old.desk.number
+        producer.old.desk.permits.items }
+    requires receiver { IsReceiver context.now.channel.now producer.old.desk.receiver }
 
     // There is a lane for each shard, and but for its marks `directory` is the office's.
-    requires lanes { office.now.directory.shards ≡ length office.now.lanes.items }
-    requires marks { directory.now ≡ marked directory.now.shut office.now.directory }
+    requires lanes { context.now.office.now.directory.shards
+        ≡ length context.now.office.now.lanes.items }
+    requires marks { directory.now ≡ marked directory.now.shut context.now.office.now.directory }
 
     // No message of the connection waits for its verdicts.
     requires quiet { machine.old.pending ≡ [] }
 
     // The permits are as required still; desk and book stay whose they were, and no end was counted that wasn't heard.
-    ensures permits { AreInForce directory.now office.now.lanes.items desk.old.number
-        desk.new.permits.items }
-    ensures receiver { IsReceiver channel.now desk.new.receiver }
-    ensures number { desk.new.number ≡ desk.old.number }
-    ensures ends { CountsEnds desk.old desk.new }
-    ensures owner { N.owner book.new ≡ N.owner book.old }
+    ensures permits { AreInForce directory.now context.now.office.now.lanes.items
+        producer.old.desk.number
+        producer.new.desk.permits.items }
+    ensures receiver { IsReceiver context.now.channel.now producer.new.desk.receiver }
+    ensures number { producer.new.desk.number ≡ producer.old.desk.number }
+    ensures ends { CountsEnds producer.old.desk producer.new.desk }
+    ensures owner { N.owner producer.new.book ≡ N.owner producer.old.book }
 
     // Without an error as many verdicts were heard as copies were put.
-    ensures only { OnOk result (HearsItsOwn desk.old desk.new) }
+    ensures only { OnOk result (HearsItsOwn producer.old.desk producer.new.desk) }
 
     // Without an error the next turn may follow: no message waits, and the connection's setting and host are the same.
     ensures quiet { OnOk result (machine.new.pending ≡ []) }
@@ -183,35 +184,41 @@ pub fn turn<R: Wait, G: Gate, S: Summons, N: Notebook>(
 
     // Without an error: if `told`, then `out`, was the replies to `bytes`, with their messages booked behind `done`, so it is with what was taken.
     ensures stands { IfOk result (λ fed. (done : List Judged) (bytes told : List ℕ)
-        → Stands directory.now office.now.directory (rooms_of office.now.lanes.items)
-        desk.old.number done bytes false machine.old (told
-        ++ out.old.items) (N.tells book.old) (received desk.old.receiver)
-        (map put_by desk.old.permits.items)
-        → Stands directory.now office.now.directory (rooms_of office.now.lanes.items)
-        desk.old.number done (bytes ++ take fed.used piece.now)
+        → Stands directory.now context.now.office.now.directory (rooms_of
+        context.now.office.now.lanes.items)
+        producer.old.desk.number done bytes false machine.old (told
+        ++ out.old.items) (N.tells producer.old.book) (received producer.old.desk.receiver)
+        (map put_by producer.old.desk.permits.items)
+        → Stands directory.now context.now.office.now.directory (rooms_of
+        context.now.office.now.lanes.items)
+        producer.old.desk.number done (bytes ++ take fed.used piece.now)
         (is_quit fed.what) machine.new (told
-        ++ out.new.items) (N.tells book.new) (received desk.new.receiver)
-        (map put_by desk.new.permits.items)) }
+        ++ out.new.items) (N.tells producer.new.book) (received producer.new.desk.receiver)
+        (map put_by producer.new.desk.permits.items)) }
 
     // After an error, where it stood so before: what was in `out` stands there still, in front.
     ensures kept { OnErr result ((done : List Judged) (bytes told : List ℕ)
-        → Stands directory.now office.now.directory (rooms_of office.now.lanes.items)
-        desk.old.number done bytes false machine.old (told
-        ++ out.old.items) (N.tells book.old) (received desk.old.receiver)
-        (map put_by desk.old.permits.items)
+        → Stands directory.now context.now.office.now.directory (rooms_of
+        context.now.office.now.lanes.items)
+        producer.old.desk.number done bytes false machine.old (told
+        ++ out.old.items) (N.tells producer.old.book) (received producer.old.desk.receiver)
+        (map put_by producer.old.desk.permits.items)
         → StartsWith out.new.items out.old.items) }
 
     // After `NoMemory` nothing was put or heard, and the book tells of all copies of which it told.
     ensures err { result ≡ Err Stop.NoMemory
-        → (map put_by desk.new.permits.items ≡ map put_by desk.old.permits.items) ×
-        (received desk.new.receiver ≡ received desk.old.receiver) }
+        → (map put_by producer.new.desk.permits.items ≡ map put_by producer.old.desk.permits.items)
+        ×
+        (received producer.new.desk.receiver ≡ received producer.old.desk.receiver) }
     ensures noted { result ≡ Err Stop.NoMemory → (copies : List (Job × Verdict))
-        → N.tells book.old copies → N.tells book.new copies }
+        → N.tells producer.old.book copies → N.tells producer.new.book copies }
 
     // After `Torn` something was heard; and after any result, what was heard before stands in front of what was heard since.
     ensures torn { result ≡ Err Stop.Torn
-        → length (received desk.old.receiver) < length (received desk.new.receiver) }
-    ensures grew { IsStartOf (received desk.old.receiver) (received desk.new.receiver) }
+        → length (received producer.old.desk.receiver) < length (received
+        producer.new.desk.receiver) }
+    ensures grew { IsStartOf (received producer.old.desk.receiver) (received
+        producer.new.desk.receiver) }
 {
     let fed = machine.feed(piece, directory, out)?;
     match fed.what {
@@ -220,17 +227,7 @@ pub fn turn<R: Wait, G: Gate, S: Summons, N: Notebook>(
         What::Submit => {}
     }
     out.reserve(ANSWER_ROOM)?;
-    let verdicts = put_and_hear(
-        rt,
-        alloc,
-        pace,
-        office,
-        summons,
-        channel,
-        desk,
-        book,
-        machine.submission(),
-    )?;
+    let verdicts = put_and_hear(context, producer, machine.submission())?;
     let Ok(()) = machine.answer(verdicts.as_slice(), out) else {
         unreachable!()
     };
@@ -239,58 +236,43 @@ pub fn turn<R: Wait, G: Gate, S: Summons, N: Notebook>(
 
 // Goes on turn by turn, until all bytes are taken or the connection has ended.
 fn speak<R: Wait, G: Gate, S: Summons>(
-    rt: &R,
-    alloc: Global,
-    pace: &mut Pace<'_, G>,
-    office: &Office,
+    context: &Context<'_, R, S>,
+    producer: &mut Producer<'_, G, WorkerLog>,
     directory: &Directory,
-    summons: &S,
-    channel: &ReplyChannel<Noted>,
-    desk: &mut Desk,
-    log: &mut WorkerLog,
     machine: &mut LmtpMachine,
     bytes: &[u8],
     out: &mut Vec<u8>,
 ) -> Result<(), Stop>
-    requires permits { AreInForce directory.now office.now.lanes.items desk.old.number
-        desk.old.permits.items }
-    requires receiver { IsReceiver channel.now desk.old.receiver }
-    requires lanes { office.now.directory.shards ≡ length office.now.lanes.items }
-    requires marks { directory.now ≡ marked directory.now.shut office.now.directory }
+    requires permits { AreInForce directory.now context.now.office.now.lanes.items
+        producer.old.desk.number
+        producer.old.desk.permits.items }
+    requires receiver { IsReceiver context.now.channel.now producer.old.desk.receiver }
+    requires lanes { context.now.office.now.directory.shards
+        ≡ length context.now.office.now.lanes.items }
+    requires marks { directory.now ≡ marked directory.now.shut context.now.office.now.directory }
     requires quiet { machine.old.pending ≡ [] }
-    ensures permits { AreInForce directory.now office.now.lanes.items desk.old.number
-        desk.new.permits.items }
-    ensures receiver { IsReceiver channel.now desk.new.receiver }
-    ensures number { desk.new.number ≡ desk.old.number }
-    ensures ends { CountsEnds desk.old desk.new }
-    ensures seat { log.new.seat ≡ log.old.seat }
-    ensures only { OnOk result (HearsItsOwn desk.old desk.new) }
+    ensures permits { AreInForce directory.now context.now.office.now.lanes.items
+        producer.old.desk.number
+        producer.new.desk.permits.items }
+    ensures receiver { IsReceiver context.now.channel.now producer.new.desk.receiver }
+    ensures number { producer.new.desk.number ≡ producer.old.desk.number }
+    ensures ends { CountsEnds producer.old.desk producer.new.desk }
+    ensures seat { producer.new.book.seat ≡ producer.old.book.seat }
+    ensures only { OnOk result (HearsItsOwn producer.old.desk producer.new.desk) }
     ensures spoke { OnOk result ((done : List Judged)
-        → Stands directory.now office.now.directory (rooms_of office.now.lanes.items)
-        desk.old.number done [] false machine.old out.old.items
-        (notes_tell log.old.notes) (received desk.old.receiver) (map put_by desk.old.permits.items)
-        → Spoke directory.now office.now.directory
-        (rooms_of office.now.lanes.items) desk.old.number done bytes.now machine.old.setting
+        → Stands directory.now context.now.office.now.directory (rooms_of
+        context.now.office.now.lanes.items)
+        producer.old.desk.number done [] false machine.old out.old.items
+        (notes_tell producer.old.book.notes) (received producer.old.desk.receiver) (map put_by producer.old.desk.permits.items)
+        → Spoke directory.now context.now.office.now.directory
+        (rooms_of context.now.office.now.lanes.items) producer.old.desk.number done bytes.now machine.old.setting
         machine.old.host out.new.items
-        (notes_tell log.new.notes) (received desk.new.receiver)
-        (map put_by desk.new.permits.items)) }
+        (notes_tell producer.new.book.notes) (received producer.new.desk.receiver)
+        (map put_by producer.new.desk.permits.items)) }
 {
     let mut used = 0;
     loop {
-        let fed = turn(
-            rt,
-            alloc,
-            pace,
-            office,
-            directory,
-            summons,
-            channel,
-            desk,
-            log,
-            machine,
-            &bytes[used..],
-            out,
-        )?;
+        let fed = turn(context, producer, directory, machine, &bytes[used..], out)?;
         used += fed.used;
         match fed.what {
             What::Quit => return Ok(()),
@@ -306,62 +288,48 @@ fn speak<R: Wait, G: Gate, S: Summons>(
 
 // One connection: the replies to these bytes.
 fn converse<R: Wait, G: Gate, S: Summons>(
-    rt: &R,
-    alloc: Global,
-    pace: &mut Pace<'_, G>,
-    office: &Office,
+    context: &Context<'_, R, S>,
+    producer: &mut Producer<'_, G, WorkerLog>,
     directory: &Directory,
-    summons: &S,
-    channel: &ReplyChannel<Noted>,
-    desk: &mut Desk,
-    log: &mut WorkerLog,
     serial: u64,
     bytes: &[u8],
 ) -> Result<Vec<u8>, Stop>
-    requires permits { AreInForce directory.now office.now.lanes.items desk.old.number
-        desk.old.permits.items }
-    requires receiver { IsReceiver channel.now desk.old.receiver }
-    requires lanes { office.now.directory.shards ≡ length office.now.lanes.items }
-    requires marks { directory.now ≡ marked directory.now.shut office.now.directory }
-    requires host { length office.now.host.items < 256 }
-    ensures permits { AreInForce directory.now office.now.lanes.items desk.old.number
-        desk.new.permits.items }
-    ensures receiver { IsReceiver channel.now desk.new.receiver }
-    ensures number { desk.new.number ≡ desk.old.number }
-    ensures ends { CountsEnds desk.old desk.new }
-    ensures seat { log.new.seat ≡ log.old.seat }
-    ensures only { OnOk result (HearsItsOwn desk.old desk.new) }
+    requires permits { AreInForce directory.now context.now.office.now.lanes.items
+        producer.old.desk.number
+        producer.old.desk.permits.items }
+    requires receiver { IsReceiver context.now.channel.now producer.old.desk.receiver }
+    requires lanes { context.now.office.now.directory.shards
+        ≡ length context.now.office.now.lanes.items }
+    requires marks { directory.now ≡ marked directory.now.shut context.now.office.now.directory }
+    requires host { length context.now.office.now.host.items < 256 }
+    ensures permits { AreInForce directory.now context.now.office.now.lanes.items
+        producer.old.desk.number
+        producer.new.desk.permits.items }
+    ensures receiver { IsReceiver context.now.channel.now producer.new.desk.receiver }
+    ensures number { producer.new.desk.number ≡ producer.old.desk.number }
+    ensures ends { CountsEnds producer.old.desk producer.new.desk }
+    ensures seat { producer.new.book.seat ≡ producer.old.book.seat }
+    ensures only { OnOk result (HearsItsOwn producer.old.desk producer.new.desk) }
     ensures spoke { IfOk result (λ reply. (done : List Judged)
-        → AreBooks office.now.directory (rooms_of office.now.lanes.items) desk.old.number done
-        (notes_tell log.old.notes)
-        (received desk.old.receiver) (map put_by desk.old.permits.items)
-        → Spoke directory.now office.now.directory (rooms_of office.now.lanes.items) desk.old.number
+        → AreBooks context.now.office.now.directory (rooms_of context.now.office.now.lanes.items)
+        producer.old.desk.number done
+        (notes_tell producer.old.book.notes)
+        (received producer.old.desk.receiver) (map put_by producer.old.desk.permits.items)
+        → Spoke directory.now context.now.office.now.directory (rooms_of
+        context.now.office.now.lanes.items) producer.old.desk.number
         done bytes.now
-        (setting_at (premises_of office.now) desk.old.number serial) office.now.host.items
-        reply.items (notes_tell log.new.notes)
-        (received desk.new.receiver) (map put_by desk.new.permits.items)) }
+        (setting_at (premises_of context.now.office.now) producer.old.desk.number serial) context.now.office.now.host.items
+        reply.items (notes_tell producer.new.book.notes)
+        (received producer.new.desk.receiver) (map put_by producer.new.desk.permits.items)) }
 {
     let limits = Limits {
-        host: office.host.as_slice(),
-        max_message: office.max_message,
+        host: context.office.host.as_slice(),
+        max_message: context.office.max_message,
     };
-    let mut machine = LmtpMachine::new(alloc, desk.number, serial, limits)?;
-    let mut out = Vec::new(alloc);
+    let mut machine = LmtpMachine::new(context.alloc, producer.desk.number, serial, limits)?;
+    let mut out = Vec::new(context.alloc);
     machine.greet(&mut out)?;
-    speak(
-        rt,
-        alloc,
-        pace,
-        office,
-        directory,
-        summons,
-        channel,
-        desk,
-        log,
-        &mut machine,
-        bytes,
-        &mut out,
-    )?;
+    speak(context, producer, directory, &mut machine, bytes, &mut out)?;
     Ok(out)
 }
 
@@ -381,53 +349,47 @@ pub struct Worked {
 
 // The connections, one after another.
 fn go_through<R: Wait, G: Gate, S: Summons>(
-    rt: &R,
-    alloc: Global,
-    pace: &mut Pace<'_, G>,
-    office: &Office,
-    summons: &S,
-    channel: &ReplyChannel<Noted>,
-    desk: &mut Desk,
-    log: &mut WorkerLog,
+    context: &Context<'_, R, S>,
+    producer: &mut Producer<'_, G, WorkerLog>,
     replies: &mut Vec<Vec<u8>>,
     connections: &[Vec<u8>],
 ) -> Fate
-    requires permits { ArePermits office.now.lanes.items desk.old.number desk.old.permits.items
-        × All IsNew desk.old.permits.items }
-    requires receiver { IsReceiver channel.now desk.old.receiver }
-    requires lanes { office.now.directory.shards ≡ length office.now.lanes.items }
-    requires host { length office.now.host.items < 256 }
+    requires permits { ArePermits context.now.office.now.lanes.items producer.old.desk.number
+        producer.old.desk.permits.items
+        × All IsNew producer.old.desk.permits.items }
+    requires receiver { IsReceiver context.now.channel.now producer.old.desk.receiver }
+    requires lanes { context.now.office.now.directory.shards
+        ≡ length context.now.office.now.lanes.items }
+    requires host { length context.now.office.now.host.items < 256 }
     requires begun { (replies.old.items ≡ [])
-        × AreBooks office.now.directory (rooms_of office.now.lanes.items) desk.old.number []
-        (notes_tell log.old.notes) (received desk.old.receiver)
-        (map put_by desk.old.permits.items) }
-    ensures permits { ArePermits office.now.lanes.items desk.old.number desk.new.permits.items }
-    ensures receiver { IsReceiver channel.now desk.new.receiver }
-    ensures number { desk.new.number ≡ desk.old.number }
-    ensures ends { CountsEnds desk.old desk.new }
-    ensures seat { log.new.seat ≡ log.old.seat }
+        × AreBooks context.now.office.now.directory (rooms_of context.now.office.now.lanes.items)
+        producer.old.desk.number []
+        (notes_tell producer.old.book.notes) (received producer.old.desk.receiver)
+        (map put_by producer.old.desk.permits.items) }
+    ensures permits { ArePermits context.now.office.now.lanes.items producer.old.desk.number
+        producer.new.desk.permits.items }
+    ensures receiver { IsReceiver context.now.channel.now producer.new.desk.receiver }
+    ensures number { producer.new.desk.number ≡ producer.old.desk.number }
+    ensures ends { CountsEnds producer.old.desk producer.new.desk }
+    ensures seat { producer.new.book.seat ≡ producer.old.book.seat }
     ensures began { result ≢ Fate.NotBegun }
-    ensures only { result ≡ Fate.Whole → HearsItsOwn desk.old desk.new }
+    ensures only { result ≡ Fate.Whole → HearsItsOwn producer.old.desk producer.new.desk }
     ensures whole { result ≡ Fate.Whole
-        → HasServed (premises_of office.now) desk.old.number (map (λ b. b.items) connections.now)
-        (map (λ b. b.items) replies.new.items) (notes_tell log.new.notes)
-        (received desk.new.receiver) (map put_by desk.new.permits.items) }
+        → HasServed (premises_of context.now.office.now) producer.old.desk.number (map (λ b.
+        b.items) connections.now)
+        (map (λ b. b.items) replies.new.items) (notes_tell producer.new.book.notes)
+        (received producer.new.desk.receiver) (map put_by producer.new.desk.permits.items) }
 {
-    let Ok(mut directory) = office.directory.copy(alloc) else {
+    let Ok(mut directory) = context.office.directory.copy(context.alloc) else {
         return Fate::NoMemory;
     };
     for i in 0..connections.len() {
-        close_due(rt, pace, office, summons, desk, &mut directory, i);
+        let (pace, desk) = (&mut producer.pace, &mut producer.desk);
+        close_due(context, pace, desk, &mut directory, i);
         let reply = match converse(
-            rt,
-            alloc,
-            pace,
-            office,
+            context,
+            producer,
             &directory,
-            summons,
-            channel,
-            desk,
-            log,
             i as u64,
             connections[i].as_slice(),
         ) {
@@ -454,29 +416,27 @@ fn go_through<R: Wait, G: Gate, S: Summons>(
 ///
 /// `room`, which is empty, has room for what is left of each permit.
 pub fn work<R: Wait, G: Gate, S: Summons>(
-    rt: &R,
-    alloc: Global,
-    pace: &mut Pace<'_, G>,
-    office: &Office,
-    summons: &S,
-    channel: &ReplyChannel<Noted>,
-    mut desk: Desk,
+    context: &Context<'_, R, S>,
+    pace: Pace<'_, G>,
+    desk: Desk,
     room: Vec<Ended<Job>>,
     connections: &[Vec<u8>],
 ) -> Worked
     // The desk has its own permit on each lane, none of them over, and put nothing yet; its receiver is of `channel`.
-    requires permits { ArePermits office.now.lanes.items desk.number desk.permits.items
+    requires permits { ArePermits context.now.office.now.lanes.items desk.number desk.permits.items
         × All IsNew desk.permits.items }
-    requires receiver { IsReceiver channel.now desk.receiver }
-    requires lanes { office.now.directory.shards ≡ length office.now.lanes.items }
-    requires host { length office.now.host.items < 256 }
-    requires room { (room.items ≡ []) × (length office.now.lanes.items ≤ vec_capacity room) }
+    requires receiver { IsReceiver context.now.channel.now desk.receiver }
+    requires lanes { context.now.office.now.directory.shards
+        ≡ length context.now.office.now.lanes.items }
+    requires host { length context.now.office.now.host.items < 256 }
+    requires room { (room.items ≡ []) × (length context.now.office.now.lanes.items
+        ≤ vec_capacity room) }
 
     // It did begin, however it came to its end.
     ensures began { result.fate ≢ Fate.NotBegun }
 
     // It heard as many shards' ends as there are lanes, or more, of which `desk.ends` were counted before.
-    ensures heard { length office.now.lanes.items + ends_in (received desk.receiver)
+    ensures heard { length context.now.office.now.lanes.items + ends_in (received desk.receiver)
         ≤ desk.ends + ends_in (received result.receiver) }
 
     // Where it is `Whole`, as many verdicts were heard as copies were put on all lanes: each was awaited, and nothing else came.
@@ -485,26 +445,18 @@ pub fn work<R: Wait, G: Gate, S: Summons>(
         copies_in (map said result.ended.items) }
 
     // The permits, the receiver and the log are its own; where it is `Whole`, this is its account: of replies, notes and what it put.
-    ensures worked { IsWorked office.now channel.now desk.number (map (λ b.
+    ensures worked { IsWorked context.now.office.now context.now.channel.now desk.number (map (λ b.
         b.items) connections.now) result }
 {
-    let mut log = WorkerLog::new(alloc, desk.number);
-    let mut replies = Vec::new(alloc);
-    let fate = go_through(
-        rt,
-        alloc,
+    let log = WorkerLog::new(context.alloc, desk.number);
+    let mut producer = Producer {
         pace,
-        office,
-        summons,
-        channel,
-        &mut desk,
-        &mut log,
-        &mut replies,
-        connections,
-    );
-    finish(
-        rt, pace, office, summons, channel, desk, room, log, replies, fate,
-    )
+        desk,
+        book: log,
+    };
+    let mut replies = Vec::new(context.alloc);
+    let fate = go_through(context, &mut producer, &mut replies, connections);
+    finish(context, producer, room, replies, fate)
 }
 
 /// The end of a producer's life: its end on each lane, from shard 0 on, and then it receives until each
@@ -513,53 +465,74 @@ pub fn work<R: Wait, G: Gate, S: Summons>(
 ///
 /// `room`, which is empty, has room for what is left of each permit.
 pub fn finish<R: Wait, G: Gate, S: Summons>(
-    rt: &R,
-    pace: &mut Pace<'_, G>,
-    office: &Office,
-    summons: &S,
-    channel: &ReplyChannel<Noted>,
-    desk: Desk,
+    context: &Context<'_, R, S>,
+    producer: Producer<'_, G, WorkerLog>,
     room: Vec<Ended<Job>>,
-    log: WorkerLog,
     replies: Vec<Vec<u8>>,
     fate: Fate,
 ) -> Worked
     // The desk has its own permit on each lane, over or not; its receiver is of `channel`.
-    requires permits { ArePermits office.now.lanes.items desk.number desk.permits.items }
-    requires receiver { IsReceiver channel.now desk.receiver }
-    requires room { (room.items ≡ []) × (length office.now.lanes.items ≤ vec_capacity room) }
+    requires permits { ArePermits context.now.office.now.lanes.items producer.desk.number
+        producer.desk.permits.items }
+    requires receiver { IsReceiver context.now.channel.now producer.desk.receiver }
+    requires room { (room.items ≡ []) × (length context.now.office.now.lanes.items
+        ≤ vec_capacity room) }
 
     // Its permit on each lane has ended: there it has said what it had put, then its end, and nothing else.
-    ensures ended { AreEnded office.now.lanes.items desk.number result.ended.items }
-    ensures said { HaveEnded desk.number (map put_by desk.permits.items)
+    ensures ended { AreEnded context.now.office.now.lanes.items producer.entry.desk.number
+        result.ended.items }
+    ensures said { HaveEnded producer.entry.desk.number (map put_by
+        producer.entry.desk.permits.items)
         (map said result.ended.items) }
 
-    // It heard as many shards' ends as there are lanes, or more, of which `desk.ends` were counted before.
-    ensures receiver { IsReceiver channel.now result.receiver }
-    ensures grew { IsStartOf (received desk.receiver) (received result.receiver) }
-    ensures heard { length office.now.lanes.items + ends_in (received desk.receiver)
-        ≤ desk.ends + ends_in (received result.receiver) }
+    // It heard as many shards' ends as there are lanes, or more, of which `producer.desk.ends` were counted before.
+    ensures receiver { IsReceiver context.now.channel.now result.receiver }
+    ensures grew { IsStartOf (received producer.entry.desk.receiver) (received result.receiver) }
+    ensures heard { length context.now.office.now.lanes.items + ends_in (received
+        producer.entry.desk.receiver)
+        ≤ producer.entry.desk.ends + ends_in (received result.receiver) }
 
     // Log and replies are those that were given.
-    ensures kept { (result.log ≡ log) × (result.replies ≡ replies) }
+    ensures kept { (result.log ≡ producer.entry.book) × (result.replies ≡ replies) }
 
     // It is `Whole` only where it was given as `Whole`, and nothing but ends was heard since.
     ensures whole { result.fate ≡ Fate.Whole → fate ≡ Fate.Whole }
     ensures quiet { result.fate ≡ Fate.Whole
-        → length (received result.receiver) + ends_in (received desk.receiver) ≡ length
-        (received desk.receiver) + ends_in (received result.receiver) }
+        → length (received result.receiver) + ends_in (received producer.entry.desk.receiver)
+        ≡ length
+        (received producer.entry.desk.receiver) + ends_in (received result.receiver) }
 
     // It is `NotBegun` only where it was given as that.
     ensures began { fate ≢ Fate.NotBegun → result.fate ≢ Fate.NotBegun }
 {
+    let Producer {
+        mut pace,
+        desk,
+        book: log,
+    } = producer;
     let Desk {
         number,
         permits,
         mut receiver,
         ends,
     } = desk;
-    let ended = end_all(rt, pace, office, summons, number, permits, room);
-    let quiet = hear_ends(rt, pace, channel, &mut receiver, ends, office.lanes.len());
+    let ended = end_all(
+        context.rt,
+        &mut pace,
+        context.office,
+        context.summons,
+        number,
+        permits,
+        room,
+    );
+    let quiet = hear_ends(
+        context.rt,
+        &mut pace,
+        context.channel,
+        &mut receiver,
+        ends,
+        context.office.lanes.len(),
+    );
     Worked {
         ended,
         receiver,

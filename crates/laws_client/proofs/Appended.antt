@@ -17,7 +17,7 @@ use Rattle.imap_session.specs.Exchange as calls
 use Rattle.imap_session.specs.Exchange.{Event as Happened, Sent}
 use Rattle.exactly_once.proofs.Grown.{heard_stays_heard}
 use Rattle.laws_client.proofs.Talked.{met_hears}
-use Rattle.house_peers.specs.Folders.{folders_of}
+use Rattle.imap_session.specs.Folders.{folders_of}
 use Rattle.house.specs.Scene.{LeavesMailbox, empty_scene}
 use Rattle.house.specs.Setup.{Setup, session_seat}
 use Rattle.laws_client.specs.Appends.{AppendsWereTold, TellsOfAppends, AnswersNoted, AppendsAreTold, AreAnswered, Author, EndsWith, IsAnswered, SaysVerdict, TellsKept, TellsOfNone, as_it_is, author_at, copy_under}

@@ -13,7 +13,7 @@ use Rattle.delivery_token.specs.declared.log.Noted.{Noted}
 use Rattle.imap_grammar.specs.Reading.{read}
 use Rattle.imap_grammar.specs.Verbs.{verb_of}
 use Rattle.imap_grammar.specs.declared.command.Command.{Command}
-use Rattle.imap_session.specs.Commands.{greeting, turn_of, verb_text}
+use Rattle.imap_session.specs.Commands.{greeting, turn_of}
 use Rattle.imap_session.specs.Exchange.{Answer as StoreAnswer, Standing, Turn, kept_tag, tagged}
 use Rattle.house.specs.Meets.{Meets}
 use Rattle.house_peers.specs.Visitor.{Visitor}
@@ -50,6 +50,8 @@ use Rattle.laws_client.proofs.RecordKeeping.{KeepsBy, all_known, arrival_by_then
 use Rattle.laws_client.proofs.OkCurrent.{lists_are_current}
 use Rattle.laws_client.proofs.Recording.{Arrival, Client, came_as, client_more, client_others, fits_lines, fits_silence, heard_small, heeds, regroup, still_whole}
 use Rattle.laws_client.proofs.Since.{Fresh, Lately, fresh_grown, goes_lately, turned, untold}
+use Rattle.imap_session.specs.declared.texts.ResponseText.TheVariants as texts
+use Rattle.imap_session.specs.Texts.{response_text}
 
 -- ---- one entry more
 
@@ -118,7 +120,7 @@ answers_line now (Heard verdict answers) turn line bytes e = absurd (no_words tu
 -- so its list is the mailbox in the world in which that ended
 fresh_current : (k : Config) (events : List Event) (n : ℕ) (first : Came) (began : World) (base told more : List Told) (w : World) → HasSmallNumbers k → IsWorld k events began → HasShortTexts w → Stands first.standing
     → told ≡ base ++ more → Fresh k n first began base told w → (front : List Told) (line tag bytes ending : List ℕ) (command : Command) (client : Reader) (s : Session) → more ≡ front ++ Answer line bytes ∷ []
-    → read line ≡ Ok (tag, command) → shows_all command ≡ true → bytes ≡ ending ++ tagged tag (codes "OK " ++ verb_text (verb_of command) ++ codes " completed") → hears_all None (base ++ front) ≡ Some client → w.session n ≡ Some s
+    → read line ≡ Ok (tag, command) → shows_all command ≡ true → bytes ≡ ending ++ tagged tag (response_text (texts.Completed (verb_of command))) → hears_all None (base ++ front) ≡ Some client → w.session n ≡ Some s
     → (list : List Known) × (hears_all None told ≡ Some (knowing (Some list))) × IsRight (messages_of (w.box s.mailbox)) list
 fresh_current k events n first began base told more w h is short stands grown (untold e) front line tag bytes ending command client s last reads shows wrote knows at =
     absurd (omega (arith, ap length (sym e ∙ grown), length-append base more, ap length last, length-append front (Answer line bytes ∷ [])))

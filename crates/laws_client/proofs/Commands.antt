@@ -16,7 +16,6 @@ use Rattle.imap_grammar.specs.declared.command.Command.{Command}
 use Rattle.imap_grammar.specs.declared.command.Command.TheVariants as commands
 use Rattle.delivery_token.specs.declared.Verdict.{Verdict}
 use Rattle.delivery_token.specs.declared.Verdict.TheVariants as verdicts
-use Rattle.delivery_token.specs.declared.Refusal.TheVariants.{Full, MailboxFull, NoMemory, UidSpent, Shut}
 use Rattle.imap_grammar.specs.declared.command.Append.{Append}
 use Rattle.imap_grammar.specs.declared.command.Fetch.{Fetch}
 use Rattle.imap_grammar.specs.declared.command.Store.{Store}
@@ -26,14 +25,14 @@ use Rattle.imap_grammar.specs.declared.command.ImapFault.TheVariants.{NoTag, Unk
 use Rattle.imap_session.specs.declared.standing.After.TheVariants.{Go}
 use Rattle.imap_session.specs.declared.standing.Selected.{Selected}
 use Rattle.imap_session.specs.Exchange.{Answer, Appending, Exchange, Expunge, Feed, Folder, ForNothing, ForVerdict, Mailing, Sent, Standing, Turn, Wait, Write, bye, kept_behind, tagged}
-use Rattle.imap_session.specs.Commands.{appended_words, appending, last_number, long_idle_text, long_rest_words, long_text, most_unasked, nowhere, number_named, on_rest, on_text, on_verdict, is_over, over, turn_behind, turn_with, wanting, without_begun, without_sent, completed, counting, expunge_set, fault_text, fetch_messages, fetched, fetching, folder_of, in_selected, in_writable, messages_done, on_chosen, on_command, on_found, on_idle_line, on_read, on_set, only_says, says, showing, store_messages, stored, storing, turn_while, unlimited, verb_text, wrong_state, asking, coming}
+use Rattle.imap_session.specs.Commands.{appended_words, appending, last_number, long_idle_text, long_rest_text, long_text, most_unasked, nowhere, number_named, on_rest, on_text, on_verdict, is_over, over, turn_behind, turn_with, wanting, wanting_for, without_begun, without_sent, completed, counting, expunge_set, fault_text, fetch_messages, fetched, fetching, folder_of, in_selected, in_writable, messages_done, on_chosen, on_command, on_found, on_idle_line, on_read, on_set, only_says, says, showing, store_messages, stored, storing, turn_while, unlimited, wrong_state, asking, coming, refused_text}
 use Rattle.imap_answers.specs.Answers.{flags_answer}
 use Rattle.laws_client.specs.Beliefs.{Leads, Leaves, TellsNothing}
 use Rattle.laws_client.specs.ListTurns.{is_inner, IsPlain, IsRowOf, IsTag, Says, SeesAll}
 use Rattle.laws_client.specs.Fetches.{AreToldParts, IsNumbered}
 use Rattle.laws_client.specs.Commands.{AreNames, IsFollowed, IsPrinted, MayAnswer, MayAsk}
 use Rattle.laws_client.specs.ListLaws.{AnswerIsFollowed, LongLineTellsNothing, VerdictIsFollowed}
-use Rattle.laws_client.proofs.Ends.{leaves, plain_words, refusals, tagged_tells_nothing}
+use Rattle.laws_client.proofs.Ends.{leaves, refusals, tagged_tells_nothing}
 use Rattle.laws_client.proofs.Chosen.{AreIn, named_are_in, small_in}
 use Rattle.laws_client.proofs.Fetched.{flags_leave, row_leaves}
 use Rattle.laws_client.proofs.Bytes.{decimal_word, words_are_inner}
@@ -41,13 +40,18 @@ use Rattle.laws_client.proofs.Untold.{folder_plain, inner_both, list_tells_nothi
 use Rattle.laws_client.proofs.ListPlayed.{turn_follows}
 use Rattle.laws_client.proofs.Tags.{Tagged, read_tagged}
 use Rattle.laws_client.proofs.Turns.{ends}
+use Rattle.imap_session.specs.declared.texts.ResponseText.TheVariants as texts
+use Rattle.imap_session.specs.Texts.{response_text}
+use Rattle.imap_grammar.specs.declared.command.Verb.TheVariants as verbs
+use Rattle.imap_session.specs.declared.texts.ResponseText.{ResponseText}
+use Rattle.laws_client.proofs.TextRows.{text_plain}
 
--- a last line whose words are written out
-last : (tag view front : List ℕ) (b : ℕ) → IsTag tag → IsPlain (front ++ b ∷ []) → Says tag view (says (front ++ b ∷ []))
-last tag view front b t plain = leaves view _ (tagged_tells_nothing tag (front ++ b ∷ []) t plain)
+-- a last line with a text of the table
+last : (tag view : List ℕ) (text : ResponseText) → IsTag tag → Says tag view (says (response_text text))
+last tag view text t = leaves view _ (tagged_tells_nothing tag (response_text text) t (text_plain text))
 
 wrong : (tag view : List ℕ) → IsTag tag → Says tag view wrong_state
-wrong tag view t = last tag view (codes "BAD Wrong stat") 101 t (plain_words (codes "BAD Wrong stat") 101 refl refl)
+wrong tag view t = last tag view texts.WrongState t
 
 -- what is pending is shown, where a mailbox is selected
 shows_then : (tag view : List ℕ) (selected : Option Selected) (x : Exchange) → ((new : List ℕ) → Says tag new x) → Says tag view (showing selected x)
@@ -58,25 +62,26 @@ writable : (tag view : List ℕ) (selected : Option Selected) (now : Standing) (
 writable tag view None now x e t h = rw e (wrong tag view t)
 writable tag view (Some selected) now x e t h = rw e (by selected.read_only)
   where
-    by : (b : Bool) → Says tag view (if b then says (codes "NO Mailbox is read-only") else x)
-    by true = last tag view (codes "NO Mailbox is read-onl") 121 t (plain_words (codes "NO Mailbox is read-onl") 121 refl refl)
+    by : (b : Bool) → Says tag view (if b then says (response_text texts.ReadOnly) else x)
+    by true = last tag view texts.ReadOnly t
     by false = h
 
 nothing_leaves : (view : List ℕ) → Leaves view []
 nothing_leaves view = leaves view [] (λ messages. refl)
 
 expunged : (tag new : List ℕ) → IsTag tag → Says tag new (completed commands.Expunge)
-expunged tag new t = last tag new (codes "OK EXPUNGE complete") 100 t (plain_words (codes "OK EXPUNGE complete") 100 refl refl)
+expunged tag new t = last tag new (texts.Completed verbs.Expunge) t
 
 set_expunged : (tag view : List ℕ) (set : List SeqRange) → IsTag tag → Says tag view (expunge_set set)
 set_expunged tag view set t = by (named_in true set view)
   where
     done : (new : List ℕ) → Says tag new (completed (commands.UidExpunge set))
-    done new = last tag new (codes "OK UID EXPUNGE complete") 100 t (plain_words (codes "OK UID EXPUNGE complete") 100 refl refl)
+    done new = last tag new (texts.Completed verbs.UidExpunge) t
 
-    by : (chosen : Option (List ℕ)) → Says tag view (on_chosen chosen (λ uids. wanting (Expunge (Some uids) (Feed unlimited (completed (commands.UidExpunge set))))))
-    by None = last tag view (codes "BAD Sequence number too hig") 104 t (plain_words (codes "BAD Sequence number too hig") 104 refl refl)
-    by (Some uids) = (nothing_leaves view, λ new newer. done newer)
+    by : (chosen : Option (List ℕ)) → Says tag view (on_chosen chosen (λ uids. wanting_for uids (Expunge (Some uids) (Feed unlimited (completed (commands.UidExpunge set))))))
+    by None = last tag view texts.SequenceTooHigh t
+    by (Some []) = λ new newer. done newer
+    by (Some (uid ∷ uids)) = (nothing_leaves view, λ new newer. done newer)
 
 -- ---- FETCH and STORE
 
@@ -85,17 +90,17 @@ fetch_done : (tag view : List ℕ) (fetch : Fetch) (gone : Bool) → IsTag tag �
 fetch_done tag view fetch gone t = by fetch.by_uid gone
   where
     by : (b gone : Bool) → Says tag view (messages_done (commands.Fetch (record { by_uid = b; set = fetch.set; items = fetch.items })) b gone)
-    by true gone = λ new. last tag new (codes "OK UID FETCH complete") 100 t (plain_words (codes "OK UID FETCH complete") 100 refl refl)
-    by false true = last tag view (codes "NO [EXPUNGEISSUED] Some messages are gon") 101 t (plain_words (codes "NO [EXPUNGEISSUED] Some messages are gon") 101 refl refl)
-    by false false = last tag view (codes "OK FETCH complete") 100 t (plain_words (codes "OK FETCH complete") 100 refl refl)
+    by true gone = λ new. last tag new (texts.Completed verbs.UidFetch) t
+    by false true = last tag view texts.MessagesGone t
+    by false false = last tag view (texts.Completed verbs.Fetch) t
 
 store_done : (tag view : List ℕ) (store : Store) (gone : Bool) → IsTag tag → Says tag view (messages_done (commands.Store store) store.by_uid gone)
 store_done tag view store gone t = by store.by_uid gone
   where
     by : (b gone : Bool) → Says tag view (messages_done (commands.Store (record { by_uid = b; set = store.set; silent = store.silent; change = store.change })) b gone)
-    by true gone = λ new. last tag new (codes "OK UID STORE complete") 100 t (plain_words (codes "OK UID STORE complete") 100 refl refl)
-    by false true = last tag view (codes "NO [EXPUNGEISSUED] Some messages are gon") 101 t (plain_words (codes "NO [EXPUNGEISSUED] Some messages are gon") 101 refl refl)
-    by false false = last tag view (codes "OK STORE complete") 100 t (plain_words (codes "OK STORE complete") 100 refl refl)
+    by true gone = λ new. last tag new (texts.Completed verbs.UidStore) t
+    by false true = last tag view texts.MessagesGone t
+    by false false = last tag view (texts.Completed verbs.Store) t
 
 fetching_says : (tag view : List ℕ) (fetch : Fetch) (mark : Bool) (done : Bool → Exchange) → ((gone : Bool) → Says tag view (done gone)) → AreToldParts fetch.items → IsNumbered view
     → (uids : List ℕ) (gone : Bool) → AreIn uids view → Says tag view (fetching fetch mark view done uids gone)
@@ -127,7 +132,7 @@ chosen_says : (tag view : List ℕ) (by_uid : Bool) (set : List SeqRange) (next 
 chosen_says tag view by_uid set next t h = by (named_in by_uid set view) (named_are_in by_uid set view)
   where
     by : (chosen : Option (List ℕ)) → IfSome chosen (λ uids. AreIn uids view) → Says tag view (on_chosen chosen (next view))
-    by None there = last tag view (codes "BAD Sequence number too hig") 104 t (plain_words (codes "BAD Sequence number too hig") 104 refl refl)
+    by None there = last tag view texts.SequenceTooHigh t
     by (Some uids) there = h uids there
 
 fetch_says : (tag view : List ℕ) (fetch : Fetch) (selected : Selected) → IsTag tag → AreToldParts fetch.items → IsNumbered view → Says tag view (fetch_messages fetch selected)
@@ -154,28 +159,28 @@ selected_says tag view (Some selected) now next e t h = rw e (h selected)
 list_says : (tag view : List ℕ) (now : Standing) (reference pattern : List ℕ) → IsTag tag → AreNames now.folders → Says tag view (on_command now (commands.List reference pattern))
 list_says tag view now reference pattern t names = (
   leaves view _ (list_tells_nothing reference pattern now.folders names),
-  shows_then tag view now.selected (completed (commands.List reference pattern)) (λ new. last tag new (codes "OK LIST complete") 100 t (plain_words (codes "OK LIST complete") 100 refl refl)),
+  shows_then tag view now.selected (completed (commands.List reference pattern)) (λ new. last tag new (texts.Completed verbs.List) t),
 )
 
 status_says : (tag view : List ℕ) (now : Standing) (name : List ℕ) (items : List StatusItem) → IsTag tag → AreNames now.folders → Says tag view (on_command now (commands.Status name items))
 status_says tag view now name items t names = (leaves view [] (λ messages. refl), by (folder_of name now.folders) (folder_plain name now.folders names))
   where
     by : (folder : Option Folder) → IfSome folder (λ f. IsPlain f.name)
-        → Says tag view (on_found (counting now name items) (says (codes "NO [NONEXISTENT] No such mailbox")) folder)
-    by None plain = last tag view (codes "NO [NONEXISTENT] No such mailbo") 120 t (plain_words (codes "NO [NONEXISTENT] No such mailbo") 120 refl refl)
+        → Says tag view (on_found (counting now name items) (says (response_text texts.NoSuchMailbox)) folder)
+    by None plain = last tag view texts.NoSuchMailbox t
     by (Some folder) plain = λ status counted. (
       leaves view _ (status_tells_nothing folder.name items status plain counted),
-      shows_then tag view now.selected (completed (commands.Status name items)) (λ new. last tag new (codes "OK STATUS complete") 100 t (plain_words (codes "OK STATUS complete") 100 refl refl)),
+      shows_then tag view now.selected (completed (commands.Status name items)) (λ new. last tag new (texts.Completed verbs.Status) t),
     )
 
 -- ---- APPEND
 
 nowhere_says : (tag view : List ℕ) → IsTag tag → Says tag view nowhere
-nowhere_says tag view t = last tag view (codes "NO [TRYCREATE] No such mailbo") 120 t (plain_words (codes "NO [TRYCREATE] No such mailbo") 120 refl refl)
+nowhere_says tag view t = last tag view texts.TryCreate t
 
 over_says : (tag view : List ℕ) (most : Option ℕ) → IsTag tag → Says tag view (over most)
-over_says tag view None t = last tag view (codes "NO [CANNOT] Not offered her") 101 t (plain_words (codes "NO [CANNOT] Not offered her") 101 refl refl)
-over_says tag view (Some most) t = last tag view (codes "NO Message too bi") 103 t (plain_words (codes "NO Message too bi") 103 refl refl)
+over_says tag view None t = last tag view texts.NotOffered t
+over_says tag view (Some most) t = last tag view texts.MessageTooBig t
 
 append_says : (tag view : List ℕ) (most : Option ℕ) (folders : List Folder) (a : Append) → IsTag tag → Says tag view (appending most folders a)
 append_says tag view most folders a t = by a.literal.waits (is_over most a.literal.size) (nat_lt most_unasked a.literal.size) (number_named a.name folders)
@@ -190,7 +195,7 @@ append_says tag view most folders a t = by a.literal.waits (is_over most a.liter
 
     by : (waits big long : Bool) (o : Option ℕ)
         → Says tag view (if waits then wanting (on_found (λ mailbox. if big then over most else asking mailbox a.flags a.literal.size) nowhere o)
-        else (if long then Wait (bye (codes "Literal too big")) ForNothing else coming o a.flags a.literal.size))
+        else (if long then Wait (bye (response_text texts.LiteralTooBig)) ForNothing else coming o a.flags a.literal.size))
     by true big long o = (nothing_leaves view, found big o)
     by false big true o = leaves view _ (λ messages. refl)
     by false big false o = nothing_leaves view
@@ -200,23 +205,23 @@ rest_says : (tag view : List ℕ) (mailing : Mailing) (a : Appending) (empty : B
 rest_says tag view mailing a empty t = kept a.text
   where
     text_says : (big nul spent : Bool) (text : List ℕ) (mailbox : ℕ)
-        → Says tag view (if big then over mailing.most else if nul then says (codes "NO NUL byte") else if spent then says (codes "NO Mailbox is spent") else wanting (Wait [] (ForVerdict mailbox a.flags text)))
+        → Says tag view (if big then over mailing.most else if nul then says (response_text texts.NulByte) else if spent then says (response_text texts.MailboxSpent) else wanting (Wait [] (ForVerdict mailbox a.flags text)))
     text_says true nul spent text mailbox = over_says tag view mailing.most t
-    text_says false true spent text mailbox = last tag view (codes "NO NUL byt") 101 t (plain_words (codes "NO NUL byt") 101 refl refl)
-    text_says false false true text mailbox = last tag view (codes "NO Mailbox is spen") 116 t (plain_words (codes "NO Mailbox is spen") 116 refl refl)
+    text_says false true spent text mailbox = last tag view texts.NulByte t
+    text_says false false true text mailbox = last tag view texts.MailboxSpent t
     text_says false false false text mailbox = (nothing_leaves view, nothing_leaves view)
 
     named : (text : List ℕ) (mailbox : Option ℕ) → Says tag view (on_found (on_text mailing a text) nowhere mailbox)
     named text None = nowhere_says tag view t
     named text (Some mailbox) = text_says (is_over mailing.most a.size) (list_any (λ b. b == 0) text) (nat_le last_number mailing.number) text mailbox
 
-    ended : (b : Bool) (text : List ℕ) → Says tag view (if b then on_found (on_text mailing a text) nowhere a.mailbox else says (codes "BAD Invalid arguments"))
+    ended : (b : Bool) (text : List ℕ) → Says tag view (if b then on_found (on_text mailing a text) nowhere a.mailbox else says (response_text texts.InvalidArguments))
     ended true text = named text a.mailbox
-    ended false text = last tag view (codes "BAD Invalid argument") 115 t (plain_words (codes "BAD Invalid argument") 115 refl refl)
+    ended false text = last tag view texts.InvalidArguments t
 
     kept : (text : Option (List ℕ))
-        → Says tag view (on_found (λ text. if empty then on_found (on_text mailing a text) nowhere a.mailbox else says (codes "BAD Invalid arguments")) (says (codes "NO Out of memory")) text)
-    kept None = last tag view (codes "NO Out of memor") 121 t (plain_words (codes "NO Out of memor") 121 refl refl)
+        → Says tag view (on_found (λ text. if empty then on_found (on_text mailing a text) nowhere a.mailbox else says (response_text texts.InvalidArguments)) (says (response_text texts.OutOfMemory)) text)
+    kept None = last tag view texts.OutOfMemory t
     kept (Some text) = ended empty text
 
 -- the line that tells where a message was stored
@@ -240,23 +245,15 @@ verdict_says : (tag view : List ℕ) (selected : Option Selected) (mailbox : ℕ
 verdict_says tag view selected mailbox (verdicts.Stored uid) t u = λ status counted.
     shows_then tag view selected (says (appended_words status.uidvalidity uid))
     (λ new. leaves new _ (tagged_tells_nothing tag (appended_words status.uidvalidity uid) t (stored_plain status.uidvalidity uid counted.uidvalidity u)))
-verdict_says tag view selected mailbox (verdicts.Refused Full) t u = last tag view (codes "NO Shard ful") 108 t (plain_words (codes "NO Shard ful") 108 refl refl)
-verdict_says tag view selected mailbox (verdicts.Refused MailboxFull) t u = last tag view (codes "NO Mailbox ful") 108 t (plain_words (codes "NO Mailbox ful") 108 refl refl)
-verdict_says tag view selected mailbox (verdicts.Refused NoMemory) t u = last tag view (codes "NO Out of memor") 121 t (plain_words (codes "NO Out of memor") 121 refl refl)
-verdict_says tag view selected mailbox (verdicts.Refused UidSpent) t u = last tag view (codes "NO No UID lef") 116 t (plain_words (codes "NO No UID lef") 116 refl refl)
-verdict_says tag view selected mailbox (verdicts.Refused Shut) t u = last tag view (codes "NO Shard close") 100 t (plain_words (codes "NO Shard close") 100 refl refl)
+verdict_says tag view selected mailbox (verdicts.Refused why) t u = last tag view (refused_text why) t
 
 -- ---- all of them
 
--- a command's tagged OK but for its last byte
-abbrev done_front : Command → List ℕ
-done_front command = codes "OK " ++ verb_text (verb_of command) ++ codes " complete"
-
 command_says : (tag view : List ℕ) (now : Standing) (command : Command) → IsTag tag → MayAsk now view command → Says tag view (on_command now command)
 command_says tag view now commands.Noop t may =
-    shows_then tag view now.selected (completed commands.Noop) (λ new. last tag new (codes "OK NOOP complete") 100 t (plain_words (codes "OK NOOP complete") 100 refl refl))
+    shows_then tag view now.selected (completed commands.Noop) (λ new. last tag new (texts.Completed verbs.Noop) t)
 command_says tag view now commands.Logout t may =
-    (leaves view _ (λ messages. refl), leaves view _ (tagged_tells_nothing tag (codes "OK LOGOUT completed") t (plain_words (codes "OK LOGOUT complete") 100 refl refl)))
+    (leaves view _ (λ messages. refl), leaves view _ (tagged_tells_nothing tag (response_text (texts.Completed verbs.Logout)) t (text_plain (texts.Completed verbs.Logout))))
 command_says tag view now commands.Idle t may = leaves view _ (λ messages. refl)
 command_says tag view now commands.Login t may = wrong tag view t
 command_says tag view now commands.Authenticate t may = wrong tag view t
@@ -272,15 +269,15 @@ command_says tag view now (commands.UidExpunge set) t may = writable tag view no
 command_says tag view now (commands.Fetch fetch) t may = selected_says tag view now.selected now (fetch_messages fetch) refl t (λ selected. fetch_says tag view fetch selected t may.parts may.numbered)
 command_says tag view now (commands.Store store) t may = writable tag view now.selected now (store_messages store) refl t (store_says tag view store t may.numbered)
 command_says tag view now (commands.Append append) t may = append_says tag view now.mailing.most now.folders append t
-command_says tag view now command t may = (leaves view _ (λ messages. refl), last tag view (done_front command) 100 t (plain_words (done_front command) 100 refl refl))
+command_says tag view now command t may = (leaves view _ (λ messages. refl), last tag view (texts.Completed (verb_of command)) t)
 
 -- ---- lines that are no commands
 
 pub fault_tells_nothing : (fault : ImapFault) → Tagged (Err fault) → TellsNothing (fault_text fault)
 fault_tells_nothing NoTag t messages = refl
-fault_tells_nothing (Unknown tag) t messages = tagged_tells_nothing tag (codes "BAD Unknown command") t (plain_words (codes "BAD Unknown comman") 100 refl refl) messages
-fault_tells_nothing (LeftOut tag) t messages = tagged_tells_nothing tag (codes "NO [CANNOT] Not offered here") t (plain_words (codes "NO [CANNOT] Not offered her") 101 refl refl) messages
-fault_tells_nothing (Arguments tag) t messages = tagged_tells_nothing tag (codes "BAD Invalid arguments") t (plain_words (codes "BAD Invalid argument") 115 refl refl) messages
+fault_tells_nothing (Unknown tag) t messages = tagged_tells_nothing tag (response_text texts.UnknownCommand) t (text_plain texts.UnknownCommand) messages
+fault_tells_nothing (LeftOut tag) t messages = tagged_tells_nothing tag (response_text texts.NotOffered) t (text_plain texts.NotOffered) messages
+fault_tells_nothing (Arguments tag) t messages = tagged_tells_nothing tag (response_text texts.InvalidArguments) t (text_plain texts.InvalidArguments) messages
 
 fault_follows : (now : Standing) (fault : ImapFault) (view : List ℕ) (answers : List Answer) (turn : Turn) (new : List ℕ)
     → Tagged (Err fault) → only_says (fault_text fault) now answers ≡ Some turn → SeesAll view turn.events new → Leads view turn.bytes new
@@ -299,11 +296,11 @@ idle_line_says : (tag view : List ℕ) (selected : Option Selected) (line : List
 idle_line_says tag view selected line t = by (is_done line)
   where
     done : (new : List ℕ) → Says tag new (completed commands.Idle)
-    done new = last tag new (codes "OK IDLE complete") 100 t (plain_words (codes "OK IDLE complete") 100 refl refl)
+    done new = last tag new (texts.Completed verbs.Idle) t
 
-    by : (b : Bool) → Says tag view (if b then showing selected (completed commands.Idle) else says (codes "BAD Expected DONE"))
+    by : (b : Bool) → Says tag view (if b then showing selected (completed commands.Idle) else says (response_text texts.ExpectedDone))
     by true = shows_then tag view selected (completed commands.Idle) done
-    by false = last tag view (codes "BAD Expected DON") 69 t (plain_words (codes "BAD Expected DON") 69 refl refl)
+    by false = last tag view texts.ExpectedDone t
 
 while_follows : (idling : Option (List ℕ)) (now : Standing) (line view : List ℕ) (answers : List Answer) (turn : Turn) (new : List ℕ)
     → IsFollowed idling now view line → turn_while idling now line answers ≡ Some turn → SeesAll view turn.events new → Leads view turn.bytes new
@@ -322,11 +319,11 @@ answer_is_followed now line view answers turn new h e sees = behind_follows now.
 
 long_idle_tells_nothing : (idling : Option (List ℕ)) → IfSome idling IsTag → TellsNothing (long_idle_text idling)
 long_idle_tells_nothing None t messages = refl
-long_idle_tells_nothing (Some tag) t messages = tagged_tells_nothing tag (codes "BAD Expected DONE") t (plain_words (codes "BAD Expected DON") 69 refl refl) messages
+long_idle_tells_nothing (Some tag) t messages = tagged_tells_nothing tag (response_text texts.ExpectedDone) t (text_plain texts.ExpectedDone) messages
 
-long_rest_tells_nothing : (tag : List ℕ) (text : Option (List ℕ)) → IsTag tag → TellsNothing (tagged tag (long_rest_words text))
-long_rest_tells_nothing tag None t messages = tagged_tells_nothing tag (codes "NO Out of memory") t (plain_words (codes "NO Out of memor") 121 refl refl) messages
-long_rest_tells_nothing tag (Some text) t messages = tagged_tells_nothing tag (codes "BAD Invalid arguments") t (plain_words (codes "BAD Invalid argument") 115 refl refl) messages
+long_rest_tells_nothing : (tag : List ℕ) (text : Option (List ℕ)) → IsTag tag → TellsNothing (tagged tag (response_text (long_rest_text text)))
+long_rest_tells_nothing tag None t messages = tagged_tells_nothing tag (response_text texts.OutOfMemory) t (text_plain texts.OutOfMemory) messages
+long_rest_tells_nothing tag (Some text) t messages = tagged_tells_nothing tag (response_text texts.InvalidArguments) t (text_plain texts.InvalidArguments) messages
 
 long_tells_nothing : (begun : Option Appending) (idling : Option (List ℕ)) → IfSome (kept_behind begun idling) IsTag → TellsNothing (long_text begun idling)
 long_tells_nothing None idling t = long_idle_tells_nothing idling t

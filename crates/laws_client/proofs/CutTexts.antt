@@ -21,7 +21,7 @@ use Rattle.imap_grammar.specs.declared.items.Section.{Section}
 use Rattle.imap_grammar.specs.declared.items.Section.TheVariants.{Whole, Header, Text}
 use Rattle.imap_grammar.specs.declared.items.Span.{Span}
 use Rattle.imap_grammar.specs.declared.items.StatusItem.{StatusItem}
-use Rattle.imap_session.specs.Exchange.{Folder, bye, tagged}
+use Rattle.imap_session.specs.Exchange.{Folder, bye, continuing, tagged, untagged}
 use Rattle.laws_client.specs.Client.{count_of, literal_of}
 use Rattle.laws_client.specs.Commands.{AreNames}
 use Rattle.laws_client.specs.ListTurns.{IsPlain, is_inner}
@@ -33,6 +33,9 @@ use Rattle.laws_client.proofs.CutBytes.{Ends, Passes, both_pass, cuts-append, in
 use Rattle.laws_client.proofs.LastLines.{IsWord}
 use Rattle.laws_client.proofs.LastLines.{tag_byte, word_inner as tag_inner}
 use Rattle.laws_client.proofs.LastTurns.{decimal_inner, words_inner}
+use Rattle.imap_session.specs.Texts.{response_text}
+use Rattle.imap_session.specs.declared.texts.ResponseText.{ResponseText}
+use Rattle.laws_client.proofs.TextRows.{row_inner, text_plain}
 
 -- ---- lines
 
@@ -73,11 +76,22 @@ tagged_ends tag words h k e begun answers =
     by [] h = absurd (false≢true h)
     by (b ∷ bs) h = rw (tag_byte b bs 42 refl h, tag_byte b bs 43 refl h) refl
 
-pub bye_passes : (words : List ℕ) → list_all is_inner words ≡ true → plain_end (reverse words) ≡ true → Passes (bye words)
-bye_passes words k e = star_passes (codes "BYE ") words refl k e
-
 pub plain_name : (name : List ℕ) → IsPlain name → plain_end (reverse name) ≡ true
 plain_name name plain = ap (λ (x : List ℕ). plain_end (reverse x)) plain.is ∙ ap plain_end (reverse-append plain.front (plain.last ∷ [])) ∙ ap not plain.no_count
+
+-- ---- the texts of the table
+
+pub text_end : (text : ResponseText) → plain_end (reverse (response_text text)) ≡ true
+text_end text = plain_name (response_text text) (text_plain text)
+
+pub untagged_passes : (text : ResponseText) → Passes (untagged (response_text text))
+untagged_passes text = star_passes [] (response_text text) refl (row_inner text) (text_end text)
+
+pub bye_passes : (text : ResponseText) → Passes (bye (response_text text))
+bye_passes text = star_passes (codes "BYE ") (response_text text) refl (row_inner text) (text_end text)
+
+pub continuing_passes : (text : ResponseText) → Passes (continuing (response_text text))
+continuing_passes text = plus_passes (response_text text) (row_inner text) (text_end text)
 
 -- ---- changes
 

@@ -9,7 +9,6 @@ use Rattle.change_ring.specs.declared.change.Change.{Change}
 use Rattle.change_ring.specs.declared.change.Flags.{Flags}
 use Rattle.cursor_set.specs.Lines.{lines, position}
 use Rattle.delivery_token.specs.declared.Refusal.{Refusal}
-use Rattle.delivery_token.specs.declared.Refusal.TheVariants as refusals
 use Rattle.delivery_token.specs.declared.Verdict.{Verdict}
 use Rattle.delivery_token.specs.declared.Verdict.TheVariants as verdicts
 use Rattle.mailbox.specs.declared.clients.MailFault.{MailFault}
@@ -26,15 +25,15 @@ use Rattle.imap_grammar.specs.declared.command.Fetch.{Fetch}
 use Rattle.imap_grammar.specs.declared.command.ImapFault.{ImapFault}
 use Rattle.imap_grammar.specs.declared.command.ImapFault.TheVariants as faults
 use Rattle.imap_grammar.specs.declared.command.Store.{Store}
-use Rattle.imap_grammar.specs.declared.command.Verb.TheVariants as verbs
+use Rattle.imap_grammar.specs.Verbs.{verb_of}
 use Rattle.imap_session.specs.declared.standing.After.{After}
 use Rattle.imap_session.specs.declared.standing.After.TheVariants.{Go, Bye}
 use Rattle.imap_session.specs.declared.standing.After.TheVariants as afters
 use Rattle.imap_session.specs.declared.standing.Selected.{Selected}
 use Rattle.imap_session.proofs.Unkept.{unkept_by}
 use Rattle.imap_session.specs.Exchange as ex
-use Rattle.imap_session.specs.Exchange.{Answer, Appending, Call, Entered, Looked, Found, Counted, Altered, Expunged, Fed, Left, Refused, Starved, Event as Happened, Exchange, Folder, ForVerdict, Mailing, Sent, Standing, Turn, bye, closed, having, is_idling, kept_behind, kept_tag, played, refusal_after, refusal_text, refused, saying, tagged}
-use Rattle.imap_session.specs.Commands.{appended_words, appending, closing, completed, counting, entering, expunge_set, fetch_messages, fetched, fetching, folder_of, idle_turn_in, if_writable, is_over, last_number, long_rest_words, long_text, messages_done, most_unasked, nowhere, number_named, on_chosen, on_command, on_found, on_idle_line, on_read, on_rest, on_text, on_verdict, over, refused_words, says, showing, store_messages, storing, turn_behind, turn_of, turn_while, turn_with, unlimited, verb_text, wanting, without_begun, without_sent, wrong_state}
+use Rattle.imap_session.specs.Exchange.{Answer, Appending, Call, Entered, Looked, Found, Counted, Altered, Expunged, Fed, Left, Refused, Starved, Event as Happened, Exchange, Folder, ForVerdict, Mailing, Sent, Standing, Turn, bye, closed, having, is_idling, kept_behind, kept_tag, played, refusal_after, refusal_text, refused, saying, tagged, untagged}
+use Rattle.imap_session.specs.Commands.{appended_words, appending, closing, completed, counting, entering, expunge_set, fetch_messages, fetched, fetching, folder_of, idle_turn_in, if_writable, is_over, last_number, long_rest_text, long_text, messages_done, most_unasked, nowhere, number_named, on_chosen, on_command, on_found, on_idle_line, on_read, on_rest, on_text, on_verdict, over, refused_text, says, showing, store_messages, storing, turn_behind, turn_of, turn_while, turn_with, unlimited, wanting, wanting_for, without_begun, without_sent, wrong_state, entered_text}
 use Rattle.laws_client.specs.Commands.{AreNames}
 use Rattle.laws_client.specs.Talks.{Happening, Line, LongLine, Turned, Literal, Heard, leads_to}
 use Rattle.laws_client.specs.ListTurns.{IsPlain, is_inner}
@@ -44,9 +43,13 @@ use Rattle.laws_client.proofs.Turns.{the_turn}
 use Rattle.laws_client.proofs.Untold.{folder_plain}
 use Rattle.laws_client.specs.Cuts.{EndsItself, IsOneAnswer, SaysBye, ends, leaves_open, opens}
 use Rattle.laws_client.proofs.CutBytes.{Ends, Passes, both_pass, passes_none, then_ends}
-use Rattle.laws_client.proofs.CutTexts.{bye_passes, flags_pass, lines_pass, list_passes, opening_passes, plain_end, plus_passes, row_passes, star_passes, status_passes, tagged_ends}
+use Rattle.laws_client.proofs.CutTexts.{bye_passes, continuing_passes, text_end, untagged_passes, flags_pass, lines_pass, list_passes, opening_passes, plain_end, plus_passes, row_passes, star_passes, status_passes, tagged_ends}
 use Rattle.laws_client.proofs.LastLines.{IsWord}
 use Rattle.laws_client.proofs.LastTurns.{appended_inner}
+use Rattle.imap_session.specs.declared.texts.ResponseText.TheVariants as texts
+use Rattle.imap_session.specs.Texts.{response_text}
+use Rattle.imap_session.specs.declared.texts.ResponseText.{ResponseText}
+use Rattle.laws_client.proofs.TextRows.{row_inner}
 
 -- ---- what is read
 
@@ -108,8 +111,8 @@ behind_text tag o text bytes p (ended h own) = ended (then_ends text bytes p h) 
 tagged_one : (tag words : List ℕ) (o : Bool) → IsWord tag → list_all is_inner words ≡ true → plain_end (reverse words) ≡ true → OneOf tag o (tagged tag words)
 tagged_one tag words o t h k = ended (tagged_ends tag words t h k) ([], words, refl)
 
-bye_of : (tag words : List ℕ) (o : Bool) → list_all is_inner words ≡ true → plain_end (reverse words) ≡ true → OneOf tag o (bye words)
-bye_of tag words o h k = kept_open (bye_passes words h k) (inr ([], words, refl))
+bye_of : (tag : List ℕ) (text : ResponseText) (o : Bool) → OneOf tag o (bye (response_text text))
+bye_of tag text o = kept_open (bye_passes text) (inr ([], response_text text, refl))
 
 then_having : (tag : List ℕ) (o : Bool) (call : Call) (answer : Answer) (t : Option Turn) → TurnCut tag o t → TurnCut tag o (option_map (having call answer) t)
 then_having tag o call answer None p = tt
@@ -135,10 +138,10 @@ closed_cut tag o bytes now (afters.Literal due) p = subst (OneOf tag o) (sym (ap
 closed_cut tag o bytes now afters.Submit p = subst (OneOf tag o) (sym (append-nil bytes)) p
 
 refusal_one : (tag : List ℕ) → IsWord tag → (o : Bool) (fault : MailFault) → OneOf tag o (refusal_text tag fault)
-refusal_one tag t o Stranger = bye_of tag (codes "Internal fault") o refl refl
-refusal_one tag t o Lapped = bye_of tag (codes "Too many changes were missed") o refl refl
-refusal_one tag t o Spent = tagged_one tag (codes "NO Mailbox is spent") o t refl refl
-refusal_one tag t o NoMemory = tagged_one tag (codes "NO Out of memory") o t refl refl
+refusal_one tag t o Stranger = bye_of tag texts.InternalFault o
+refusal_one tag t o Lapped = bye_of tag texts.ChangesMissed o
+refusal_one tag t o Spent = tagged_one tag (response_text texts.MailboxSpent) o t refl refl
+refusal_one tag t o NoMemory = tagged_one tag (response_text texts.OutOfMemory) o t refl refl
 
 refused_one : (tag : List ℕ) → IsWord tag → (o : Bool) (now : Standing) (fault : MailFault) → OneOf tag o (refused tag now fault).bytes
 refused_one tag t o now fault = closed_cut tag o (refusal_text tag fault) now (refusal_after fault) (refusal_one tag t o fault)
@@ -157,7 +160,7 @@ played_cut tag t o now (ex.Wait bytes waits) ((Fed a b) ∷ more) p = tt
 played_cut tag t o now (ex.Wait bytes waits) ((Left a) ∷ more) p = tt
 played_cut tag t o now (ex.Wait bytes waits) ((Refused a) ∷ more) p = tt
 played_cut tag t o now (ex.Wait bytes waits) (Starved n ∷ []) p =
-    unkept_by (TurnCut tag o) tt tag now (λ short. refused_one tag t o now NoMemory) (λ flags size short. kept_open passes_none (inl p.0)) (λ short. subst (OneOf tag o) (sym (append-nil (bye (codes "Out of memory")))) (bye_of tag (codes "Out of memory") o refl refl)) waits n
+    unkept_by (TurnCut tag o) tt tag now (λ short. refused_one tag t o now NoMemory) (λ flags size short. kept_open passes_none (inl p.0)) (λ short. subst (OneOf tag o) (sym (append-nil (bye (response_text texts.ByeOutOfMemory)))) (bye_of tag texts.ByeOutOfMemory o)) waits n
 played_cut tag t o now (ex.Wait bytes waits) (Starved n ∷ d ∷ more) p = tt
 played_cut tag t o now (ex.Write bytes x) [] p = then_saying tag o bytes (played tag now x []) p.0 (played_cut tag t o now x [] p.1)
 played_cut tag t o now (ex.Write bytes x) ((Entered a) ∷ more) p = then_saying tag o bytes (played tag now x ((Entered a) ∷ more)) p.0 (played_cut tag t o now x ((Entered a) ∷ more) p.1)
@@ -290,19 +293,19 @@ in_showing o (Some selected) x p = p
 
 in_closing : (o : Bool) → (selected : Option Selected) (x : Exchange) → SaysCut o x → SaysCut o (closing selected x)
 in_closing o None x p = p
-in_closing o (Some selected) x p = (star_passes (codes "OK [CLOSED] Previous mailbox is ") (codes "closed") refl refl refl, p)
+in_closing o (Some selected) x p = (untagged_passes texts.PreviousClosed, p)
 
 in_found : {A : Type 0} (o : Bool) (next : A → Exchange) (gone : Exchange) → ((a : A) → SaysCut o (next a)) → SaysCut o gone → (found : Option A) → SaysCut o (on_found next gone found)
 in_found o next gone p q None = q
 in_found o next gone p q (Some a) = p a
 
 in_folder : (o : Bool) → (next : Folder → Exchange) → ((folder : Folder) → IsPlain folder.name → SaysCut o (next folder)) → (found : Option Folder) → IfSome found (λ (folder : Folder). IsPlain folder.name)
-    → SaysCut o (on_found next (says (codes "NO [NONEXISTENT] No such mailbox")) found)
+    → SaysCut o (on_found next (says (response_text texts.NoSuchMailbox)) found)
 in_folder o next p None plain = (refl, refl)
 in_folder o next p (Some folder) plain = p folder plain
 
 in_writable : (o : Bool) → (selected : Option Selected) (x : Exchange) → SaysCut o x → SaysCut o (on_found (if_writable x) wrong_state selected)
-in_writable o selected x p = in_found o (if_writable x) wrong_state (λ (s : Selected). in_either o s.read_only (says (codes "NO Mailbox is read-only")) x (refl, refl) p) (refl, refl) selected
+in_writable o selected x p = in_found o (if_writable x) wrong_state (λ (s : Selected). in_either o s.read_only (says (response_text texts.ReadOnly)) x (refl, refl) p) (refl, refl) selected
 
 in_chosen : (o : Bool) → (chosen : Option (List ℕ)) (next : List ℕ → Exchange) → ((uids : List ℕ) → SaysCut o (next uids)) → SaysCut o (on_chosen chosen next)
 in_chosen o None next p = (refl, refl)
@@ -334,28 +337,13 @@ in_storing o store view done p [] gone = p gone
 in_storing o store view done p (uid ∷ uids) gone =
     elim [ None ↦ in_storing o store view done p uids true | Some flags ↦ in_silence o store.silent _ _ (flags_pass store.by_uid (position uid view) uid flags) (in_storing o store view done p uids gone) ]
 
-fetch_words : (o : Bool) → (fetch : Fetch) → SaysCut o (completed (commands.Fetch fetch))
-fetch_words o fetch = by fetch.by_uid
-  where
-    by : (b : Bool) → SaysCut o (says (codes "OK " ++ verb_text (if b then verbs.UidFetch else verbs.Fetch) ++ codes " completed"))
-    by true = (refl, refl)
-    by false = (refl, refl)
-
-store_words : (o : Bool) → (store : Store) → SaysCut o (completed (commands.Store store))
-store_words o store = by store.by_uid
-  where
-    by : (b : Bool) → SaysCut o (says (codes "OK " ++ verb_text (if b then verbs.UidStore else verbs.Store) ++ codes " completed"))
-    by true = (refl, refl)
-    by false = (refl, refl)
-
-entered_words : (o : Bool) → (read_only : Bool) → SaysCut o (says (if read_only then codes "OK [READ-ONLY] EXAMINE completed" else codes "OK [READ-WRITE] SELECT completed"))
-entered_words o true = (refl, refl)
-entered_words o false = (refl, refl)
+says_cut : (o : Bool) (text : ResponseText) → SaysCut o (says (response_text text))
+says_cut o text = (row_inner text, text_end text)
 
 in_entering : (o : Bool) → (read_only : Bool) (folder : Folder) → IsPlain folder.name → SaysCut o (entering read_only folder)
-in_entering o read_only folder plain opening = (opening_passes read_only folder.name opening plain, entered_words o read_only)
+in_entering o read_only folder plain opening = (opening_passes read_only folder.name opening plain, says_cut o (entered_text read_only))
 
-in_selecting : (o : Bool) → (now : Standing) (read_only : Bool) (name : List ℕ) → AreNames now.folders → SaysCut o (closing now.selected (wanting (on_found (entering read_only) (says (codes "NO [NONEXISTENT] No such mailbox")) (folder_of name now.folders))))
+in_selecting : (o : Bool) → (now : Standing) (read_only : Bool) (name : List ℕ) → AreNames now.folders → SaysCut o (closing now.selected (wanting (on_found (entering read_only) (says (response_text texts.NoSuchMailbox)) (folder_of name now.folders))))
 in_selecting o now read_only name names = in_closing o now.selected _ (passes_none, in_folder o (entering read_only) (in_entering o read_only) (folder_of name now.folders) (folder_plain name now.folders names))
 
 in_over : (o : Bool) → (most : Option ℕ) → SaysCut o (over most)
@@ -367,18 +355,18 @@ in_over o (Some most) = (refl, refl)
 append_cut : (most : Option ℕ) (folders : List Folder) (a : Append) → SaysCut true (appending most folders a)
 append_cut most folders a =
     in_either true a.literal.waits _ _
-    (passes_none, in_found true _ nowhere (λ (mailbox : ℕ). in_either true (is_over most a.literal.size) (over most) _ (in_over true most) (refl, plus_passes (codes "ready") refl refl)) (refl, refl) (number_named a.name folders))
-    (in_either true (nat_lt most_unasked a.literal.size) _ _ (refl, bye_passes (codes "Literal too big") refl refl) (refl, passes_none))
+    (passes_none, in_found true _ nowhere (λ (mailbox : ℕ). in_either true (is_over most a.literal.size) (over most) _ (in_over true most) (refl, continuing_passes texts.Ready)) (refl, refl) (number_named a.name folders))
+    (in_either true (nat_lt most_unasked a.literal.size) _ _ (refl, bye_passes texts.LiteralTooBig) (refl, passes_none))
 
 command_cut : (now : Standing) (command : Command) → AreNames now.folders → SaysCut (leaves_open command) (on_command now command)
 command_cut now commands.Noop names = in_showing false now.selected (completed commands.Noop) (refl, refl)
-command_cut now commands.Logout names = (bye_passes (codes "Logging out") refl refl, (refl, refl))
-command_cut now commands.Idle names = (refl, plus_passes (codes "idling") refl refl)
+command_cut now commands.Logout names = (bye_passes texts.LoggingOut, (refl, refl))
+command_cut now commands.Idle names = (refl, continuing_passes texts.Idling)
 command_cut now commands.Login names = (refl, refl)
 command_cut now commands.Authenticate names = (refl, refl)
 command_cut now commands.StartTls names = (refl, refl)
-command_cut now commands.Capability names = (star_passes (codes "CAPABILITY IMAP4rev2 ") (codes "IDLE") refl refl refl, (refl, refl))
-command_cut now commands.Namespace names = (star_passes (codes "NAMESPACE ((\"\" \"/\")) NIL ") (codes "NIL") refl refl refl, (refl, refl))
+command_cut now commands.Capability names = (untagged_passes texts.Capabilities, (refl, refl))
+command_cut now commands.Namespace names = (untagged_passes texts.Namespaces, (refl, refl))
 command_cut now (commands.Select name) names = in_selecting false now false name names
 command_cut now (commands.Examine name) names = in_selecting false now true name names
 command_cut now (commands.List reference pattern) names = (list_passes reference pattern now.folders names, in_showing false now.selected (completed (commands.List reference pattern)) (refl, refl))
@@ -389,18 +377,18 @@ command_cut now commands.Unselect names = in_found false _ wrong_state (λ (s : 
 command_cut now commands.Expunge names = in_writable false now.selected (ex.Expunge None (ex.Feed unlimited (completed commands.Expunge))) (refl, refl)
 command_cut now (commands.UidExpunge set) names =
     in_writable false now.selected (expunge_set set)
-    (λ view. in_chosen false (named_in true set view) (λ uids. wanting (ex.Expunge (Some uids) (ex.Feed unlimited (completed (commands.UidExpunge set))))) (λ uids. (passes_none, (refl, refl))))
+    (λ view. in_chosen false (named_in true set view) (λ uids. wanting_for uids (ex.Expunge (Some uids) (ex.Feed unlimited (completed (commands.UidExpunge set))))) (elim [ [] ↦ (refl, refl) | uid ∷ uids ↦ (passes_none, (refl, refl)) ]))
 command_cut now (commands.Fetch fetch) names =
     in_found false (fetch_messages fetch) wrong_state
     (λ (s : Selected). (
       passes_none,
       λ view. in_chosen false (named_in fetch.by_uid fetch.set view) _
-          (λ uids. in_fetching false fetch _ view (messages_done (commands.Fetch fetch) fetch.by_uid) (λ gone. in_done false (commands.Fetch fetch) fetch.by_uid gone (fetch_words false fetch)) uids false),
+          (λ uids. in_fetching false fetch _ view (messages_done (commands.Fetch fetch) fetch.by_uid) (λ gone. in_done false (commands.Fetch fetch) fetch.by_uid gone (says_cut false (texts.Completed (verb_of (commands.Fetch fetch))))) uids false),
     )) (refl, refl) now.selected
 command_cut now (commands.Store store) names =
     in_writable false now.selected (store_messages store)
     (λ view. in_chosen false (named_in store.by_uid store.set view) _
-    (λ uids. in_storing false store view (messages_done (commands.Store store) store.by_uid) (λ gone. in_done false (commands.Store store) store.by_uid gone (store_words false store)) uids false))
+    (λ uids. in_storing false store view (messages_done (commands.Store store) store.by_uid) (λ gone. in_done false (commands.Store store) store.by_uid gone (says_cut false (texts.Completed (verb_of (commands.Store store))))) uids false))
 command_cut now (commands.Append append) names = append_cut now.mailing.most now.folders append
 
 -- a turn says one answer, whatever its tag
@@ -420,24 +408,24 @@ plain_turn tag t o now x answers p = plain tag o (played tag now x answers) (pla
 text_cut : (mailing : Mailing) (a : Appending) (text : List ℕ) (mailbox : ℕ) → SaysCut true (on_text mailing a text mailbox)
 text_cut mailing a text mailbox =
     in_either true (is_over mailing.most a.size) (over mailing.most) _ (in_over true mailing.most)
-    (in_either true (list_any (λ b. b == 0) text) (says (codes "NO NUL byte")) _ (refl, refl)
-    (in_either true (nat_le last_number mailing.number) (says (codes "NO Mailbox is spent")) (wanting (ex.Wait [] (ForVerdict mailbox a.flags text))) (refl, refl) (passes_none, (refl, passes_none))))
+    (in_either true (list_any (λ b. b == 0) text) (says (response_text texts.NulByte)) _ (refl, refl)
+    (in_either true (nat_le last_number mailing.number) (says (response_text texts.MailboxSpent)) (wanting (ex.Wait [] (ForVerdict mailbox a.flags text))) (refl, refl) (passes_none, (refl, passes_none))))
 
 rest_cut : (mailing : Mailing) (a : Appending) (empty : Bool) → SaysCut true (on_rest mailing a empty)
 rest_cut mailing a empty =
-    in_found true (λ text. if empty then on_found (on_text mailing a text) nowhere a.mailbox else says (codes "BAD Invalid arguments")) (says (codes "NO Out of memory"))
-    (λ (text : List ℕ). in_either true empty (on_found (on_text mailing a text) nowhere a.mailbox) (says (codes "BAD Invalid arguments")) (in_found true (on_text mailing a text) nowhere (text_cut mailing a text) (refl, refl) a.mailbox) (refl, refl))
+    in_found true (λ text. if empty then on_found (on_text mailing a text) nowhere a.mailbox else says (response_text texts.InvalidArguments)) (says (response_text texts.OutOfMemory))
+    (λ (text : List ℕ). in_either true empty (on_found (on_text mailing a text) nowhere a.mailbox) (says (response_text texts.InvalidArguments)) (in_found true (on_text mailing a text) nowhere (text_cut mailing a text) (refl, refl) a.mailbox) (refl, refl))
     (refl, refl) a.text
 
 idling_cut : (selected : Option Selected) (line : List ℕ) → SaysCut true (on_idle_line selected line)
 idling_cut selected line =
-    in_either true (is_done line) (showing selected (completed commands.Idle)) (says (codes "BAD Expected DONE")) (in_showing true selected (completed commands.Idle) (refl, refl)) (refl, refl)
+    in_either true (is_done line) (showing selected (completed commands.Idle)) (says (response_text texts.ExpectedDone)) (in_showing true selected (completed commands.Idle) (refl, refl)) (refl, refl)
 
 fault_cut : (fault : ImapFault) (now : Standing) (answers : List Answer) → TaggedOf IsWord (Err fault) → TurnOne (on_read now (Err fault) answers)
-fault_cut faults.NoTag now [] t = λ short. subst IsOneAnswer (sym (append-nil (codes "* BAD Missing tag\r\n"))) (opens (star_passes (codes "BAD Missing ") (codes "tag") refl refl refl))
-fault_cut (faults.Unknown tag) now [] t = λ short. subst IsOneAnswer (sym (append-nil (tagged tag (codes "BAD Unknown command")))) (ends (tagged_ends tag (codes "BAD Unknown command") t refl refl))
-fault_cut (faults.LeftOut tag) now [] t = λ short. subst IsOneAnswer (sym (append-nil (tagged tag (codes "NO [CANNOT] Not offered here")))) (ends (tagged_ends tag (codes "NO [CANNOT] Not offered here") t refl refl))
-fault_cut (faults.Arguments tag) now [] t = λ short. subst IsOneAnswer (sym (append-nil (tagged tag (codes "BAD Invalid arguments")))) (ends (tagged_ends tag (codes "BAD Invalid arguments") t refl refl))
+fault_cut faults.NoTag now [] t = λ short. subst IsOneAnswer (sym (append-nil (untagged (response_text texts.MissingTag)))) (opens (untagged_passes texts.MissingTag))
+fault_cut (faults.Unknown tag) now [] t = λ short. subst IsOneAnswer (sym (append-nil (tagged tag (response_text texts.UnknownCommand)))) (ends (tagged_ends tag (response_text texts.UnknownCommand) t refl refl))
+fault_cut (faults.LeftOut tag) now [] t = λ short. subst IsOneAnswer (sym (append-nil (tagged tag (response_text texts.NotOffered)))) (ends (tagged_ends tag (response_text texts.NotOffered) t refl refl))
+fault_cut (faults.Arguments tag) now [] t = λ short. subst IsOneAnswer (sym (append-nil (tagged tag (response_text texts.InvalidArguments)))) (ends (tagged_ends tag (response_text texts.InvalidArguments) t refl refl))
 fault_cut fault now (answer ∷ more) t = tt
 
 read_cut : (now : Standing) (r : Result (List ℕ × Command) ImapFault) (answers : List Answer) → TaggedOf IsWord r → AreNames now.folders → TurnOne (on_read now r answers)
@@ -452,19 +440,15 @@ behind_cut : (begun : Option Appending) (now : Standing) (line : List ℕ) (answ
 behind_cut None now line answers t s names = while_cut now.idling now line answers s names
 behind_cut (Some a) now line answers t s names = plain_turn a.tag t true (without_begun now) (on_rest now.mailing a (length line == 0)) answers (rest_cut now.mailing a (length line == 0))
 
-rest_words : (text : Option (List ℕ)) → SaysCut true (says (long_rest_words text))
-rest_words None = (refl, refl)
-rest_words (Some text) = (refl, refl)
-
 long_cut : (begun : Option Appending) (idling : Option (List ℕ)) → IfSome begun (λ (a : Appending). IsWord a.tag) → IfSome idling IsWord → IsOneAnswer (long_text begun idling)
-long_cut None None t s = opens (star_passes (codes "BAD Line too ") (codes "long") refl refl refl)
-long_cut None (Some tag) t s = ends (tagged_ends tag (codes "BAD Expected DONE") s refl refl)
-long_cut (Some a) idling t s = let w = rest_words a.text in ends (tagged_ends a.tag (long_rest_words a.text) t w.0 w.1)
+long_cut None None t s = opens (untagged_passes texts.LineTooLong)
+long_cut None (Some tag) t s = ends (tagged_ends tag (response_text texts.ExpectedDone) s refl refl)
+long_cut (Some a) idling t s = let w = says_cut true (long_rest_text a.text) in ends (tagged_ends a.tag (response_text (long_rest_text a.text)) t w.0 w.1)
 
 -- ---- a session that idles, and verdicts
 
-bye_one : (words : List ℕ) → list_all is_inner words ≡ true → plain_end (reverse words) ≡ true → IsOneAnswer (bye words ++ [])
-bye_one words h k = subst IsOneAnswer (sym (append-nil (bye words))) (opens (bye_passes words h k))
+bye_one : (text : ResponseText) → IsOneAnswer (bye (response_text text) ++ [])
+bye_one text = subst IsOneAnswer (sym (append-nil (bye (response_text text)))) (opens (bye_passes text))
 
 idle_cut : (selected : Option Selected) (idling : Bool) (now : Standing) (answers : List Answer) → TurnOne (idle_turn_in selected idling now answers)
 idle_cut None idling now [] = λ short. opens passes_none
@@ -481,9 +465,9 @@ idle_cut (Some s) true now ((Expunged a b c) ∷ more) = tt
 idle_cut (Some s) true now (Fed a b ∷ []) = λ short. subst IsOneAnswer (sym (append-nil (lines a b))) (opens (lines_pass a b))
 idle_cut (Some s) true now (Fed a b ∷ d ∷ more) = tt
 idle_cut (Some s) true now ((Left a) ∷ more) = tt
-idle_cut (Some s) true now (Refused Lapped ∷ []) = λ short. bye_one (codes "Too many changes were missed") refl refl
+idle_cut (Some s) true now (Refused Lapped ∷ []) = λ short. bye_one texts.ChangesMissed
 idle_cut (Some s) true now (Refused Lapped ∷ d ∷ more) = tt
-idle_cut (Some s) true now (Refused Stranger ∷ []) = λ short. bye_one (codes "Internal fault") refl refl
+idle_cut (Some s) true now (Refused Stranger ∷ []) = λ short. bye_one texts.InternalFault
 idle_cut (Some s) true now (Refused Stranger ∷ d ∷ more) = tt
 idle_cut (Some s) true now (Refused Spent ∷ more) = tt
 idle_cut (Some s) true now (Refused NoMemory ∷ more) = tt
@@ -492,16 +476,9 @@ idle_cut (Some s) true now ((Starved a) ∷ more) = tt
 appended_end : (v uid : ℕ) → plain_end (reverse (appended_words v uid)) ≡ true
 appended_end v uid = ap plain_end (reverse-append (codes "OK [APPENDUID " ++ decimal v ++ codes " " ++ decimal uid) (codes "] APPEND completed"))
 
-refusals_cut : (why : Refusal) → SaysCut true (says (refused_words why))
-refusals_cut refusals.Full = (refl, refl)
-refusals_cut refusals.MailboxFull = (refl, refl)
-refusals_cut refusals.NoMemory = (refl, refl)
-refusals_cut refusals.UidSpent = (refl, refl)
-refusals_cut refusals.Shut = (refl, refl)
-
 verdict_cut : (selected : Option Selected) (mailbox : ℕ) (verdict : Verdict) → SaysCut true (on_verdict selected mailbox verdict)
 verdict_cut selected mailbox (verdicts.Stored uid) = λ status. in_showing true selected (says (appended_words status.uidvalidity uid)) (appended_inner status.uidvalidity uid, appended_end status.uidvalidity uid)
-verdict_cut selected mailbox (verdicts.Refused why) = refusals_cut why
+verdict_cut selected mailbox (verdicts.Refused why) = says_cut true (refused_text why)
 
 heard_cut : (sent : Option Sent) (now : Standing) (verdict : Verdict) (answers : List Answer) → IfSome sent (λ (s : Sent). IsWord s.tag) → TurnOne (turn_with sent now verdict answers)
 heard_cut None now verdict answers t = tt

@@ -25,7 +25,8 @@ use Rattle.laws_client.specs.Views.{view_of}
 use Rattle.laws_client.proofs.Answered.{told_bytes}
 use Rattle.laws_client.proofs.Boxes.{box_goes}
 use Rattle.laws_client.proofs.CutBytes.{cuts-append}
-use Rattle.laws_client.proofs.CutTexts.{star_passes}
+use Rattle.laws_client.proofs.CutTexts.{untagged_passes}
+use Rattle.imap_session.specs.declared.texts.ResponseText.TheVariants as texts
 use Rattle.laws_client.proofs.CutTurns.{AreShort, IsShort, IsShortAnswer, OneOf, command_one, ended, kept_open, turn_cut}
 use Rattle.laws_client.proofs.RecordKeeping.{clients_keep_up, clients_kept_up, short_steps, first_stands, texts_stay_short}
 use Rattle.laws_client.proofs.LastLines.{IsWord}
@@ -155,7 +156,7 @@ cut_so begun answers (one ∷ told) h =
 cut_printed : (told : List Told) (printed : List ℕ) → EachIsOne told → greeting ++ flat_map bytes_in told ≡ printed → cuts (between [] []) printed ≡ cut_between greeting [] told
 cut_printed told printed each e =
     ap (cuts (between [] [])) (sym e) ∙ cuts-append (between [] []) greeting (flat_map bytes_in told)
-    ∙ ap (λ (c : Cutter). cuts c (flat_map bytes_in told)) (star_passes (codes "PREAUTH IMAP4rev2 server ") (codes "ready") refl refl refl [] []) ∙ cut_so greeting [] told each
+    ∙ ap (λ (c : Cutter). cuts c (flat_map bytes_in told)) (untagged_passes texts.Greeting [] []) ∙ cut_so greeting [] told each
 
 -- a life from its start to wherever it has come
 cuts_so : (k : Setup) (place : ℕ) (user : List ℕ) (began : World) (events : List WorldEvent) {sent : List ℕ} {told : List Told} {now : Standing} {w : World} (printed : List ℕ) → IsPrintable k → IsWorld k.config events began

@@ -13,6 +13,9 @@ use Rattle.laws_client.proofs.Bytes.{whole_line}
 use Rattle.laws_client.proofs.LinesRead.{not_a_count}
 use Rattle.laws_client.proofs.Literals.{reads_other}
 use Rattle.laws_client.proofs.Turns.{Refusals}
+use Rattle.imap_session.specs.declared.texts.ResponseText.TheVariants as texts
+use Rattle.imap_session.specs.Texts.{response_text}
+use Rattle.laws_client.proofs.TextRows.{text_plain}
 
 -- what tells nothing leaves a client as right as it was
 pub leaves : (view text : List ℕ) → TellsNothing text → Leaves view text
@@ -52,8 +55,8 @@ plain_words front last other inner = record { front = front; last = last; is = r
 pub refusal_tells_nothing : RefusalTellsNothing
 refusal_tells_nothing tag Stranger t messages = refl
 refusal_tells_nothing tag Lapped t messages = refl
-refusal_tells_nothing tag Spent t messages = tagged_tells_nothing tag (codes "NO Mailbox is spent") t (plain_words (codes "NO Mailbox is spen") 116 refl refl) messages
-refusal_tells_nothing tag NoMemory t messages = tagged_tells_nothing tag (codes "NO Out of memory") t (plain_words (codes "NO Out of memor") 121 refl refl) messages
+refusal_tells_nothing tag Spent t messages = tagged_tells_nothing tag (response_text texts.MailboxSpent) t (text_plain texts.MailboxSpent) messages
+refusal_tells_nothing tag NoMemory t messages = tagged_tells_nothing tag (response_text texts.OutOfMemory) t (text_plain texts.OutOfMemory) messages
 
 pub refusals : (tag : List ℕ) → IsTag tag → Refusals tag
 refusals tag t view fault = leaves view _ (refusal_tells_nothing tag fault t)

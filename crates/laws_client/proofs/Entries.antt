@@ -12,7 +12,7 @@ use Rattle.world.proofs.Always.{steps_join}
 use Rattle.imap_session.specs.Exchange as calls
 use Rattle.imap_session.specs.Commands.{greeting}
 use Rattle.house_peers.specs.Caller.{Caller}
-use Rattle.house_peers.specs.Folders.{folders_of}
+use Rattle.imap_session.specs.Folders.{folders_of}
 use Rattle.house_peers.specs.Visitor.{Visitor, greeted}
 use Rattle.house_peers.specs.Visitor.{more_waits as session_more_waits}
 use Rattle.house_peers.specs.SeatedVisitor.{SeatedVisitor, seated_greeted}

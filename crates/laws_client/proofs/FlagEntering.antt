@@ -1,6 +1,6 @@
 -- SELECT and EXAMINE begin a list of which no flags are known, and CLOSE and UNSELECT end one.
 use Rattle.std.proofs.Common.{◌≡◌, ℕ, ◌<◌, ◌^◌, length, Bool, true, false, List, [], ◌∷◌, ◌++◌, refl, sym, subst, ap, ◌∙◌}
-use Rattle.std.specs.Prelude.{Option, Some, None, IfSome, codes, if◌then◌else◌}
+use Rattle.std.specs.Prelude.{Option, Some, None, IfSome, if◌then◌else◌}
 use Rattle.std.proofs.lemmas.Bool.{false≢true}
 use Rattle.std.proofs.lemmas.Option.{none-some}
 use Rattle.mailbox.specs.declared.clients.MailFault.{MailFault}
@@ -18,7 +18,7 @@ use Rattle.laws_client.specs.Beliefs.{Each, Follows, TellsNothing}
 use Rattle.laws_client.specs.Commands.{AreNames}
 use Rattle.laws_client.specs.ListTurns.{IsPlain, IsTag}
 use Rattle.laws_client.proofs.Bytes.{reads-append}
-use Rattle.laws_client.proofs.Ends.{plain_words, refusal_tells_nothing, tagged_tells_nothing}
+use Rattle.laws_client.proofs.Ends.{refusal_tells_nothing, tagged_tells_nothing}
 use Rattle.laws_client.proofs.Opening.{opening_told}
 use Rattle.laws_client.proofs.Untold.{folder_plain}
 use Rattle.laws_client.specs.Clients.{has_ok, reads_on}
@@ -32,6 +32,10 @@ use Rattle.laws_client.specs.Flags.{Believes, Point, counted}
 use Rattle.laws_client.specs.FlagTurns.{LeadsFlags}
 use Rattle.laws_client.specs.Worlds.{IsRightOnFlags, point_of}
 use Rattle.laws_client.proofs.FlagWorlds.{counted_of}
+use Rattle.imap_session.specs.declared.texts.ResponseText.TheVariants as texts
+use Rattle.imap_session.specs.Texts.{response_text}
+use Rattle.imap_session.specs.declared.texts.ResponseText.{ResponseText}
+use Rattle.laws_client.proofs.TextRows.{text_plain}
 
 -- ---- SELECT and EXAMINE
 
@@ -66,20 +70,20 @@ then_tagged P new text tag words view t plain f = record {
 }
 
 -- what is told of a mailbox that was entered, and the line behind it
-opening_known : (P : ℕ → Known → Type 0) (new : (u : ℕ) → P u unknown) (tag : List ℕ) (now : Standing) (read_only : Bool) (name : List ℕ) (o : Opening) (answers : List Answer) (turn : Turn) (view front : List ℕ) (last : ℕ) → IsTag tag → IsPlain (front ++ last ∷ [])
-    → Follows P [] (opening_text read_only name o) view → played tag now (Put (opening_text read_only name o) (says (front ++ last ∷ []))) answers ≡ Some turn → IfOk P tag turn.bytes view × (turn.events ≡ [])
-opening_known P new tag now read_only name o answers turn view front last t plain f e =
-    let m = mapped (saying (opening_text read_only name o)) (played tag now (says (front ++ last ∷ [])) answers) turn e in
-    let d = only_done tag (front ++ last ∷ []) Go now answers m.more m.is in
-    let bytes : turn.bytes ≡ opening_text read_only name o ++ tagged tag (front ++ last ∷ []) = ap (λ (s : Turn). s.bytes) (sym m.makes) ∙ ap (λ (b : List ℕ). opening_text read_only name o ++ b) d.bytes in
-    ((λ ok. subst (λ (b : List ℕ). Follows P [] b view) (sym bytes) (then_tagged P new (opening_text read_only name o) tag (front ++ last ∷ []) view t plain f)), ap (λ (s : Turn). s.events) (sym m.makes) ∙ d.events)
+opening_known : (P : ℕ → Known → Type 0) (new : (u : ℕ) → P u unknown) (tag : List ℕ) (now : Standing) (read_only : Bool) (name : List ℕ) (o : Opening) (answers : List Answer) (turn : Turn) (view : List ℕ) (text : ResponseText) → IsTag tag
+    → Follows P [] (opening_text read_only name o) view → played tag now (Put (opening_text read_only name o) (says (response_text text))) answers ≡ Some turn → IfOk P tag turn.bytes view × (turn.events ≡ [])
+opening_known P new tag now read_only name o answers turn view text t f e =
+    let m = mapped (saying (opening_text read_only name o)) (played tag now (says (response_text text)) answers) turn e in
+    let d = only_done tag (response_text text) Go now answers m.more m.is in
+    let bytes : turn.bytes ≡ opening_text read_only name o ++ tagged tag (response_text text) = ap (λ (s : Turn). s.bytes) (sym m.makes) ∙ ap (λ (b : List ℕ). opening_text read_only name o ++ b) d.bytes in
+    ((λ ok. subst (λ (b : List ℕ). Follows P [] b view) (sym bytes) (then_tagged P new (opening_text read_only name o) tag (response_text text) view t (text_plain text) f)), ap (λ (s : Turn). s.events) (sym m.makes) ∙ d.events)
 
 opened_known : (P : ℕ → Known → Type 0) (new : (u : ℕ) → P u unknown) (tag : List ℕ) (now : Standing) (read_only : Bool) (name : List ℕ) (o : Opening) (answers : List Answer) (turn : Turn) (view : List ℕ) → IsTag tag
     → Follows P [] (opening_text read_only name o) view → played tag now (opened read_only name o) answers ≡ Some turn → IfOk P tag turn.bytes view × (turn.events ≡ [])
 opened_known P new tag now true name o answers turn view t f e =
-    opening_known P new tag now true name o answers turn view (codes "OK [READ-ONLY] EXAMINE complete") 100 t (plain_words (codes "OK [READ-ONLY] EXAMINE complete") 100 refl refl) f e
+    opening_known P new tag now true name o answers turn view texts.ExamineCompleted t f e
 opened_known P new tag now false name o answers turn view t f e =
-    opening_known P new tag now false name o answers turn view (codes "OK [READ-WRITE] SELECT complete") 100 t (plain_words (codes "OK [READ-WRITE] SELECT complete") 100 refl refl) f e
+    opening_known P new tag now false name o answers turn view texts.SelectCompleted t f e
 
 -- a mailbox is entered
 enters_known : (P : ℕ → Known → Type 0) (new : (u : ℕ) → P u unknown) (k : Config) (n : ℕ) (tag : List ℕ) (now : Standing) (w : World) (read_only : Bool) (folder : Folder) (answers : List Answer) (turn : Turn) (v : World) → HasSmallNumbers k → Sound k w → IsTag tag → IsPlain folder.name
@@ -113,12 +117,12 @@ named_known : (P : ℕ → Known → Type 0) (new : (u : ℕ) → P u unknown) (
 named_known P new k n tag now w read_only name folders answers turn v h S t names e met = by (folder_of name folders) (folder_plain name folders names) e
   where
     missing : List ℕ
-    missing = codes "NO [NONEXISTENT] No such mailbox"
+    missing = response_text texts.NoSuchMailbox
 
-    by : (found : Option Folder) → IfSome found (λ f. IsPlain f.name) → played tag now (on_found (entering read_only) (says (codes "NO [NONEXISTENT] No such mailbox")) found) answers ≡ Some turn → IfOk P tag turn.bytes (view_of v n)
+    by : (found : Option Folder) → IfSome found (λ f. IsPlain f.name) → played tag now (on_found (entering read_only) (says (response_text texts.NoSuchMailbox)) found) answers ≡ Some turn → IfOk P tag turn.bytes (view_of v n)
     by None plain d =
-        none_said P new tag turn.bytes (tagged tag (codes "NO [NONEXISTENT] No such mailbox")) (view_of v n) (only_done tag (codes "NO [NONEXISTENT] No such mailbox") Go now answers turn d).bytes
-        (tagged_has tag (codes "NO [NONEXISTENT] No such mailbox") t)
+        none_said P new tag turn.bytes (tagged tag (response_text texts.NoSuchMailbox)) (view_of v n) (only_done tag (response_text texts.NoSuchMailbox) Go now answers turn d).bytes
+        (tagged_has tag (response_text texts.NoSuchMailbox) t)
     by (Some folder) plain d = enters_known P new k n tag now w read_only folder answers turn v h S t plain d met
 
 behind_closed : (P : ℕ → Known → Type 0) (new : (u : ℕ) → P u unknown) (tag bytes view : List ℕ) → IsTag tag → IfOk P tag bytes view → IfOk P tag (closed_line ++ bytes) view
@@ -248,9 +252,9 @@ pub closes_right : (k : Config) (n : ℕ) (tag words : List ℕ) (now : Standing
     → has_ok true tag (tagged tag words) ≡ true → played tag now (on_found (λ s. Leave (remove s) (says words)) wrong_state selected) answers ≡ Some turn → Met (Calls k n) w turn.events v → IsRightOnFlags (point_of w n) client
     → IsRightOnFlags (point_of v n) (if has_ok true tag turn.bytes then None else reads_on turn.bytes client)
 closes_right k n tag words now w remove None answers turn v client t ok e met right =
-    let only = only_done tag (codes "BAD Wrong state") Go now answers turn e in
+    let only = only_done tag (response_text texts.WrongState) Go now answers turn e in
     let last : v ≡ w = subst (λ (es : List Event). Met (Calls k n) w es v) only.events met in
     subst (λ (b : List ℕ). IsRightOnFlags (point_of v n) (if has_ok true tag b then None else reads_on b client)) (sym only.bytes)
-    (stays_right tag (tagged tag (codes "BAD Wrong state")) (point_of v n) client
-    (tagged_tells_nothing tag (codes "BAD Wrong state") t (plain_words (codes "BAD Wrong stat") 101 refl refl)) (same_point k n w v client last right))
+    (stays_right tag (tagged tag (response_text texts.WrongState)) (point_of v n) client
+    (tagged_tells_nothing tag (response_text texts.WrongState) t (text_plain texts.WrongState)) (same_point k n w v client last right))
 closes_right k n tag words now w remove (Some selected) answers turn v client t ok e met right = leaving_right k n tag words now w (remove selected) answers turn v client t ok e met right

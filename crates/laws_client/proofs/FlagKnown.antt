@@ -1,6 +1,6 @@
 -- A turn of a session, and its whole life, as they tell its client flags.
 use Rattle.std.proofs.Common.{◌≡◌, ℕ, true, false, List, refl, sym, subst, ap, ap₂}
-use Rattle.std.specs.Prelude.{Option, Some, None, Result, Ok, Err, codes, not}
+use Rattle.std.specs.Prelude.{Option, Some, None, Result, Ok, Err, not}
 use Rattle.world.specs.World.{Config, World}
 use Rattle.imap_grammar.specs.Reading.{read}
 use Rattle.imap_grammar.specs.declared.command.Command.{Command}
@@ -38,6 +38,9 @@ use Rattle.laws_client.proofs.Idling.{idle_tells_flags}
 use Rattle.laws_client.proofs.Saying.{answer_tells_flags, verdict_tells_flags}
 use Rattle.laws_client.proofs.Turning.{leaves, rests_in}
 use Rattle.laws_client.proofs.FlagWorlds.{counted_of, others_flags, sees_all_flags}
+use Rattle.imap_session.specs.declared.texts.ResponseText.TheVariants as texts
+use Rattle.imap_session.specs.Texts.{response_text}
+use Rattle.imap_grammar.specs.declared.command.Verb.TheVariants as verbs
 
 -- ---- what may happen
 
@@ -64,9 +67,9 @@ command_flags k n now w tag (commands.Select name) answers turn v client h S sta
 command_flags k n now w tag (commands.Examine name) answers turn v client h S stands t e met right more =
     selects_right k n tag now w true name answers turn v h S t stands.names e met
 command_flags k n now w tag commands.Close answers turn v client h S stands t e met right more =
-    closes_right k n tag (codes "OK CLOSE completed") now w (λ s. not s.read_only) now.selected answers turn v client t (tagged_has tag (codes "OK CLOSE completed") t) e met right
+    closes_right k n tag (response_text (texts.Completed verbs.Close)) now w (λ s. not s.read_only) now.selected answers turn v client t (tagged_has tag (response_text (texts.Completed verbs.Close)) t) e met right
 command_flags k n now w tag commands.Unselect answers turn v client h S stands t e met right more =
-    closes_right k n tag (codes "OK UNSELECT completed") now w (λ s. false) now.selected answers turn v client t (tagged_has tag (codes "OK UNSELECT completed") t) e met right
+    closes_right k n tag (response_text (texts.Completed verbs.Unselect)) now w (λ s. false) now.selected answers turn v client t (tagged_has tag (response_text (texts.Completed verbs.Unselect)) t) e met right
 command_flags k n now w tag _ answers turn v client h S stands t e met right more = more refl
 
 read_flags : (k : Config) (n : ℕ) (now : Standing) (w : World) (r : Result (List ℕ × Command) ImapFault) (answers : List StoreAnswer) (turn : Turn) (v : World) (client : Option Client)

@@ -10,7 +10,7 @@ use Rattle.envelope.specs.Names.{first_fault, has_length, has_right_folder, home
 use Rattle.envelope.specs.declared.directory.DirectoryFault.{DirectoryFault}
 use Rattle.envelope.specs.declared.directory.DirectoryFault.TheVariants.{TooMany, BadName, Twice}
 use Rattle.imap_grammar.proofs.Tokens.{excludes, not_true}
-use Rattle.house_peers.specs.Folders.{folders_from, folders_of, name_of}
+use Rattle.imap_session.specs.Folders.{folders_from, folders_of, name_of}
 use Rattle.laws_client.specs.Commands.{AreNames}
 use Rattle.laws_client.specs.ListTurns.{is_inner, IsPlain}
 use Rattle.laws_client.proofs.Bytes.{first_of, rest_of}

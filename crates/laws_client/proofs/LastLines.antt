@@ -22,7 +22,7 @@ use Rattle.imap_session.specs.declared.standing.After.{After}
 use Rattle.imap_session.specs.declared.standing.After.TheVariants.{Go, Bye}
 use Rattle.imap_session.specs.declared.standing.After.TheVariants as afters
 use Rattle.imap_session.specs.Exchange as ex
-use Rattle.imap_session.specs.Exchange.{Answer, Call, Coming, Entered, Looked, Found, Counted, Altered, Expunged, Fed, Left, Refused, Starved, Exchange, Standing, Turn, Waiting, Asked, Unasked, Dropped, ForDone, ForLiteral, ForVerdict, ForNothing, played, refused, refusal_text, refusal_after, saying, having, closed, tagged, bye, unkept, where_long, waits_so}
+use Rattle.imap_session.specs.Exchange.{Answer, Call, Coming, Entered, Looked, Found, Counted, Altered, Expunged, Fed, Left, Refused, Starved, Exchange, Standing, Turn, Waiting, Asked, Unasked, Dropped, ForDone, ForLiteral, ForVerdict, ForNothing, played, refused, refusal_text, refusal_after, saying, having, closed, tagged, bye, unkept, where_long, waits_so, continuing, untagged}
 use Rattle.imap_session.proofs.Unkept.{unkept_by}
 use Rattle.exactly_once.proofs.Whole.{IsWhole, lines_whole, whole_append}
 use Rattle.laws_client.specs.ListTurns.{is_inner}
@@ -30,6 +30,10 @@ use Rattle.laws_client.proofs.Bytes.{both, first_of, rest_of}
 use Rattle.laws_client.proofs.Tags.{inner_all}
 use Rattle.laws_client.proofs.Untold.{inner_both}
 use Rattle.laws_client.specs.Appends.{EndsWith, before_lf, last_line}
+use Rattle.imap_session.specs.declared.texts.ResponseText.TheVariants as texts
+use Rattle.imap_session.specs.Texts.{response_text}
+use Rattle.imap_session.specs.declared.texts.ResponseText.{ResponseText}
+use Rattle.laws_client.proofs.TextRows.{behind, row_inner}
 
 -- ---- the last line of whole lines
 
@@ -178,14 +182,20 @@ tagged_apart tells tag words h inner none = record {
   other = λ other behind k e. subst (λ (x : List ℕ). tells x ≡ false) (words_of_tags tag other words behind h k e) none;
 }
 
-pub bye_apart : (tells : List ℕ → Bool) → (words : List ℕ) → list_all is_inner words ≡ true → Apart tells (bye words)
-bye_apart tells words inner = untagged_apart tells 42 (codes " BYE " ++ words) refl inner
+pub bye_apart : (tells : List ℕ → Bool) → (text : ResponseText) → Apart tells (bye (response_text text))
+bye_apart tells text = untagged_apart tells 42 (codes " BYE " ++ response_text text) refl (row_inner text)
+
+pub star_apart : (tells : List ℕ → Bool) → (text : ResponseText) → Apart tells (untagged (response_text text))
+star_apart tells text = untagged_apart tells 42 (codes " " ++ response_text text) refl (row_inner text)
+
+pub plus_apart : (tells : List ℕ → Bool) → (text : ResponseText) → Apart tells (continuing (response_text text))
+plus_apart tells text = untagged_apart tells 43 (codes " " ++ response_text text) refl (row_inner text)
 
 pub refusal_apart : (tells : List ℕ → Bool) → Spares tells → (tag : List ℕ) → IsWord tag → (fault : MailFault) → Apart tells (refusal_text tag fault)
-refusal_apart tells spares tag t Stranger = bye_apart tells (codes "Internal fault") refl
-refusal_apart tells spares tag t Lapped = bye_apart tells (codes "Too many changes were missed") refl
-refusal_apart tells spares tag t Spent = tagged_apart tells tag (codes "NO Mailbox is spent") t refl (spares.no (codes "Mailbox is spent"))
-refusal_apart tells spares tag t NoMemory = tagged_apart tells tag (codes "NO Out of memory") t refl (spares.no (codes "Out of memory"))
+refusal_apart tells spares tag t Stranger = bye_apart tells texts.InternalFault
+refusal_apart tells spares tag t Lapped = bye_apart tells texts.ChangesMissed
+refusal_apart tells spares tag t Spent = tagged_apart tells tag (response_text texts.MailboxSpent) t refl (spares.no (behind 3 texts.MailboxSpent))
+refusal_apart tells spares tag t NoMemory = tagged_apart tells tag (response_text texts.OutOfMemory) t refl (spares.no (behind 3 texts.OutOfMemory))
 
 closed_apart : (tells : List ℕ → Bool) → (bytes : List ℕ) (now : Standing) (how : After) → Apart tells bytes → Apart tells (saying bytes (closed now how)).bytes
 closed_apart tells bytes now Go p = subst (Apart tells) (sym (append-nil bytes)) p
@@ -431,7 +441,7 @@ fine_wait tells spares tag t now waits (Left a ∷ more) = tt
 fine_wait tells spares tag t now waits (Refused a ∷ more) = tt
 fine_wait tells spares tag t now waits (Starved n ∷ []) =
     unkept_by (TurnFine tells) tt tag now (inr (refused_apart tells spares tag t now NoMemory)) (λ flags size. inl refl)
-    (inr (subst (Apart tells) (sym (append-nil (bye (codes "Out of memory")))) (bye_apart tells (codes "Out of memory") refl))) waits n
+    (inr (subst (Apart tells) (sym (append-nil (bye (response_text texts.ByeOutOfMemory)))) (bye_apart tells texts.ByeOutOfMemory))) waits n
 fine_wait tells spares tag t now waits (Starved n ∷ d ∷ more) = tt
 
 nothing_said : (tells : List ℕ → Bool) → (o : Option Turn) → TurnFine tells o → TurnFine tells (option_map (saying []) o)

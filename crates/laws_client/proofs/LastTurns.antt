@@ -20,7 +20,7 @@ use Rattle.imap_session.specs.declared.standing.After.TheVariants.{Go}
 use Rattle.imap_session.specs.declared.standing.Selected.{Selected}
 use Rattle.imap_session.specs.Exchange as ex
 use Rattle.imap_session.specs.Exchange.{Answer, Entered, Looked, Found, Counted, Altered, Expunged, Fed, Left, Refused, Starved, Count, Done, Event as Happened, Feed, Sent, Standing, Turn, bye, having, is_idling, played, refused, refusal_text, saying, tagged}
-use Rattle.imap_session.specs.Commands.{appended_words, idle_turn_in, on_verdict, refused_words, says, showing, turn_of, turn_with, unlimited, without_sent}
+use Rattle.imap_session.specs.Commands.{appended_words, idle_turn_in, on_verdict, refused_text, says, showing, turn_of, turn_with, unlimited, without_sent}
 use Rattle.imap_session.specs.Store.{Met}
 use Rattle.exactly_once.proofs.Whole.{line_whole, lines_whole}
 use Rattle.laws_client.specs.ListTurns.{is_inner}
@@ -37,6 +37,9 @@ use Rattle.laws_client.proofs.LastLines.{Apart, IsWord, TurnFine, apart_tells_no
 use Rattle.laws_client.proofs.LastRests.{long_line_apart}
 use Rattle.laws_client.proofs.LastWords.{line_fine, uid_spares}
 use Rattle.laws_client.proofs.Moved.{Calls}
+use Rattle.imap_session.specs.declared.texts.ResponseText.TheVariants as texts
+use Rattle.imap_session.specs.Texts.{response_text}
+use Rattle.imap_session.specs.declared.texts.ResponseText.{ResponseText}
 
 -- ---- numbers stand within lines, however long
 
@@ -97,8 +100,8 @@ lines_fine tells view (c ∷ cs) = by (lines_fine tells (shown view c) cs)
 
 -- ---- a turn of a session that idles
 
-bye_fine : (tells : List ℕ → Bool) (words : List ℕ) → list_all is_inner words ≡ true → IsFine tells (bye words ++ [])
-bye_fine tells words h = inr (subst (Apart tells) (sym (append-nil (bye words))) (bye_apart tells words h))
+bye_fine : (tells : List ℕ → Bool) (text : ResponseText) → IsFine tells (bye (response_text text) ++ [])
+bye_fine tells text = inr (subst (Apart tells) (sym (append-nil (bye (response_text text)))) (bye_apart tells text))
 
 pub idle_fine : (tells : List ℕ → Bool) (selected : Option Selected) (idling : Bool) (now : Standing) (answers : List Answer) → TurnFine tells (idle_turn_in selected idling now answers)
 idle_fine tells None idling now [] = inl refl
@@ -115,9 +118,9 @@ idle_fine tells (Some s) true now ((Expunged a b c) ∷ more) = tt
 idle_fine tells (Some s) true now (Fed a b ∷ []) = subst (IsFine tells) (sym (append-nil (lines a b))) (lines_fine tells a b)
 idle_fine tells (Some s) true now (Fed a b ∷ d ∷ more) = tt
 idle_fine tells (Some s) true now ((Left a) ∷ more) = tt
-idle_fine tells (Some s) true now (Refused Lapped ∷ []) = bye_fine tells (codes "Too many changes were missed") refl
+idle_fine tells (Some s) true now (Refused Lapped ∷ []) = bye_fine tells texts.ChangesMissed
 idle_fine tells (Some s) true now (Refused Lapped ∷ d ∷ more) = tt
-idle_fine tells (Some s) true now (Refused Stranger ∷ []) = bye_fine tells (codes "Internal fault") refl
+idle_fine tells (Some s) true now (Refused Stranger ∷ []) = bye_fine tells texts.InternalFault
 idle_fine tells (Some s) true now (Refused Stranger ∷ d ∷ more) = tt
 idle_fine tells (Some s) true now (Refused Spent ∷ more) = tt
 idle_fine tells (Some s) true now (Refused NoMemory ∷ more) = tt
@@ -193,7 +196,7 @@ stored_says k n mailbox uid tag t selected now w (Starved a ∷ more) turn v e m
 verdict_says : (k : Config) (n mailbox : ℕ) (verdict : Verdict) (tag : List ℕ) → IsWord tag → (selected : Option Selected) (now : Standing) (w : World) (answers : List Answer) (turn : Turn) (v : World)
     → played tag now (on_verdict selected mailbox verdict) answers ≡ Some turn → Met (Calls k n) w turn.events v → SaysVerdict k.uidvalidity tag verdict turn.bytes
 verdict_says k n mailbox (verdicts.Stored uid) tag t selected now w answers turn v e met = stored_says k n mailbox uid tag t selected now w answers turn v e met
-verdict_says k n mailbox (verdicts.Refused why) tag t selected now w answers turn v e met = (only_done tag (refused_words why) Go now answers turn e).bytes
+verdict_says k n mailbox (verdicts.Refused why) tag t selected now w answers turn v e met = (only_done tag (response_text (refused_text why)) Go now answers turn e).bytes
 
 -- ---- a turn
 

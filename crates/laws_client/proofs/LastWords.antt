@@ -11,17 +11,22 @@ use Rattle.imap_grammar.specs.declared.command.Fetch.{Fetch}
 use Rattle.imap_grammar.specs.declared.command.ImapFault.{ImapFault}
 use Rattle.imap_grammar.specs.declared.command.ImapFault.TheVariants as faults
 use Rattle.imap_grammar.specs.declared.command.Store.{Store}
-use Rattle.imap_grammar.specs.declared.command.Verb.TheVariants as verbs
+use Rattle.imap_grammar.specs.Verbs.{verb_of}
 use Rattle.imap_session.specs.declared.standing.Selected.{Selected}
 use Rattle.imap_session.specs.Exchange as ex
-use Rattle.imap_session.specs.Exchange.{Answer, Appending, Exchange, Folder, ForVerdict, Mailing, Standing, Turn, bye, played}
-use Rattle.imap_session.specs.Commands.{appending, asking, closing, completed, counting, entering, expunge_set, fetch_messages, fetching, folder_of, if_writable, is_over, messages_done, most_unasked, notice, noticing, nowhere, number_named, on_chosen, on_command, on_found, on_idle_line, on_read, over, says, showing, store_messages, storing, turn_behind, turn_of, turn_while, unlimited, verb_text, wanting, without_begun, wrong_state}
+use Rattle.imap_session.specs.Exchange.{Answer, Appending, Exchange, Folder, ForVerdict, Mailing, Standing, Turn, bye, played, untagged}
+use Rattle.imap_session.specs.Commands.{appending, asking, closing, completed, counting, entering, expunge_set, fetch_messages, fetching, folder_of, if_writable, is_over, messages_done, most_unasked, notice, noticing, nowhere, number_named, on_chosen, on_command, on_found, on_idle_line, on_read, over, says, showing, store_messages, storing, turn_behind, turn_of, turn_while, unlimited, wanting, wanting_for, without_begun, wrong_state, entered_text}
 use Rattle.imap_session.specs.Telling.{tells_uid}
 use Rattle.exactly_once.proofs.Whole.{IsWhole, bye_whole, ends, fetched_whole, flags_whole, list_whole, opening_whole}
 use Rattle.laws_client.proofs.IdleTags.{AreTagsOf}
 use Rattle.laws_client.proofs.Tags.{TaggedOf, read_tagged_so}
 use Rattle.laws_client.proofs.LastRests.{EndsFine, either_fine, rest_fine, says_fine}
-use Rattle.laws_client.proofs.LastLines.{Apart, IsWord, SaysApart, Spares, TurnFine, bye_apart, fine_wait, tagged_apart, untagged_apart}
+use Rattle.laws_client.proofs.LastLines.{Apart, IsWord, SaysApart, Spares, TurnFine, bye_apart, fine_wait, plus_apart, star_apart, tagged_apart}
+use Rattle.imap_session.specs.declared.texts.ResponseText.TheVariants as texts
+use Rattle.imap_session.specs.Texts.{response_text}
+use Rattle.imap_session.proofs.Telling.{row_tells_none}
+use Rattle.laws_client.proofs.TextRows.{row_inner}
+use Rattle.imap_session.specs.declared.texts.ResponseText.{ResponseText}
 
 pub uid_spares : Spares tells_uid
 uid_spares = record { no = λ rest. refl; bad = λ rest. refl }
@@ -38,17 +43,17 @@ in_showing (Some selected) x p = p
 
 in_closing : (selected : Option Selected) (x : Exchange) → SaysApart tells_uid x → SaysApart tells_uid (closing selected x)
 in_closing None x p = p
-in_closing (Some selected) x p = (inr (codes "* OK [CLOSED] Previous mailbox is closed", refl), p)
+in_closing (Some selected) x p = (ends (codes "* ") (response_text texts.PreviousClosed), p)
 
 in_found : {A : Type 0} (next : A → Exchange) (gone : Exchange) → ((a : A) → SaysApart tells_uid (next a)) → SaysApart tells_uid gone → (found : Option A) → SaysApart tells_uid (on_found next gone found)
 in_found next gone p q None = q
 in_found next gone p q (Some a) = p a
 
-in_folder : (next : Folder → Exchange) → ((folder : Folder) → SaysApart tells_uid (next folder)) → (found : Option Folder) → SaysApart tells_uid (on_found next (says (codes "NO [NONEXISTENT] No such mailbox")) found)
-in_folder next p found = in_found next (says (codes "NO [NONEXISTENT] No such mailbox")) p (refl, refl) found
+in_folder : (next : Folder → Exchange) → ((folder : Folder) → SaysApart tells_uid (next folder)) → (found : Option Folder) → SaysApart tells_uid (on_found next (says (response_text texts.NoSuchMailbox)) found)
+in_folder next p found = in_found next (says (response_text texts.NoSuchMailbox)) p (refl, refl) found
 
 in_writable : (selected : Option Selected) (x : Exchange) → SaysApart tells_uid x → SaysApart tells_uid (on_found (if_writable x) wrong_state selected)
-in_writable selected x p = in_found (if_writable x) wrong_state (λ (s : Selected). in_either s.read_only (says (codes "NO Mailbox is read-only")) x (refl, refl) p) (refl, refl) selected
+in_writable selected x p = in_found (if_writable x) wrong_state (λ (s : Selected). in_either s.read_only (says (response_text texts.ReadOnly)) x (refl, refl) p) (refl, refl) selected
 
 in_chosen : (chosen : Option (List ℕ)) (next : List ℕ → Exchange) → ((uids : List ℕ) → SaysApart tells_uid (next uids)) → SaysApart tells_uid (on_chosen chosen next)
 in_chosen None next p = (refl, refl)
@@ -75,28 +80,13 @@ in_storing store view done p [] gone = p gone
 in_storing store view done p (uid ∷ uids) gone =
     elim [ None ↦ in_storing store view done p uids true | Some flags ↦ in_silence store.silent _ _ (flags_whole store.by_uid (position uid view) uid flags) (in_storing store view done p uids gone) ]
 
-fetch_words : (fetch : Fetch) → SaysApart tells_uid (completed (commands.Fetch fetch))
-fetch_words fetch = by fetch.by_uid
-  where
-    by : (b : Bool) → SaysApart tells_uid (says (codes "OK " ++ verb_text (if b then verbs.UidFetch else verbs.Fetch) ++ codes " completed"))
-    by true = (refl, refl)
-    by false = (refl, refl)
-
-store_words : (store : Store) → SaysApart tells_uid (completed (commands.Store store))
-store_words store = by store.by_uid
-  where
-    by : (b : Bool) → SaysApart tells_uid (says (codes "OK " ++ verb_text (if b then verbs.UidStore else verbs.Store) ++ codes " completed"))
-    by true = (refl, refl)
-    by false = (refl, refl)
-
-entered_words : (read_only : Bool) → SaysApart tells_uid (says (if read_only then codes "OK [READ-ONLY] EXAMINE completed" else codes "OK [READ-WRITE] SELECT completed"))
-entered_words true = (refl, refl)
-entered_words false = (refl, refl)
+says_apart : (text : ResponseText) → SaysApart tells_uid (says (response_text text))
+says_apart text = (row_inner text, row_tells_none text)
 
 in_entering : (read_only : Bool) (folder : Folder) → SaysApart tells_uid (entering read_only folder)
-in_entering read_only folder opening = (opening_whole read_only folder.name opening, entered_words read_only)
+in_entering read_only folder opening = (opening_whole read_only folder.name opening, says_apart (entered_text read_only))
 
-in_selecting : (now : Standing) (read_only : Bool) (name : List ℕ) → SaysApart tells_uid (closing now.selected (wanting (on_found (entering read_only) (says (codes "NO [NONEXISTENT] No such mailbox")) (folder_of name now.folders))))
+in_selecting : (now : Standing) (read_only : Bool) (name : List ℕ) → SaysApart tells_uid (closing now.selected (wanting (on_found (entering read_only) (says (response_text texts.NoSuchMailbox)) (folder_of name now.folders))))
 in_selecting now read_only name = in_closing now.selected _ (inl refl, in_folder (entering read_only) (in_entering read_only) (folder_of name now.folders))
 
 in_over : (most : Option ℕ) → SaysApart tells_uid (over most)
@@ -109,8 +99,8 @@ append_fine : (most : Option ℕ) (folders : List Folder) (a : Append) → EndsF
 append_fine most folders a =
     either_fine tells_uid a.literal.waits _ _
     (says_fine tells_uid uid_spares (wanting (on_found (λ mailbox. if is_over most a.literal.size then over most else asking mailbox a.flags a.literal.size) nowhere (number_named a.name folders)))
-    (inl refl, in_found _ nowhere (λ (mailbox : ℕ). in_either (is_over most a.literal.size) (over most) _ (in_over most) (untagged_apart tells_uid 43 (codes " ready") refl refl, tt)) (refl, refl) (number_named a.name folders)))
-    (either_fine tells_uid (nat_lt most_unasked a.literal.size) _ _ (says_fine tells_uid uid_spares (ex.Wait (bye (codes "Literal too big")) ex.ForNothing) (bye_apart tells_uid (codes "Literal too big") refl, tt))
+    (inl refl, in_found _ nowhere (λ (mailbox : ℕ). in_either (is_over most a.literal.size) (over most) _ (in_over most) (plus_apart tells_uid texts.Ready, tt)) (refl, refl) (number_named a.name folders)))
+    (either_fine tells_uid (nat_lt most_unasked a.literal.size) _ _ (says_fine tells_uid uid_spares (ex.Wait (bye (response_text texts.LiteralTooBig)) ex.ForNothing) (bye_apart tells_uid texts.LiteralTooBig, tt))
     (λ tag t now answers. fine_wait tells_uid uid_spares tag t now (ex.ForLiteral ex.Unasked (number_named a.name folders) a.flags a.literal.size) answers))
 
 notice_apart : (said : Option (List ℕ)) (x : Exchange) → SaysApart tells_uid x → SaysApart tells_uid (noticing said x)
@@ -119,8 +109,8 @@ notice_apart (Some words) x p = (ends (codes "* ") words, p)
 
 command_apart : (now : Standing) (command : Command) → EndsFine tells_uid (on_command now command)
 command_apart now commands.Noop = says_fine tells_uid uid_spares (on_command now commands.Noop) (in_showing now.selected (completed commands.Noop) (refl, refl))
-command_apart now commands.Logout = says_fine tells_uid uid_spares (on_command now commands.Logout) (bye_whole (codes "Logging out"), (refl, refl))
-command_apart now commands.Idle = says_fine tells_uid uid_spares (on_command now commands.Idle) (untagged_apart tells_uid 43 (codes " idling") refl refl, tt)
+command_apart now commands.Logout = says_fine tells_uid uid_spares (on_command now commands.Logout) (bye_whole (response_text texts.LoggingOut), (refl, refl))
+command_apart now commands.Idle = says_fine tells_uid uid_spares (on_command now commands.Idle) (plus_apart tells_uid texts.Idling, tt)
 command_apart now commands.Login = says_fine tells_uid uid_spares (on_command now commands.Login) (refl, refl)
 command_apart now commands.Authenticate = says_fine tells_uid uid_spares (on_command now commands.Authenticate) (refl, refl)
 command_apart now commands.StartTls = says_fine tells_uid uid_spares (on_command now commands.StartTls) (refl, refl)
@@ -138,18 +128,18 @@ command_apart now commands.Unselect = says_fine tells_uid uid_spares (on_command
 command_apart now commands.Expunge = says_fine tells_uid uid_spares (on_command now commands.Expunge) (in_writable now.selected (ex.Expunge None (ex.Feed unlimited (completed commands.Expunge))) (refl, refl))
 command_apart now (commands.UidExpunge set) =
     says_fine tells_uid uid_spares (on_command now (commands.UidExpunge set)) (in_writable now.selected (expunge_set set)
-    (λ view. in_chosen (named_in true set view) (λ uids. wanting (ex.Expunge (Some uids) (ex.Feed unlimited (completed (commands.UidExpunge set))))) (λ uids. (inl refl, (refl, refl)))))
+    (λ view. in_chosen (named_in true set view) (λ uids. wanting_for uids (ex.Expunge (Some uids) (ex.Feed unlimited (completed (commands.UidExpunge set))))) (elim [ [] ↦ (refl, refl) | uid ∷ uids ↦ (inl refl, (refl, refl)) ])))
 command_apart now (commands.Fetch fetch) =
     says_fine tells_uid uid_spares (on_command now (commands.Fetch fetch)) (in_found (fetch_messages fetch) wrong_state
     (λ (s : Selected). (
       inl refl,
       λ view. in_chosen (named_in fetch.by_uid fetch.set view) _
-          (λ uids. in_fetching fetch _ view (messages_done (commands.Fetch fetch) fetch.by_uid) (λ gone. in_done (commands.Fetch fetch) fetch.by_uid gone (fetch_words fetch)) uids false),
+          (λ uids. in_fetching fetch _ view (messages_done (commands.Fetch fetch) fetch.by_uid) (λ gone. in_done (commands.Fetch fetch) fetch.by_uid gone (says_apart (texts.Completed (verb_of (commands.Fetch fetch))))) uids false),
     )) (refl, refl) now.selected)
 command_apart now (commands.Store store) =
     says_fine tells_uid uid_spares (on_command now (commands.Store store)) (in_writable now.selected (store_messages store)
     (λ view. in_chosen (named_in store.by_uid store.set view) _
-    (λ uids. in_storing store view (messages_done (commands.Store store) store.by_uid) (λ gone. in_done (commands.Store store) store.by_uid gone (store_words store)) uids false)))
+    (λ uids. in_storing store view (messages_done (commands.Store store) store.by_uid) (λ gone. in_done (commands.Store store) store.by_uid gone (says_apart (texts.Completed (verb_of (commands.Store store))))) uids false)))
 command_apart now (commands.Append append) = append_fine now.mailing.most now.folders append
 command_apart now command = says_fine tells_uid uid_spares (on_command now command) (notice_apart (notice command) (completed command) (refl, refl))
 
@@ -157,13 +147,13 @@ command_apart now command = says_fine tells_uid uid_spares (on_command now comma
 
 idling_apart : (selected : Option Selected) (line : List ℕ) → SaysApart tells_uid (on_idle_line selected line)
 idling_apart selected line =
-    in_either (is_done line) (showing selected (completed commands.Idle)) (says (codes "BAD Expected DONE")) (in_showing selected (completed commands.Idle) (refl, refl)) (refl, refl)
+    in_either (is_done line) (showing selected (completed commands.Idle)) (says (response_text texts.ExpectedDone)) (in_showing selected (completed commands.Idle) (refl, refl)) (refl, refl)
 
 fault_fine : (fault : ImapFault) (now : Standing) (answers : List Answer) → TaggedOf IsWord (Err fault) → TurnFine tells_uid (on_read now (Err fault) answers)
-fault_fine faults.NoTag now [] t = inr (subst (Apart tells_uid) (sym (append-nil (codes "* BAD Missing tag\r\n"))) (untagged_apart tells_uid 42 (codes " BAD Missing tag") refl refl))
-fault_fine (faults.Unknown tag) now [] t = inr (subst (Apart tells_uid) (sym (append-nil (ex.tagged tag (codes "BAD Unknown command")))) (tagged_apart tells_uid tag (codes "BAD Unknown command") t refl refl))
-fault_fine (faults.LeftOut tag) now [] t = inr (subst (Apart tells_uid) (sym (append-nil (ex.tagged tag (codes "NO [CANNOT] Not offered here")))) (tagged_apart tells_uid tag (codes "NO [CANNOT] Not offered here") t refl refl))
-fault_fine (faults.Arguments tag) now [] t = inr (subst (Apart tells_uid) (sym (append-nil (ex.tagged tag (codes "BAD Invalid arguments")))) (tagged_apart tells_uid tag (codes "BAD Invalid arguments") t refl refl))
+fault_fine faults.NoTag now [] t = inr (subst (Apart tells_uid) (sym (append-nil (untagged (response_text texts.MissingTag)))) (star_apart tells_uid texts.MissingTag))
+fault_fine (faults.Unknown tag) now [] t = inr (subst (Apart tells_uid) (sym (append-nil (ex.tagged tag (response_text texts.UnknownCommand)))) (tagged_apart tells_uid tag (response_text texts.UnknownCommand) t refl refl))
+fault_fine (faults.LeftOut tag) now [] t = inr (subst (Apart tells_uid) (sym (append-nil (ex.tagged tag (response_text texts.NotOffered)))) (tagged_apart tells_uid tag (response_text texts.NotOffered) t refl refl))
+fault_fine (faults.Arguments tag) now [] t = inr (subst (Apart tells_uid) (sym (append-nil (ex.tagged tag (response_text texts.InvalidArguments)))) (tagged_apart tells_uid tag (response_text texts.InvalidArguments) t refl refl))
 fault_fine fault now (answer ∷ more) t = tt
 
 read_fine : (now : Standing) (r : Result (List ℕ × Command) ImapFault) (answers : List Answer) → TaggedOf IsWord r → TurnFine tells_uid (on_read now r answers)

@@ -83,3 +83,4 @@ mod FlagRefuted
 mod ByUid
 mod FlagOneLife
 mod Hearing
+mod TextRows

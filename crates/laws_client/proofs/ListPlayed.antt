@@ -1,6 +1,6 @@
 -- A client reads what a session says in a turn, over whatever store: by induction over the exchange, a clause for each answer that there is.
 use Rattle.std.proofs.Common.{zero, suc, ◌≡◌, ℕ, List, [], ◌∷◌, sym, subst, refl}
-use Rattle.std.specs.Prelude.{Option, Some, None, codes}
+use Rattle.std.specs.Prelude.{Option, Some, None}
 use Rattle.std.proofs.lemmas.Option.{none-some}
 use Rattle.mailbox.specs.declared.clients.MailFault.TheVariants.{NoMemory}
 use Rattle.imap_session.specs.Exchange.{Answer, Entered, Looked, Found, Counted, Altered, Expunged, Fed, Left, Refused, Starved, Exchange, Done, Wait, Write, Put, Enter, Look, Read, Count, Alter, Expunge, Feed, Leave, Standing, Turn, after_waiting, tagged, played, waiting, Dropped, ForLiteral, ForNothing, Waiting, bye, unkept}
@@ -11,6 +11,8 @@ use Rattle.laws_client.specs.Beliefs.{Leads}
 use Rattle.laws_client.specs.ListTurns.{SeesAll, Says}
 use Rattle.laws_client.proofs.Ends.{leaves}
 use Rattle.laws_client.proofs.Turns.{Refusals, writes, calls, shows, ends, waits_on, gives_up, is_refused}
+use Rattle.imap_session.specs.declared.texts.ResponseText.TheVariants as texts
+use Rattle.imap_session.specs.Texts.{response_text}
 
 -- memory was refused to who was to wait: it is told so, the bytes of its literal are dropped, or the session ends
 goes_without : (tag : List ℕ) (refusals : Refusals tag) (view : List ℕ) (now : Standing) (waits : Waiting) (n : ℕ) (turn : Turn) (new : List ℕ) → unkept tag waits now n ≡ Some turn
@@ -19,7 +21,7 @@ goes_without tag refusals view now waits n turn new e sees =
     let P : Option Turn → Type 0 = λ o. o ≡ Some turn → Leads view turn.bytes new in
     unkept_by P (λ d. absurd (none-some turn d)) tag now (λ d. gives_up tag refusals view now NoMemory turn new d sees)
     (λ flags size d. waits_on view [] (afters.Literal size) (waiting tag (ForLiteral Dropped None flags size) now) turn new d (leaves view [] (λ messages. refl)) sees)
-    (λ d. waits_on view (bye (codes "Out of memory")) Bye (waiting tag ForNothing now) turn new d (leaves view _ (λ messages. refl)) sees) waits n e
+    (λ d. waits_on view (bye (response_text texts.ByeOutOfMemory)) Bye (waiting tag ForNothing now) turn new d (leaves view _ (λ messages. refl)) sees) waits n e
 
 pub turn_follows : (tag : List ℕ) (refusals : Refusals tag) (view : List ℕ) (now : Standing) (x : Exchange) (answers : List Answer) (turn : Turn) (new : List ℕ)
     → played tag now x answers ≡ Some turn → Says tag view x → SeesAll view turn.events new → Leads view turn.bytes new

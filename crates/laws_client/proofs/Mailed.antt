@@ -1,6 +1,6 @@
 -- No text that a session submits is longer than the most that it takes: by induction over the exchange, a clause for each answer that there is.
 use Rattle.std.proofs.Common.{zero, suc, ◌≡◌, ℕ, ◌+◌, ◌-◌, ◌≤◌, Bool, true, false, List, [], ◌∷◌, length, ap, refl, subst, sym, ◌∙◌, arith, length-append}
-use Rattle.std.specs.Prelude.{Option, Some, None, IfSome, Result, Ok, Err, codes, nat_le, nat_lt, ◌==◌, ◌&&◌, not, if◌then◌else◌}
+use Rattle.std.specs.Prelude.{Option, Some, None, IfSome, Result, Ok, Err, nat_le, nat_lt, ◌==◌, ◌&&◌, not, if◌then◌else◌}
 use Rattle.std.specs.List.{list_any}
 use Rattle.std.specs.Option.{option_map}
 use Rattle.std.proofs.lemmas.Option.{none-some}
@@ -25,13 +25,15 @@ use Rattle.imap_session.specs.declared.standing.After.{After}
 use Rattle.imap_session.specs.declared.standing.After.TheVariants.{Go, Bye}
 use Rattle.imap_session.specs.declared.standing.After.TheVariants as afters
 use Rattle.imap_session.specs.declared.standing.Selected.{Selected}
-use Rattle.imap_session.specs.Exchange.{Answer, Entered, Looked, Found, Counted, Altered, Expunged, Fed, Left, Refused, Starved, Exchange, ForDone, ForLiteral, ForVerdict, ForNothing, Done, Wait, Write, Put, Enter, Look, Read, Count, Alter, Expunge, Feed, Leave, Folder, Mailing, Standing, Turn, Appending, Sent, Waiting, closed, having, played, refusal_after, refusal_text, refused, saying, tagged, waiting, unkept, Asked, Dropped, Unasked}
+use Rattle.imap_session.specs.Exchange.{Answer, Entered, Looked, Found, Counted, Altered, Expunged, Fed, Left, Refused, Starved, Exchange, ForDone, ForLiteral, ForVerdict, ForNothing, Done, Wait, Write, Put, Enter, Look, Read, Count, Alter, Expunge, Feed, Leave, Folder, Mailing, Standing, Turn, Appending, Sent, Waiting, closed, having, played, refusal_after, refusal_text, refused, saying, tagged, waiting, unkept, Asked, Dropped, Unasked, bye}
 use Rattle.imap_session.proofs.Unkept.{unkept_by}
-use Rattle.imap_session.specs.Commands.{appending, closing, completed, counting, entering, expunge_set, fault_text, fetch_messages, fetched, fetching, folder_of, idle_turn_in, if_writable, in_writable, is_over, kept_text, last_number, messages_done, most_unasked, nowhere, number_named, on_chosen, on_command, on_folder, on_found, on_idle_line, on_read, on_rest, on_set, on_text, on_verdict, only_says, over, says, selecting, showing, store_messages, stored, storing, taking, turn_behind, turn_of, turn_of_long_line, turn_of_verdict, turn_while, turn_with, unlimited, wanting, with_bytes, without_begun, without_sent, wrong_state, asking, coming}
+use Rattle.imap_session.specs.Commands.{appending, closing, completed, counting, entering, expunge_set, fault_text, fetch_messages, fetched, fetching, folder_of, idle_turn_in, if_writable, in_writable, is_over, kept_text, last_number, messages_done, most_unasked, nowhere, number_named, on_chosen, on_command, on_folder, on_found, on_idle_line, on_read, on_rest, on_set, on_text, on_verdict, only_says, over, says, selecting, showing, store_messages, stored, storing, taking, turn_behind, turn_of, turn_of_long_line, turn_of_verdict, turn_while, turn_with, unlimited, wanting, wanting_for, with_bytes, without_begun, without_sent, wrong_state, asking, coming}
 use Rattle.delivery_token.specs.declared.Verdict.{Verdict}
 use Rattle.delivery_token.specs.declared.Verdict.TheVariants as verdicts
 use Rattle.laws_client.proofs.Turns.{the_turn}
 use Rattle.laws_client.proofs.Dialogues.{not_over}
+use Rattle.imap_session.specs.declared.texts.ResponseText.TheVariants as texts
+use Rattle.imap_session.specs.Texts.{response_text}
 
 -- what it has of messages: of one that is announced no more than was, and of one that was submitted no more than it takes
 pub record IsMailShort (most : ℕ) (m : Mailing) : Type 0 where
@@ -244,7 +246,7 @@ fit_closing most (Some selected) x h = h
 
 fit_selecting : (most : ℕ) (now : Standing) (read_only : Bool) (name : List ℕ) → TextsFit most (selecting now read_only name)
 fit_selecting most now read_only name =
-    fit_closing most now.selected (wanting (on_folder name now.folders (entering read_only))) (fit_found most (entering read_only) (says (codes "NO [NONEXISTENT] No such mailbox")) (folder_of name now.folders) (λ folder o. tt) tt)
+    fit_closing most now.selected (wanting (on_folder name now.folders (entering read_only))) (fit_found most (entering read_only) (says (response_text texts.NoSuchMailbox)) (folder_of name now.folders) (λ folder o. tt) tt)
 
 fit_messages : (most : ℕ) (command : Command) (by_uid gone : Bool) → TextsFit most (messages_done command by_uid gone)
 fit_messages most command true gone = tt
@@ -270,7 +272,7 @@ fit_chosen most by_uid set next h = λ view. by view (named_in by_uid set view)
     by view (Some uids) = h view uids
 
 fit_writable : (most : ℕ) (now : Standing) (x : Exchange) → TextsFit most x → TextsFit most (in_writable now x)
-fit_writable most now x h = fit_found most (if_writable x) wrong_state now.selected (λ s. fit_if most s.read_only (says (codes "NO Mailbox is read-only")) x tt h) tt
+fit_writable most now x h = fit_found most (if_writable x) wrong_state now.selected (λ s. fit_if most s.read_only (says (response_text texts.ReadOnly)) x tt h) tt
 
 fit_over : (most : ℕ) (o : Option ℕ) → TextsFit most (over o)
 fit_over most None = tt
@@ -280,10 +282,10 @@ fit_append : (most : ℕ) (o : Option ℕ) (folders : List Folder) (a : Append) 
 fit_append most o folders a =
     fit_if most a.literal.waits
     (wanting (on_found (λ mailbox. if is_over o a.literal.size then over o else asking mailbox a.flags a.literal.size) nowhere (number_named a.name folders)))
-    (if nat_lt most_unasked a.literal.size then Wait (codes "* BYE Literal too big\r\n") ForNothing else coming (number_named a.name folders) a.flags a.literal.size)
+    (if nat_lt most_unasked a.literal.size then Wait (bye (response_text texts.LiteralTooBig)) ForNothing else coming (number_named a.name folders) a.flags a.literal.size)
     (fit_found most (λ mailbox. if is_over o a.literal.size then over o else asking mailbox a.flags a.literal.size) nowhere (number_named a.name folders)
     (λ mailbox. fit_if most (is_over o a.literal.size) (over o) (asking mailbox a.flags a.literal.size) (fit_over most o) tt) tt)
-    (fit_if most (nat_lt most_unasked a.literal.size) (Wait (codes "* BYE Literal too big\r\n") ForNothing) (coming (number_named a.name folders) a.flags a.literal.size) tt tt)
+    (fit_if most (nat_lt most_unasked a.literal.size) (Wait (bye (response_text texts.LiteralTooBig)) ForNothing) (coming (number_named a.name folders) a.flags a.literal.size) tt tt)
 
 fit_command : (most : ℕ) (now : Standing) (command : Command) → TextsFit most (on_command now command)
 fit_command most now commands.Noop = fit_showing most now.selected (completed commands.Noop) tt
@@ -291,12 +293,12 @@ fit_command most now (commands.Select name) = fit_selecting most now false name
 fit_command most now (commands.Examine name) = fit_selecting most now true name
 fit_command most now (commands.List reference pattern) = fit_showing most now.selected (completed (commands.List reference pattern)) tt
 fit_command most now (commands.Status name items) =
-    fit_found most (counting now name items) (says (codes "NO [NONEXISTENT] No such mailbox")) (folder_of name now.folders) (λ folder status. fit_showing most now.selected (completed (commands.Status name items)) tt) tt
+    fit_found most (counting now name items) (says (response_text texts.NoSuchMailbox)) (folder_of name now.folders) (λ folder status. fit_showing most now.selected (completed (commands.Status name items)) tt) tt
 fit_command most now commands.Close = fit_found most (λ (selected : Selected). Leave (not selected.read_only) (completed commands.Close)) wrong_state now.selected (λ s. tt) tt
 fit_command most now commands.Unselect = fit_found most (λ (selected : Selected). Leave false (completed commands.Unselect)) wrong_state now.selected (λ s. tt) tt
 fit_command most now commands.Expunge = fit_writable most now (Expunge None (Feed unlimited (completed commands.Expunge))) tt
 fit_command most now (commands.UidExpunge set) =
-    fit_writable most now (expunge_set set) (fit_chosen most true set (λ view uids. wanting (Expunge (Some uids) (Feed unlimited (completed (commands.UidExpunge set))))) (λ view uids. tt))
+    fit_writable most now (expunge_set set) (fit_chosen most true set (λ view uids. wanting_for uids (Expunge (Some uids) (Feed unlimited (completed (commands.UidExpunge set))))) (λ view. elim [ [] ↦ tt | uid ∷ uids ↦ tt ]))
 fit_command most now (commands.Fetch fetch) = fit_found most (fetch_messages fetch) wrong_state now.selected
     (λ (selected : Selected). fit_chosen most fetch.by_uid fetch.set
     (λ view uids. fetching fetch (list_any marks_seen fetch.items && not selected.read_only) view (messages_done (commands.Fetch fetch) fetch.by_uid) uids false)
@@ -316,7 +318,7 @@ fit_rest : (most : ℕ) (mailing : Mailing) (a : Appending) (empty : Bool) → m
 fit_rest most mailing a empty takes short = kept a.text short
   where
     by : (text : List ℕ) (mailbox : ℕ) (x y z : Bool) → is_over mailing.most a.size ≡ x → length text + a.due ≤ a.size
-        → TextsFit most (if x then over mailing.most else if y then says (codes "NO NUL byte") else if z then says (codes "NO Mailbox is spent") else wanting (Wait [] (ForVerdict mailbox a.flags text)))
+        → TextsFit most (if x then over mailing.most else if y then says (response_text texts.NulByte) else if z then says (response_text texts.MailboxSpent) else wanting (Wait [] (ForVerdict mailbox a.flags text)))
     by text mailbox true y z e few = fit_over most mailing.most
     by text mailbox false true z e few = tt
     by text mailbox false false true e few = tt
@@ -326,17 +328,17 @@ fit_rest most mailing a empty takes short = kept a.text short
     named text None few = tt
     named text (Some mailbox) few = by text mailbox (is_over mailing.most a.size) (list_any (λ b. b == 0) text) (nat_le last_number mailing.number) refl few
 
-    ended : (b : Bool) (text : List ℕ) → length text + a.due ≤ a.size → TextsFit most (if b then on_found (on_text mailing a text) nowhere a.mailbox else says (codes "BAD Invalid arguments"))
+    ended : (b : Bool) (text : List ℕ) → length text + a.due ≤ a.size → TextsFit most (if b then on_found (on_text mailing a text) nowhere a.mailbox else says (response_text texts.InvalidArguments))
     ended true text few = named text a.mailbox few
     ended false text few = tt
 
     kept : (text : Option (List ℕ)) → IfSome text (λ t. length t + a.due ≤ a.size)
-        → TextsFit most (on_found (λ t. if empty then on_found (on_text mailing a t) nowhere a.mailbox else says (codes "BAD Invalid arguments")) (says (codes "NO Out of memory")) text)
+        → TextsFit most (on_found (λ t. if empty then on_found (on_text mailing a t) nowhere a.mailbox else says (response_text texts.InvalidArguments)) (says (response_text texts.OutOfMemory)) text)
     kept None few = tt
     kept (Some text) few = ended empty text few
 
 fit_idle_line : (most : ℕ) (selected : Option Selected) (line : List ℕ) → TextsFit most (on_idle_line selected line)
-fit_idle_line most selected line = fit_if most (is_done line) (showing selected (completed commands.Idle)) (says (codes "BAD Expected DONE")) (fit_showing most selected (completed commands.Idle) tt) tt
+fit_idle_line most selected line = fit_if most (is_done line) (showing selected (completed commands.Idle)) (says (response_text texts.ExpectedDone)) (fit_showing most selected (completed commands.Idle) tt) tt
 
 fit_verdict : (most : ℕ) (selected : Option Selected) (mailbox : ℕ) (verdict : Verdict) → TextsFit most (on_verdict selected mailbox verdict)
 fit_verdict most selected mailbox (verdicts.Stored uid) = λ status. fit_showing most selected _ tt

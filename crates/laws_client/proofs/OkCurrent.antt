@@ -29,7 +29,7 @@ use Rattle.imap_grammar.specs.declared.command.Store.{Store}
 use Rattle.imap_session.specs.declared.standing.After.{After}
 use Rattle.imap_session.specs.declared.standing.Selected.{Selected}
 use Rattle.imap_session.specs.Exchange.{Appending, kept_behind, kept_tag, Call, Answer, Event, Entered, Looked, Found, Counted, Altered, Expunged, Fed, Left, Refused, Starved, Exchange, Done, Wait, Write, Put, Enter, Look, Read, Count, Alter, Expunge, Feed, Leave, Standing, Turn, having, played, refusal_text, refused, saying, tagged}
-use Rattle.imap_session.specs.Commands.{completed, counting, expunge_set, fetch_messages, fetched, fetching, folder_of, if_writable, in_writable, messages_done, on_chosen, on_command, on_found, on_read, on_set, turn_behind, turn_while, verb_text, says, showing, store_messages, stored, storing, unlimited, wrong_state, wanting}
+use Rattle.imap_session.specs.Commands.{completed, counting, expunge_set, fetch_messages, fetched, fetching, folder_of, if_writable, in_writable, messages_done, on_chosen, on_command, on_found, on_read, on_set, turn_behind, turn_while, says, showing, store_messages, stored, storing, unlimited, wrong_state, wanting, wanting_for}
 use Rattle.imap_session.specs.Store.{Met}
 use Rattle.house.specs.Meets.{Meets}
 use Rattle.laws_client.specs.ListTurns.{IsTag}
@@ -50,6 +50,12 @@ use Rattle.laws_client.specs.Views.{messages_of, view_of}
 use Rattle.laws_client.proofs.Living.{hears_last, lives_known}
 use Rattle.laws_client.proofs.Moved.{Calls, moved, short_met}
 use Rattle.laws_client.proofs.RecordWorlds.{sound_always}
+use Rattle.imap_session.specs.declared.texts.ResponseText.TheVariants as texts
+use Rattle.imap_session.specs.Texts.{response_text}
+use Rattle.imap_session.specs.declared.texts.ResponseText.{ResponseText}
+use Rattle.imap_grammar.specs.declared.command.Verb.{Verb}
+use Rattle.imap_grammar.specs.declared.command.Verb.TheVariants as verbs
+use Rattle.std.specs.Str.{bytes_eq}
 
 -- ---- how bytes end
 
@@ -64,13 +70,25 @@ the_end = 10 ∷ 13 ∷ 100 ∷ 101 ∷ 116 ∷ 101 ∷ []
 abbrev pub NoEnd : List ℕ → Type 0
 NoEnd text = (front : List ℕ) → last_of (front ++ text) ≡ the_end → ⊥
 
-no_end : (text : List ℕ) (i c : ℕ) → ((behind : List ℕ) → get_or (take 6 (reverse text ++ behind)) i 0 ≡ c) → (c == get_or the_end i 0) ≡ false → NoEnd text
-no_end text i c at other front e =
-    absurd (false≢true (sym other ∙ eq-eqb c (get_or the_end i 0) (sym (at (reverse front)) ∙ ap (λ (xs : List ℕ). get_or (take 6 xs) i 0) (sym (reverse-append front text)) ∙ ap (λ (xs : List ℕ). get_or xs i 0) e)))
+no_end : (text : List ℕ) → ((behind : List ℕ) → take 6 (reverse text ++ behind) ≡ last_of text) → bytes_eq (last_of text) the_end ≡ false → NoEnd text
+no_end text at other front e =
+    absurd (false≢true (sym other ∙ ap (λ (xs : List ℕ). bytes_eq xs the_end) (sym (at (reverse front)) ∙ sym (ap (take 6) (reverse-append front text)) ∙ e)))
 
 -- a last line's words, which end differently
 abbrev pub NotDone : List ℕ → Type 0
 NotDone words = NoEnd (words ++ codes "\r\n")
+
+-- the text ends otherwise than the tagged OK of a command
+abbrev ends_apart : ResponseText → Type 0
+ends_apart text = bytes_eq (last_of (response_text text ++ codes "\r\n")) the_end ≡ false
+
+verb_not_done : (verb : Verb) → ends_apart (texts.Completed verb) → NotDone (response_text (texts.Completed verb))
+verb_not_done verbs.Noop h = absurd (false≢true (sym h))
+verb_not_done _ h = absurd (false≢true (sym h))
+
+not_done : (text : ResponseText) → ends_apart text → NotDone (response_text text)
+not_done (texts.Completed verb) h = verb_not_done verb h
+not_done text h = no_end (response_text text ++ codes "\r\n") (λ b. refl) h
 
 tagged_shape : (a b c d e : List ℕ) → a ++ (b ++ c ++ d ++ e) ≡ ((a ++ b) ++ c) ++ (d ++ e)
 tagged_shape a b c d e = simp append_assoc
@@ -79,10 +97,10 @@ no_tagged : (tag words : List ℕ) → NotDone words → NoEnd (tagged tag words
 no_tagged tag words h front e = h ((front ++ tag) ++ codes " ") (ap last_of (sym (tagged_shape front tag (codes " ") words (codes "\r\n"))) ∙ e)
 
 no_refusal : (tag : List ℕ) (fault : MailFault) → NoEnd (refusal_text tag fault)
-no_refusal tag Stranger = no_end (refusal_text tag Stranger) 2 116 (λ b. refl) refl
-no_refusal tag Lapped = no_end (refusal_text tag Lapped) 4 115 (λ b. refl) refl
-no_refusal tag Spent = no_tagged tag (codes "NO Mailbox is spent") (no_end (codes "NO Mailbox is spent\r\n") 2 116 (λ b. refl) refl)
-no_refusal tag NoMemory = no_tagged tag (codes "NO Out of memory") (no_end (codes "NO Out of memory\r\n") 2 121 (λ b. refl) refl)
+no_refusal tag Stranger = no_end (refusal_text tag Stranger) (λ b. refl) refl
+no_refusal tag Lapped = no_end (refusal_text tag Lapped) (λ b. refl) refl
+no_refusal tag Spent = no_tagged tag (response_text texts.MailboxSpent) (not_done texts.MailboxSpent refl)
+no_refusal tag NoMemory = no_tagged tag (response_text texts.OutOfMemory) (not_done texts.OutOfMemory refl)
 
 -- ---- exchanges
 
@@ -276,17 +294,17 @@ ok_current k n tag front fed now w (Leave remove x) (Starved a ∷ more) turn v 
 
 -- ---- commands
 
-missing : NotDone (codes "NO [NONEXISTENT] No such mailbox")
-missing = no_end (codes "NO [NONEXISTENT] No such mailbox\r\n") 2 120 (λ b. refl) refl
+missing : NotDone (response_text texts.NoSuchMailbox)
+missing = not_done texts.NoSuchMailbox refl
 
-wrong : NotDone (codes "BAD Wrong state")
-wrong = no_end (codes "BAD Wrong state\r\n") 3 116 (λ b. refl) refl
+wrong : NotDone (response_text texts.WrongState)
+wrong = not_done texts.WrongState refl
 
-only_read : NotDone (codes "NO Mailbox is read-only")
-only_read = no_end (codes "NO Mailbox is read-only\r\n") 2 121 (λ b. refl) refl
+only_read : NotDone (response_text texts.ReadOnly)
+only_read = not_done texts.ReadOnly refl
 
-too_high : NotDone (codes "BAD Sequence number too high")
-too_high = no_end (codes "BAD Sequence number too high\r\n") 2 104 (λ b. refl) refl
+too_high : NotDone (response_text texts.SequenceTooHigh)
+too_high = not_done texts.SequenceTooHigh refl
 
 found_last : {A : Type 0} (found : A → Exchange) (gone : Exchange) (o : Option A) → ((a : A) → ShowsLast false (found a)) → ShowsLast false gone → ShowsLast false (on_found found gone o)
 found_last found gone None h g = g
@@ -295,7 +313,7 @@ found_last found gone (Some a) h g = h a
 writable_last : (now : Standing) (x : Exchange) → ShowsLast false x → ShowsLast false (in_writable now x)
 writable_last now x h = found_last (if_writable x) wrong_state now.selected (λ s. by s.read_only) (inr wrong)
   where
-    by : (b : Bool) → ShowsLast false (if b then says (codes "NO Mailbox is read-only") else x)
+    by : (b : Bool) → ShowsLast false (if b then says (response_text texts.ReadOnly) else x)
     by true = inr only_read
     by false = h
 
@@ -328,11 +346,11 @@ pub command_last : (now : Standing) (selected : Selected) (command : Command) �
 command_last now selected commands.Noop is e = subst (λ (o : Option Selected). ShowsLast false (showing o (completed commands.Noop))) (sym is) (refl, inl refl)
 command_last now selected (commands.List reference pattern) is e = subst (λ (o : Option Selected). ShowsLast false (showing o (completed (commands.List reference pattern)))) (sym is) (refl, inl refl)
 command_last now selected (commands.Status name items) is e =
-    found_last (counting now name items) (says (codes "NO [NONEXISTENT] No such mailbox")) (folder_of name now.folders)
+    found_last (counting now name items) (says (response_text texts.NoSuchMailbox)) (folder_of name now.folders)
     (λ folder status. subst (λ (o : Option Selected). ShowsLast false (showing o (completed (commands.Status name items)))) (sym is) (refl, inl refl)) (inr missing)
 command_last now selected commands.Expunge is e = writable_last now (Expunge None (Feed unlimited (completed commands.Expunge))) (refl, inl refl)
 command_last now selected (commands.UidExpunge set) is e =
-    writable_last now (expunge_set set) (chosen_last true set (λ view uids. wanting (Expunge (Some uids) (Feed unlimited (completed (commands.UidExpunge set))))) (λ view uids. (refl, inl refl)))
+    writable_last now (expunge_set set) (chosen_last true set (λ view uids. wanting_for uids (Expunge (Some uids) (Feed unlimited (completed (commands.UidExpunge set))))) (λ view. elim [ [] ↦ (refl, inl refl) | uid ∷ uids ↦ (refl, inl refl) ]))
 command_last now selected (commands.Fetch fetch) is e = found_last (fetch_messages fetch) wrong_state now.selected
     (λ (s : Selected). chosen_last fetch.by_uid fetch.set
     (λ view uids. fetching fetch (list_any marks_seen fetch.items && not s.read_only) view (messages_done (commands.Fetch fetch) fetch.by_uid) uids false)
@@ -344,22 +362,24 @@ command_last now selected _ is e = never e
 
 -- ---- their answers
 
-done_shape : (a b c d g h e : List ℕ) → a ++ (b ++ c ++ (d ++ g ++ h) ++ e) ≡ (((a ++ b) ++ c) ++ (d ++ g)) ++ (h ++ e)
-done_shape a b c d g h e = simp append_assoc
-
-ends_done : (front tag verb : List ℕ) → last_of (front ++ tagged tag (codes "OK " ++ verb ++ codes " completed")) ≡ the_end
+ends_done : (front tag : List ℕ) (verb : Verb) → last_of (front ++ tagged tag (response_text (texts.Completed verb))) ≡ the_end
 ends_done front tag verb =
-    let before : List ℕ = ((front ++ tag) ++ codes " ") ++ (codes "OK " ++ verb) in
-    ap last_of (done_shape front tag (codes " ") (codes "OK ") verb (codes " completed") (codes "\r\n")) ∙ ap (take 6) (reverse-append before (codes " completed\r\n"))
+    let text : List ℕ = response_text (texts.Completed verb) in
+    ap last_of (tagged_shape front tag (codes " ") text (codes "\r\n")) ∙ ap (take 6) (reverse-append ((front ++ tag) ++ codes " ") (text ++ codes "\r\n"))
+    ∙ last_done verb (reverse ((front ++ tag) ++ codes " "))
+  where
+    last_done : (verb : Verb) (before : List ℕ) → take 6 (reverse (response_text (texts.Completed verb) ++ codes "\r\n") ++ before) ≡ the_end
+    last_done verbs.Noop before = refl
+    last_done _ before = refl
 
 done_current_in : (k : Config) (n : ℕ) (now : Standing) (line tag : List ℕ) (command : Command) (w : World) (turn : Turn) (v : World) (front : List ℕ) → Kept k w → IsAnswered k n now line w turn v → kept_tag now ≡ None → read line ≡ Ok (tag, command)
-    → shows_all command ≡ true → turn.bytes ≡ front ++ tagged tag (codes "OK " ++ verb_text (verb_of command) ++ codes " completed") → IsCurrent v n
+    → shows_all command ≡ true → turn.bytes ≡ front ++ tagged tag (response_text (texts.Completed (verb_of command))) → IsCurrent v n
 done_current_in k n now line tag command w turn v front K a kept reads shows bytes = by now.mailing.begun now.idling refl refl
   where
     read_current : on_read now (Ok (tag, command)) a.answers ≡ Some turn → IsCurrent v n
     read_current e =
         ok_current k n tag [] false now w (on_command now command) a.answers turn v K (tags_are_tags line tag command reads) never (command_last now a.selected command a.there shows) e a.met
-        (ap last_of bytes ∙ ends_done front tag (verb_text (verb_of command)))
+        (ap last_of bytes ∙ ends_done front tag (verb_of command))
 
     by : (begun : Option Appending) (idling : Option (List ℕ)) → begun ≡ now.mailing.begun → idling ≡ now.idling → IsCurrent v n
     by (Some b) idling p q = absurd (none-some b.tag (sym kept ∙ sym (ap (λ (x : Option Appending). kept_behind x now.idling) p)))

@@ -1,6 +1,6 @@
 -- Where all that was pending was shown, what the session counts is what is there.
 use Rattle.std.proofs.Common.{zero, suc, ◌≡◌, ◌⊎◌, inl, inr, ℕ, ◌+◌, ◌-◌, ◌≤◌, Bool, true, List, [], ◌∷◌, ◌++◌, length, take, drop, refl, sym, subst, ap, ◌∙◌, arith, append-nil}
-use Rattle.std.specs.Prelude.{Option, Some, None, IfSome, Result, Ok, codes, if◌then◌else◌}
+use Rattle.std.specs.Prelude.{Option, Some, None, IfSome, Result, Ok, if◌then◌else◌}
 use Rattle.std.proofs.Math.Seq.{take-length}
 use Rattle.std.proofs.lemmas.Bool.{false≢true}
 use Rattle.std.proofs.lemmas.List.{length-drop}
@@ -34,6 +34,9 @@ use Rattle.laws_client.specs.Current.{DoneMakesCurrent, FeedsMakeCurrent, IsAnsw
 use Rattle.laws_client.specs.Views.{messages_of, view_in, view_of}
 use Rattle.laws_client.proofs.RecordEntering.{mapped, only_done, only_refused, refusal_has_none}
 use Rattle.laws_client.proofs.Moved.{Calls, Moved, moved, rested, stepped}
+use Rattle.imap_session.specs.declared.texts.ResponseText.TheVariants as texts
+use Rattle.imap_session.specs.Texts.{response_text}
+use Rattle.imap_grammar.specs.declared.command.Verb.TheVariants as verbs
 
 abbrev pub the_session : Session → Option Session → Session
 the_session d None = d
@@ -119,7 +122,7 @@ noop_current k n now line tag w turn v K a kept reads ok = by now.mailing.begun 
     read_current : on_read now (Ok (tag, commands.Noop)) a.answers ≡ Some turn → IsCurrent v n
     read_current e =
         let d : played tag now (showing (Some a.selected) (completed commands.Noop)) a.answers ≡ Some turn = subst (λ (o : Option Selected). played tag now (showing o (completed commands.Noop)) a.answers ≡ Some turn) a.there e in
-        shown_current k n tag (codes "OK NOOP completed") Go now w a.answers turn v K (tags_are_tags line tag commands.Noop reads) d a.met ok
+        shown_current k n tag (response_text (texts.Completed verbs.Noop)) Go now w a.answers turn v K (tags_are_tags line tag commands.Noop reads) d a.met ok
 
     by : (begun : Option Appending) (idling : Option (List ℕ)) → begun ≡ now.mailing.begun → idling ≡ now.idling → IsCurrent v n
     by (Some b) idling p q = absurd (none-some b.tag (sym (ap (λ (o : Option (List ℕ)). o) kept) ∙ sym (ap (λ (x : Option Appending). kept_behind x now.idling) p)))
@@ -139,11 +142,11 @@ done_makes_current k events n now line tag w turn v is a begun idling done ok =
     let third : played tag (record now { idling = None }) (on_idle_line (Some a.selected) line) a.answers ≡ Some turn =
     subst (λ (o : Option Selected). played tag (record now { idling = None }) (on_idle_line o line) a.answers ≡ Some turn) a.there second in
     let fourth : played tag (record now { idling = None }) (showing (Some a.selected) (completed commands.Idle)) a.answers ≡ Some turn = awake done third in
-    shown_current k n tag (codes "OK IDLE completed") Go (record now { idling = None }) w a.answers turn v (kept_always k events w is) (subst (λ (o : Option (List ℕ)). IfSome o IsTag) idling a.stands.tags.0) fourth a.met ok
+    shown_current k n tag (response_text (texts.Completed verbs.Idle)) Go (record now { idling = None }) w a.answers turn v (kept_always k events w is) (subst (λ (o : Option (List ℕ)). IfSome o IsTag) idling a.stands.tags.0) fourth a.met ok
   where
     awake : is_done line ≡ true → played tag (record now { idling = None }) (on_idle_line (Some a.selected) line) a.answers ≡ Some turn
         → played tag (record now { idling = None }) (showing (Some a.selected) (completed commands.Idle)) a.answers ≡ Some turn
-    awake h e = subst (λ (b : Bool). played tag (record now { idling = None }) (if b then showing (Some a.selected) (completed commands.Idle) else says (codes "BAD Expected DONE")) a.answers ≡ Some turn) h e
+    awake h e = subst (λ (b : Bool). played tag (record now { idling = None }) (if b then showing (Some a.selected) (completed commands.Idle) else says (response_text texts.ExpectedDone)) a.answers ≡ Some turn) h e
 
 -- ---- whatever the command
 

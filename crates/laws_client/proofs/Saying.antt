@@ -1,6 +1,6 @@
 -- The answers to lines that a client sends, and what they tell of flags.
 use Rattle.std.proofs.Common.{◌≡◌, ℕ, ◌+◌, ◌<◌, ◌≤◌, ◌^◌, ◌==◌, length, sym, subst, ◌∙◌, Bool, true, false, List, [], ◌∷◌, ◌++◌, refl}
-use Rattle.std.specs.Prelude.{Option, Some, None, Result, Ok, Err, IfSome, codes, nat_le, nat_lt, ◌&&◌, not, if◌then◌else◌}
+use Rattle.std.specs.Prelude.{Option, Some, None, Result, Ok, Err, IfSome, nat_le, nat_lt, ◌&&◌, not, if◌then◌else◌}
 use Rattle.std.specs.List.{list_any}
 use Rattle.std.proofs.lemmas.Bool.{false≢true}
 use Rattle.std.proofs.lemmas.Option.{none-some}
@@ -17,7 +17,6 @@ use Rattle.imap_grammar.specs.declared.command.Command.{Command}
 use Rattle.imap_grammar.specs.declared.command.Command.TheVariants as commands
 use Rattle.delivery_token.specs.declared.Verdict.{Verdict}
 use Rattle.delivery_token.specs.declared.Verdict.TheVariants as verdicts
-use Rattle.delivery_token.specs.declared.Refusal.TheVariants.{Full, MailboxFull, NoMemory, UidSpent, Shut}
 use Rattle.imap_grammar.specs.declared.command.Append.{Append}
 use Rattle.imap_grammar.specs.declared.command.Fetch.{Fetch}
 use Rattle.imap_grammar.specs.declared.command.Store.{Store}
@@ -26,13 +25,13 @@ use Rattle.imap_grammar.specs.declared.command.ImapFault.{ImapFault}
 use Rattle.imap_session.specs.declared.standing.After.TheVariants.{Go}
 use Rattle.imap_session.specs.declared.standing.Selected.{Selected}
 use Rattle.imap_session.specs.Exchange.{Alter, Altered, Answer, Appending, Exchange, Expunge, Feed, Folder, ForNothing, ForVerdict, Found, Mailing, Read, Sent, Standing, Turn, Wait, Write, bye, kept_behind}
-use Rattle.imap_session.specs.Commands.{appended_words, appending, last_number, most_unasked, nowhere, number_named, on_rest, on_text, on_verdict, is_over, over, turn_behind, turn_with, wanting, without_begun, without_sent, completed, counting, expunge_set, fault_text, fetch_messages, fetched, fetching, folder_of, in_selected, in_writable, messages_done, on_chosen, on_command, on_found, on_idle_line, on_read, on_set, only_says, says, showing, store_messages, stored, storing, turn_while, unlimited, verb_text, wrong_state, asking, coming}
+use Rattle.imap_session.specs.Commands.{appended_words, appending, last_number, most_unasked, nowhere, number_named, on_rest, on_text, on_verdict, is_over, over, turn_behind, turn_with, wanting, wanting_for, without_begun, without_sent, completed, counting, expunge_set, fault_text, fetch_messages, fetched, fetching, folder_of, in_selected, in_writable, messages_done, on_chosen, on_command, on_found, on_idle_line, on_read, on_set, only_says, says, showing, store_messages, stored, storing, turn_while, unlimited, wrong_state, asking, coming, refused_text}
 use Rattle.laws_client.specs.ListTurns.{IsPlain, IsTag}
 use Rattle.laws_client.specs.Fetches.{AreToldParts, IsNumbered}
 use Rattle.laws_client.specs.Commands.{AreNames, IsFollowed, IsPrinted, MayAnswer, MayAsk}
 use Rattle.laws_client.proofs.Commands.{fault_tells_nothing, stored_plain}
 use Rattle.laws_client.proofs.Each.{IsIn}
-use Rattle.laws_client.proofs.Ends.{plain_words, refusal_tells_nothing, tagged_tells_nothing}
+use Rattle.laws_client.proofs.Ends.{refusal_tells_nothing, tagged_tells_nothing}
 use Rattle.laws_client.proofs.Chosen.{AreIn, named_are_in, small_in}
 use Rattle.laws_client.proofs.Untold.{folder_plain, list_tells_nothing, status_tells_nothing}
 use Rattle.laws_client.proofs.Tags.{Tagged, read_tagged}
@@ -42,16 +41,21 @@ use Rattle.laws_client.specs.FlagLaws.{AnswerTellsFlags, VerdictTellsFlags}
 use Rattle.laws_client.proofs.FlagPlayed.{turn_tells}
 use Rattle.laws_client.proofs.Telling.{row_tells, store_tells}
 use Rattle.laws_client.proofs.Turning.{Refusals, SaysFlags, ends, leaves, still_within}
+use Rattle.imap_session.specs.declared.texts.ResponseText.TheVariants as texts
+use Rattle.imap_session.specs.Texts.{response_text}
+use Rattle.imap_grammar.specs.declared.command.Verb.TheVariants as verbs
+use Rattle.imap_session.specs.declared.texts.ResponseText.{ResponseText}
+use Rattle.laws_client.proofs.TextRows.{text_plain}
 
 pub refusals : (tag : List ℕ) → IsTag tag → Refusals tag
 refusals tag t p fault = leaves p _ (refusal_tells_nothing tag fault t)
 
--- a last line whose words are written out
-last : (tag : List ℕ) (p : Point) (front : List ℕ) (b : ℕ) → IsTag tag → IsPlain (front ++ b ∷ []) → SaysFlags tag p (says (front ++ b ∷ []))
-last tag p front b t plain = leaves p _ (tagged_tells_nothing tag (front ++ b ∷ []) t plain)
+-- a last line with a text of the table
+last : (tag : List ℕ) (p : Point) (text : ResponseText) → IsTag tag → SaysFlags tag p (says (response_text text))
+last tag p text t = leaves p _ (tagged_tells_nothing tag (response_text text) t (text_plain text))
 
 wrong : (tag : List ℕ) (p : Point) → IsTag tag → SaysFlags tag p wrong_state
-wrong tag p t = last tag p (codes "BAD Wrong stat") 101 t (plain_words (codes "BAD Wrong stat") 101 refl refl)
+wrong tag p t = last tag p texts.WrongState t
 
 -- what is pending is shown, where a mailbox is selected
 shows_then : (tag : List ℕ) (p : Point) (selected : Option Selected) (x : Exchange) → ((q : Point) → SaysFlags tag q x) → SaysFlags tag p (showing selected x)
@@ -62,22 +66,23 @@ writable : (tag : List ℕ) (p : Point) (selected : Option Selected) (now : Stan
 writable tag p None now x e t h = rw e (wrong tag p t)
 writable tag p (Some selected) now x e t h = rw e (by selected.read_only)
   where
-    by : (b : Bool) → SaysFlags tag p (if b then says (codes "NO Mailbox is read-only") else x)
-    by true = last tag p (codes "NO Mailbox is read-onl") 121 t (plain_words (codes "NO Mailbox is read-onl") 121 refl refl)
+    by : (b : Bool) → SaysFlags tag p (if b then says (response_text texts.ReadOnly) else x)
+    by true = last tag p texts.ReadOnly t
     by false = h
 
 expunged : (tag : List ℕ) (q : Point) → IsTag tag → SaysFlags tag q (completed commands.Expunge)
-expunged tag q t = last tag q (codes "OK EXPUNGE complete") 100 t (plain_words (codes "OK EXPUNGE complete") 100 refl refl)
+expunged tag q t = last tag q (texts.Completed verbs.Expunge) t
 
 set_expunged : (tag : List ℕ) (p : Point) (set : List SeqRange) → IsTag tag → SaysFlags tag p (expunge_set set)
 set_expunged tag p set t = λ copied r s. by r (named_in true set copied)
   where
     done : (q : Point) → SaysFlags tag q (completed (commands.UidExpunge set))
-    done q = last tag q (codes "OK UID EXPUNGE complete") 100 t (plain_words (codes "OK UID EXPUNGE complete") 100 refl refl)
+    done q = last tag q (texts.Completed verbs.UidExpunge) t
 
-    by : (r : Point) (chosen : Option (List ℕ)) → SaysFlags tag r (on_chosen chosen (λ uids. wanting (Expunge (Some uids) (Feed unlimited (completed (commands.UidExpunge set))))))
-    by r None = last tag r (codes "BAD Sequence number too hig") 104 t (plain_words (codes "BAD Sequence number too hig") 104 refl refl)
-    by r (Some uids) = (leaves r [] (λ messages. refl), λ q newer. done newer)
+    by : (r : Point) (chosen : Option (List ℕ)) → SaysFlags tag r (on_chosen chosen (λ uids. wanting_for uids (Expunge (Some uids) (Feed unlimited (completed (commands.UidExpunge set))))))
+    by r None = last tag r texts.SequenceTooHigh t
+    by r (Some []) = λ q newer. done newer
+    by r (Some (uid ∷ uids)) = (leaves r [] (λ messages. refl), λ q newer. done newer)
 
 -- ---- FETCH and STORE
 
@@ -86,17 +91,17 @@ fetch_done : (tag : List ℕ) (p : Point) (fetch : Fetch) (gone : Bool) → IsTa
 fetch_done tag p fetch gone t = by fetch.by_uid gone
   where
     by : (b gone : Bool) → SaysFlags tag p (messages_done (commands.Fetch (record { by_uid = b; set = fetch.set; items = fetch.items })) b gone)
-    by true gone = λ q. last tag q (codes "OK UID FETCH complete") 100 t (plain_words (codes "OK UID FETCH complete") 100 refl refl)
-    by false true = last tag p (codes "NO [EXPUNGEISSUED] Some messages are gon") 101 t (plain_words (codes "NO [EXPUNGEISSUED] Some messages are gon") 101 refl refl)
-    by false false = last tag p (codes "OK FETCH complete") 100 t (plain_words (codes "OK FETCH complete") 100 refl refl)
+    by true gone = λ q. last tag q (texts.Completed verbs.UidFetch) t
+    by false true = last tag p texts.MessagesGone t
+    by false false = last tag p (texts.Completed verbs.Fetch) t
 
 store_done : (tag : List ℕ) (p : Point) (store : Store) (gone : Bool) → IsTag tag → SaysFlags tag p (messages_done (commands.Store store) store.by_uid gone)
 store_done tag p store gone t = by store.by_uid gone
   where
     by : (b gone : Bool) → SaysFlags tag p (messages_done (commands.Store (record { by_uid = b; set = store.set; silent = store.silent; change = store.change })) b gone)
-    by true gone = λ q. last tag q (codes "OK UID STORE complete") 100 t (plain_words (codes "OK UID STORE complete") 100 refl refl)
-    by false true = last tag p (codes "NO [EXPUNGEISSUED] Some messages are gon") 101 t (plain_words (codes "NO [EXPUNGEISSUED] Some messages are gon") 101 refl refl)
-    by false false = last tag p (codes "OK STORE complete") 100 t (plain_words (codes "OK STORE complete") 100 refl refl)
+    by true gone = λ q. last tag q (texts.Completed verbs.UidStore) t
+    by false true = last tag p texts.MessagesGone t
+    by false false = last tag p (texts.Completed verbs.Store) t
 
 fetching_says : (tag view : List ℕ) (fetch : Fetch) (mark : Bool) (done : Bool → Exchange) → ((q : Point) (gone : Bool) → SaysFlags tag q (done gone)) → AreToldParts fetch.items → IsNumbered view
     → (uids : List ℕ) (p : Point) (gone : Bool) → counted p ≡ view → AreIn uids view → SaysFlags tag p (fetching fetch mark view done uids gone)
@@ -146,7 +151,7 @@ chosen_says tag p by_uid set next t h = λ copied q s.
     (by q s.sees.leads.1 (named_in by_uid set (counted p)) (named_are_in by_uid set (counted p)))
   where
     by : (q : Point) → counted q ≡ counted p → (chosen : Option (List ℕ)) → IfSome chosen (λ uids. AreIn uids (counted p)) → SaysFlags tag q (on_chosen chosen (next (counted p)))
-    by q same None there = last tag q (codes "BAD Sequence number too hig") 104 t (plain_words (codes "BAD Sequence number too hig") 104 refl refl)
+    by q same None there = last tag q texts.SequenceTooHigh t
     by q same (Some uids) there = h q uids same there
 
 fetch_says : (tag : List ℕ) (p : Point) (fetch : Fetch) (selected : Selected) → IsTag tag → AreToldParts fetch.items → IsNumbered (counted p) → SaysFlags tag p (fetch_messages fetch selected)
@@ -173,18 +178,18 @@ selected_says tag p (Some selected) now next e t h = rw e (h selected)
 list_says : (tag : List ℕ) (p : Point) (now : Standing) (reference pattern : List ℕ) → IsTag tag → AreNames now.folders → SaysFlags tag p (on_command now (commands.List reference pattern))
 list_says tag p now reference pattern t names = (
   leaves p _ (list_tells_nothing reference pattern now.folders names),
-  shows_then tag p now.selected (completed (commands.List reference pattern)) (λ q. last tag q (codes "OK LIST complete") 100 t (plain_words (codes "OK LIST complete") 100 refl refl)),
+  shows_then tag p now.selected (completed (commands.List reference pattern)) (λ q. last tag q (texts.Completed verbs.List) t),
 )
 
 status_says : (tag : List ℕ) (p : Point) (now : Standing) (name : List ℕ) (items : List StatusItem) → IsTag tag → AreNames now.folders → SaysFlags tag p (on_command now (commands.Status name items))
 status_says tag p now name items t names = (leaves p [] (λ messages. refl), by (folder_of name now.folders) (folder_plain name now.folders names))
   where
     by : (folder : Option Folder) → IfSome folder (λ f. IsPlain f.name)
-        → SaysFlags tag p (on_found (counting now name items) (says (codes "NO [NONEXISTENT] No such mailbox")) folder)
-    by None plain = last tag p (codes "NO [NONEXISTENT] No such mailbo") 120 t (plain_words (codes "NO [NONEXISTENT] No such mailbo") 120 refl refl)
+        → SaysFlags tag p (on_found (counting now name items) (says (response_text texts.NoSuchMailbox)) folder)
+    by None plain = last tag p texts.NoSuchMailbox t
     by (Some folder) plain = λ status r s. (
       leaves r _ (status_tells_nothing folder.name items status plain s.sees.fits),
-      shows_then tag r now.selected (completed (commands.Status name items)) (λ q. last tag q (codes "OK STATUS complete") 100 t (plain_words (codes "OK STATUS complete") 100 refl refl)),
+      shows_then tag r now.selected (completed (commands.Status name items)) (λ q. last tag q (texts.Completed verbs.Status) t),
     )
 
 -- ---- APPEND
@@ -193,11 +198,11 @@ nothing_leaves : (p : Point) → LeavesFlags p []
 nothing_leaves p = leaves p [] (λ messages. refl)
 
 nowhere_says : (tag : List ℕ) (p : Point) → IsTag tag → SaysFlags tag p nowhere
-nowhere_says tag p t = last tag p (codes "NO [TRYCREATE] No such mailbo") 120 t (plain_words (codes "NO [TRYCREATE] No such mailbo") 120 refl refl)
+nowhere_says tag p t = last tag p texts.TryCreate t
 
 over_says : (tag : List ℕ) (p : Point) (most : Option ℕ) → IsTag tag → SaysFlags tag p (over most)
-over_says tag p None t = last tag p (codes "NO [CANNOT] Not offered her") 101 t (plain_words (codes "NO [CANNOT] Not offered her") 101 refl refl)
-over_says tag p (Some most) t = last tag p (codes "NO Message too bi") 103 t (plain_words (codes "NO Message too bi") 103 refl refl)
+over_says tag p None t = last tag p texts.NotOffered t
+over_says tag p (Some most) t = last tag p texts.MessageTooBig t
 
 append_says : (tag : List ℕ) (p : Point) (most : Option ℕ) (folders : List Folder) (a : Append) → IsTag tag → SaysFlags tag p (appending most folders a)
 append_says tag p most folders a t = by a.literal.waits (is_over most a.literal.size) (nat_lt most_unasked a.literal.size) (number_named a.name folders)
@@ -212,7 +217,7 @@ append_says tag p most folders a t = by a.literal.waits (is_over most a.literal.
 
     by : (waits big long : Bool) (o : Option ℕ)
         → SaysFlags tag p (if waits then wanting (on_found (λ mailbox. if big then over most else asking mailbox a.flags a.literal.size) nowhere o)
-        else (if long then Wait (bye (codes "Literal too big")) ForNothing else coming o a.flags a.literal.size))
+        else (if long then Wait (bye (response_text texts.LiteralTooBig)) ForNothing else coming o a.flags a.literal.size))
     by true big long o = (nothing_leaves p, found big o)
     by false big true o = leaves p _ (λ messages. refl)
     by false big false o = nothing_leaves p
@@ -222,46 +227,38 @@ rest_says : (tag : List ℕ) (p : Point) (mailing : Mailing) (a : Appending) (em
 rest_says tag p mailing a empty t = kept a.text
   where
     text_says : (big nul spent : Bool) (text : List ℕ) (mailbox : ℕ)
-        → SaysFlags tag p (if big then over mailing.most else if nul then says (codes "NO NUL byte") else if spent then says (codes "NO Mailbox is spent") else wanting (Wait [] (ForVerdict mailbox a.flags text)))
+        → SaysFlags tag p (if big then over mailing.most else if nul then says (response_text texts.NulByte) else if spent then says (response_text texts.MailboxSpent) else wanting (Wait [] (ForVerdict mailbox a.flags text)))
     text_says true nul spent text mailbox = over_says tag p mailing.most t
-    text_says false true spent text mailbox = last tag p (codes "NO NUL byt") 101 t (plain_words (codes "NO NUL byt") 101 refl refl)
-    text_says false false true text mailbox = last tag p (codes "NO Mailbox is spen") 116 t (plain_words (codes "NO Mailbox is spen") 116 refl refl)
+    text_says false true spent text mailbox = last tag p texts.NulByte t
+    text_says false false true text mailbox = last tag p texts.MailboxSpent t
     text_says false false false text mailbox = (nothing_leaves p, nothing_leaves p)
 
     named : (text : List ℕ) (mailbox : Option ℕ) → SaysFlags tag p (on_found (on_text mailing a text) nowhere mailbox)
     named text None = nowhere_says tag p t
     named text (Some mailbox) = text_says (is_over mailing.most a.size) (list_any (λ b. b == 0) text) (nat_le last_number mailing.number) text mailbox
 
-    ended : (b : Bool) (text : List ℕ) → SaysFlags tag p (if b then on_found (on_text mailing a text) nowhere a.mailbox else says (codes "BAD Invalid arguments"))
+    ended : (b : Bool) (text : List ℕ) → SaysFlags tag p (if b then on_found (on_text mailing a text) nowhere a.mailbox else says (response_text texts.InvalidArguments))
     ended true text = named text a.mailbox
-    ended false text = last tag p (codes "BAD Invalid argument") 115 t (plain_words (codes "BAD Invalid argument") 115 refl refl)
+    ended false text = last tag p texts.InvalidArguments t
 
     kept : (text : Option (List ℕ))
-        → SaysFlags tag p (on_found (λ text. if empty then on_found (on_text mailing a text) nowhere a.mailbox else says (codes "BAD Invalid arguments")) (says (codes "NO Out of memory")) text)
-    kept None = last tag p (codes "NO Out of memor") 121 t (plain_words (codes "NO Out of memor") 121 refl refl)
+        → SaysFlags tag p (on_found (λ text. if empty then on_found (on_text mailing a text) nowhere a.mailbox else says (response_text texts.InvalidArguments)) (says (response_text texts.OutOfMemory)) text)
+    kept None = last tag p texts.OutOfMemory t
     kept (Some text) = ended empty text
 
 verdict_says : (tag : List ℕ) (p : Point) (selected : Option Selected) (mailbox : ℕ) (verdict : Verdict) → IsTag tag → IsPrinted verdict → SaysFlags tag p (on_verdict selected mailbox verdict)
 verdict_says tag p selected mailbox (verdicts.Stored uid) t u = λ status r s.
     shows_then tag r selected (says (appended_words status.uidvalidity uid))
     (λ q. leaves q _ (tagged_tells_nothing tag (appended_words status.uidvalidity uid) t (stored_plain status.uidvalidity uid s.sees.fits.uidvalidity u)))
-verdict_says tag p selected mailbox (verdicts.Refused Full) t u = last tag p (codes "NO Shard ful") 108 t (plain_words (codes "NO Shard ful") 108 refl refl)
-verdict_says tag p selected mailbox (verdicts.Refused MailboxFull) t u = last tag p (codes "NO Mailbox ful") 108 t (plain_words (codes "NO Mailbox ful") 108 refl refl)
-verdict_says tag p selected mailbox (verdicts.Refused NoMemory) t u = last tag p (codes "NO Out of memor") 121 t (plain_words (codes "NO Out of memor") 121 refl refl)
-verdict_says tag p selected mailbox (verdicts.Refused UidSpent) t u = last tag p (codes "NO No UID lef") 116 t (plain_words (codes "NO No UID lef") 116 refl refl)
-verdict_says tag p selected mailbox (verdicts.Refused Shut) t u = last tag p (codes "NO Shard close") 100 t (plain_words (codes "NO Shard close") 100 refl refl)
+verdict_says tag p selected mailbox (verdicts.Refused why) t u = last tag p (refused_text why) t
 
 -- ---- all of them
 
--- a command's tagged OK but for its last byte
-abbrev done_front : Command → List ℕ
-done_front command = codes "OK " ++ verb_text (verb_of command) ++ codes " complete"
-
 command_says : (tag : List ℕ) (p : Point) (now : Standing) (command : Command) → IsTag tag → MayAsk now (counted p) command → SaysFlags tag p (on_command now command)
 command_says tag p now commands.Noop t may =
-    shows_then tag p now.selected (completed commands.Noop) (λ q. last tag q (codes "OK NOOP complete") 100 t (plain_words (codes "OK NOOP complete") 100 refl refl))
+    shows_then tag p now.selected (completed commands.Noop) (λ q. last tag q (texts.Completed verbs.Noop) t)
 command_says tag p now commands.Logout t may =
-    (leaves p _ (λ messages. refl), leaves p _ (tagged_tells_nothing tag (codes "OK LOGOUT completed") t (plain_words (codes "OK LOGOUT complete") 100 refl refl)))
+    (leaves p _ (λ messages. refl), leaves p _ (tagged_tells_nothing tag (response_text (texts.Completed verbs.Logout)) t (text_plain (texts.Completed verbs.Logout))))
 command_says tag p now commands.Idle t may = leaves p _ (λ messages. refl)
 command_says tag p now commands.Login t may = wrong tag p t
 command_says tag p now commands.Authenticate t may = wrong tag p t
@@ -277,7 +274,7 @@ command_says tag p now (commands.UidExpunge set) t may = writable tag p now.sele
 command_says tag p now (commands.Fetch fetch) t may = selected_says tag p now.selected now (fetch_messages fetch) refl t (λ selected. fetch_says tag p fetch selected t may.parts may.numbered)
 command_says tag p now (commands.Store store) t may = writable tag p now.selected now (store_messages store) refl t (store_says tag p store t may.numbered)
 command_says tag p now (commands.Append append) t may = append_says tag p now.mailing.most now.folders append t
-command_says tag p now command t may = (leaves p _ (λ messages. refl), last tag p (done_front command) 100 t (plain_words (done_front command) 100 refl refl))
+command_says tag p now command t may = (leaves p _ (λ messages. refl), last tag p (texts.Completed (verb_of command)) t)
 
 -- ---- lines that are no commands
 
@@ -298,11 +295,11 @@ idle_line_says : (tag : List ℕ) (p : Point) (selected : Option Selected) (line
 idle_line_says tag p selected line t = by (is_done line)
   where
     done : (q : Point) → SaysFlags tag q (completed commands.Idle)
-    done q = last tag q (codes "OK IDLE complete") 100 t (plain_words (codes "OK IDLE complete") 100 refl refl)
+    done q = last tag q (texts.Completed verbs.Idle) t
 
-    by : (b : Bool) → SaysFlags tag p (if b then showing selected (completed commands.Idle) else says (codes "BAD Expected DONE"))
+    by : (b : Bool) → SaysFlags tag p (if b then showing selected (completed commands.Idle) else says (response_text texts.ExpectedDone))
     by true = shows_then tag p selected (completed commands.Idle) done
-    by false = last tag p (codes "BAD Expected DON") 69 t (plain_words (codes "BAD Expected DON") 69 refl refl)
+    by false = last tag p texts.ExpectedDone t
 
 while_follows : (idling : Option (List ℕ)) (now : Standing) (line : List ℕ) (p : Point) (answers : List Answer) (turn : Turn) (q : Point)
     → IsFollowed idling now (counted p) line → turn_while idling now line answers ≡ Some turn → SeesAllFlags p turn.events q → LeadsFlags p turn.bytes q

@@ -1,6 +1,6 @@
 -- A client that knows that it is in a mailbox has a session that has selected one.
 use Rattle.std.proofs.Common.{zero, suc, ◌≡◌, ℕ, Bool, true, false, List, [], ◌∷◌, length, ap, refl, sym, ◌∙◌, subst}
-use Rattle.std.specs.Prelude.{Option, Some, None, Result, Ok, Err, nat_lt, ◌==◌, ◌&&◌, if◌then◌else◌, codes, nat_le, not}
+use Rattle.std.specs.Prelude.{Option, Some, None, Result, Ok, Err, nat_lt, ◌==◌, ◌&&◌, if◌then◌else◌, nat_le, not}
 use Rattle.std.specs.Option.{option_map}
 use Rattle.std.proofs.lemmas.Option.{none-some}
 use Rattle.cursor_set.specs.Lines.{lines}
@@ -13,9 +13,9 @@ use Rattle.imap_session.specs.declared.standing.After.{After}
 use Rattle.imap_session.specs.declared.standing.After.TheVariants.{Go, Bye}
 use Rattle.imap_session.specs.declared.standing.After.TheVariants as afters
 use Rattle.imap_session.specs.declared.standing.Selected.{Selected}
-use Rattle.imap_session.specs.Exchange.{Answer, Entered, Looked, Found, Counted, Altered, Expunged, Fed, Left, Refused, Starved, Exchange, ForDone, ForLiteral, ForVerdict, ForNothing, Done, Wait, Write, Put, Enter, Look, Read, Count, Alter, Expunge, Feed, Leave, Standing, Turn, Appending, Sent, Waiting, closed, having, played, refusal_after, refusal_text, refused, saying, tagged, waiting, Folder, Mailing, kept_behind, kept_tag, is_idling, unkept}
+use Rattle.imap_session.specs.Exchange.{Answer, Entered, Looked, Found, Counted, Altered, Expunged, Fed, Left, Refused, Starved, Exchange, ForDone, ForLiteral, ForVerdict, ForNothing, Done, Wait, Write, Put, Enter, Look, Read, Count, Alter, Expunge, Feed, Leave, Standing, Turn, Appending, Sent, Waiting, closed, having, played, refusal_after, refusal_text, refused, saying, tagged, waiting, Folder, Mailing, kept_behind, kept_tag, is_idling, unkept, bye}
 use Rattle.imap_session.proofs.Unkept.{unkept_by}
-use Rattle.imap_session.specs.Commands.{idle_turn_in, turn_of, fault_text, on_command, on_idle_line, on_read, on_rest, on_verdict, only_says, turn_behind, turn_while, turn_with, without_begun, without_sent, appending, closing, completed, counting, entering, expunge_set, fetch_messages, fetched, fetching, folder_of, if_writable, in_writable, is_over, last_number, messages_done, most_unasked, nowhere, number_named, on_chosen, on_folder, on_found, on_set, on_text, over, says, selecting, showing, store_messages, stored, storing, unlimited, wanting, wrong_state, opened, asking, coming}
+use Rattle.imap_session.specs.Commands.{idle_turn_in, turn_of, fault_text, on_command, on_idle_line, on_read, on_rest, on_verdict, only_says, turn_behind, turn_while, turn_with, without_begun, without_sent, appending, closing, completed, counting, entering, expunge_set, fetch_messages, fetched, fetching, folder_of, if_writable, in_writable, is_over, last_number, messages_done, most_unasked, nowhere, number_named, on_chosen, on_folder, on_found, on_set, on_text, over, says, selecting, showing, store_messages, stored, storing, unlimited, wanting, wanting_for, wrong_state, opened, asking, coming}
 use Rattle.delivery_token.specs.declared.Verdict.{Verdict}
 use Rattle.std.specs.List.{list_any}
 use Rattle.change_ring.specs.declared.change.Flags.{Flags}
@@ -42,6 +42,9 @@ use Rattle.laws_client.specs.Selecting.{KnowingIsSelected, Known_selected}
 use Rattle.laws_client.specs.RecordTurns.{told_line, told_of}
 use Rattle.laws_client.proofs.RecordEntering.{Only, Wrote, wanted, wrote, writes, mapped, only_done, only_refused, refusal_has_none, tagged_has, at_star, closed_line}
 use Rattle.laws_client.proofs.Living.{hears_last}
+use Rattle.imap_session.specs.declared.texts.ResponseText.TheVariants as texts
+use Rattle.imap_session.specs.Texts.{response_text}
+use Rattle.imap_grammar.specs.declared.command.Verb.TheVariants as verbs
 
 -- no mailbox is entered or left
 abbrev pub StaysIn : Exchange → Type 0
@@ -260,7 +263,7 @@ in_chosen by_uid set next h = λ view. by view (named_in by_uid set view)
     by view (Some uids) = h view uids
 
 stay_writable : (now : Standing) (x : Exchange) → StaysIn x → StaysIn (in_writable now x)
-stay_writable now x h = in_found (if_writable x) wrong_state now.selected (λ s. in_if s.read_only (says (codes "NO Mailbox is read-only")) x tt h) tt
+stay_writable now x h = in_found (if_writable x) wrong_state now.selected (λ s. in_if s.read_only (says (response_text texts.ReadOnly)) x tt h) tt
 
 in_over : (o : Option ℕ) → StaysIn (over o)
 in_over None = tt
@@ -270,10 +273,10 @@ in_append : (o : Option ℕ) (folders : List Folder) (a : Append) → StaysIn (a
 in_append o folders a =
     in_if a.literal.waits
     (wanting (on_found (λ mailbox. if is_over o a.literal.size then over o else asking mailbox a.flags a.literal.size) nowhere (number_named a.name folders)))
-    (if nat_lt most_unasked a.literal.size then Wait (codes "* BYE Literal too big\r\n") ForNothing else coming (number_named a.name folders) a.flags a.literal.size)
+    (if nat_lt most_unasked a.literal.size then Wait (bye (response_text texts.LiteralTooBig)) ForNothing else coming (number_named a.name folders) a.flags a.literal.size)
     (in_found (λ mailbox. if is_over o a.literal.size then over o else asking mailbox a.flags a.literal.size) nowhere (number_named a.name folders)
     (λ mailbox. in_if (is_over o a.literal.size) (over o) (asking mailbox a.flags a.literal.size) (in_over o) tt) tt)
-    (in_if (nat_lt most_unasked a.literal.size) (Wait (codes "* BYE Literal too big\r\n") ForNothing) (coming (number_named a.name folders) a.flags a.literal.size) tt tt)
+    (in_if (nat_lt most_unasked a.literal.size) (Wait (bye (response_text texts.LiteralTooBig)) ForNothing) (coming (number_named a.name folders) a.flags a.literal.size) tt tt)
 
 in_command : (now : Standing) (command : Command) → stays command ≡ true → StaysIn (on_command now command)
 in_command now commands.Noop e = in_showing now.selected (completed commands.Noop) tt
@@ -281,12 +284,12 @@ in_command now (commands.Select name) e = absurd (false≢true e)
 in_command now (commands.Examine name) e = absurd (false≢true e)
 in_command now (commands.List reference pattern) e = in_showing now.selected (completed (commands.List reference pattern)) tt
 in_command now (commands.Status name items) e =
-    in_found (counting now name items) (says (codes "NO [NONEXISTENT] No such mailbox")) (folder_of name now.folders) (λ folder status. in_showing now.selected (completed (commands.Status name items)) tt) tt
+    in_found (counting now name items) (says (response_text texts.NoSuchMailbox)) (folder_of name now.folders) (λ folder status. in_showing now.selected (completed (commands.Status name items)) tt) tt
 in_command now commands.Close e = absurd (false≢true e)
 in_command now commands.Unselect e = absurd (false≢true e)
 in_command now commands.Expunge e = stay_writable now (Expunge None (Feed unlimited (completed commands.Expunge))) tt
 in_command now (commands.UidExpunge set) e =
-    stay_writable now (expunge_set set) (in_chosen true set (λ view uids. wanting (Expunge (Some uids) (Feed unlimited (completed (commands.UidExpunge set))))) (λ view uids. tt))
+    stay_writable now (expunge_set set) (in_chosen true set (λ view uids. wanting_for uids (Expunge (Some uids) (Feed unlimited (completed (commands.UidExpunge set))))) (λ view. elim [ [] ↦ tt | uid ∷ uids ↦ tt ]))
 in_command now (commands.Fetch fetch) e = in_found (fetch_messages fetch) wrong_state now.selected
     (λ (selected : Selected). in_chosen fetch.by_uid fetch.set
     (λ view uids. fetching fetch (list_any marks_seen fetch.items && not selected.read_only) view (messages_done (commands.Fetch fetch) fetch.by_uid) uids false)
@@ -299,20 +302,20 @@ in_command now _ e = tt
 
 in_rest : (mailing : Mailing) (a : Appending) (empty : Bool) → StaysIn (on_rest mailing a empty)
 in_rest mailing a empty =
-    in_found (λ text. if empty then on_found (on_text mailing a text) nowhere a.mailbox else says (codes "BAD Invalid arguments")) (says (codes "NO Out of memory")) a.text
-    (λ text. in_if empty (on_found (on_text mailing a text) nowhere a.mailbox) (says (codes "BAD Invalid arguments")) (in_found (on_text mailing a text) nowhere a.mailbox (λ mailbox. submits text mailbox) tt) tt) tt
+    in_found (λ text. if empty then on_found (on_text mailing a text) nowhere a.mailbox else says (response_text texts.InvalidArguments)) (says (response_text texts.OutOfMemory)) a.text
+    (λ text. in_if empty (on_found (on_text mailing a text) nowhere a.mailbox) (says (response_text texts.InvalidArguments)) (in_found (on_text mailing a text) nowhere a.mailbox (λ mailbox. submits text mailbox) tt) tt) tt
   where
     submits : (text : List ℕ) (mailbox : ℕ) → StaysIn (on_text mailing a text mailbox)
     submits text mailbox = by (is_over mailing.most a.size) (list_any (λ b. b == 0) text) (nat_le last_number mailing.number)
       where
-        by : (x y z : Bool) → StaysIn (if x then over mailing.most else if y then says (codes "NO NUL byte") else if z then says (codes "NO Mailbox is spent") else wanting (Wait [] (ForVerdict mailbox a.flags text)))
+        by : (x y z : Bool) → StaysIn (if x then over mailing.most else if y then says (response_text texts.NulByte) else if z then says (response_text texts.MailboxSpent) else wanting (Wait [] (ForVerdict mailbox a.flags text)))
         by true y z = in_over mailing.most
         by false true z = tt
         by false false true = tt
         by false false false = tt
 
 in_idle_line : (selected : Option Selected) (line : List ℕ) → StaysIn (on_idle_line selected line)
-in_idle_line selected line = in_if (is_done line) (showing selected (completed commands.Idle)) (says (codes "BAD Expected DONE")) (in_showing selected (completed commands.Idle) tt) tt
+in_idle_line selected line = in_if (is_done line) (showing selected (completed commands.Idle)) (says (response_text texts.ExpectedDone)) (in_showing selected (completed commands.Idle) tt) tt
 
 in_verdict : (selected : Option Selected) (mailbox : ℕ) (verdict : Verdict) → StaysIn (on_verdict selected mailbox verdict)
 in_verdict selected mailbox (verdicts.Stored uid) = λ status. in_showing selected _ tt
@@ -380,8 +383,8 @@ enters_sel tag now read_only folder (Starved a ∷ more) turn t e = absurd (none
 named_sel : (tag : List ℕ) (now : Standing) (read_only : Bool) (name : List ℕ) (folders : List Folder) (answers : List Answer) (turn : Turn) → IsTag tag → played tag now (on_folder name folders (entering read_only)) answers ≡ Some turn → IfSel tag turn.bytes turn.standing
 named_sel tag now read_only name folders answers turn t e = by (folder_of name folders) e
   where
-    by : (found : Option Folder) → played tag now (on_found (entering read_only) (says (codes "NO [NONEXISTENT] No such mailbox")) found) answers ≡ Some turn → IfSel tag turn.bytes turn.standing
-    by None d ok = absurd (false≢true (sym (tagged_has tag (codes "NO [NONEXISTENT] No such mailbox") t) ∙ ap (has_ok true tag) (sym (only_done tag (codes "NO [NONEXISTENT] No such mailbox") Go now answers turn d).bytes) ∙ ok))
+    by : (found : Option Folder) → played tag now (on_found (entering read_only) (says (response_text texts.NoSuchMailbox)) found) answers ≡ Some turn → IfSel tag turn.bytes turn.standing
+    by None d ok = absurd (false≢true (sym (tagged_has tag (response_text texts.NoSuchMailbox) t) ∙ ap (has_ok true tag) (sym (only_done tag (response_text texts.NoSuchMailbox) Go now answers turn d).bytes) ∙ ok))
     by (Some folder) d ok = enters_sel tag now read_only folder answers turn t d ok
 
 wanted_sel : (tag : List ℕ) (now : Standing) (read_only : Bool) (name : List ℕ) (folders : List Folder) (answers : List Answer) (turn : Turn) → IsTag tag
@@ -462,8 +465,8 @@ command_sel : (now : Standing) (tag : List ℕ) (command : Command) (answers : L
     → (stays command ≡ true → Known_selected (reads_on turn.bytes client) turn.standing) → Known_selected (answered (asked_by tag command) turn.bytes client) turn.standing
 command_sel now tag (commands.Select name) answers turn client t e k more = selecting_sel tag now false name answers turn client t e
 command_sel now tag (commands.Examine name) answers turn client t e k more = selecting_sel tag now true name answers turn client t e
-command_sel now tag commands.Close answers turn client t e k more = closes_sel tag (codes "OK CLOSE completed") now (λ s. not s.read_only) now.selected answers turn client t (tagged_has tag (codes "OK CLOSE completed") t) e k
-command_sel now tag commands.Unselect answers turn client t e k more = closes_sel tag (codes "OK UNSELECT completed") now (λ s. false) now.selected answers turn client t (tagged_has tag (codes "OK UNSELECT completed") t) e k
+command_sel now tag commands.Close answers turn client t e k more = closes_sel tag (response_text (texts.Completed verbs.Close)) now (λ s. not s.read_only) now.selected answers turn client t (tagged_has tag (response_text (texts.Completed verbs.Close)) t) e k
+command_sel now tag commands.Unselect answers turn client t e k more = closes_sel tag (response_text (texts.Completed verbs.Unselect)) now (λ s. false) now.selected answers turn client t (tagged_has tag (response_text (texts.Completed verbs.Unselect)) t) e k
 command_sel now tag _ answers turn client t e k more = more refl
 
 fault_sel : (now : Standing) (text : List ℕ) (answers : List Answer) (turn : Turn) → only_says text now answers ≡ Some turn → turn.standing.selected ≡ now.selected

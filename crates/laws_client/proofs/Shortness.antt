@@ -24,7 +24,7 @@ use Rattle.imap_session.specs.Store.{Met}
 use Rattle.imap_session.specs.Dialogue as imap
 use Rattle.imap_session.specs.Dialogue.{AnswersLine, AnswersOne, Converses, Sends, goes_on, parts as ends_with, reads, silent, too_long}
 use Rattle.house.specs.Meets.{Meets}
-use Rattle.house_peers.specs.Folders.{folders_of}
+use Rattle.imap_session.specs.Folders.{folders_of}
 use Rattle.house_peers.specs.SeatedVisitor as seated
 use Rattle.house_peers.specs.SeatedVisitor.{GoesOn, SeatedVisitor, seated_greeted}
 use Rattle.house.specs.Setup.{Setup, session_seat, terms_of}

@@ -1,5 +1,5 @@
 -- What a client reads of a turn, by the session's first call and its answer.
-use Rattle.std.proofs.Common.{◌≡◌, ℕ, ◌+◌, ◌≤◌, List, [], ◌∷◌, ◌++◌, Bool, true, false, length, drop, ap, ap₂, ◌∙◌, sym, refl, subst, arith, append-nil, length-append, codes}
+use Rattle.std.proofs.Common.{◌≡◌, ℕ, ◌+◌, ◌≤◌, List, [], ◌∷◌, ◌++◌, Bool, true, false, length, drop, ap, ap₂, ◌∙◌, sym, refl, subst, arith, append-nil, length-append}
 use Rattle.std.specs.Prelude.{Option, Some, None, if◌then◌else◌}
 use Rattle.std.specs.Option.{option_map}
 use Rattle.std.proofs.lemmas.List.{length-drop, take-append-le}
@@ -26,6 +26,8 @@ use Rattle.laws_client.specs.Flags.{Believes, KnowsFlags, Point, counted}
 use Rattle.laws_client.specs.FlagTurns.{IfInside, LeadsFlags, LeavesFlags, SeesAllFlags, SeesFlags, shown_in}
 use Rattle.laws_client.proofs.Following.{lines_tell_flags}
 use Rattle.laws_client.proofs.Moments.{flags_outlast}
+use Rattle.imap_session.specs.declared.texts.ResponseText.TheVariants as texts
+use Rattle.imap_session.specs.Texts.{response_text}
 
 -- what is said where the store refuses tells nothing of flags
 abbrev pub Refusals : List ℕ → Type 0
@@ -178,7 +180,7 @@ goes_without tag refusals p now waits n turn q e sees =
     let P : Option Turn → Type 0 = λ o. o ≡ Some turn → LeadsFlags p turn.bytes q in
     unkept_by P (λ d. absurd (none-some turn d)) tag now (λ d. gives_up tag refusals p now NoMemory turn q d sees)
     (λ flags size d. waits_on p [] (afters.Literal size) (waiting tag (ForLiteral Dropped None flags size) now) turn q d (leaves p [] (λ messages. refl)) sees)
-    (λ d. waits_on p (bye (codes "Out of memory")) Bye (waiting tag ForNothing now) turn q d (leaves p _ (λ messages. refl)) sees) waits n e
+    (λ d. waits_on p (bye (response_text texts.ByeOutOfMemory)) Bye (waiting tag ForNothing now) turn q d (leaves p _ (λ messages. refl)) sees) waits n e
 
 pub is_refused : (tag : List ℕ) (refusals : Refusals tag) (p : Point) (now : Standing) (call : Call) (fault : MailFault) (turn : Turn) (q : Point)
     → Some (having call (Refused fault) (refused tag now fault)) ≡ Some turn → SeesAllFlags p turn.events q → LeadsFlags p turn.bytes q

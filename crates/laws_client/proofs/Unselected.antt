@@ -27,6 +27,8 @@ use Rattle.laws_client.specs.Selecting.{RefusedSelectsNone}
 use Rattle.laws_client.proofs.RecordEntering.{Wrote, at_star, closed_line, mapped, only_done, only_refused, tagged_has, wanted, writes, wrote}
 use Rattle.laws_client.proofs.Moved.{Calls}
 use Rattle.laws_client.proofs.Selecting.{given_up, selected_stays}
+use Rattle.imap_session.specs.declared.texts.ResponseText.TheVariants as texts
+use Rattle.imap_session.specs.Texts.{response_text}
 
 -- ---- the OK behind what is told of a mailbox that was entered
 
@@ -63,9 +65,9 @@ told_ok tag words now read_only name o answers turn h e =
 opened_ok : (tag : List ℕ) (now : Standing) (read_only : Bool) (name : List ℕ) (o : Opening) (answers : List Answer) (turn : Turn) → IsTag tag
     → played tag now (opened read_only name o) answers ≡ Some turn → has_ok true tag turn.bytes ≡ true
 opened_ok tag now true name o answers turn t e =
-    told_ok tag (codes "OK [READ-ONLY] EXAMINE completed") now true name o answers turn (tagged_has tag (codes "OK [READ-ONLY] EXAMINE completed") t) e
+    told_ok tag (response_text texts.ExamineCompleted) now true name o answers turn (tagged_has tag (response_text texts.ExamineCompleted) t) e
 opened_ok tag now false name o answers turn t e =
-    told_ok tag (codes "OK [READ-WRITE] SELECT completed") now false name o answers turn (tagged_has tag (codes "OK [READ-WRITE] SELECT completed") t) e
+    told_ok tag (response_text texts.SelectCompleted) now false name o answers turn (tagged_has tag (response_text texts.SelectCompleted) t) e
 
 -- ---- no OK, and no mailbox
 
@@ -93,8 +95,8 @@ named_none : (tag : List ℕ) (now : Standing) (read_only : Bool) (name : List �
     → played tag now (on_folder name folders (entering read_only)) answers ≡ Some turn → has_ok true tag turn.bytes ≡ false → turn.standing.selected ≡ None
 named_none tag now read_only name folders answers turn t none e unsaid = by (folder_of name folders) e
   where
-    by : (found : Option Folder) → played tag now (on_found (entering read_only) (says (codes "NO [NONEXISTENT] No such mailbox")) found) answers ≡ Some turn → turn.standing.selected ≡ None
-    by None d = selected_stays tag now (says (codes "NO [NONEXISTENT] No such mailbox")) answers turn tt d ∙ none
+    by : (found : Option Folder) → played tag now (on_found (entering read_only) (says (response_text texts.NoSuchMailbox)) found) answers ≡ Some turn → turn.standing.selected ≡ None
+    by None d = selected_stays tag now (says (response_text texts.NoSuchMailbox)) answers turn tt d ∙ none
     by (Some folder) d = enters_none tag now read_only folder answers turn t none d unsaid
 
 wanted_none : (tag : List ℕ) (now : Standing) (read_only : Bool) (name : List ℕ) (folders : List Folder) (answers : List Answer) (turn : Turn) → IsTag tag → now.selected ≡ None

@@ -1,6 +1,6 @@
 -- What a session knows of the messages that its client appends: it changes where an exchange waits, and by what it waits for.
 use Rattle.std.proofs.Common.{◌≡◌, ◌⊎◌, inl, inr, ℕ, zero, suc, ◌+◌, Bool, true, false, List, [], ◌∷◌, length, refl, subst, Option, Some, None}
-use Rattle.std.specs.Prelude.{codes, nat_le, nat_lt, ◌==◌, if◌then◌else◌}
+use Rattle.std.specs.Prelude.{nat_le, nat_lt, ◌==◌, if◌then◌else◌}
 use Rattle.std.specs.List.{list_any}
 use Rattle.std.specs.Option.{option_map}
 use Rattle.change_ring.specs.declared.change.Change.{Change}
@@ -25,7 +25,9 @@ use Rattle.imap_session.specs.declared.standing.After.TheVariants as afters
 use Rattle.imap_session.specs.declared.standing.Selected.{Selected}
 use Rattle.imap_session.specs.Exchange as ex
 use Rattle.imap_session.specs.Exchange.{Answer, Appending, Asked, Call, Dropped, Entered, Looked, Found, Counted, Altered, Expunged, Fed, Left, Refused, Starved, Exchange, Folder, ForDone, ForLiteral, ForNothing, ForVerdict, Mailing, Standing, Turn, Unasked, Waiting, bye, closed, having, played, refusal_after, saying, text_before, unkept, waiting, where_long, refused}
-use Rattle.imap_session.specs.Commands.{appending, asking, closing, coming, completed, counting, entering, expunge_set, fetch_messages, fetching, folder_of, if_writable, is_over, last_number, messages_done, most_unasked, notice, noticing, nowhere, number_named, on_chosen, on_command, on_found, on_idle_line, on_rest, on_text, on_verdict, over, says, showing, store_messages, storing, unlimited, wanting, wrong_state}
+use Rattle.imap_session.specs.Commands.{appending, asking, closing, coming, completed, counting, entering, expunge_set, fetch_messages, fetching, folder_of, if_writable, is_over, last_number, messages_done, most_unasked, notice, noticing, nowhere, number_named, on_chosen, on_command, on_found, on_idle_line, on_rest, on_text, on_verdict, over, says, showing, store_messages, storing, unlimited, wanting, wanting_for, wrong_state}
+use Rattle.imap_session.specs.declared.texts.ResponseText.TheVariants as texts
+use Rattle.imap_session.specs.Texts.{response_text}
 
 -- ---- an exchange
 
@@ -264,7 +266,7 @@ in_found A next gone p q None = q
 in_found A next gone p q (Some a) = p a
 
 in_writable : (A : Waiting → Type 0) → (selected : Option Selected) (x : Exchange) → WaitsAs A x → WaitsAs A (on_found (if_writable x) wrong_state selected)
-in_writable A selected x p = in_found A (if_writable x) wrong_state (λ (s : Selected). in_either A s.read_only (says (codes "NO Mailbox is read-only")) x tt p) tt selected
+in_writable A selected x p = in_found A (if_writable x) wrong_state (λ (s : Selected). in_either A s.read_only (says (response_text texts.ReadOnly)) x tt p) tt selected
 
 in_chosen : (A : Waiting → Type 0) → (chosen : Option (List ℕ)) (next : List ℕ → Exchange) → ((uids : List ℕ) → WaitsAs A (next uids)) → WaitsAs A (on_chosen chosen next)
 in_chosen A None next p = tt
@@ -311,7 +313,7 @@ append_waits most folders a = by (number_named a.name folders)
     over_waits A (Some most) = tt
 
     by : (found : Option ℕ) → WaitsAs (ForItsLiteral found a) (if a.literal.waits then wanting (on_found (λ mailbox. if is_over most a.literal.size then over most else asking mailbox a.flags a.literal.size) nowhere found)
-        else (if nat_lt most_unasked a.literal.size then ex.Wait (bye (codes "Literal too big")) ForNothing else coming found a.flags a.literal.size))
+        else (if nat_lt most_unasked a.literal.size then ex.Wait (bye (response_text texts.LiteralTooBig)) ForNothing else coming found a.flags a.literal.size))
     by None = in_either (ForItsLiteral None a) a.literal.waits _ _ tt (in_either (ForItsLiteral None a) (nat_lt most_unasked a.literal.size) _ _ tt (refl, refl, refl))
     by (Some m) =
         in_either (ForItsLiteral (Some m) a) a.literal.waits _ _ (in_either (ForItsLiteral (Some m) a) (is_over most a.literal.size) (over most) _ (over_waits (ForItsLiteral (Some m) a) most) (refl, refl, refl))
@@ -338,16 +340,16 @@ command_waits now commands.Idle other = tt
 command_waits now commands.Login other = tt
 command_waits now commands.Authenticate other = tt
 command_waits now commands.StartTls other = tt
-command_waits now (commands.Select name) other = in_closing ForItsDone now.selected _ (in_found ForItsDone (entering false) (says (codes "NO [NONEXISTENT] No such mailbox")) (λ (f : Folder) opening. tt) tt (folder_of name now.folders))
-command_waits now (commands.Examine name) other = in_closing ForItsDone now.selected _ (in_found ForItsDone (entering true) (says (codes "NO [NONEXISTENT] No such mailbox")) (λ (f : Folder) opening. tt) tt (folder_of name now.folders))
+command_waits now (commands.Select name) other = in_closing ForItsDone now.selected _ (in_found ForItsDone (entering false) (says (response_text texts.NoSuchMailbox)) (λ (f : Folder) opening. tt) tt (folder_of name now.folders))
+command_waits now (commands.Examine name) other = in_closing ForItsDone now.selected _ (in_found ForItsDone (entering true) (says (response_text texts.NoSuchMailbox)) (λ (f : Folder) opening. tt) tt (folder_of name now.folders))
 command_waits now (commands.List reference pattern) other = in_showing ForItsDone now.selected (completed (commands.List reference pattern)) tt
 command_waits now (commands.Status name items) other =
-    in_found ForItsDone (counting now name items) (says (codes "NO [NONEXISTENT] No such mailbox")) (λ (f : Folder) status. in_showing ForItsDone now.selected (completed (commands.Status name items)) tt) tt (folder_of name now.folders)
+    in_found ForItsDone (counting now name items) (says (response_text texts.NoSuchMailbox)) (λ (f : Folder) status. in_showing ForItsDone now.selected (completed (commands.Status name items)) tt) tt (folder_of name now.folders)
 command_waits now commands.Close other = in_found ForItsDone _ wrong_state (λ (s : Selected). tt) tt now.selected
 command_waits now commands.Unselect other = in_found ForItsDone _ wrong_state (λ (s : Selected). tt) tt now.selected
 command_waits now commands.Expunge other = in_writable ForItsDone now.selected (ex.Expunge None (ex.Feed unlimited (completed commands.Expunge))) tt
 command_waits now (commands.UidExpunge set) other =
-    in_writable ForItsDone now.selected (expunge_set set) (λ view. in_chosen ForItsDone (named_in true set view) (λ uids. wanting (ex.Expunge (Some uids) (ex.Feed unlimited (completed (commands.UidExpunge set))))) (λ uids. tt))
+    in_writable ForItsDone now.selected (expunge_set set) (λ view. in_chosen ForItsDone (named_in true set view) (λ uids. wanting_for uids (ex.Expunge (Some uids) (ex.Feed unlimited (completed (commands.UidExpunge set))))) (elim [ [] ↦ tt | uid ∷ uids ↦ tt ]))
 command_waits now (commands.Fetch fetch) other =
     in_found ForItsDone (fetch_messages fetch) wrong_state
     (λ (s : Selected) view. in_chosen ForItsDone (named_in fetch.by_uid fetch.set view) _
@@ -385,7 +387,7 @@ append_mail tag now append answers turn e =
 -- ---- other lines, and verdicts
 
 idling_waits : (selected : Option Selected) (line : List ℕ) → WaitsAs ForItsDone (on_idle_line selected line)
-idling_waits selected line = in_either ForItsDone (is_done line) (showing selected (completed commands.Idle)) (says (codes "BAD Expected DONE")) (in_showing ForItsDone selected (completed commands.Idle) tt) tt
+idling_waits selected line = in_either ForItsDone (is_done line) (showing selected (completed commands.Idle)) (says (response_text texts.ExpectedDone)) (in_showing ForItsDone selected (completed commands.Idle) tt) tt
 
 pub idling_mail : (tag : List ℕ) (now : Standing) (selected : Option Selected) (line : List ℕ) (answers : List Answer) (turn : Turn) → played tag now (on_idle_line selected line) answers ≡ Some turn → turn.standing.mailing ≡ now.mailing
 idling_mail tag now selected line answers turn e =
@@ -415,8 +417,8 @@ text_waits : (mailing : Mailing) (a : Appending) (empty : Bool) (text : List ℕ
 text_waits mailing a empty text mailbox m t e =
     let A : Waiting → Type 0 = ForItsVerdict a empty in
     in_either A (is_over mailing.most a.size) (over mailing.most) _ (over_so A mailing.most)
-    (in_either A (list_any (λ b. b == 0) text) (says (codes "NO NUL byte")) _ tt
-    (in_either A (nat_le last_number mailing.number) (says (codes "NO Mailbox is spent")) (wanting (ex.Wait [] (ForVerdict mailbox a.flags text))) tt (m, refl, t, e)))
+    (in_either A (list_any (λ b. b == 0) text) (says (response_text texts.NulByte)) _ tt
+    (in_either A (nat_le last_number mailing.number) (says (response_text texts.MailboxSpent)) (wanting (ex.Wait [] (ForVerdict mailbox a.flags text))) tt (m, refl, t, e)))
 
 rest_waits : (mailing : Mailing) (a : Appending) (empty : Bool) → WaitsAs (ForItsVerdict a empty) (on_rest mailing a empty)
 rest_waits mailing a empty = by_text a.text refl
@@ -425,11 +427,11 @@ rest_waits mailing a empty = by_text a.text refl
     by_mailbox text t e None m = tt
     by_mailbox text t e (Some mailbox) m = text_waits mailing a empty text mailbox m t e
 
-    by_empty : (text : List ℕ) → a.text ≡ Some text → (b : Bool) → empty ≡ b → WaitsAs (ForItsVerdict a empty) (if b then on_found (on_text mailing a text) nowhere a.mailbox else says (codes "BAD Invalid arguments"))
+    by_empty : (text : List ℕ) → a.text ≡ Some text → (b : Bool) → empty ≡ b → WaitsAs (ForItsVerdict a empty) (if b then on_found (on_text mailing a text) nowhere a.mailbox else says (response_text texts.InvalidArguments))
     by_empty text t true e = by_mailbox text t e a.mailbox refl
     by_empty text t false e = tt
 
-    by_text : (o : Option (List ℕ)) → a.text ≡ o → WaitsAs (ForItsVerdict a empty) (on_found (λ text. if empty then on_found (on_text mailing a text) nowhere a.mailbox else says (codes "BAD Invalid arguments")) (says (codes "NO Out of memory")) o)
+    by_text : (o : Option (List ℕ)) → a.text ≡ o → WaitsAs (ForItsVerdict a empty) (on_found (λ text. if empty then on_found (on_text mailing a text) nowhere a.mailbox else says (response_text texts.InvalidArguments)) (says (response_text texts.OutOfMemory)) o)
     by_text None t = tt
     by_text (Some text) t = by_empty text t empty refl
 

@@ -13,7 +13,7 @@ use Rattle.imap_grammar.specs.declared.command.Command.TheVariants as commands
 use Rattle.imap_session.specs.declared.standing.After.TheVariants.{Go}
 use Rattle.imap_session.specs.declared.standing.Selected.{Selected}
 use Rattle.imap_session.specs.Exchange.{Answer, Appending, Entered, Looked, Found, Counted, Altered, Expunged, Fed, Left, Refused, Starved, Count, Done, Feed, Sent, Standing, Turn, having, is_idling, kept_behind, kept_tag, played, refusal_text, refused}
-use Rattle.imap_session.specs.Commands.{appended_words, completed, on_idle_line, on_verdict, refused_words, says, showing, turn_behind, turn_of, turn_while, turn_with, unlimited, without_begun, without_sent}
+use Rattle.imap_session.specs.Commands.{appended_words, completed, on_idle_line, on_verdict, refused_text, says, showing, turn_behind, turn_of, turn_while, turn_with, unlimited, without_begun, without_sent}
 use Rattle.imap_session.specs.Store.{Met}
 use Rattle.laws_client.specs.Beliefs.{IsRight}
 use Rattle.laws_client.specs.Client.{Client, Known, knowing, reads}
@@ -39,6 +39,9 @@ use Rattle.laws_client.proofs.Moved.{Calls, short_met}
 use Rattle.laws_client.proofs.OkCurrent.{has_list}
 use Rattle.laws_client.proofs.Selecting.{knowing_is_selected}
 use Rattle.laws_client.proofs.RecordWorlds.{sound_always}
+use Rattle.imap_session.specs.declared.texts.ResponseText.TheVariants as texts
+use Rattle.imap_session.specs.Texts.{response_text}
+use Rattle.imap_grammar.specs.declared.command.Verb.TheVariants as verbs
 
 -- ---- words that say OK
 
@@ -83,11 +86,11 @@ idle_line_current : (k : Config) (n : ℕ) (tag line : List ℕ) (selected : Sel
     → played tag now (on_idle_line (Some selected) line) answers ≡ Some turn → Met (Calls k n) w turn.events v → SaysOk turn.bytes → IsCurrent v n
 idle_line_current k n tag line selected now w answers turn v K t e met ok = by (is_done line) e
   where
-    by : (b : Bool) → played tag now (if b then showing (Some selected) (completed commands.Idle) else says (codes "BAD Expected DONE")) answers ≡ Some turn → IsCurrent v n
-    by true e = fed_ok k n tag (codes "OK IDLE completed") now w answers turn v K t e met ok
+    by : (b : Bool) → played tag now (if b then showing (Some selected) (completed commands.Idle) else says (response_text texts.ExpectedDone)) answers ≡ Some turn → IsCurrent v n
+    by true e = fed_ok k n tag (response_text (texts.Completed verbs.Idle)) now w answers turn v K t e met ok
     by false e =
-        let d = only_done tag (codes "BAD Expected DONE") Go now answers turn e in
-        absurd (never turn.bytes (subst (Apart starts_ok) (sym d.bytes) (tagged_apart starts_ok tag (codes "BAD Expected DONE") t refl (ok_spares.bad (codes "Expected DONE")))) ok)
+        let d = only_done tag (response_text texts.ExpectedDone) Go now answers turn e in
+        absurd (never turn.bytes (subst (Apart starts_ok) (sym d.bytes) (tagged_apart starts_ok tag (response_text texts.ExpectedDone) t refl (ok_spares.bad (codes "Expected DONE")))) ok)
 
 -- the verdict on a message
 refused_ok : (tag : List ℕ) → IsWord tag → (call : _) (now : Standing) (fault : MailFault) (turn : Turn) → Some (having call (Refused fault) (refused tag now fault)) ≡ Some turn → SaysOk turn.bytes → ⊥
@@ -119,7 +122,7 @@ verdict_current : (k : Config) (n mailbox : ℕ) (verdict : Verdict) (tag : List
     → played tag now (on_verdict (Some selected) mailbox verdict) answers ≡ Some turn → Met (Calls k n) w turn.events v → SaysOk turn.bytes → IsCurrent v n
 verdict_current k n mailbox (verdicts.Stored uid) tag t selected now w answers turn v K e met ok = stored_current k n mailbox uid tag t selected now w answers turn v K e met ok
 verdict_current k n mailbox (verdicts.Refused why) tag t selected now w answers turn v K e met ok =
-    let d = only_done tag (refused_words why) Go now answers turn e in
+    let d = only_done tag (response_text (refused_text why)) Go now answers turn e in
     absurd (never turn.bytes (subst (Apart starts_ok) (sym d.bytes) (no_apart starts_ok ok_spares tag t why)) ok)
 
 -- a line that came to no command

@@ -13,18 +13,19 @@ use Rattle.line_io.specs.Wire.{crlf}
 use Rattle.imap_grammar.specs.Reading.{read}
 use Rattle.imap_grammar.specs.declared.command.Append.{Append}
 use Rattle.imap_grammar.specs.declared.command.Command.TheVariants as commands
-use Rattle.imap_session.specs.Commands.{appended_words, number_named, refused_words}
+use Rattle.imap_session.specs.Commands.{appended_words, number_named, refused_text}
 use Rattle.imap_session.specs.Exchange.{Folder, Sent, refusal_text, tagged}
 use Rattle.imap_session.specs.Telling.{tells_uid}
 use Rattle.world.specs.Law.{StandsOnce, pairs}
 use Rattle.world.specs.World.{World}
-use Rattle.house_peers.specs.Folders.{folders_of}
+use Rattle.imap_session.specs.Folders.{folders_of}
 use Rattle.house_peers.specs.SeatedVisitor.{SeatedVisitor}
 use Rattle.house.specs.Scene.{Scene, empty_scene}
 use Rattle.house.specs.Setup.{Setup, session_seat}
 use Rattle.exactly_once.specs.Promise.{Entry, IsRecord}
 use Rattle.laws_client.specs.Clients.{Told, bytes_in}
 use Rattle.laws_client.specs.ClientRecords.{IsPrintable, KeepsUp, KeptUp, sent_by_then, serial_by_then, stays_by_then, user_by_then}
+use Rattle.imap_session.specs.Texts.{response_text}
 
 -- ---- how an answer ends
 
@@ -67,7 +68,7 @@ pub record IsSentAs (folders : List Folder) (sent : List ℕ) (message : Sent) :
 -- Where it was refused: a NO.
 abbrev pub SaysVerdict : (uidvalidity : ℕ) (tag : List ℕ) → Verdict → List ℕ → Type 0
 SaysVerdict uidvalidity tag (Stored uid) bytes = EndsWith tag (appended_words uidvalidity uid) bytes ⊎ ((fault : MailFault) × (bytes ≡ refusal_text tag fault))
-SaysVerdict uidvalidity tag (Refused why) bytes = bytes ≡ tagged tag (refused_words why)
+SaysVerdict uidvalidity tag (Refused why) bytes = bytes ≡ tagged tag (response_text (refused_text why))
 
 -- the copy of a message, under this key
 abbrev pub copy_under : CopyKey → Sent → Job

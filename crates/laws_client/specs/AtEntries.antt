@@ -5,7 +5,7 @@ use Rattle.world.specs.World.{Session}
 use Rattle.imap_grammar.specs.Reading.{read}
 use Rattle.imap_grammar.specs.Verbs.{verb_of}
 use Rattle.imap_grammar.specs.declared.command.Command.{Command}
-use Rattle.imap_session.specs.Commands.{greeting, verb_text}
+use Rattle.imap_session.specs.Commands.{greeting}
 use Rattle.imap_session.specs.Exchange.{tagged}
 use Rattle.house_peers.specs.SeatedVisitor.{SeatedVisitor}
 use Rattle.house.specs.Scene.{Scene, empty_scene, place_of, seat_of}
@@ -20,6 +20,8 @@ use Rattle.laws_client.specs.Clients.{Answer, Told, Words, bytes_in, hears_all}
 use Rattle.laws_client.specs.Current.{shows_all}
 use Rattle.laws_client.specs.ClientRecords.{IsPrintable, KeepsUp, shown_by_then}
 use Rattle.laws_client.specs.Views.{messages_of}
+use Rattle.imap_session.specs.declared.texts.ResponseText.TheVariants as texts
+use Rattle.imap_session.specs.Texts.{response_text}
 
 -- A session goes on at an entry, and is there behind it. It keeps up then; it was told this before, and that much more at the entry.
 pub record AnswersAt (k : Setup) (entries : List Entry) (entry : Entry) (place : ℕ) (before v : SeatedVisitor) : Type 0 where
@@ -31,7 +33,7 @@ pub record AnswersAt (k : Setup) (entries : List Entry) (entry : Entry) (place :
   pub printed : greeting ++ flat_map bytes_in earlier ≡ shown_by_then place [] entries ++ before.session.unsaid
   -- where it knows where it is, and the last of that is the OK of a command that shows all, its list is the mailbox as it is behind the entry
   pub current : (front : List Told) (line tag bytes ending : List ℕ) (command : Command) (client : Client) (s : Session) → more ≡ front ++ Answer line bytes ∷ [] → read line ≡ Ok (tag, command) → shows_all command ≡ true
-      → bytes ≡ ending ++ tagged tag (codes "OK " ++ verb_text (verb_of command) ++ codes " completed") → hears_all None (earlier ++ front) ≡ Some client → entry.after.world.session place ≡ Some s
+      → bytes ≡ ending ++ tagged tag (response_text (texts.Completed (verb_of command))) → hears_all None (earlier ++ front) ≡ Some client → entry.after.world.session place ≡ Some s
       → (list : List Known) × (hears_all None keeps.told ≡ Some (knowing (Some list))) × IsRight (messages_of (entry.after.world.box s.mailbox)) list
   -- So it is where the last of that came to no command, and its last line is an OK: that of a DONE, or of a message that was stored
   pub done : (front : List Told) (tag words bytes : List ℕ) (client : Client) (s : Session) → more ≡ front ++ Words bytes ∷ [] → EndsWith tag (codes "OK " ++ words) bytes

@@ -6,7 +6,7 @@ use Rattle.line_io.specs.Wire.{joined}
 use Rattle.world.specs.World.{Event as WorldEvent, IsWorld, Session, Steps, World, empty_world, pending}
 use Rattle.imap_session.specs.Commands.{greeting}
 use Rattle.imap_session.specs.Exchange.{Standing}
-use Rattle.house_peers.specs.Folders.{folders_of}
+use Rattle.imap_session.specs.Folders.{folders_of}
 use Rattle.house_peers.specs.Visitor.{greeted}
 use Rattle.house_peers.specs.SeatedVisitor.{SeatedVisitor}
 use Rattle.house.specs.Scene.{LeavesMailbox, Scene, empty_scene, place_of}

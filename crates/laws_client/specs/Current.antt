@@ -1,5 +1,5 @@
 -- When a client's list is the mailbox as it is now.
-use Rattle.std.specs.Prelude.{◌≡◌, ℕ, Bool, true, false, codes, List, [], ◌∷◌, ◌++◌, Some, None, Ok}
+use Rattle.std.specs.Prelude.{◌≡◌, ℕ, Bool, true, false, List, [], ◌∷◌, ◌++◌, Some, None, Ok}
 use Rattle.change_ring.specs.declared.change.Change.{Change}
 use Rattle.world.specs.World.{Config, Event, IsWorld, Session, World}
 use Rattle.imap_grammar.specs.Reading.{is_done, read}
@@ -9,7 +9,7 @@ use Rattle.imap_grammar.specs.declared.command.Command.{Command}
 use Rattle.imap_grammar.specs.Verbs.{verb_of}
 use Rattle.imap_session.specs.declared.standing.Selected.{Selected}
 use Rattle.imap_session.specs.Exchange.{Call, Answer, Event as Happened, Fed, Feed, Standing, Turn, kept_tag, tagged}
-use Rattle.imap_session.specs.Commands.{turn_of, unlimited, verb_text}
+use Rattle.imap_session.specs.Commands.{turn_of, unlimited}
 use Rattle.imap_session.specs.Store.{Met}
 use Rattle.house.specs.Meets.{Meets}
 use Rattle.laws_client.specs.Beliefs.{IsRight}
@@ -19,6 +19,8 @@ use Rattle.laws_client.specs.Lives.{Lives}
 use Rattle.laws_client.specs.Sizes.{HasShortTexts, HasSmallNumbers}
 use Rattle.laws_client.specs.RecordTurns.{Stands}
 use Rattle.laws_client.specs.Views.{messages_of, view_of}
+use Rattle.imap_session.specs.declared.texts.ResponseText.TheVariants as texts
+use Rattle.imap_session.specs.Texts.{response_text}
 
 -- what session n counts is all that is in its mailbox, where it has selected one
 abbrev pub IsCurrent : World → ℕ → Type 0
@@ -62,7 +64,7 @@ shows_all command = false
 -- Such a command whose answer's last line says that it is done
 abbrev pub DoneCommandsMakeCurrent : Type 0
 DoneCommandsMakeCurrent = (k : Config) (events : List Event) (n : ℕ) (now : Standing) (line tag : List ℕ) (command : Command) (w : World) (turn : Turn) (v : World) (front : List ℕ) → IsWorld k events w → IsAnswered k n now line w turn v
-    → kept_tag now ≡ None → read line ≡ Ok (tag, command) → shows_all command ≡ true → turn.bytes ≡ front ++ tagged tag (codes "OK " ++ verb_text (verb_of command) ++ codes " completed") → IsCurrent v n
+    → kept_tag now ≡ None → read line ≡ Ok (tag, command) → shows_all command ≡ true → turn.bytes ≡ front ++ tagged tag (response_text (texts.Completed (verb_of command))) → IsCurrent v n
 
 -- In a session's life: a client that knows where it is sends such a line. When it has read the answer to its end it still knows, and its list is the mailbox as it is.
 abbrev pub ListsAreCurrent : Type 0
@@ -70,5 +72,5 @@ ListsAreCurrent = (k : Config) (events : List Event) (n : ℕ) (first : Standing
     (line tag : List ℕ) (command : Command) (answers : List Answer) (turn : Turn) (v : World) (front : List ℕ) (s : Session)
     → HasSmallNumbers k → IsWorld k events began → HasShortTexts v → Stands first → Lives k n first began sent told now w → hears_all None told ≡ Some client
     → turn_of now line answers ≡ Some turn → Met (λ (w : World) (call : Call) (answer : Answer) (v : World). Meets k n w call answer v) w turn.events v
-    → kept_tag now ≡ None → read line ≡ Ok (tag, command) → shows_all command ≡ true → turn.bytes ≡ front ++ tagged tag (codes "OK " ++ verb_text (verb_of command) ++ codes " completed")
+    → kept_tag now ≡ None → read line ≡ Ok (tag, command) → shows_all command ≡ true → turn.bytes ≡ front ++ tagged tag (response_text (texts.Completed (verb_of command)))
     → v.session n ≡ Some s → (list : List Known) × (hears_all None (told ++ Answer_to line turn.bytes ∷ []) ≡ Some (knowing (Some list))) × IsRight (messages_of (v.box s.mailbox)) list

@@ -19,7 +19,8 @@ use Rattle.settings.specs.Settings.{IsDefault, words_of}
 use Rattle.settings.specs.declared.config.Config.{Config}
 use Rattle.serving.specs.declared.server.Uidvalidity.{Uidvalidity}
 use Rattle.serving.specs.declared.server.Uidvalidity.TheVariants.{Given, Default}
-use Rattle.post_house.specs.Asking.{AreHouseSettings, AsksForScript, AsksForServer, mailboxes_given, number_given, number_or, text_given, uidvalidity_given}
+use Rattle.std.proofs.lemmas.List.{length-map}
+use Rattle.post_house.specs.Asking.{AreHouseSettings, AsksForScript, AsksForServer, mailboxes_given, number_given, number_or, server_shards, text_given, uidvalidity_given}
 
 -- ---- one option
 
@@ -97,7 +98,7 @@ module _ (rows : List Row) (c0 c1 c2 c3 c4 : Config) (is : IsDefault c0 (mailbox
     (rest3 : c3 ≡ record c2 { ring = c3.ring; ring_max = c3.ring_max })
     (uidvalidity : c4.uidvalidity ≡ number_given rows (codes "uidvalidity") c3.uidvalidity) (first_uid : c4.first_uid ≡ number_given rows (codes "first-uid") c3.first_uid)
     (rest4 : c4 ≡ record c3 { uidvalidity = c4.uidvalidity; first_uid = c4.first_uid }) where
-  house : AreHouseSettings rows c4
+  house : AreHouseSettings rows 1 c4
   house = record {
     host = ap (λ (c : Config). c.host.items) rest4 ∙ ap (λ (c : Config). c.host.items) rest3 ∙ ap (λ (c : Config). c.host.items) rest2 ∙ host ∙ ap (text_given rows (codes "host")) is.host;
     domain = ap (λ (c : Config). c.domain.items) rest4 ∙ ap (λ (c : Config). c.domain.items) rest3 ∙ ap (λ (c : Config). c.domain.items) rest2 ∙ domain
@@ -129,33 +130,55 @@ module _ (rows : List Row) (c0 c1 c2 c3 c4 : Config) (is : IsDefault c0 (mailbox
     };
   }
 
--- and those of a server behind them
-pub server_given : (rows : List Row) (c d : Config) (u : Uidvalidity) → AsksForScript rows c → d.lmtp_port ≡ number_given rows (codes "lmtp-port") c.lmtp_port
+-- a server's shards behind them
+shards_given : (rows : List Row) (b c : Config) → AsksForScript rows b → c.shards ≡ number_given rows (codes "shards") (server_shards (length b.mailboxes.items))
+    → c ≡ record b { shards = c.shards } → AreHouseSettings rows (server_shards (length (mailboxes_given rows))) c
+shards_given rows b c given shards rest =
+    let count : length b.mailboxes.items ≡ length (mailboxes_given rows) = sym (length-map b.mailboxes.items (λ w. w.items)) ∙ ap length given.house.mailboxes in
+    record {
+      host = ap (λ (x : Config). x.host.items) rest ∙ given.house.host;
+      domain = ap (λ (x : Config). x.domain.items) rest ∙ given.house.domain;
+      mailboxes = ap words_of rest ∙ given.house.mailboxes;
+      shards = shards ∙ ap (λ n. number_given rows (codes "shards") (server_shards n)) count;
+      depth = ap (λ (x : Config). x.depth) rest ∙ given.house.depth;
+      ring = ap (λ (x : Config). x.ring) rest ∙ given.house.ring;
+      ring_max = ap (λ (x : Config). x.ring_max) rest ∙ given.house.ring_max;
+      messages = ap (λ (x : Config). x.messages) rest ∙ given.house.messages;
+      max_message = ap (λ (x : Config). x.max_message) rest ∙ given.house.max_message;
+      uidvalidity = ap (λ (x : Config). x.uidvalidity) rest ∙ given.house.uidvalidity;
+      first_uid = ap (λ (x : Config). x.first_uid) rest ∙ given.house.first_uid;
+    }
+
+-- and what else is given to a server
+pub server_given : (rows : List Row) (b c d : Config) (u : Uidvalidity) → AsksForScript rows b → c.shards ≡ number_given rows (codes "shards") (server_shards (length b.mailboxes.items))
+    → c ≡ record b { shards = c.shards } → d.lmtp_port ≡ number_given rows (codes "lmtp-port") c.lmtp_port
     → d.imap_port ≡ number_given rows (codes "imap-port") c.imap_port → d.workers ≡ number_given rows (codes "workers") c.workers
     → d.sessions ≡ number_given rows (codes "sessions") c.sessions
     → d ≡ record c { lmtp_port = d.lmtp_port; imap_port = d.imap_port; workers = d.workers; sessions = d.sessions } → u ≡ uidvalidity_given rows → AsksForServer rows d u
-server_given rows c d u given lmtp_port imap_port workers sessions rest warned = record {
-  house = record {
-    host = ap (λ (x : Config). x.host.items) rest ∙ given.house.host;
-    domain = ap (λ (x : Config). x.domain.items) rest ∙ given.house.domain;
-    mailboxes = ap words_of rest ∙ given.house.mailboxes;
-    shards = ap (λ (x : Config). x.shards) rest ∙ given.house.shards;
-    depth = ap (λ (x : Config). x.depth) rest ∙ given.house.depth;
-    ring = ap (λ (x : Config). x.ring) rest ∙ given.house.ring;
-    ring_max = ap (λ (x : Config). x.ring_max) rest ∙ given.house.ring_max;
-    messages = ap (λ (x : Config). x.messages) rest ∙ given.house.messages;
-    max_message = ap (λ (x : Config). x.max_message) rest ∙ given.house.max_message;
-    uidvalidity = ap (λ (x : Config). x.uidvalidity) rest ∙ given.house.uidvalidity;
-    first_uid = ap (λ (x : Config). x.first_uid) rest ∙ given.house.first_uid;
-  };
-  server = record {
-    lmtp_port = lmtp_port ∙ ap (number_given rows (codes "lmtp-port")) given.server.lmtp_port;
-    imap_port = imap_port ∙ ap (number_given rows (codes "imap-port")) given.server.imap_port;
-    workers = workers ∙ ap (number_given rows (codes "workers")) given.server.workers;
-    sessions = sessions ∙ ap (number_given rows (codes "sessions")) given.server.sessions;
-  };
-  warned = warned;
-}
+server_given rows b c d u given shards rest1 lmtp_port imap_port workers sessions rest warned =
+    let house = shards_given rows b c given shards rest1 in
+    record {
+      house = record {
+        host = ap (λ (x : Config). x.host.items) rest ∙ house.host;
+        domain = ap (λ (x : Config). x.domain.items) rest ∙ house.domain;
+        mailboxes = ap words_of rest ∙ house.mailboxes;
+        shards = ap (λ (x : Config). x.shards) rest ∙ house.shards;
+        depth = ap (λ (x : Config). x.depth) rest ∙ house.depth;
+        ring = ap (λ (x : Config). x.ring) rest ∙ house.ring;
+        ring_max = ap (λ (x : Config). x.ring_max) rest ∙ house.ring_max;
+        messages = ap (λ (x : Config). x.messages) rest ∙ house.messages;
+        max_message = ap (λ (x : Config). x.max_message) rest ∙ house.max_message;
+        uidvalidity = ap (λ (x : Config). x.uidvalidity) rest ∙ house.uidvalidity;
+        first_uid = ap (λ (x : Config). x.first_uid) rest ∙ house.first_uid;
+      };
+      server = record {
+        lmtp_port = lmtp_port ∙ ap (number_given rows (codes "lmtp-port")) (ap (λ (x : Config). x.lmtp_port) rest1 ∙ given.server.lmtp_port);
+        imap_port = imap_port ∙ ap (number_given rows (codes "imap-port")) (ap (λ (x : Config). x.imap_port) rest1 ∙ given.server.imap_port);
+        workers = workers ∙ ap (number_given rows (codes "workers")) (ap (λ (x : Config). x.workers) rest1 ∙ given.server.workers);
+        sessions = sessions ∙ ap (number_given rows (codes "sessions")) (ap (λ (x : Config). x.sessions) rest1 ∙ given.server.sessions);
+      };
+      warned = warned;
+    }
 
 -- ---- the subcommand
 

@@ -1,5 +1,5 @@
 -- What the words of a command line ask for: of each setting what is given for it, or what stands where nothing is.
-use Rattle.std.specs.Prelude.{◌≡◌, ℕ, List, [], Option, Some, None, codes, if◌then◌else◌, is_some, unwrap_or}
+use Rattle.std.specs.Prelude.{◌≡◌, ℕ, List, [], Option, Some, None, codes, if◌then◌else◌, is_some, length, max, min, unwrap_or}
 use Rattle.std.specs.Str.Parse.{digits_value}
 use Rattle.clap.specs.Words.{Row, Text, all_of, first_of, subcommand_of}
 use Rattle.settings.specs.Settings.{IsInRange, words_of}
@@ -40,12 +40,16 @@ uidvalidity_given rows = if is_some (first_of (codes "uidvalidity") rows) then G
 
 -- ---- settings
 
--- each setting of a house is what is given for it, or its default
-pub record AreHouseSettings (rows : List Row) (c : Config) : Type 0 where
+-- how many shards a server of so many mailboxes has where that isn't given: one for each, and eight at most
+abbrev pub server_shards : ℕ → ℕ
+server_shards mailboxes = max 1 (min mailboxes 8)
+
+-- Each setting of a house is what is given for it, or its default; of shards that is a script's, or a server's.
+pub record AreHouseSettings (rows : List Row) (default_shards : ℕ) (c : Config) : Type 0 where
   pub host : c.host.items ≡ text_given rows (codes "host") (codes "mx.example.org")
   pub domain : c.domain.items ≡ text_given rows (codes "domain") (codes "example.org")
   pub mailboxes : words_of c ≡ mailboxes_given rows
-  pub shards : c.shards ≡ number_given rows (codes "shards") 1
+  pub shards : c.shards ≡ number_given rows (codes "shards") default_shards
   pub depth : c.depth ≡ number_given rows (codes "depth") 64
   pub ring : c.ring ≡ number_given rows (codes "ring") 2048
   pub ring_max : c.ring_max ≡ number_given rows (codes "ring-max") 0
@@ -72,12 +76,12 @@ pub record AreServerDefaults (c : Config) : Type 0 where
 
 -- a script
 pub record AsksForScript (rows : List Row) (config : Config) : Type 0 where
-  pub house : AreHouseSettings rows config
+  pub house : AreHouseSettings rows 1 config
   pub server : AreServerDefaults config
 
 -- a server
 pub record AsksForServer (rows : List Row) (config : Config) (uidvalidity : Uidvalidity) : Type 0 where
-  pub house : AreHouseSettings rows config
+  pub house : AreHouseSettings rows (server_shards (length (mailboxes_given rows))) config
   pub server : AreServerSettings rows config
   pub warned : uidvalidity ≡ uidvalidity_given rows
 

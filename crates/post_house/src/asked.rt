@@ -1,12 +1,12 @@
 //! What the words of a command line ask for, and the settings that they come to.
 
-ghost use Rattle.std.specs.Prelude.{◌≡◌, ◌<◌, [], codes, length, map, IfOk, MatchResult, OnOk, Some};
+ghost use Rattle.std.specs.Prelude.{◌≡◌, ◌≢◌, ◌≤◌, ◌<◌, [], codes, length, map, IfOk, MatchResult, OnOk, Some};
 ghost use Rattle.std.specs.Char.{is_ascii_digit};
 ghost use Rattle.std.specs.List.{list_all};
 ghost use Rattle.clap.specs.Words.{IsAmong, app_of, found_of, kind_of, rows_of, subcommand_rows_of};
 ghost use Rattle.settings.specs.Settings.{IsDefault, IsFrom, IsInRange};
 ghost use Rattle.post_house.specs.Asking.{AsksBy, AsksFor, AsksForScript, IsAskedInRange};
-ghost use Rattle.post_house.specs.Asking.{mailboxes_given, number_given, text_given, uidvalidity_given};
+ghost use Rattle.post_house.specs.Asking.{mailboxes_given, number_given, server_shards, text_given, uidvalidity_given};
 ghost use Rattle.post_house.specs.Words as words_taken;
 
 use crate::options::{
@@ -17,6 +17,7 @@ use clap::error::ErrorKind;
 use clap::{ArgMatches, Command, Error};
 use serving::Uidvalidity;
 use settings::Config;
+use settings::numbers::LEAST_IMAP_PORT;
 use std::alloc::{AllocError, Global};
 use std::convert::AsStr;
 
@@ -39,6 +40,8 @@ pub enum Asked {
 enum Refused<'a> {
     /// A number that is spelled with more than digits, as `+5`.
     Spelling(&'static str, &'a str),
+    /// A port of the first user that is neither 0 nor 1024 or more.
+    LowPort(u64),
     /// There is no mailbox.
     NoMailbox,
     /// There is no subcommand.
@@ -81,6 +84,25 @@ fn given<'a>(
         Ok(value) if are_digits(text.as_bytes()) && option.number.allows(value) => Ok(value),
         _ => Err(Refused::Spelling(option.name, text)),
     }
+}
+
+// The port of the first user that was given, or else its default.
+fn given_user_port<'a>(matches: &ArgMatches<'a>, default: u16) -> Result<u16, Refused<'a>>
+    requires most { default ≤ 65472 }
+    requires least { default ≢ 0 → 1024 ≤ default }
+    ensures most { IfOk result (λ n. n ≤ 65472) }
+    ensures least { IfOk result (λ n. n ≢ 0 → 1024 ≤ n) }
+    ensures value { IfOk result (λ n.
+        n ≡ number_given (rows_of (found_of matches.now)) (codes "imap-port") default) }
+{
+    let port = given(matches, IMAP_PORT, u64::from(default))?;
+    if port == 0 {
+        return Ok(0);
+    }
+    if port < LEAST_IMAP_PORT {
+        return Err(Refused::LowPort(port));
+    }
+    Ok(port as u16)
 }
 
 // A name is set where one was given.
@@ -212,6 +234,28 @@ fn set_uids<'a>(matches: &ArgMatches<'a>, config: &mut Config) -> Result<(), Ref
     Ok(())
 }
 
+// How many shards a server of so many mailboxes has where that isn't given.
+fn server_shards(mailboxes: usize) -> u64
+    ensures value { result ≡ server_shards mailboxes }
+    ensures range { IsFrom 1 8 result }
+{
+    mailboxes.min(8).max(1) as u64
+}
+
+// A server's shards are set: where they aren't given there is one for each mailbox, as far as that goes.
+fn set_server_shards<'a>(matches: &ArgMatches<'a>, config: &mut Config) -> Result<(), Refused<'a>>
+    requires { IsInRange config.old }
+    ensures range { IsInRange config.new }
+    ensures shards { OnOk result (config.new.shards
+        ≡ number_given (rows_of (found_of matches.now)) (codes "shards")
+        (server_shards (length config.old.mailboxes.items))) }
+    ensures rest { config.new ≡ record config.old { shards = config.new.shards } }
+{
+    let default = server_shards(config.mailboxes.len());
+    config.shards = given(matches, SHARDS, default)? as u8;
+    Ok(())
+}
+
 // What a server alone is given is set.
 fn set_server<'a>(matches: &ArgMatches<'a>, config: &mut Config) -> Result<(), Refused<'a>>
     requires { IsInRange config.old }
@@ -233,7 +277,7 @@ fn set_server<'a>(matches: &ArgMatches<'a>, config: &mut Config) -> Result<(), R
         } }
 {
     config.lmtp_port = given(matches, LMTP_PORT, u64::from(config.lmtp_port))? as u16;
-    config.imap_port = given(matches, IMAP_PORT, u64::from(config.imap_port))? as u16;
+    config.imap_port = given_user_port(matches, config.imap_port)?;
     config.workers = given(matches, WORKERS, u64::from(config.workers))? as u8;
     config.sessions = given(matches, SESSIONS, u64::from(config.sessions))? as u8;
     Ok(())
@@ -294,6 +338,7 @@ fn server_of<'a>(alloc: Global, matches: &ArgMatches<'a>) -> Result<Asked, Refus
     ensures asks { IfOk result (AsksBy (Some (codes "serve", rows_of (found_of matches.now)))) }
 {
     let mut config = settings_of(alloc, matches)?;
+    set_server_shards(matches, &mut config)?;
     set_server(matches, &mut config)?;
     Ok(Asked::Serve {
         config,
@@ -345,6 +390,17 @@ fn misspelled<'a>(
     command.error(ErrorKind::ValueValidation, &text)
 }
 
+// The mistake in a port of users that is too low.
+fn too_low<'a>(alloc: Global, command: &mut Command<'a>, port: u64) -> Result<Error, AllocError>
+    ensures { IfOk result (λ e. kind_of e ≡ ErrorKind.ValueValidation) }
+{
+    let reason = format!(in alloc;
+        "invalid value '{}' for '--{}': it is neither 0 nor {} or more",
+        port, IMAP_PORT.name, LEAST_IMAP_PORT
+    )?;
+    command.error(ErrorKind::ValueValidation, &reason)
+}
+
 // What clap tells of a mistake that it didn't find itself.
 fn error_of<'a>(
     alloc: Global,
@@ -355,6 +411,7 @@ fn error_of<'a>(
 {
     match refused {
         Refused::Spelling(name, text) => misspelled(alloc, command, name, text),
+        Refused::LowPort(port) => too_low(alloc, command, port),
         Refused::NoMailbox => {
             command.error(ErrorKind::MissingRequiredArgument, "there is no mailbox")
         }
@@ -391,8 +448,8 @@ fn asked_by<'a, S: AsStr>(
 /// given for it, or its default. Each number is in its range, and there is a mailbox; names are not looked at, nor whether the ports are
 /// right.
 ///
-/// The error is clap's: a mistake in the words, a number that is out of its range or has other than digits, or a request for help; of
-/// kind `OutOfMemory` where memory is refused.
+/// The error is clap's: a mistake in the words, a number that is out of its range or has other than digits, a port of users from 1 to 1023, or a
+/// request for help; of kind `OutOfMemory` where memory is refused.
 pub fn asked_of<'a, S: AsStr>(alloc: Global, words: &'a [S]) -> Result<Asked, Error>
     ensures range { IfOk result IsAskedInRange }
     ensures asks { IfOk result (AsksFor (map S.text words.entry.now)) }

@@ -18,78 +18,92 @@ pub(crate) struct NumberOption {
     pub(crate) name: &'static str,
     help: &'static str,
     pub(crate) number: Number,
+    // What the help says behind the default.
+    besides: &'static str,
 }
 
 pub(crate) const SHARDS: NumberOption = NumberOption {
     name: "shards",
     help: "Shards that keep the mailboxes",
     number: numbers::SHARDS,
+    besides: "; a server then has one for each mailbox, and 8 at most",
 };
 
 pub(crate) const DEPTH: NumberOption = NumberOption {
     name: "depth",
     help: "Entries that each shard's lane has room for",
     number: numbers::DEPTH,
+    besides: "",
 };
 
 pub(crate) const RING: NumberOption = NumberOption {
     name: "ring",
     help: "Changes that each mailbox keeps, at least two for each message",
     number: numbers::RING,
+    besides: "",
 };
 
 pub(crate) const RING_MAX: NumberOption = NumberOption {
     name: "ring-max",
     help: "Changes that each mailbox keeps at most, for clients that fall behind; 0 for no more than --ring",
     number: numbers::RING_MAX,
+    besides: "",
 };
 
 pub(crate) const MESSAGES: NumberOption = NumberOption {
     name: "messages",
     help: "Messages that each mailbox may hold",
     number: numbers::MESSAGES,
+    besides: "",
 };
 
 pub(crate) const MAX_MESSAGE: NumberOption = NumberOption {
     name: "max-message",
     help: "Bytes that a message's data may have",
     number: numbers::MAX_MESSAGE,
+    besides: "",
 };
 
 pub(crate) const FIRST_UID: NumberOption = NumberOption {
     name: "first-uid",
     help: "The UID of each mailbox's first message",
     number: numbers::FIRST_UID,
+    besides: "",
 };
 
 pub(crate) const UIDVALIDITY: NumberOption = NumberOption {
     name: "uidvalidity",
     help: "What each mailbox tells as its UIDVALIDITY; for a server one that grows from start to start",
     number: numbers::UIDVALIDITY,
+    besides: "",
 };
 
 pub(crate) const LMTP_PORT: NumberOption = NumberOption {
     name: "lmtp-port",
-    help: "The port that mail comes to, neither 25 nor a user's",
+    help: "The port that mail comes to, neither 25 nor a user's; 0 for a free one",
     number: numbers::LMTP_PORT,
+    besides: "",
 };
 
 pub(crate) const IMAP_PORT: NumberOption = NumberOption {
     name: "imap-port",
-    help: "The port of the first user's sessions; the others' follow",
+    help: "The port of the first user's sessions, 1024 or more, and the others' follow; 0 for free ones",
     number: numbers::IMAP_PORT,
+    besides: "",
 };
 
 pub(crate) const WORKERS: NumberOption = NumberOption {
     name: "workers",
     help: "Mail connections that are served at a time",
     number: numbers::WORKERS,
+    besides: "",
 };
 
 pub(crate) const SESSIONS: NumberOption = NumberOption {
     name: "sessions",
     help: "Sessions of each user that are served at a time",
     number: numbers::SESSIONS,
+    besides: "",
 };
 
 // What both subcommands may be given.
@@ -130,8 +144,8 @@ fn helps_of(alloc: Global, options: &[NumberOption]) -> Result<Vec<String>, Allo
     for option in options {
         let number = option.number;
         let help = format!(in alloc;
-            "{}: {} to {}, and {} where it is not given",
-            option.help, number.least, number.most, number.default
+            "{}: {} to {}, and {} where it is not given{}",
+            option.help, number.least, number.most, number.default, option.besides
         )?;
         helps.push(help)?;
     }

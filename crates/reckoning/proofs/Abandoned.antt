@@ -8,7 +8,8 @@ use Rattle.lane_work.specs.declared.worker.Worked.{Worked}
 use Rattle.house_floor.specs.Crew.{AllAt, IsHouse}
 use Rattle.house_floor.specs.declared.floor.Floor.{Floor}
 use Rattle.house_floor.specs.declared.floor.Guest.{Guest}
-use Rattle.house_floor.specs.Left.{IsProduceOf, IsServiceOf, IsSpendable, Plans}
+use Rattle.house_floor.specs.Left.{IsServiceOf, IsSpendable, Plans}
+use Rattle.reckoning.specs.Produced.{IsProduceOf}
 use Rattle.house_floor.specs.declared.left.Ran.{Ran}
 use Rattle.reckoning.proofs.Parts.{some_at}
 

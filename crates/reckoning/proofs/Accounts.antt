@@ -31,7 +31,8 @@ use Rattle.lane_work.proofs.ChannelCloseLaws as channels
 use Rattle.house_floor.specs.Crew.{AllAt}
 use Rattle.house_floor.specs.declared.floor.Floor.{Floor}
 use Rattle.house_floor.specs.declared.floor.Guest.{Guest}
-use Rattle.house_floor.specs.Left.{IsProduceOf, IsServiceOf, Plans, SessionAccount}
+use Rattle.house_floor.specs.Left.{IsServiceOf, Plans}
+use Rattle.reckoning.specs.Produced.{IsProduceOf, SessionAccount}
 use Rattle.reckoning.specs.Closing.{AreChannelsClosedWith, AreClosedWith}
 use Rattle.reckoning.specs.Gathered.{fault_of_consumer, fault_of_fate}
 use Rattle.reckoning.proofs.Parts.{some_at, taken_of}

@@ -11,7 +11,8 @@ use Rattle.lane_work.specs.ChannelPermits.{AreReceivers, AreSenderEndedHands}
 use Rattle.house_floor.specs.Crew.{AllAt}
 use Rattle.house_floor.specs.declared.floor.Floor.{Floor}
 use Rattle.house_floor.specs.declared.floor.Guest.{Guest}
-use Rattle.house_floor.specs.Left.{IsProduceOf, IsServiceOf, Plans}
+use Rattle.house_floor.specs.Left.{IsServiceOf, Plans}
+use Rattle.reckoning.specs.Produced.{IsProduceOf}
 
 -- an element at each position below the end
 pub some_at : {A : Type 0} (xs : List A) (n : ℕ) → n < length xs → (x : A) × (slice_get xs n ≡ Some x)

@@ -1,3 +1,4 @@
+pub mod Produced
 pub mod Gathered
 pub mod Closing
 pub mod Balancing

@@ -21,3 +21,5 @@ pub mod TellLaws
 pub mod Ordered
 pub mod Refuted
 pub mod RefusalLaws
+pub mod AloneLaws
+pub mod SinglesLaws

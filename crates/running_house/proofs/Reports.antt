@@ -26,7 +26,8 @@ use Rattle.house_floor.specs.Crew.{AllAt}
 use Rattle.house_floor.specs.Opening.{reply_room}
 use Rattle.house_floor.specs.declared.floor.Floor.{Floor}
 use Rattle.house_floor.specs.declared.floor.Guest.{Guest}
-use Rattle.house_floor.specs.Left.{IsProduceOf, IsServiceOf, SessionAccount}
+use Rattle.house_floor.specs.Left.{IsServiceOf}
+use Rattle.reckoning.specs.Produced.{IsProduceOf, SessionAccount}
 use Rattle.reckoning.specs.Balancing.{IsBalanced}
 use Rattle.reckoning.specs.declared.balancing.Books.{Books}
 use Rattle.reckoning.proofs.Accounts.{account_of, all_taken, answers_of, only_of, mapped_at, session_account_of}

@@ -16,7 +16,7 @@ use Rattle.lane_work.specs.Account.{Account}
 use Rattle.lane_work.specs.Answering.{WereAnswered}
 use Rattle.lane_work.specs.Awaiting.{copies_in, verdicts_in}
 use Rattle.lane_work.specs.Consuming.{items_of}
-use Rattle.house_floor.specs.Left.{SessionAccount}
+use Rattle.reckoning.specs.Produced.{SessionAccount}
 use Rattle.house_floor.specs.declared.floor.Guest.{Guest}
 use Rattle.reckoning.specs.Shelves.{AreToldOnce}
 use Rattle.running_house.specs.Order.{AreInLaneOrder}

@@ -9,6 +9,7 @@ pub mod ListOrder
 pub mod Plan
 pub mod Order
 pub mod Refusals
+pub mod Alone
 pub mod Agree
 pub mod Tells
 pub mod inner

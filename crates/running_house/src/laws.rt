@@ -1,6 +1,7 @@
 //! Laws of the definitions, as functions that do nothing: what follows from a report that agrees. No
 //! code lives here.
 
+ghost use Rattle.running_house.specs.Alone.{FilledAloneIsAll};
 ghost use Rattle.running_house.specs.Tells.{AccountsAreOfLines, StoredWasAccepted, TakenIsAProducers};
 
 /// Of each worker: its connections were dialogues over the whole lines of their whole strings, its log
@@ -17,4 +18,13 @@ pub fn reports_tell_of_each_copy()
 
     // A copy that was taken from a lane is a producer's, and is in what was taken of that one.
     ensures taken { TakenIsAProducers }
+{}
+
+/// What Full can tell the producer that finds its lane full, by the lane's room, the producer's number
+/// and what it had put there: the lane's only producer had put as many copies as have room
+/// (`FilledAlone` of `lane_work`), and nothing else. Where that is so, and of any lane with other
+/// producers, there is a history by which the lane was full.
+pub fn full_tells_no_more()
+    // For copies that a producer of the lane has put, `FilledAlone` holds just where the lane can have been full.
+    ensures { FilledAloneIsAll }
 {}

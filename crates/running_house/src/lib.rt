@@ -18,6 +18,6 @@ mod told;
 
 pub use account_laws::{connections_are_of_lines, lines_are_told, logs_meet_lanes};
 pub use agree::lists_agree;
-pub use laws::reports_tell_of_each_copy;
+pub use laws::{full_tells_no_more, reports_tell_of_each_copy};
 pub use plan::{Plan, Report, WorkFault};
 pub use run::run_house;

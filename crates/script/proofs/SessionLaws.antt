@@ -2,7 +2,7 @@
 use Rattle.std.proofs.Common.{◌≡◌, ◌∙◌, ℕ, zero, suc, ◌<◌, ◌⊎◌, inl, inr, List, length, refl, sym, ap, arith, Option, Some, None, false, true}
 use Rattle.std.specs.Prelude.{IsSome}
 use Rattle.envelope.specs.Directory.{Directory}
-use Rattle.house_peers.specs.Folders.{has_user}
+use Rattle.imap_session.specs.Folders.{has_user}
 use Rattle.house_peers.specs.SeatedVisitor.{SeatedVisitor}
 use Rattle.house_peers.specs.SeatedSession.{SeatedSession}
 use Rattle.delivery_token.specs.declared.CopyKey.{CopyKey}

@@ -1,7 +1,10 @@
--- What is said of a server's listeners: a line for each.
-use Rattle.std.specs.Prelude.{ℕ, ◌+◌, ◌++◌, ◌∷◌, [], List, codes, decimal, if◌then◌else◌}
+-- What is said of a server's listeners: a line for each. A socket has no model: of a port that the system chooses no more is said than how far it goes.
+use Rattle.std.specs.Prelude.{ℕ, zero, suc, ◌≡◌, ◌≢◌, ◌+◌, ◌++◌, ◌∷◌, [], List, All, Option, codes, decimal, if◌then◌else◌, length, take}
+use Rattle.std.specs.Io.KnownBytes.{Appends}
 use Rattle.envelope.specs.Directory.{Home}
 use Rattle.house_floor.specs.Users.{is_inbox}
+use Rattle.settings.specs.Settings.{IsFrom, directory_for}
+use Rattle.settings.specs.declared.config.Config.{Config}
 use Rattle.serving.specs.declared.server.Uidvalidity.{Uidvalidity}
 use Rattle.serving.specs.declared.server.Uidvalidity.TheVariants.{Given, Default}
 
@@ -10,21 +13,63 @@ abbrev pub users_of : List Home → List (List ℕ)
 users_of [] = []
 users_of (home ∷ homes) = if is_inbox home.folder then home.user ∷ users_of homes else users_of homes
 
+-- ---- the ports
+
+-- so many ports that follow one another, from this one on
+abbrev pub ports_from : (first count : ℕ) → List ℕ
+ports_from first zero = []
+ports_from first (suc count) = first ∷ ports_from (first + 1) count
+
+-- The port of a listener: the one that is given, and for 0 some port.
+pub record IsPortFor (given port : ℕ) : Type 0 where
+  pub same : given ≢ 0 → port ≡ given
+  pub free : given ≡ 0 → IsFrom 1 65535 port
+
+-- The ports of so many users: the first is the one that is given and the others follow, and for 0 some port for each.
+pub record AreUserPorts (given users : ℕ) (ports : List ℕ) : Type 0 where
+  pub same : given ≢ 0 → ports ≡ ports_from given users
+  pub each : given ≡ 0 → length ports ≡ users
+  pub free : given ≡ 0 → All (IsFrom 1 65535) ports
+
+-- ---- the lines
+
 abbrev pub lmtp_line : ℕ → List ℕ
 lmtp_line port = codes "LMTP 127.0.0.1:" ++ decimal port ++ codes "\n"
 
 abbrev pub imap_line : ℕ → List ℕ → List ℕ
 imap_line port user = codes "IMAP 127.0.0.1:" ++ decimal port ++ codes " " ++ user ++ codes "\n"
 
--- a line for each user's port: the first has this one, the others follow
-abbrev pub imap_lines : ℕ → List (List ℕ) → List ℕ
-imap_lines port [] = []
-imap_lines port (user ∷ users) = imap_line port user ++ imap_lines (port + 1) users
+-- a line for each user, who has the port in the same place
+abbrev pub imap_lines : (users : List (List ℕ)) → (ports : List ℕ) → List ℕ
+imap_lines [] ports = []
+imap_lines (user ∷ users) [] = []
+imap_lines (user ∷ users) (port ∷ ports) = imap_line port user ++ imap_lines users ports
 
 -- UIDs begin anew at each start, so a client may take new messages for old ones where the UIDVALIDITY is the same (RFC 9051, 2.3.1.1)
 abbrev pub warning : Uidvalidity → List ℕ
 warning Given = []
 warning Default = codes "UIDVALIDITY is the same at each start: give --uidvalidity a number that grows, as the time in seconds\n"
 
-abbrev pub announcement : (lmtp imap : ℕ) → List Home → Uidvalidity → List ℕ
-announcement lmtp imap homes uidvalidity = lmtp_line lmtp ++ imap_lines imap (users_of homes) ++ warning uidvalidity
+abbrev pub announcement : (lmtp : ℕ) → (imap : List ℕ) → List Home → Uidvalidity → List ℕ
+announcement lmtp imap homes uidvalidity = lmtp_line lmtp ++ imap_lines (users_of homes) imap ++ warning uidvalidity
+
+-- what a server with these settings may say: the lines of the ports that its listeners have
+pub record IsAnnouncement (config : Config) (uidvalidity : Uidvalidity) (lines : List ℕ) : Type 0 where
+  pub lmtp : ℕ
+  pub imap : List ℕ
+  pub mail : IsPortFor config.lmtp_port lmtp
+  pub users : AreUserPorts config.imap_port (length (users_of (directory_for config).homes)) imap
+  pub are : lines ≡ announcement lmtp imap (directory_for config).homes uidvalidity
+
+-- a beginning of such lines was written
+pub record HasBegun (config : Config) (uidvalidity : Uidvalidity) (old new : Option (List ℕ)) : Type 0 where
+  pub lines : List ℕ
+  pub announced : IsAnnouncement config uidvalidity lines
+  pub count : ℕ
+  pub written : Appends old new (take count lines)
+
+-- all of them were
+pub record HasAnnounced (config : Config) (uidvalidity : Uidvalidity) (old new : Option (List ℕ)) : Type 0 where
+  pub lines : List ℕ
+  pub announced : IsAnnouncement config uidvalidity lines
+  pub written : Appends old new lines

@@ -1,10 +1,11 @@
 //! What is said of the listeners, so that whoever started the server knows when to begin. Nothing listens here.
 
-ghost use Rattle.std.specs.Prelude.{ℕ, ◌≡◌, ◌≤◌, ◌<◌, ◌+◌, ◌++◌, ◌∷◌, [], false, true, IfOk, IfSome, OnOk, length, slice_get, take};
+ghost use Rattle.std.specs.Prelude.{ℕ, ◌≡◌, ◌<◌, ◌++◌, ◌∷◌, List, [], false, true, IfOk, IfSome, OnOk, length, slice_get, take};
 ghost use Rattle.std.specs.Io.KnownBytes.{Appends};
 ghost use Rattle.serving.specs.Announcing.{announcement, imap_line, imap_lines, lmtp_line, users_of};
 
 use crate::server::Uidvalidity;
+use crate::sockets::Ports;
 use envelope::Directory;
 use itoa::Buffer;
 use line_io::{Sink, append_parts, send};
@@ -40,38 +41,37 @@ fn announce_user(port: usize, user: &[u8], out: &mut Vec<u8>) -> Result<(), Allo
     )
 }
 
-// The line of a mailbox's port, where it is its user's INBOX. Answers the next user's port.
-fn announce_mailbox(
+// The line of a mailbox's port, where it is its user's INBOX: the first of these. Answers the next users' ports.
+fn announce_mailbox<'p>(
     directory: &Directory,
     mailbox: u8,
-    port: usize,
+    ports: &'p [u16],
     out: &mut Vec<u8>,
-) -> Result<usize, AllocError>
-    requires there { mailbox < length directory.now.homes }
-    requires port { port < 131072 }
-    ensures line { OnOk result (IfSome (slice_get directory.now.homes mailbox) (λ home.
-        out.new.items ≡ out.old.items ++ imap_lines port (users_of (home ∷ [])))) }
-    ensures next { IfOk result (λ next.
-        IfSome (slice_get directory.now.homes mailbox) (λ home.
-        next ≡ port + length (users_of (home ∷ [])))) }
-    ensures bound { IfOk result (λ next. next ≤ port + 1) }
+) -> Result<&'p [u16], AllocError>
+    requires { mailbox < length directory.now.homes }
+    ensures { IfOk result (λ next. IfSome (slice_get directory.now.homes mailbox) (λ home.
+        (users : List (List ℕ)) → out.new.items ++ imap_lines users next.now
+        ≡ out.old.items ++ imap_lines (users_of (home ∷ []) ++ users) ports.entry.now)) }
 {
     if directory.folder_of(mailbox).is_some() {
-        return Ok(port);
+        return Ok(ports);
     }
-    announce_user(port, directory.user_of(mailbox), out)?;
-    Ok(port + 1)
+    // There is a port for each user.
+    let Some((port, next)) = ports.split_first() else {
+        return Ok(ports);
+    };
+    announce_user(usize::from(*port), directory.user_of(mailbox), out)?;
+    Ok(next)
 }
 
-// A line for each user's port, from the first one on.
-fn announce_users(directory: &Directory, first: usize, out: &mut Vec<u8>) -> Result<(), AllocError>
-    requires { first < 65536 }
+// A line for each user's port.
+fn announce_users(directory: &Directory, ports: &[u16], out: &mut Vec<u8>) -> Result<(), AllocError>
     ensures { OnOk result (out.new.items
-        ≡ out.old.items ++ imap_lines first (users_of directory.now.homes)) }
+        ≡ out.old.items ++ imap_lines (users_of directory.now.homes) ports.now) }
 {
-    let mut port = first;
+    let mut next = ports;
     for mailbox in 0..directory.mailboxes() {
-        port = announce_mailbox(directory, mailbox as u8, port, out)?;
+        next = announce_mailbox(directory, mailbox as u8, next, out)?;
     }
     Ok(())
 }
@@ -80,22 +80,21 @@ fn announce_users(directory: &Directory, first: usize, out: &mut Vec<u8>) -> Res
 const WARNING: &[u8] =
     b"UIDVALIDITY is the same at each start: give --uidvalidity a number that grows, as the time in seconds\n";
 
-/// A line for each listener of a house with this directory, and one that warns where no UIDVALIDITY was given.
+/// A line for each listener of a house with this directory, which has these ports, and one that warns where no UIDVALIDITY was given.
 ///
 /// Errors: `AllocError` where memory is refused.
 pub(crate) fn announce(
     alloc: Global,
     directory: &Directory,
-    lmtp_port: u16,
-    imap_port: u16,
+    ports: &Ports,
     uidvalidity: Uidvalidity,
 ) -> Result<Vec<u8>, AllocError>
-    ensures { IfOk result (λ v.
-        v.items ≡ announcement lmtp_port imap_port directory.now.homes uidvalidity) }
+    ensures { IfOk result (λ v. v.items
+        ≡ announcement ports.now.mail ports.now.users.items directory.now.homes uidvalidity) }
 {
     let mut out = Vec::new(alloc);
-    announce_mail(usize::from(lmtp_port), &mut out)?;
-    announce_users(directory, usize::from(imap_port), &mut out)?;
+    announce_mail(usize::from(ports.mail), &mut out)?;
+    announce_users(directory, &ports.users, &mut out)?;
     match uidvalidity {
         Uidvalidity::Given => {}
         Uidvalidity::Default => out.extend_from_slice(WARNING)?,

@@ -9,7 +9,7 @@ use std::sync::{Arc, Wait};
 use workers_sync::{Grip, Sleeper};
 
 /// So many bytes of a mail connection are read at once.
-const MAIL_BUFFER: usize = 65_536;
+const MAIL_BUFFER: usize = 131_072;
 
 /// So many bytes of a mail client are read at once.
 const CLIENT_BUFFER: usize = 16_384;

@@ -29,7 +29,8 @@ use lane_work::{Consumed, Worked};
 use line_io::Sink;
 use reckoning::{Closes, abandon};
 use serving_workers::{
-    Begun, Buffers, Hired, Mark, Served, close_all, join_producers, packed, start_workers,
+    Begun, Buffers, Hired, Mark, Served, Workplace, close_all, join_producers, packed,
+    start_workers,
 };
 use shard_queue::SenderEnded;
 use std::alloc::AllocError;
@@ -88,13 +89,14 @@ fn start_all<'s, E, H: Hall + Send, R: Threads + Wait + Sync>(
     furnishings: Furnishings<'s, R>,
     hired: Vec<Hired<'s>>,
 ) -> (Vec<Hired<'s>>, bool)
-    requires lanes { H.lanes ≡ Some site.now.floor.office.lanes.items }
-    requires depot { H.depot ≡ Some site.now.floor.depot }
-    requires house { IsHouse site.now.floor (length site.now.floor.depot.channels.items) }
+    requires lanes { H.lanes ≡ Some site.now.workplace.floor.office.lanes.items }
+    requires depot { H.depot ≡ Some site.now.workplace.floor.depot }
+    requires house { IsHouse site.now.workplace.floor
+        (length site.now.workplace.floor.depot.channels.items) }
     requires grips { length site.now.grips.mail.items + length site.now.guests.items
-        ≡ length site.now.floor.depot.channels.items }
-    requires posts { AllAt (IsPost site.now.floor) 0 posts.items
-        × (vec_len posts ≡ length site.now.floor.depot.channels.items) }
+        ≡ length site.now.workplace.floor.depot.channels.items }
+    requires posts { AllAt (IsPost site.now.workplace.floor) 0 posts.items
+        × (vec_len posts ≡ length site.now.workplace.floor.depot.channels.items) }
     requires buffers { All (λ b. 0 < length b.input.items) buffers.items
         × (vec_len buffers ≡ length site.now.grips.mail.items) }
     requires client_grips { length site.now.grips.clients.items ≡ length site.now.guests.items }
@@ -102,22 +104,18 @@ fn start_all<'s, E, H: Hall + Send, R: Threads + Wait + Sync>(
     requires bells { (vec_len furnishings.bells ≡ length site.now.guests.items)
         × (vec_len furnishings.buffers ≡ length site.now.guests.items) }
     requires room { (hired.items ≡ [])
-        × (length site.now.floor.depot.channels.items ≤ vec_capacity hired) }
-    requires imap { All (λ v. v.user < vec_len site.now.sockets.imap) site.now.guests.items }
-    ensures hired { AllAt (IsHired site.now.floor) 0 result.0.items }
+        × (length site.now.workplace.floor.depot.channels.items ≤ vec_capacity hired) }
+    requires imap { All (λ v. v.user < vec_len site.now.imap) site.now.guests.items }
+    ensures hired { AllAt (IsHired site.now.workplace.floor) 0 result.0.items }
     ensures mail { FirstTakeMail (length site.now.grips.mail.items)
         (map serves_mail result.0.items) }
-    ensures count { vec_len result.0 ≡ length site.now.floor.depot.channels.items }
+    ensures count { vec_len result.0 ≡ length site.now.workplace.floor.depot.channels.items }
     ensures all { result.1 ≡ true → list_all has_thread result.0.items ≡ true }
 {
     let Begun { hired, posts } = start_workers::<E, H, R>(
         scope,
         rt,
-        &site.floor,
-        &site.clerks,
-        &site.sockets.lmtp,
-        &site.mark,
-        &site.sockets.pause,
+        &site.workplace,
         &site.grips.mail,
         posts,
         buffers,
@@ -140,13 +138,14 @@ fn start_and_tell<'s, 'o, E, H: Hall + Send, R: Threads + Wait + Sync, W: Sink>(
     lines: &[u8],
     announcer: Announcer<'o, W>,
 ) -> Begin<'s, 'o, W>
-    requires lanes { H.lanes ≡ Some site.now.floor.office.lanes.items }
-    requires depot { H.depot ≡ Some site.now.floor.depot }
-    requires house { IsHouse site.now.floor (length site.now.floor.depot.channels.items) }
+    requires lanes { H.lanes ≡ Some site.now.workplace.floor.office.lanes.items }
+    requires depot { H.depot ≡ Some site.now.workplace.floor.depot }
+    requires house { IsHouse site.now.workplace.floor
+        (length site.now.workplace.floor.depot.channels.items) }
     requires grips { length site.now.grips.mail.items + length site.now.guests.items
-        ≡ length site.now.floor.depot.channels.items }
-    requires posts { AllAt (IsPost site.now.floor) 0 posts.items
-        × (vec_len posts ≡ length site.now.floor.depot.channels.items) }
+        ≡ length site.now.workplace.floor.depot.channels.items }
+    requires posts { AllAt (IsPost site.now.workplace.floor) 0 posts.items
+        × (vec_len posts ≡ length site.now.workplace.floor.depot.channels.items) }
     requires buffers { All (λ b. 0 < length b.input.items) buffers.items
         × (vec_len buffers ≡ length site.now.grips.mail.items) }
     requires client_grips { length site.now.grips.clients.items ≡ length site.now.guests.items }
@@ -154,13 +153,13 @@ fn start_and_tell<'s, 'o, E, H: Hall + Send, R: Threads + Wait + Sync, W: Sink>(
     requires bells { (vec_len furnishings.bells ≡ length site.now.guests.items)
         × (vec_len furnishings.buffers ≡ length site.now.guests.items) }
     requires room { (hired.items ≡ [])
-        × (length site.now.floor.depot.channels.items ≤ vec_capacity hired) }
-    requires imap { All (λ v. v.user < vec_len site.now.sockets.imap) site.now.guests.items }
+        × (length site.now.workplace.floor.depot.channels.items ≤ vec_capacity hired) }
+    requires imap { All (λ v. v.user < vec_len site.now.imap) site.now.guests.items }
     requires live { W.failed announcer.output.now ≡ false }
-    ensures hired { AllAt (IsHired site.now.floor) 0 result.hired.items }
+    ensures hired { AllAt (IsHired site.now.workplace.floor) 0 result.hired.items }
     ensures mail { FirstTakeMail (length site.now.grips.mail.items)
         (map serves_mail result.hired.items) }
-    ensures count { vec_len result.hired ≡ length site.now.floor.depot.channels.items }
+    ensures count { vec_len result.hired ≡ length site.now.workplace.floor.depot.channels.items }
     ensures there { result.all_started ≡ true → list_all has_thread result.hired.items ≡ true }
     ensures same { result.announcer.output.ghost_name ≡ announcer.entry.output.ghost_name }
     ensures unsaid { result.all_started ≡ false
@@ -171,7 +170,7 @@ fn start_and_tell<'s, 'o, E, H: Hall + Send, R: Threads + Wait + Sync, W: Sink>(
         → Appends (W.taken announcer.entry.output.now) (W.taken result.announcer.output.now)
         lines.now }
 {
-    let _not_yet = site.mark.start.lock(rt);
+    let _not_yet = site.workplace.mark.start.lock(rt);
     let (hired, all_started) = start_all::<E, H, R>(
         scope,
         rt,
@@ -191,7 +190,7 @@ fn start_and_tell<'s, 'o, E, H: Hall + Send, R: Threads + Wait + Sync, W: Sink>(
     }
     let (announcer, is_told) = announcer.tell(lines);
     if !is_told {
-        site.mark.set();
+        site.workplace.mark.set();
     }
     Begin {
         hired,
@@ -224,14 +223,14 @@ fn stop_and_join<'s, 'o, H: Hall, R: Threads + Wait, I: Read + Drop, W: Sink>(
     served: Vec<Served>,
     stop: I,
 ) -> Left<'o, W>
-    requires hired { AllAt (IsHired site.now.floor) 0 begin.hired.items
-        × (vec_len begin.hired ≡ length site.now.floor.depot.channels.items) }
+    requires hired { AllAt (IsHired site.now.workplace.floor) 0 begin.hired.items
+        × (vec_len begin.hired ≡ length site.now.workplace.floor.depot.channels.items) }
     requires mail { FirstTakeMail (length site.now.grips.mail.items)
         (map serves_mail begin.hired.items) }
     requires room { (served.items ≡ [])
-        × (length site.now.floor.depot.channels.items ≤ vec_capacity served) }
-    ensures served { AllAt (IsServed site.now.floor) 0 result.over.served.items ×
-        (vec_len result.over.served ≡ length site.now.floor.depot.channels.items)
+        × (length site.now.workplace.floor.depot.channels.items ≤ vec_capacity served) }
+    ensures served { AllAt (IsServed site.now.workplace.floor) 0 result.over.served.items ×
+        (vec_len result.over.served ≡ length site.now.workplace.floor.depot.channels.items)
         × (result.over.posts.items ≡ []) }
     ensures mail { FirstTakeMail (length site.now.grips.mail.items) (map (λ s.
         s.mail) result.over.served.items) }
@@ -252,8 +251,8 @@ fn stop_and_join<'s, 'o, H: Hall, R: Threads + Wait, I: Read + Drop, W: Sink>(
     }
     stop_all(rt, site);
     let over = Over {
-        served: join_producers(rt, &site.floor, hired, served),
-        posts: Vec::new(site.floor.alloc),
+        served: join_producers(rt, &site.workplace.floor, hired, served),
+        posts: Vec::new(site.workplace.floor.alloc),
         all_started,
         none_started: false,
         is_told,
@@ -272,26 +271,27 @@ fn in_scope<'s, 'o, E, H: Hall + Send, R: Threads + Wait + Sync, I: Read + Drop,
     lines: &[u8],
     announcer: Announcer<'o, W>,
 ) -> Left<'o, W>
-    requires lanes { H.lanes ≡ Some site.now.floor.office.lanes.items }
-    requires depot { H.depot ≡ Some site.now.floor.depot }
-    requires house { IsHouse site.now.floor (length site.now.floor.depot.channels.items) }
+    requires lanes { H.lanes ≡ Some site.now.workplace.floor.office.lanes.items }
+    requires depot { H.depot ≡ Some site.now.workplace.floor.depot }
+    requires house { IsHouse site.now.workplace.floor
+        (length site.now.workplace.floor.depot.channels.items) }
     requires grips { length site.now.grips.mail.items + length site.now.guests.items
-        ≡ length site.now.floor.depot.channels.items }
+        ≡ length site.now.workplace.floor.depot.channels.items }
     requires client_grips { length site.now.grips.clients.items ≡ length site.now.guests.items }
-    requires imap { All (λ v. v.user < vec_len site.now.sockets.imap) site.now.guests.items }
-    requires dealt { IsDealt site.now.floor (length site.now.grips.mail.items)
+    requires imap { All (λ v. v.user < vec_len site.now.imap) site.now.guests.items }
+    requires dealt { IsDealt site.now.workplace.floor (length site.now.grips.mail.items)
         (length site.now.guests.items) (manually_drop_value dealt) }
     requires live { W.failed announcer.output.now ≡ false }
     ensures served { result.over.none_started ≡ false
-        → AllAt (IsServed site.now.floor) 0 result.over.served.items ×
-        (vec_len result.over.served ≡ length site.now.floor.depot.channels.items)
+        → AllAt (IsServed site.now.workplace.floor) 0 result.over.served.items ×
+        (vec_len result.over.served ≡ length site.now.workplace.floor.depot.channels.items)
         × (result.over.posts.items ≡ []) }
     ensures mail { result.over.none_started ≡ false
         → FirstTakeMail (length site.now.grips.mail.items) (map (λ s.
         s.mail) result.over.served.items) }
     ensures none_started { result.over.none_started ≡ true
-        → AllAt (IsPost site.now.floor) 0 result.over.posts.items ×
-        (vec_len result.over.posts ≡ length site.now.floor.depot.channels.items)
+        → AllAt (IsPost site.now.workplace.floor) 0 result.over.posts.items ×
+        (vec_len result.over.posts ≡ length site.now.workplace.floor.depot.channels.items)
         × (result.over.served.items ≡ []) }
     ensures same { result.announcer.output.ghost_name ≡ announcer.entry.output.ghost_name }
     ensures untried { result.over.none_started ≡ true
@@ -310,7 +310,10 @@ fn in_scope<'s, 'o, E, H: Hall + Send, R: Threads + Wait + Sync, I: Read + Drop,
         equipment,
         served,
     } = ManuallyDrop::into_inner(dealt);
-    let (alloc, producers) = (site.floor.alloc, site.floor.depot.channels.len());
+    let (alloc, producers) = (
+        site.workplace.floor.alloc,
+        site.workplace.floor.depot.channels.len(),
+    );
     let Ok(Crowd { hired, berths }) = crowd_for(alloc, producers, &bells) else {
         let over = untried(served, posts);
         return Left { over, announcer };
@@ -347,25 +350,26 @@ fn serve_in_threads<H: Hall + Send, R: Threads + Wait + Sync, I: Read + Drop, W:
     lines: &[u8],
     output: &mut W,
 ) -> Over
-    requires lanes { H.lanes ≡ Some site.now.floor.office.lanes.items }
-    requires depot { H.depot ≡ Some site.now.floor.depot }
-    requires house { IsHouse site.now.floor (length site.now.floor.depot.channels.items) }
+    requires lanes { H.lanes ≡ Some site.now.workplace.floor.office.lanes.items }
+    requires depot { H.depot ≡ Some site.now.workplace.floor.depot }
+    requires house { IsHouse site.now.workplace.floor
+        (length site.now.workplace.floor.depot.channels.items) }
     requires grips { length site.now.grips.mail.items + length site.now.guests.items
-        ≡ length site.now.floor.depot.channels.items }
+        ≡ length site.now.workplace.floor.depot.channels.items }
     requires client_grips { length site.now.grips.clients.items ≡ length site.now.guests.items }
-    requires imap { All (λ v. v.user < vec_len site.now.sockets.imap) site.now.guests.items }
-    requires dealt { IsDealt site.now.floor (length site.now.grips.mail.items)
+    requires imap { All (λ v. v.user < vec_len site.now.imap) site.now.guests.items }
+    requires dealt { IsDealt site.now.workplace.floor (length site.now.grips.mail.items)
         (length site.now.guests.items) dealt }
     requires live { W.failed output.old ≡ false }
     ensures served { result.none_started ≡ false
-        → AllAt (IsServed site.now.floor) 0 result.served.items ×
-        (vec_len result.served ≡ length site.now.floor.depot.channels.items)
+        → AllAt (IsServed site.now.workplace.floor) 0 result.served.items ×
+        (vec_len result.served ≡ length site.now.workplace.floor.depot.channels.items)
         × (result.posts.items ≡ []) }
     ensures mail { result.none_started ≡ false
         → FirstTakeMail (length site.now.grips.mail.items) (map (λ s. s.mail) result.served.items) }
     ensures none_started { result.none_started ≡ true
-        → AllAt (IsPost site.now.floor) 0 result.posts.items ×
-        (vec_len result.posts ≡ length site.now.floor.depot.channels.items)
+        → AllAt (IsPost site.now.workplace.floor) 0 result.posts.items ×
+        (vec_len result.posts ≡ length site.now.workplace.floor.depot.channels.items)
         × (result.served.items ≡ []) }
     ensures untried { result.none_started ≡ true → output.new ≡ output.old }
     ensures unsaid { result.all_started ≡ false → output.new ≡ output.old }
@@ -379,28 +383,30 @@ fn serve_in_threads<H: Hall + Send, R: Threads + Wait + Sync, I: Read + Drop, W:
         thread::scope_env(),
         rt,
         |scope| -> Left<'_, W>
-            requires hall { IsSync R.row × (H.lanes ≡ Some site.now.floor.office.lanes.items)
-                × (H.depot ≡ Some site.now.floor.depot) }
-            requires house { IsHouse site.now.floor (length site.now.floor.depot.channels.items) }
+            requires hall { IsSync R.row × (H.lanes
+                ≡ Some site.now.workplace.floor.office.lanes.items)
+                × (H.depot ≡ Some site.now.workplace.floor.depot) }
+            requires house { IsHouse site.now.workplace.floor
+                (length site.now.workplace.floor.depot.channels.items) }
             requires grips { length site.now.grips.mail.items + length site.now.guests.items
-                ≡ length site.now.floor.depot.channels.items }
+                ≡ length site.now.workplace.floor.depot.channels.items }
             requires client_grips { length site.now.grips.clients.items
                 ≡ length site.now.guests.items }
             requires imap { All (λ v.
-                v.user < vec_len site.now.sockets.imap) site.now.guests.items }
-            requires dealt { IsDealt site.now.floor (length site.now.grips.mail.items)
+                v.user < vec_len site.now.imap) site.now.guests.items }
+            requires dealt { IsDealt site.now.workplace.floor (length site.now.grips.mail.items)
                 (length site.now.guests.items) (manually_drop_value dealt) }
             requires live { W.failed announcer.output.now ≡ false }
             ensures served { result.over.none_started ≡ false
-                → AllAt (IsServed site.entry.now.floor) 0 result.over.served.items ×
-                (vec_len result.over.served ≡ length site.entry.now.floor.depot.channels.items)
+                → AllAt (IsServed site.entry.now.workplace.floor) 0 result.over.served.items ×
+                (vec_len result.over.served ≡ length site.entry.now.workplace.floor.depot.channels.items)
                 × (result.over.posts.items ≡ []) }
             ensures mail { result.over.none_started ≡ false
                 → FirstTakeMail (length site.entry.now.grips.mail.items) (map (λ s.
                 s.mail) result.over.served.items) }
             ensures none_started { result.over.none_started ≡ true
-                → AllAt (IsPost site.entry.now.floor) 0 result.over.posts.items ×
-                (vec_len result.over.posts ≡ length site.entry.now.floor.depot.channels.items)
+                → AllAt (IsPost site.entry.now.workplace.floor) 0 result.over.posts.items ×
+                (vec_len result.over.posts ≡ length site.entry.now.workplace.floor.depot.channels.items)
                 × (result.over.served.items ≡ []) }
             ensures same { result.announcer.output.ghost_name ≡ announcer.entry.output.ghost_name }
             ensures untried { result.over.none_started ≡ true
@@ -525,44 +531,53 @@ fn close_or_spend<H: Hall, R: Wait>(
     consumed: Vec<Consumed>,
     baskets: Baskets,
 ) -> Result<Closes, ServeFault>
-    requires lanes { H.lanes ≡ Some site.floor.office.lanes.items }
-    requires depot { H.depot ≡ Some site.floor.depot }
-    requires house { IsHouse site.floor (length site.floor.depot.channels.items) }
-    requires some { (0 < length site.floor.depot.channels.items)
-        × (0 < length site.floor.office.lanes.items) }
-    requires clerks { vec_len site.clerks ≡ length site.floor.office.lanes.items }
-    requires rooms { AreRooms (length site.floor.office.lanes.items)
-        (length site.floor.depot.channels.items) rooms }
+    requires lanes { H.lanes ≡ Some site.workplace.floor.office.lanes.items }
+    requires depot { H.depot ≡ Some site.workplace.floor.depot }
+    requires house { IsHouse site.workplace.floor
+        (length site.workplace.floor.depot.channels.items) }
+    requires some { (0 < length site.workplace.floor.depot.channels.items)
+        × (0 < length site.workplace.floor.office.lanes.items) }
+    requires clerks { vec_len site.workplace.clerks
+        ≡ length site.workplace.floor.office.lanes.items }
+    requires rooms { AreRooms (length site.workplace.floor.office.lanes.items)
+        (length site.workplace.floor.depot.channels.items) rooms }
     requires stands { (stands.items ≡ [])
-        × (length site.floor.office.lanes.items ≤ vec_capacity stands) }
-    requires served { over.none_started ≡ false → AllAt (IsServed site.floor) 0 over.served.items ×
-        (vec_len over.served ≡ length site.floor.depot.channels.items) × (over.posts.items ≡ []) }
+        × (length site.workplace.floor.office.lanes.items ≤ vec_capacity stands) }
+    requires served { over.none_started ≡ false
+        → AllAt (IsServed site.workplace.floor) 0 over.served.items ×
+        (vec_len over.served ≡ length site.workplace.floor.depot.channels.items) × (over.posts.items ≡ []) }
     requires mail { over.none_started ≡ false
         → FirstTakeMail (length site.grips.mail.items) (map (λ s. s.mail) over.served.items) }
     requires none_started { over.none_started ≡ true
-        → AllAt (IsPost site.floor) 0 over.posts.items ×
-        (vec_len over.posts ≡ length site.floor.depot.channels.items) × (over.served.items ≡ []) }
+        → AllAt (IsPost site.workplace.floor) 0 over.posts.items ×
+        (vec_len over.posts ≡ length site.workplace.floor.depot.channels.items) × (over.served.items ≡ []) }
     requires worked { (worked.items ≡ [])
-        × (length site.floor.depot.channels.items ≤ vec_capacity worked) }
+        × (length site.workplace.floor.depot.channels.items ≤ vec_capacity worked) }
     requires consumed { (consumed.items ≡ [])
-        × (length site.floor.office.lanes.items ≤ vec_capacity consumed) }
-    requires baskets { AreBaskets (length site.floor.depot.channels.items)
-        (length site.floor.office.lanes.items) baskets }
+        × (length site.workplace.floor.office.lanes.items ≤ vec_capacity consumed) }
+    requires baskets { AreBaskets (length site.workplace.floor.depot.channels.items)
+        (length site.workplace.floor.office.lanes.items) baskets }
     ensures setting { (fault : ConfigFault) → result ≢ Err (ServeFault.Config fault) }
-    ensures whole { IfOk result (CameTo site.floor (length site.grips.mail.items)) }
+    ensures whole { IfOk result (CameTo site.workplace.floor (length site.grips.mail.items)) }
     ensures told { OnOk result (over.is_told ≡ true) }
     ensures unsaid { result ≡ Err ServeFault.Spawn → over.all_started ≡ false }
     ensures untried { result ≡ Err ServeFault.NoMemory → over.none_started ≡ true }
 {
     let Site {
-        floor,
-        clerks,
+        workplace,
         gate,
         guests: _,
-        sockets: _,
-        mark: _,
+        imap: _,
         grips: _,
     } = site;
+    let Workplace {
+        floor,
+        clerks,
+        at_once: _,
+        lmtp: _,
+        mark: _,
+        pause: _,
+    } = workplace;
     let staff = Staff {
         clerks,
         rooms,
@@ -586,9 +601,20 @@ fn close_or_spend<H: Hall, R: Wait>(
     told(all_started, is_told, closes)
 }
 
-/// Serves the house until `stop` is at its end, closes it, and hands out what was taken of its queues. The first of its producers are so many workers; the others are the berths
-/// of sessions, those of `guests`, each with its own end of its bell. Once each thread stands the lines are written to `output`, and nobody
-/// is served before.
+/// Who is to serve in a house.
+pub(crate) struct Manning {
+    /// So many workers, the first of the producers.
+    pub(crate) workers: usize,
+    /// So many copies of a message each of them puts at once.
+    pub(crate) at_once: usize,
+    /// The berths of sessions, the other producers.
+    pub(crate) guests: Vec<Guest>,
+    /// For each berth its own end of its bell.
+    pub(crate) bells: Vec<Sleeper>,
+}
+
+/// Serves the house until `stop` is at its end, closes it, and hands out what was taken of its queues. Its producers are
+/// those of `manning`. Once each thread stands the lines are written to `output`, and nobody is served before.
 ///
 /// Errors, the first that holds: `NoMemory` where memory is refused before the first thread, and `Spawn` where a thread can't be made: then
 /// nothing was written; `Device` where the lines can't be written: after these three nobody was served. `Torn` where somebody met what he
@@ -596,11 +622,9 @@ fn close_or_spend<H: Hall, R: Wait>(
 pub(crate) fn run_house_in<H: Hall + Send, R: Threads + Wait + Sync, I: Read + Drop, W: Sink>(
     rt: &R,
     floor: Floor,
-    workers: usize,
+    manning: Manning,
     crew: Crew,
     baskets: Baskets,
-    bells: Vec<Sleeper>,
-    guests: Vec<Guest>,
     sockets: Sockets,
     stop: I,
     lines: Vec<u8>,
@@ -611,21 +635,28 @@ pub(crate) fn run_house_in<H: Hall + Send, R: Threads + Wait + Sync, I: Read + D
     requires house { IsHouse floor (length floor.depot.channels.items) }
     requires some { (0 < length floor.depot.channels.items)
         × (0 < length floor.office.lanes.items) }
-    requires producers { workers + vec_len guests ≡ length floor.depot.channels.items }
-    requires guests { vec_len bells ≡ vec_len guests }
-    requires imap { All (λ v. v.user < vec_len sockets.imap) guests.items }
+    requires producers { manning.workers + vec_len manning.guests
+        ≡ length floor.depot.channels.items }
+    requires guests { vec_len manning.bells ≡ vec_len manning.guests }
+    requires imap { All (λ v. v.user < vec_len sockets.imap) manning.guests.items }
     requires crew { IsCrew floor (length floor.depot.channels.items) crew }
     requires baskets { AreBaskets (length floor.depot.channels.items)
         (length floor.office.lanes.items) baskets }
     requires live { W.failed output.old ≡ false }
     ensures setting { (fault : ConfigFault) → result ≢ Err (ServeFault.Config fault) }
-    ensures whole { IfOk result (CameTo floor workers) }
+    ensures whole { IfOk result (CameTo floor manning.workers) }
     ensures untried { result ≡ Err ServeFault.NoMemory → output.new ≡ output.old }
     ensures unsaid { result ≡ Err ServeFault.Spawn → output.new ≡ output.old }
     ensures told { (n : ℕ) × Appends (W.taken output.old) (W.taken output.new)
         (take n lines.items) }
     ensures all { OnOk result (Appends (W.taken output.old) (W.taken output.new) lines.items) }
 {
+    let Manning {
+        workers,
+        at_once,
+        guests,
+        bells,
+    } = manning;
     let Crew {
         stands,
         posts,
@@ -648,13 +679,20 @@ pub(crate) fn run_house_in<H: Hall + Send, R: Threads + Wait + Sync, I: Read + D
         rooms,
         stands,
     } = hire_all(&floor, stands, staff);
-    let site = Site {
+    let Sockets { lmtp, imap, pause } = sockets;
+    let workplace = Workplace {
         floor,
         clerks,
+        at_once,
+        lmtp,
+        mark: Mark::new(),
+        pause,
+    };
+    let site = Site {
+        workplace,
         gate: Unhindered,
         guests,
-        sockets,
-        mark: Mark::new(),
+        imap,
         grips,
     };
     let dealt = Dealt {

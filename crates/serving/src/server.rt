@@ -1,20 +1,20 @@
 //! The whole of a server: settings, sockets, what is said of them, the house, and the end. What runs in between stands in `run`.
 
-ghost use Rattle.std.specs.Prelude.{ℕ, ◌≡◌, ◌≢◌, ◌≤◌, ◌<◌, ◌+◌, ◌⊎◌, All, Err, IfErr, IfOk, None, OnOk, Some, false, length, take, vec_len};
-ghost use Rattle.std.specs.Io.KnownBytes.{Appends};
+ghost use Rattle.std.specs.Prelude.{◌≡◌, ◌≢◌, ◌≤◌, ◌<◌, ◌+◌, ◌⊎◌, All, Err, IfErr, IfOk, None, OnOk, Some, false, length, vec_len};
 ghost use Rattle.settings.specs.Settings.{IsInRange, directory_for};
 ghost use Rattle.serving.specs.Producers.{server_fault};
 ghost use Rattle.mailbox.specs.declared.history.History.{History};
 ghost use Rattle.settings.specs.declared.config.ConfigFault.{ConfigFault};
-ghost use Rattle.serving.specs.Announcing.{announcement, users_of};
+ghost use Rattle.serving.specs.Announcing.{HasAnnounced, HasBegun, IsAnnouncement, users_of};
 ghost use Rattle.serving.specs.inner.Faults.{IsOfSettings, IsOfSocket};
 ghost use Rattle.house_floor.specs.Users.{user_numbered};
 
 use crate::announcing::announce;
 use crate::berths::{berths_for, count_users};
 use crate::fault::ServeFault;
-use crate::run::run_house_in;
-use crate::sockets::{Sockets, open_sockets};
+use crate::run::{Manning, run_house_in};
+use crate::sockets::{Open, Sockets, open_sockets};
+use clerks::copies_at_once;
 use envelope::Directory;
 use house_floor::{Guest, MOST_PRODUCERS, Opened, Sizes, open};
 use line_io::Sink;
@@ -107,27 +107,27 @@ fn listen<R: Net<Listener = TcpListener, Stream = TcpStream>>(
     uidvalidity: Uidvalidity,
 ) -> Result<Listeners, ServeFault>
     requires range { IsInRange config.now }
-    ensures lines { IfOk result (λ l.
-        l.lines.items ≡ announcement config.now.lmtp_port config.now.imap_port directory.now.homes
-        uidvalidity) }
+    requires directory { directory.now ≡ directory_for config.now }
+    ensures lines { IfOk result (λ l. IsAnnouncement config.now uidvalidity l.lines.items) }
     ensures fault { IfErr result IsOfSocket }
     ensures imap { IfOk result (λ l. vec_len l.sockets.imap
         ≡ length (users_of directory.now.homes)) }
 {
     let users = count_users(directory);
-    let lines = announce(
+    let Open { sockets, ports } = open_sockets(
+        rt,
         alloc,
-        directory,
         config.lmtp_port,
         config.imap_port,
-        uidvalidity,
+        users,
     )?;
-    let sockets = open_sockets(rt, alloc, config.lmtp_port, config.imap_port, users)?;
+    let lines = announce(alloc, directory, &ports, uidvalidity)?;
     Ok(Listeners { sockets, lines })
 }
 
 /// Serves a house of these settings on the loopback address until `stop` is at its end: mail on `lmtp_port` to so many connections at a
 /// time as there are `workers`, and each user's sessions on a port of its own, from `imap_port` on, so many at a time as `sessions` says.
+/// A port that is 0 is chosen by the system, for each user another.
 /// Once all listens and each thread stands it says so on `output`, in a line for each listener, and from then on whoever comes is served.
 ///
 /// At the end nothing is accepted any more: a mail connection between commands is told `421 4.3.2 Shutting down`, one within a message's
@@ -172,13 +172,11 @@ pub fn serve<
     ensures untried { result ≡ Err ServeFault.NoMemory → output.new ≡ output.old }
     ensures unsaid { result ≡ Err ServeFault.Spawn → output.new ≡ output.old }
 
-    // Nothing but a beginning of the lines was written, and all of them where it served.
-    ensures told { (n : ℕ) × Appends (W.taken output.old) (W.taken output.new)
-        (take n (announcement config.now.lmtp_port config.now.imap_port
-        (directory_for config.now).homes uidvalidity)) }
-    ensures all { OnOk result (Appends (W.taken output.old) (W.taken output.new)
-        (announcement config.now.lmtp_port config.now.imap_port (directory_for config.now).homes
-        uidvalidity)) }
+    // Nothing but a beginning of the lines was written, and all of them where it served: one for each listener, of its port. That is the port
+    // that is given, and where that is 0 the one that the system chose.
+    ensures told { HasBegun config.now uidvalidity (W.taken output.old) (W.taken output.new) }
+    ensures all { OnOk result (HasAnnounced config.now uidvalidity (W.taken output.old)
+        (W.taken output.new)) }
 {
     let Layout { directory, guests } = lay_out(alloc, config)?;
     let Listeners { sockets, lines } = listen(rt, alloc, config, &directory, uidvalidity)?;
@@ -194,9 +192,16 @@ pub fn serve<
         guests.as_slice(),
     )?;
     let workers = usize::from(config.workers);
+    let at_once = copies_at_once(config.depth, workers, guests.len());
+    let manning = Manning {
+        workers,
+        at_once,
+        guests,
+        bells: sleepers,
+    };
     // Over sockets nothing can be named that what was taken could be compared with.
     let _taken = run_house_in::<Brand, R, &mut I, W>(
-        rt, floor, workers, crew, baskets, sleepers, guests, sockets, stop, lines, output,
+        rt, floor, manning, crew, baskets, sockets, stop, lines, output,
     )?;
     Ok(())
 }

@@ -17,13 +17,12 @@ ghost use Rattle.serving_workers.specs.Leaving.{AreAttended, IsHired, IsServed, 
 
 use crate::equipment::SharedBerth;
 use crate::site::Site;
-use crate::sockets::Sockets;
-use clerks::{Clerks, Hall, Unhindered};
+use clerks::{Hall, Unhindered};
 use delivery_token::Job;
 use house_floor::{Floor, Post, inbox_numbered, most_of};
-use house_peers::folders_of;
+use imap_session::folders_of;
 use imap_stream::{Berth, Hush, Visit};
-use lane_work::{Desk, LaneCourier, Summons, Unkept, end_all};
+use lane_work::{Context, Desk, LaneCourier, Summons, Unkept, end_all};
 use line_io::{Sink, Watched};
 use serving_workers::{Door, Hired, Mark, Served, Serves, have_threads, packed};
 use session_thread::LockedStore;
@@ -59,9 +58,8 @@ impl Hush for AtHand<'_> {
 pub(crate) struct Gateway<'s> {
     pub(crate) floor: &'s Floor,
     pub(crate) gate: &'s Unhindered,
-    pub(crate) sockets: &'s Sockets,
-    /// The house's mark, which is set once it stops.
-    pub(crate) mark: &'s Mark,
+    /// Where the clients of its user come in.
+    pub(crate) door: Door<'s>,
     /// For the connection that the berth's thread has at hand.
     pub(crate) grip: &'s Grip,
     /// The berth's number among all of the house, from 0.
@@ -74,21 +72,25 @@ pub(crate) struct Gateway<'s> {
 fn gateway_of<H: Hall>(site: &Site<H>, session: u8) -> Gateway<'_>
     requires session { session < length site.now.guests.items }
     requires grips { length site.now.grips.clients.items ≡ length site.now.guests.items }
-    requires imap { All (λ v. v.user < vec_len site.now.sockets.imap) site.now.guests.items }
-    ensures imap { result.user < vec_len result.sockets.now.imap }
-    ensures floor { result.floor.now ≡ site.now.floor }
+    requires imap { All (λ v. v.user < vec_len site.now.imap) site.now.guests.items }
+    ensures floor { result.floor.now ≡ site.now.workplace.floor }
     ensures user { IfSome (slice_get site.now.guests.items session) (λ guest.
         result.user ≡ guest.user) }
 {
     let berth = usize::from(session);
+    let user = site.guests[berth].user;
+    let door = Door {
+        listening: &site.imap[usize::from(user)],
+        mark: &site.workplace.mark,
+        pause: &site.workplace.pause,
+    };
     Gateway {
-        floor: &site.floor,
+        floor: &site.workplace.floor,
         gate: &site.gate,
-        sockets: &site.sockets,
-        mark: &site.mark,
+        door,
         grip: &site.grips.clients[berth],
         session,
-        user: site.guests[berth].user,
+        user,
     }
 }
 
@@ -144,7 +146,7 @@ fn attend_visit<'a, R: Wait, C: Courier>(
         courier,
         &mut input,
         buffer,
-        &gateway.mark.stop,
+        &gateway.door.mark.stop,
     );
 }
 
@@ -181,7 +183,6 @@ fn receive<'a, R: Wait, C: Courier>(
     berth: &ClientBerth<'a, R>,
     courier: &mut C,
     gateway: Gateway<'a>,
-    door: &Door<'_>,
     stream: &TcpStream,
     buffer: &mut [u8],
 )
@@ -189,9 +190,9 @@ fn receive<'a, R: Wait, C: Courier>(
     ensures ready { C.ready courier.new }
     ensures kept { (first : C) → C.kept first courier.old → C.kept first courier.new }
 {
-    if gateway.grip.hold(rt, stream) && !door.is_shut() {
+    if gateway.grip.hold(rt, stream) && !gateway.door.is_shut() {
         serve_client(rt, berth, courier, gateway, stream, buffer);
-        door.part(stream, buffer);
+        gateway.door.part(stream, buffer);
     }
     gateway.grip.clear(rt);
 }
@@ -205,24 +206,23 @@ fn answer_clients<'a, R: Wait, S: Summons>(
     gateway: Gateway<'a>,
     mut buffer: Vec<u8>,
 )
-    requires ready { IsReady courier.old.office.now courier.old.channel.now courier.old.desk }
-    requires imap { gateway.user < vec_len gateway.sockets.now.imap }
-    ensures ready { IsReady courier.new.office.now courier.new.channel.now courier.new.desk }
-    ensures same { IsSameDesk courier.old.office.now courier.new.office.now courier.old.channel.now
-        courier.new.channel.now
+    requires ready { IsReady courier.old.context.office.now courier.old.context.channel.now
+        courier.old.desk }
+    ensures ready { IsReady courier.new.context.office.now courier.new.context.channel.now
+        courier.new.desk }
+    ensures same { IsSameDesk courier.old.context.office.now courier.new.context.office.now
+        courier.old.context.channel.now
+        courier.new.context.channel.now
         courier.old.desk courier.new.desk }
     ensures clients { courier.new.is_torn ≡ false
-        → AreAttended (premises_of courier.old.office.now) courier.old.desk.number 0
+        → AreAttended (premises_of courier.old.context.office.now) courier.old.desk.number 0
         (received courier.old.desk.receiver) (map put_by courier.old.desk.permits.items)
-        → (clients : ℕ) × AreAttended (premises_of courier.old.office.now) courier.old.desk.number
+        → (clients : ℕ)
+        × AreAttended (premises_of courier.old.context.office.now) courier.old.desk.number
         clients (received courier.new.desk.receiver)
         (map put_by courier.new.desk.permits.items) }
 {
-    let door = Door {
-        listening: &gateway.sockets.imap[usize::from(gateway.user)],
-        mark: gateway.mark,
-        pause: &gateway.sockets.pause,
-    };
+    let door = gateway.door;
     door.mark.await_start(rt);
     for serial in 0..u64::MAX {
         if courier.is_torn {
@@ -233,7 +233,7 @@ fn answer_clients<'a, R: Wait, S: Summons>(
         };
         courier.serial = serial;
         let buffer = buffer.as_mut_slice();
-        receive(rt, berth, courier, gateway, &door, &stream, buffer);
+        receive(rt, berth, courier, gateway, &stream, buffer);
     }
 }
 
@@ -244,11 +244,11 @@ fn leave<R: Wait, S: Summons>(
     session: u8,
     room: Vec<Ended<Job>>,
 ) -> Served
-    requires permits { ArePermits courier.office.now.lanes.items courier.desk.number
+    requires permits { ArePermits courier.context.office.now.lanes.items courier.desk.number
         courier.desk.permits.items }
     requires room { (room.items ≡ [])
-        × (length courier.office.now.lanes.items ≤ vec_capacity room) }
-    ensures ended { AreEnded courier.entry.office.now.lanes.items courier.entry.desk.number
+        × (length courier.context.office.now.lanes.items ≤ vec_capacity room) }
+    ensures ended { AreEnded courier.entry.context.office.now.lanes.items courier.entry.desk.number
         result.ended.items }
     ensures said { HaveEnded courier.entry.desk.number (map put_by courier.entry.desk.permits.items)
         (map said result.ended.items) }
@@ -257,10 +257,7 @@ fn leave<R: Wait, S: Summons>(
     ensures mail { result.mail ≡ false }
 {
     let LaneCourier {
-        rt,
-        office,
-        summons,
-        channel: _,
+        context,
         desk,
         serial: _,
         book: _,
@@ -273,7 +270,15 @@ fn leave<R: Wait, S: Summons>(
         ends,
     } = desk;
     let mut pace = Pace::new(gate, Actor::Session(session));
-    let ended = end_all(rt, &mut pace, office, summons, number, permits, room);
+    let ended = end_all(
+        context.rt,
+        &mut pace,
+        context.office,
+        context.summons,
+        number,
+        permits,
+        room,
+    );
     Served {
         ended,
         receiver,
@@ -293,25 +298,30 @@ fn attend_there<'a, H: Hall, R: Wait>(
     post: ManuallyDrop<Post>,
     buffer: Vec<u8>,
 ) -> ManuallyDrop<Served>
-    requires lanes { H.lanes ≡ Some site.now.floor.office.lanes.items }
-    requires depot { H.depot ≡ Some site.now.floor.depot }
-    requires house { IsHouse site.now.floor (length site.now.floor.depot.channels.items) }
-    requires number { number < length site.now.floor.depot.channels.items }
-    requires post { IsPost site.now.floor number (manually_drop_value post) }
+    requires lanes { H.lanes ≡ Some site.now.workplace.floor.office.lanes.items }
+    requires depot { H.depot ≡ Some site.now.workplace.floor.depot }
+    requires house { IsHouse site.now.workplace.floor
+        (length site.now.workplace.floor.depot.channels.items) }
+    requires number { number < length site.now.workplace.floor.depot.channels.items }
+    requires post { IsPost site.now.workplace.floor number (manually_drop_value post) }
     requires session { session < length site.now.guests.items }
     requires grips { length site.now.grips.clients.items ≡ length site.now.guests.items }
-    requires imap { All (λ v. v.user < vec_len site.now.sockets.imap) site.now.guests.items }
-    ensures served { IsServed site.now.floor number (manually_drop_value result) }
+    requires imap { All (λ v. v.user < vec_len site.now.imap) site.now.guests.items }
+    ensures served { IsServed site.now.workplace.floor number (manually_drop_value result) }
     ensures mail { (manually_drop_value result).mail ≡ false }
 {
-    let (floor, gate) = (&site.floor, &site.gate);
+    let (floor, gate) = (&site.workplace.floor, &site.gate);
     let Post { desk, room } = ManuallyDrop::into_inner(post);
-    let summons = Clerks::new(&site.clerks, &floor.office.lanes, &floor.depot, gate);
-    let mut courier = LaneCourier {
+    let summons = site.workplace.summons(gate);
+    let context = Context {
         rt,
+        alloc: floor.alloc,
         office: &floor.office,
         summons: &summons,
         channel: &floor.depot.channels[usize::from(number)],
+    };
+    let mut courier = LaneCourier {
+        context,
         desk,
         serial: 0,
         book: Unkept,
@@ -345,18 +355,19 @@ fn start_answering<'s, E, H: Hall + Send, R: Threads + Wait + Sync>(
     post: Post,
     buffer: Vec<u8>,
 ) -> Hired<'s>
-    requires lanes { H.lanes ≡ Some site.now.floor.office.lanes.items }
-    requires depot { H.depot ≡ Some site.now.floor.depot }
-    requires house { IsHouse site.now.floor (length site.now.floor.depot.channels.items) }
-    requires number { number < length site.now.floor.depot.channels.items }
-    requires post { IsPost site.now.floor number post }
+    requires lanes { H.lanes ≡ Some site.now.workplace.floor.office.lanes.items }
+    requires depot { H.depot ≡ Some site.now.workplace.floor.depot }
+    requires house { IsHouse site.now.workplace.floor
+        (length site.now.workplace.floor.depot.channels.items) }
+    requires number { number < length site.now.workplace.floor.depot.channels.items }
+    requires post { IsPost site.now.workplace.floor number post }
     requires session { session < length site.now.guests.items }
     requires grips { length site.now.grips.clients.items ≡ length site.now.guests.items }
-    requires imap { All (λ v. v.user < vec_len site.now.sockets.imap) site.now.guests.items }
-    ensures hired { IsHired site.now.floor number result }
+    requires imap { All (λ v. v.user < vec_len site.now.imap) site.now.guests.items }
+    ensures hired { IsHired site.now.workplace.floor number result }
     ensures mail { serves_mail result ≡ false }
 {
-    let floor = &site.floor;
+    let floor = &site.workplace.floor;
     let parcel = packed(post);
     let promise = Serves {
         floor,
@@ -368,7 +379,7 @@ fn start_answering<'s, E, H: Hall + Send, R: Threads + Wait + Sync>(
     }) {
         Ok(child) => Hired::There(child),
         Err(refused) => {
-            site.mark.set();
+            site.workplace.mark.set();
             Hired::Here((refused.value)())
         }
     }
@@ -383,7 +394,7 @@ fn start_watching<'s, E, R: Threads + Wait + Sync>(
     gateway: Gateway<'s>,
     bell: Sleeper,
 ) -> bool {
-    let (mark, grip) = (gateway.mark, gateway.grip);
+    let (mark, grip) = (gateway.door.mark, gateway.grip);
     let watches = scope.spawn(move || watch_clients(rt, &berth, &bell, mark, grip));
     if watches.is_err() {
         mark.set();
@@ -414,24 +425,25 @@ pub(crate) fn start_berths<'s, E, H: Hall + Send, R: Threads + Wait + Sync>(
     mut posts: Vec<Post>,
     mut hired: Vec<Hired<'s>>,
 ) -> (Vec<Hired<'s>>, bool)
-    requires lanes { H.lanes ≡ Some site.now.floor.office.lanes.items }
-    requires depot { H.depot ≡ Some site.now.floor.depot }
-    requires house { IsHouse site.now.floor (length site.now.floor.depot.channels.items) }
+    requires lanes { H.lanes ≡ Some site.now.workplace.floor.office.lanes.items }
+    requires depot { H.depot ≡ Some site.now.workplace.floor.depot }
+    requires house { IsHouse site.now.workplace.floor
+        (length site.now.workplace.floor.depot.channels.items) }
     requires berths { vec_len furnishings.berths ≡ length site.now.guests.items }
     requires grips { length site.now.grips.clients.items ≡ length site.now.guests.items }
     requires bells { vec_len furnishings.bells ≡ length site.now.guests.items }
     requires buffers { vec_len furnishings.buffers ≡ length site.now.guests.items }
-    requires posts { AllAt (IsPost site.now.floor) (vec_len hired) posts.items
+    requires posts { AllAt (IsPost site.now.workplace.floor) (vec_len hired) posts.items
         × (vec_len posts ≡ length site.now.guests.items) }
     requires all { vec_len hired + length site.now.guests.items
-        ≡ length site.now.floor.depot.channels.items }
-    requires hired { AllAt (IsHired site.now.floor) 0 hired.items
-        × (length site.now.floor.depot.channels.items ≤ vec_capacity hired) }
+        ≡ length site.now.workplace.floor.depot.channels.items }
+    requires hired { AllAt (IsHired site.now.workplace.floor) 0 hired.items
+        × (length site.now.workplace.floor.depot.channels.items ≤ vec_capacity hired) }
     requires mail { All (λ h. serves_mail h ≡ true) hired.items }
-    requires imap { All (λ v. v.user < vec_len site.now.sockets.imap) site.now.guests.items }
-    ensures hired { AllAt (IsHired site.now.floor) 0 result.0.items }
+    requires imap { All (λ v. v.user < vec_len site.now.imap) site.now.guests.items }
+    ensures hired { AllAt (IsHired site.now.workplace.floor) 0 result.0.items }
     ensures mail { FirstTakeMail (vec_len hired.entry) (map serves_mail result.0.items) }
-    ensures count { vec_len result.0 ≡ length site.now.floor.depot.channels.items }
+    ensures count { vec_len result.0 ≡ length site.now.workplace.floor.depot.channels.items }
     ensures all { result.1 ≡ true → list_all has_thread result.0.items ≡ true }
 {
     let mut are_watched = true;

@@ -1,25 +1,22 @@
 //! What all threads of a server share. What is dealt to each of them, and what they do, stands elsewhere.
 
 use crate::equipment::Grips;
-use crate::sockets::Sockets;
-use clerks::{Clerk, Hall, Unhindered};
-use house_floor::{Floor, Guest};
-use serving_workers::Mark;
-use std::sync::Mutex;
+use clerks::{Hall, Unhindered};
+use house_floor::Guest;
+use serving_workers::Workplace;
+use workers_sync::Listening;
 
 /// What all threads of a server share. It is made before the first of them, and taken apart when the last was joined. It owns what it
 /// holds: a closure that captures a reference to a struct with borrows in it loses what is proved of its result.
 pub(crate) struct Site<H: Hall> {
-    pub(crate) floor: Floor,
-    /// The clerk of each shard, behind its lock at the shard's position.
-    pub(crate) clerks: Vec<Mutex<Clerk<H>>>,
+    /// What workers and berths work with.
+    pub(crate) workplace: Workplace<H>,
     /// The gate of everybody, which holds nobody up.
     pub(crate) gate: Unhindered,
     /// The guest of each berth, in the order of the berths.
     pub(crate) guests: Vec<Guest>,
-    pub(crate) sockets: Sockets,
-    /// Set once the house stops.
-    pub(crate) mark: Mark,
+    /// Where each user's clients come in, in the order of the users.
+    pub(crate) imap: Vec<Listening>,
     /// For the connections that threads have at hand.
     pub(crate) grips: Grips,
 }

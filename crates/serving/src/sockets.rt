@@ -1,6 +1,8 @@
-//! The listeners of a server, on the ports that its settings say. What comes in there is served elsewhere.
+//! The listeners of a server, on the ports that its settings say or the system chooses. What comes in there is served elsewhere.
 
-ghost use Rattle.std.specs.Prelude.{◌≡◌, ◌≤◌, ◌+◌, IfErr, IfOk, vec_len};
+ghost use Rattle.std.specs.Prelude.{ℕ, ◌≡◌, ◌≢◌, ◌≤◌, ◌+◌, All, IfErr, IfOk, length, vec_len};
+ghost use Rattle.settings.specs.Settings.{IsFrom};
+ghost use Rattle.serving.specs.Announcing.{AreUserPorts, IsPortFor};
 ghost use Rattle.serving.specs.inner.Faults.{IsOfSocket};
 
 use crate::fault::{ServeFault, device_or_memory};
@@ -17,38 +19,124 @@ pub(crate) struct Sockets {
     pub(crate) pause: Pause,
 }
 
-// A listener on this port.
+/// The ports of the listeners.
+#[derive(Drop)]
+pub(crate) struct Ports {
+    /// That of mail.
+    pub(crate) mail: u16,
+    /// Those of the users, in the order of their numbers.
+    pub(crate) users: Vec<u16>,
+}
+
+// A listener, and its port.
+#[derive(Drop)]
+struct Bound {
+    listening: Listening,
+    port: u16,
+}
+
+// A listener on this port, or on a free one, where it is 0.
 fn listen<R: Net<Listener = TcpListener, Stream = TcpStream>>(
     rt: &R,
     port: u16,
-) -> Result<Listening, ServeFault>
-    ensures { IfErr result IsOfSocket }
+) -> Result<Bound, ServeFault>
+    ensures port { IfOk result (λ b. IsPortFor port b.port) }
+    ensures fault { IfErr result IsOfSocket }
 {
-    match Listening::bind(rt, port) {
-        Ok(listening) => Ok(listening),
-        Err(error) => Err(device_or_memory(&error)),
+    let listening = match Listening::bind(rt, port) {
+        Ok(listening) => listening,
+        Err(error) => return Err(device_or_memory(&error)),
+    };
+    if port != 0 {
+        return Ok(Bound { listening, port });
     }
+    let port = listening.port();
+    if port == 0 {
+        // It listens on no port of TCP.
+        return Err(ServeFault::Device);
+    }
+    Ok(Bound { listening, port })
 }
 
-// A listener on each of so many ports, from the first one on.
+// The port that the settings give to the user of this number, or 0.
+fn port_of(first: u16, number: u16) -> u16
+    requires { first + number ≤ 65535 }
+    ensures given { first ≢ 0 → result ≡ first + number }
+    ensures free { first ≡ 0 → result ≡ 0 }
+{
+    if first == 0 {
+        return 0;
+    }
+    first + number
+}
+
+// The users' listeners, and their ports.
+#[derive(Drop)]
+struct UserSockets {
+    listening: Vec<Listening>,
+    ports: Vec<u16>,
+}
+
+// A listener for each of so many users.
 fn listen_each<R: Net<Listener = TcpListener, Stream = TcpStream>>(
     rt: &R,
     alloc: Global,
     first: u16,
     count: u16,
-) -> Result<Vec<Listening>, ServeFault>
+) -> Result<UserSockets, ServeFault>
     requires { first + count ≤ 65536 }
-    ensures count { IfOk result (λ all. vec_len all ≡ count) }
+    ensures count { IfOk result (λ all. vec_len all.listening ≡ count) }
+    ensures ports { IfOk result (λ all. AreUserPorts first count all.ports.items) }
     ensures fault { IfErr result IsOfSocket }
 {
-    let mut all = Vec::with_capacity(alloc, usize::from(count))?;
+    let mut listening = Vec::with_capacity(alloc, usize::from(count))?;
+    let mut ports = Vec::with_capacity(alloc, usize::from(count))?;
     for number in 0..count {
-        all.push_reserved(listen(rt, first + number)?);
+        let bound = listen(rt, port_of(first, number))?;
+        listening.push_reserved(bound.listening);
+        ports.push_reserved(bound.port);
     }
-    Ok(all)
+    Ok(UserSockets { listening, ports })
 }
 
-/// The listeners: one for mail, and one for each of so many users from the first one's port on.
+// The listener of mail, and those of the users.
+struct Bindings {
+    mail: Bound,
+    users: UserSockets,
+}
+
+// Listens for mail and for each of so many users. Ports that are given are taken first, so that the system chooses none of them.
+fn bind_all<R: Net<Listener = TcpListener, Stream = TcpStream>>(
+    rt: &R,
+    alloc: Global,
+    lmtp_port: u16,
+    imap_port: u16,
+    users: u16,
+) -> Result<Bindings, ServeFault>
+    requires { imap_port + users ≤ 65536 }
+    ensures count { IfOk result (λ b. vec_len b.users.listening ≡ users) }
+    ensures mail { IfOk result (λ b. IsPortFor lmtp_port b.mail.port) }
+    ensures users { IfOk result (λ b. AreUserPorts imap_port users b.users.ports.items) }
+    ensures fault { IfErr result IsOfSocket }
+{
+    if lmtp_port == 0 {
+        let users = listen_each(rt, alloc, imap_port, users)?;
+        let mail = listen(rt, lmtp_port)?;
+        return Ok(Bindings { mail, users });
+    }
+    let mail = listen(rt, lmtp_port)?;
+    let users = listen_each(rt, alloc, imap_port, users)?;
+    Ok(Bindings { mail, users })
+}
+
+/// The listeners, and their ports.
+pub(crate) struct Open {
+    pub(crate) sockets: Sockets,
+    pub(crate) ports: Ports,
+}
+
+/// The listeners: one for mail, and one for each of so many users from the first one's port on. Where a port is 0 the system chooses a free
+/// one, for each user another.
 ///
 /// Errors: `Device` where one can't be had, `NoMemory` where memory is refused.
 pub(crate) fn open_sockets<R: Net<Listener = TcpListener, Stream = TcpStream>>(
@@ -57,15 +145,26 @@ pub(crate) fn open_sockets<R: Net<Listener = TcpListener, Stream = TcpStream>>(
     lmtp_port: u16,
     imap_port: u16,
     users: u16,
-) -> Result<Sockets, ServeFault>
+) -> Result<Open, ServeFault>
     requires { imap_port + users ≤ 65536 }
-    ensures count { IfOk result (λ s. vec_len s.imap ≡ users) }
+    ensures count { IfOk result (λ o. vec_len o.sockets.imap ≡ users) }
+    ensures mail { IfOk result (λ o. IsPortFor lmtp_port o.ports.mail) }
+    ensures users { IfOk result (λ o. AreUserPorts imap_port users o.ports.users.items) }
     ensures fault { IfErr result IsOfSocket }
 {
-    let lmtp = listen(rt, lmtp_port)?;
-    let imap = listen_each(rt, alloc, imap_port, users)?;
+    let Bindings { mail, users } = bind_all(rt, alloc, lmtp_port, imap_port, users)?;
     match Pause::new(rt) {
-        Ok(pause) => Ok(Sockets { lmtp, imap, pause }),
+        Ok(pause) => Ok(Open {
+            sockets: Sockets {
+                lmtp: mail.listening,
+                imap: users.listening,
+                pause,
+            },
+            ports: Ports {
+                mail: mail.port,
+                users: users.ports,
+            },
+        }),
         Err(error) => Err(device_or_memory(&error)),
     }
 }

@@ -2,11 +2,10 @@
 //! What a thread does then is its own matter.
 
 use crate::site::Site;
-use crate::sockets::Sockets;
 use clerks::Hall;
 use std::io::{ErrorKind, Read};
 use std::sync::Wait;
-use workers_sync::{Grip, Pause, SessionBell};
+use workers_sync::{Grip, Listening, Pause, SessionBell};
 
 /// So many pauses, of a tenth of a second each, all connections together have for their last words. What is done before and behind them
 /// is to fit into six seconds with them.
@@ -39,9 +38,9 @@ fn wake_all(rows: &[Vec<SessionBell>]) {
 }
 
 // Nothing is accepted any more.
-fn shut_listeners(sockets: &Sockets) {
-    sockets.lmtp.shut();
-    for listening in &sockets.imap {
+fn shut_listeners(lmtp: &Listening, imap: &[Listening]) {
+    lmtp.shut();
+    for listening in imap {
         listening.shut();
     }
 }
@@ -77,12 +76,12 @@ fn give_grace<R: Wait>(rt: &R, pause: &Pause, workers: &[Grip], berths: &[Grip])
 /// hand some five seconds later is cut.
 pub(crate) fn stop_all<H: Hall, R: Wait>(rt: &R, site: &Site<H>) {
     let (workers, berths) = (site.grips.mail.as_slice(), site.grips.clients.as_slice());
-    site.mark.set();
-    shut_listeners(&site.sockets);
+    site.workplace.mark.set();
+    shut_listeners(&site.workplace.lmtp, &site.imap);
     hush_all(rt, workers);
     hush_all(rt, berths);
-    wake_all(&site.floor.depot.sessions);
-    give_grace(rt, &site.sockets.pause, workers, berths);
+    wake_all(&site.workplace.floor.depot.sessions);
+    give_grace(rt, &site.workplace.pause, workers, berths);
     cut_all(rt, workers);
     cut_all(rt, berths);
 }

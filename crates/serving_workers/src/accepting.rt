@@ -10,10 +10,9 @@ ghost use Rattle.serving_workers.specs.Leaving.{AreServed, HasServedMail};
 
 use crate::door::Door;
 use delivery_token::{Job, Noted};
-use lane_work::{Desk, Ending, Office, Summons, TalkFault, Unkept, converse, end_all};
+use lane_work::{Context, Desk, Ending, Producer, Summons, TalkFault, Unkept, converse, end_all};
 use line_io::Watched;
-use shard_queue::{Ended, ReceiverPermit, ReplyChannel};
-use std::alloc::Global;
+use shard_queue::{Ended, ReceiverPermit};
 use std::net::TcpStream;
 use std::sync::Wait;
 use workers_sync::{Gate, Grip, Pace, Patience, Timely, prepare};
@@ -50,34 +49,33 @@ fn is_torn(ending: Result<Ending, TalkFault>) -> bool
 
 // One connection, from its greeting to its end, and whether a verdict came that the worker didn't await.
 fn serve_one<R: Wait, G: Gate, S: Summons>(
-    rt: &R,
-    alloc: Global,
-    pace: &mut Pace<'_, G>,
-    office: &Office,
-    summons: &S,
-    channel: &ReplyChannel<Noted>,
-    desk: &mut Desk,
+    context: &Context<'_, R, S>,
+    producer: &mut Producer<'_, G, Unkept>,
     serial: u64,
     door: &Door<'_>,
     stream: &TcpStream,
     buffers: &mut Buffers,
 ) -> bool
-    requires permits { AreInForce office.now.directory office.now.lanes.items desk.old.number
-        desk.old.permits.items }
-    requires receiver { IsReceiver channel.now desk.old.receiver }
-    requires lanes { office.now.directory.shards ≡ length office.now.lanes.items }
-    requires host { length office.now.host.items < 256 }
+    requires permits { AreInForce context.now.office.now.directory
+        context.now.office.now.lanes.items producer.old.desk.number
+        producer.old.desk.permits.items }
+    requires receiver { IsReceiver context.now.channel.now producer.old.desk.receiver }
+    requires lanes { context.now.office.now.directory.shards
+        ≡ length context.now.office.now.lanes.items }
+    requires host { length context.now.office.now.host.items < 256 }
     requires room { 0 < length buffers.old.input.items }
-    ensures permits { AreInForce office.now.directory office.now.lanes.items desk.old.number
-        desk.new.permits.items }
-    ensures receiver { IsReceiver channel.now desk.new.receiver }
-    ensures number { desk.new.number ≡ desk.old.number }
+    ensures permits { AreInForce context.now.office.now.directory
+        context.now.office.now.lanes.items producer.old.desk.number
+        producer.new.desk.permits.items }
+    ensures receiver { IsReceiver context.now.channel.now producer.new.desk.receiver }
+    ensures number { producer.new.desk.number ≡ producer.old.desk.number }
     ensures room { length buffers.new.input.items ≡ length buffers.old.input.items }
     ensures mail { result ≡ false
-        → AreServed (premises_of office.now) desk.old.number serial (received desk.old.receiver)
-        (map put_by desk.old.permits.items)
-        → AreServed (premises_of office.now) desk.old.number (serial
-        + 1) (received desk.new.receiver) (map put_by desk.new.permits.items) }
+        → AreServed (premises_of context.now.office.now) producer.old.desk.number serial (received
+        producer.old.desk.receiver)
+        (map put_by producer.old.desk.permits.items)
+        → AreServed (premises_of context.now.office.now) producer.old.desk.number (serial
+        + 1) (received producer.new.desk.receiver) (map put_by producer.new.desk.permits.items) }
 {
     if prepare(stream, Patience::Limited).is_err() {
         return false;
@@ -85,14 +83,8 @@ fn serve_one<R: Wait, G: Gate, S: Summons>(
     let mut input = stream;
     let mut output = Watched::new(Timely::new(stream));
     let ending = converse(
-        rt,
-        alloc,
-        pace,
-        office,
-        summons,
-        channel,
-        desk,
-        &mut Unkept,
+        context,
+        producer,
         serial,
         &mut input,
         &mut output,
@@ -106,90 +98,85 @@ fn serve_one<R: Wait, G: Gate, S: Summons>(
 // The connection that was accepted is at hand while it is served. Whoever stops the house sets its mark first and then looks for what is
 // at hand, so a thread has to look at the mark behind that.
 fn attend<R: Wait, G: Gate, S: Summons>(
-    rt: &R,
-    alloc: Global,
-    pace: &mut Pace<'_, G>,
-    office: &Office,
-    summons: &S,
-    channel: &ReplyChannel<Noted>,
-    desk: &mut Desk,
+    context: &Context<'_, R, S>,
+    producer: &mut Producer<'_, G, Unkept>,
     serial: u64,
     door: &Door<'_>,
     grip: &Grip,
     stream: &TcpStream,
     buffers: &mut Buffers,
 ) -> bool
-    requires permits { AreInForce office.now.directory office.now.lanes.items desk.old.number
-        desk.old.permits.items }
-    requires receiver { IsReceiver channel.now desk.old.receiver }
-    requires lanes { office.now.directory.shards ≡ length office.now.lanes.items }
-    requires host { length office.now.host.items < 256 }
+    requires permits { AreInForce context.now.office.now.directory
+        context.now.office.now.lanes.items producer.old.desk.number
+        producer.old.desk.permits.items }
+    requires receiver { IsReceiver context.now.channel.now producer.old.desk.receiver }
+    requires lanes { context.now.office.now.directory.shards
+        ≡ length context.now.office.now.lanes.items }
+    requires host { length context.now.office.now.host.items < 256 }
     requires room { 0 < length buffers.old.input.items }
-    ensures permits { AreInForce office.now.directory office.now.lanes.items desk.old.number
-        desk.new.permits.items }
-    ensures receiver { IsReceiver channel.now desk.new.receiver }
-    ensures number { desk.new.number ≡ desk.old.number }
+    ensures permits { AreInForce context.now.office.now.directory
+        context.now.office.now.lanes.items producer.old.desk.number
+        producer.new.desk.permits.items }
+    ensures receiver { IsReceiver context.now.channel.now producer.new.desk.receiver }
+    ensures number { producer.new.desk.number ≡ producer.old.desk.number }
     ensures room { length buffers.new.input.items ≡ length buffers.old.input.items }
     ensures mail { result ≡ false
-        → AreServed (premises_of office.now) desk.old.number serial (received desk.old.receiver)
-        (map put_by desk.old.permits.items)
-        → AreServed (premises_of office.now) desk.old.number (serial
-        + 1) (received desk.new.receiver) (map put_by desk.new.permits.items) }
+        → AreServed (premises_of context.now.office.now) producer.old.desk.number serial (received
+        producer.old.desk.receiver)
+        (map put_by producer.old.desk.permits.items)
+        → AreServed (premises_of context.now.office.now) producer.old.desk.number (serial
+        + 1) (received producer.new.desk.receiver) (map put_by producer.new.desk.permits.items) }
 {
-    if !grip.hold(rt, stream) {
+    if !grip.hold(context.rt, stream) {
         return false;
     }
     if door.is_shut() {
-        grip.clear(rt);
+        grip.clear(context.rt);
         return false;
     }
-    let torn = serve_one(
-        rt, alloc, pace, office, summons, channel, desk, serial, door, stream, buffers,
-    );
+    let torn = serve_one(context, producer, serial, door, stream, buffers);
     door.part(stream, buffers.input.as_mut_slice());
-    grip.clear(rt);
+    grip.clear(context.rt);
     torn
 }
 
 // Serves one connection after another until the house stops, the first once all threads stand, each with the next serial, and answers whether a verdict came that it
 // didn't await: then it serves nobody any more.
 fn serve_all<R: Wait, G: Gate, S: Summons>(
-    rt: &R,
-    alloc: Global,
-    pace: &mut Pace<'_, G>,
-    office: &Office,
-    summons: &S,
-    channel: &ReplyChannel<Noted>,
-    desk: &mut Desk,
+    context: &Context<'_, R, S>,
+    producer: &mut Producer<'_, G, Unkept>,
     door: &Door<'_>,
     grip: &Grip,
     buffers: &mut Buffers,
 ) -> bool
-    requires permits { AreInForce office.now.directory office.now.lanes.items desk.old.number
-        desk.old.permits.items }
-    requires receiver { IsReceiver channel.now desk.old.receiver }
-    requires lanes { office.now.directory.shards ≡ length office.now.lanes.items }
-    requires host { length office.now.host.items < 256 }
+    requires permits { AreInForce context.now.office.now.directory
+        context.now.office.now.lanes.items producer.old.desk.number
+        producer.old.desk.permits.items }
+    requires receiver { IsReceiver context.now.channel.now producer.old.desk.receiver }
+    requires lanes { context.now.office.now.directory.shards
+        ≡ length context.now.office.now.lanes.items }
+    requires host { length context.now.office.now.host.items < 256 }
     requires room { 0 < length buffers.old.input.items }
-    ensures permits { AreInForce office.now.directory office.now.lanes.items desk.old.number
-        desk.new.permits.items }
-    ensures receiver { IsReceiver channel.now desk.new.receiver }
-    ensures number { desk.new.number ≡ desk.old.number }
+    ensures permits { AreInForce context.now.office.now.directory
+        context.now.office.now.lanes.items producer.old.desk.number
+        producer.new.desk.permits.items }
+    ensures receiver { IsReceiver context.now.channel.now producer.new.desk.receiver }
+    ensures number { producer.new.desk.number ≡ producer.old.desk.number }
     ensures mail { result ≡ false
-        → AreServed (premises_of office.now) desk.old.number 0 (received desk.old.receiver)
-        (map put_by desk.old.permits.items)
-        → (connections : ℕ) × AreServed (premises_of office.now) desk.old.number connections
-        (received desk.new.receiver)
-        (map put_by desk.new.permits.items) }
+        → AreServed (premises_of context.now.office.now) producer.old.desk.number 0 (received
+        producer.old.desk.receiver)
+        (map put_by producer.old.desk.permits.items)
+        → (connections : ℕ)
+        × AreServed (premises_of context.now.office.now) producer.old.desk.number connections
+        (received producer.new.desk.receiver)
+        (map put_by producer.new.desk.permits.items) }
 {
-    door.mark.await_start(rt);
+    door.mark.await_start(context.rt);
     for serial in 0..u64::MAX {
-        let Some(stream) = door.next(rt) else {
+        let Some(stream) = door.next(context.rt) else {
             return false;
         };
-        if attend(
-            rt, alloc, pace, office, summons, channel, desk, serial, door, grip, &stream, buffers,
-        ) {
+        if attend(context, producer, serial, door, grip, &stream, buffers) {
             return true;
         }
     }
@@ -202,51 +189,57 @@ fn serve_all<R: Wait, G: Gate, S: Summons>(
 ///
 /// `room`, which is empty, has room for what is left of each permit.
 pub(crate) fn serve_until_stopped<R: Wait, G: Gate, S: Summons>(
-    rt: &R,
-    alloc: Global,
-    pace: &mut Pace<'_, G>,
-    office: &Office,
-    summons: &S,
-    channel: &ReplyChannel<Noted>,
-    mut desk: Desk,
+    context: &Context<'_, R, S>,
+    pace: Pace<'_, G>,
+    desk: Desk,
     room: Vec<Ended<Job>>,
     door: &Door<'_>,
     grip: &Grip,
     mut buffers: Buffers,
 ) -> Served
-    requires permits { AreInForce office.now.directory office.now.lanes.items desk.number
+    requires permits { AreInForce context.now.office.now.directory
+        context.now.office.now.lanes.items desk.number
         desk.permits.items }
-    requires receiver { IsReceiver channel.now desk.receiver }
-    requires lanes { office.now.directory.shards ≡ length office.now.lanes.items }
-    requires host { length office.now.host.items < 256 }
-    requires room { (room.items ≡ []) × (length office.now.lanes.items ≤ vec_capacity room) }
+    requires receiver { IsReceiver context.now.channel.now desk.receiver }
+    requires lanes { context.now.office.now.directory.shards
+        ≡ length context.now.office.now.lanes.items }
+    requires host { length context.now.office.now.host.items < 256 }
+    requires room { (room.items ≡ []) × (length context.now.office.now.lanes.items
+        ≤ vec_capacity room) }
     requires input { 0 < length buffers.input.items }
-    ensures ended { AreEnded office.now.lanes.items desk.number result.ended.items }
-    ensures receiver { IsReceiver channel.now result.receiver }
+    ensures ended { AreEnded context.now.office.now.lanes.items desk.number result.ended.items }
+    ensures receiver { IsReceiver context.now.channel.now result.receiver }
     ensures mail { result.mail ≡ true }
     ensures served { All IsNew desk.permits.items → result.torn ≡ false
-        → HasServedMail (premises_of office.now) desk.number (received result.receiver)
+        → HasServedMail (premises_of context.now.office.now) desk.number (received result.receiver)
         (map said result.ended.items) }
 {
-    let torn = serve_all(
-        rt,
-        alloc,
+    let mut producer = Producer {
         pace,
-        office,
-        summons,
-        channel,
-        &mut desk,
-        door,
-        grip,
-        &mut buffers,
-    );
+        desk,
+        book: Unkept,
+    };
+    let torn = serve_all(context, &mut producer, door, grip, &mut buffers);
+    let Producer {
+        mut pace,
+        desk,
+        book: _,
+    } = producer;
     let Desk {
         number,
         permits,
         receiver,
         ends,
     } = desk;
-    let ended = end_all(rt, pace, office, summons, number, permits, room);
+    let ended = end_all(
+        context.rt,
+        &mut pace,
+        context.office,
+        context.summons,
+        number,
+        permits,
+        room,
+    );
     Served {
         ended,
         receiver,

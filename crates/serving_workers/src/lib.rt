@@ -8,6 +8,7 @@ mod door;
 mod mark;
 mod parcels;
 mod threads;
+mod workplace;
 
 pub use accepting::{Buffers, Served};
 pub use closing::close_all;
@@ -15,3 +16,4 @@ pub use door::Door;
 pub use mark::Mark;
 pub use parcels::packed;
 pub use threads::{Begun, Hired, Serves, have_threads, join_producers, start_workers};
+pub use workplace::Workplace;

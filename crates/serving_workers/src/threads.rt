@@ -8,16 +8,16 @@ ghost use Rattle.std.specs.List.{list_all};
 ghost use Rattle.serving_workers.specs.Leaving.{IsHired, IsServed, has_thread, serves_mail};
 
 use crate::accepting::{Buffers, Served, serve_until_stopped};
-use crate::door::Door;
-use crate::mark::Mark;
 use crate::parcels::packed;
-use clerks::{Clerk, Clerks, Hall, Unhindered};
+use crate::workplace::Workplace;
+use clerks::{Hall, Unhindered};
 use house_floor::{Floor, Post};
+use lane_work::Context;
 use std::mem::ManuallyDrop;
-use std::sync::{Mutex, Wait};
+use std::sync::Wait;
 use std::thread;
 use std::thread::{Promise, Threads};
-use workers_sync::{Actor, Grip, Listening, Pace, Pause};
+use workers_sync::{Actor, Grip, Pace};
 
 /// What the thread of this producer is to return: what is left of its permits.
 #[derive(Clone, Copy)]
@@ -57,47 +57,34 @@ pub fn have_threads(hired: &[Hired<'_>]) -> bool
 // A worker's life.
 fn serve_there<H: Hall, R: Wait>(
     rt: &R,
-    floor: &Floor,
-    clerks: &[Mutex<Clerk<H>>],
-    listening: &Listening,
-    mark: &Mark,
-    pause: &Pause,
+    workplace: &Workplace<H>,
     grip: &Grip,
     number: u8,
     post: ManuallyDrop<Post>,
     buffers: Buffers,
 ) -> ManuallyDrop<Served>
-    requires lanes { H.lanes ≡ Some floor.now.office.lanes.items }
-    requires depot { H.depot ≡ Some floor.now.depot }
-    requires house { IsHouse floor.now (length floor.now.depot.channels.items) }
-    requires number { number < length floor.now.depot.channels.items }
-    requires post { IsPost floor.now number (manually_drop_value post) }
+    requires lanes { H.lanes ≡ Some workplace.now.floor.office.lanes.items }
+    requires depot { H.depot ≡ Some workplace.now.floor.depot }
+    requires house { IsHouse workplace.now.floor (length workplace.now.floor.depot.channels.items) }
+    requires number { number < length workplace.now.floor.depot.channels.items }
+    requires post { IsPost workplace.now.floor number (manually_drop_value post) }
     requires input { 0 < length buffers.input.items }
-    ensures served { IsServed floor.now number (manually_drop_value result) }
+    ensures served { IsServed workplace.now.floor number (manually_drop_value result) }
     ensures mail { (manually_drop_value result).mail ≡ true }
 {
     let Post { desk, room } = ManuallyDrop::into_inner(post);
-    let gate = Unhindered;
-    let mut pace = Pace::new(&gate, Actor::Worker(number));
-    let summons = Clerks::new(clerks, &floor.office.lanes, &floor.depot, &gate);
-    let door = Door {
-        listening,
-        mark,
-        pause,
-    };
-    packed(serve_until_stopped(
+    let (floor, gate) = (&workplace.floor, Unhindered);
+    let pace = Pace::new(&gate, Actor::Worker(number));
+    let summons = workplace.summons(&gate);
+    let context = Context {
         rt,
-        floor.alloc,
-        &mut pace,
-        &floor.office,
-        &summons,
-        &floor.depot.channels[usize::from(number)],
-        desk,
-        room,
-        &door,
-        grip,
-        buffers,
-    ))
+        alloc: floor.alloc,
+        office: &floor.office,
+        summons: &summons,
+        channel: &floor.depot.channels[usize::from(number)],
+    };
+    let door = workplace.door();
+    packed(serve_until_stopped(&context, pace, desk, room, &door, grip, buffers))
 }
 
 // Starts a worker's thread. Where none can be made the house's mark has to be set before what came of it can be had: so the worker serves
@@ -105,39 +92,33 @@ fn serve_there<H: Hall, R: Wait>(
 fn start_worker<'s, E, H: Hall + Send, R: Threads + Wait + Sync>(
     scope: &thread::Scope<'s, E>,
     rt: &'s R,
-    floor: &'s Floor,
-    clerks: &'s [Mutex<Clerk<H>>],
-    listening: &'s Listening,
-    mark: &'s Mark,
-    pause: &'s Pause,
+    workplace: &'s Workplace<H>,
     grip: &'s Grip,
     number: u8,
     post: Post,
     buffers: Buffers,
 ) -> Hired<'s>
-    requires lanes { H.lanes ≡ Some floor.now.office.lanes.items }
-    requires depot { H.depot ≡ Some floor.now.depot }
-    requires house { IsHouse floor.now (length floor.now.depot.channels.items) }
-    requires number { number < length floor.now.depot.channels.items }
-    requires post { IsPost floor.now number post }
+    requires lanes { H.lanes ≡ Some workplace.now.floor.office.lanes.items }
+    requires depot { H.depot ≡ Some workplace.now.floor.depot }
+    requires house { IsHouse workplace.now.floor (length workplace.now.floor.depot.channels.items) }
+    requires number { number < length workplace.now.floor.depot.channels.items }
+    requires post { IsPost workplace.now.floor number post }
     requires input { 0 < length buffers.input.items }
-    ensures hired { IsHired floor.now number result }
+    ensures hired { IsHired workplace.now.floor number result }
     ensures mail { serves_mail result ≡ true }
 {
     let parcel = packed(post);
     let promise = Serves {
-        floor,
+        floor: &workplace.floor,
         number,
         mail: true,
     };
     match scope.spawn_with(promise, move || {
-        serve_there::<H, R>(
-            rt, floor, clerks, listening, mark, pause, grip, number, parcel, buffers,
-        )
+        serve_there::<H, R>(rt, workplace, grip, number, parcel, buffers)
     }) {
         Ok(child) => Hired::There(child),
         Err(refused) => {
-            mark.set();
+            workplace.mark.set();
             Hired::Here((refused.value)())
         }
     }
@@ -148,40 +129,37 @@ fn start_worker<'s, E, H: Hall + Send, R: Threads + Wait + Sync>(
 fn start_next<'s, E, H: Hall + Send, R: Threads + Wait + Sync>(
     scope: &thread::Scope<'s, E>,
     rt: &'s R,
-    floor: &'s Floor,
-    clerks: &'s [Mutex<Clerk<H>>],
-    listening: &'s Listening,
-    mark: &'s Mark,
-    pause: &'s Pause,
+    workplace: &'s Workplace<H>,
     grip: &'s Grip,
     number: u8,
     posts: &mut Vec<Post>,
     buffers: &mut Vec<Buffers>,
     hired: &mut Vec<Hired<'s>>,
 )
-    requires lanes { H.lanes ≡ Some floor.now.office.lanes.items }
-    requires depot { H.depot ≡ Some floor.now.depot }
-    requires house { IsHouse floor.now (length floor.now.depot.channels.items) }
-    requires number { number < length floor.now.depot.channels.items }
-    requires posts { AllAt (IsPost floor.now) number posts.old.items × (0 < vec_len posts.old) }
+    requires lanes { H.lanes ≡ Some workplace.now.floor.office.lanes.items }
+    requires depot { H.depot ≡ Some workplace.now.floor.depot }
+    requires house { IsHouse workplace.now.floor (length workplace.now.floor.depot.channels.items) }
+    requires number { number < length workplace.now.floor.depot.channels.items }
+    requires posts { AllAt (IsPost workplace.now.floor) number posts.old.items
+        × (0 < vec_len posts.old) }
     requires buffers { All (λ b. 0 < length b.input.items) buffers.old.items
         × (0 < vec_len buffers.old) }
-    requires hired { AllAt (IsHired floor.now) 0 hired.old.items × (vec_len hired.old ≡ number) }
+    requires hired { AllAt (IsHired workplace.now.floor) 0 hired.old.items × (vec_len hired.old
+        ≡ number) }
     requires mail { All (λ h. serves_mail h ≡ true) hired.old.items }
     requires room { vec_len hired.old < vec_capacity hired.old }
-    ensures posts { AllAt (IsPost floor.now) (number + 1) posts.new.items
+    ensures posts { AllAt (IsPost workplace.now.floor) (number + 1) posts.new.items
         × (vec_len posts.new + 1 ≡ vec_len posts.old) }
     ensures buffers { All (λ b. 0 < length b.input.items) buffers.new.items
         × (vec_len buffers.new + 1 ≡ vec_len buffers.old) }
-    ensures hired { AllAt (IsHired floor.now) 0 hired.new.items × (vec_len hired.new ≡ number + 1) }
+    ensures hired { AllAt (IsHired workplace.now.floor) 0 hired.new.items × (vec_len hired.new
+        ≡ number + 1) }
     ensures mail { All (λ h. serves_mail h ≡ true) hired.new.items }
     ensures room { vec_capacity hired.new ≡ vec_capacity hired.old }
 {
     let post = posts.remove(0);
     let own = buffers.remove(0);
-    hired.push_reserved(start_worker(
-        scope, rt, floor, clerks, listening, mark, pause, grip, number, post, own,
-    ));
+    hired.push_reserved(start_worker(scope, rt, workplace, grip, number, post, own));
 }
 
 /// The workers' threads, and what is left of the posts.
@@ -193,58 +171,50 @@ pub struct Begun<'a> {
 }
 
 /// Starts a thread for each worker, a grip for each, in their order, with the first of these posts. The others are given back, and so is
-/// the list of threads, in which there is room for all posts. None of them accepts anybody while the start of `mark` is held, as whoever
+/// the list of threads, in which there is room for all posts. None of them accepts anybody while the start of the workplace's mark is held, as whoever
 /// calls it does. Where a thread can't be made the mark is set, so no worker serves anybody.
 pub fn start_workers<'s, E, H: Hall + Send, R: Threads + Wait + Sync>(
     scope: &thread::Scope<'s, E>,
     rt: &'s R,
-    floor: &'s Floor,
-    clerks: &'s [Mutex<Clerk<H>>],
-    listening: &'s Listening,
-    mark: &'s Mark,
-    pause: &'s Pause,
+    workplace: &'s Workplace<H>,
     grips: &'s [Grip],
     mut posts: Vec<Post>,
     mut buffers: Vec<Buffers>,
     mut hired: Vec<Hired<'s>>,
 ) -> Begun<'s>
-    // The floor is a house, and that of the clerks' hall.
-    requires lanes { H.lanes ≡ Some floor.now.office.lanes.items }
-    requires depot { H.depot ≡ Some floor.now.depot }
-    requires house { IsHouse floor.now (length floor.now.depot.channels.items) }
+    // The workplace's floor is a house, and that of its clerks' hall.
+    requires lanes { H.lanes ≡ Some workplace.now.floor.office.lanes.items }
+    requires depot { H.depot ≡ Some workplace.now.floor.depot }
+    requires house { IsHouse workplace.now.floor (length workplace.now.floor.depot.channels.items) }
 
     // There are no more workers than producers.
-    requires grips { length grips.now ≤ length floor.now.depot.channels.items }
+    requires grips { length grips.now ≤ length workplace.now.floor.depot.channels.items }
 
     // Each producer has its post, by its number, with nothing put or heard yet; and each worker has room to read into.
-    requires posts { AllAt (IsPost floor.now) 0 posts.items
-        × (vec_len posts ≡ length floor.now.depot.channels.items) }
+    requires posts { AllAt (IsPost workplace.now.floor) 0 posts.items
+        × (vec_len posts ≡ length workplace.now.floor.depot.channels.items) }
     requires buffers { All (λ b. 0 < length b.input.items) buffers.items
         × (vec_len buffers ≡ length grips.now) }
     requires room { (hired.items ≡ [])
-        × (length floor.now.depot.channels.items ≤ vec_capacity hired) }
+        × (length workplace.now.floor.depot.channels.items ≤ vec_capacity hired) }
 
     // For each worker, by its number: its thread, which will leave what that producer leaves, or what it has left without one.
     // Each is a worker's, who leaves what its connections submitted, one connection after another with serials from 0 on.
-    ensures hired { AllAt (IsHired floor.now) 0 result.hired.items }
+    ensures hired { AllAt (IsHired workplace.now.floor) 0 result.hired.items }
     ensures count { vec_len result.hired ≡ length grips.now }
     ensures mail { All (λ h. serves_mail h ≡ true) result.hired.items }
-    ensures room { length floor.now.depot.channels.items ≤ vec_capacity result.hired }
+    ensures room { length workplace.now.floor.depot.channels.items ≤ vec_capacity result.hired }
 
     // The posts of the producers behind the workers are given back, in their order, with nothing put or heard yet.
-    ensures posts { AllAt (IsPost floor.now) (length grips.now) result.posts.items }
+    ensures posts { AllAt (IsPost workplace.now.floor) (length grips.now) result.posts.items }
     ensures others { vec_len result.posts + length grips.now
-        ≡ length floor.now.depot.channels.items }
+        ≡ length workplace.now.floor.depot.channels.items }
 {
     for position in 0..grips.len() {
         start_next(
             scope,
             rt,
-            floor,
-            clerks,
-            listening,
-            mark,
-            pause,
+            workplace,
             &grips[position],
             position as u8,
             &mut posts,

@@ -14,8 +14,8 @@ use Rattle.mailbox.specs.declared.clients.MailFault.TheVariants.{NoMemory}
 use Rattle.imap_session.specs.Dialogue as dialogue
 use Rattle.imap_session.specs.Store.{IdleTurns}
 use Rattle.imap_session.specs.Dialogue.{Dialogue, ImapConnection, StandsFor}
-use Rattle.session_thread.specs.declared.life.Step.{Step}
-use Rattle.session_thread.specs.declared.life.Step.TheVariants.{Say, Await}
+use Rattle.settings.specs.declared.step.Step.{Step}
+use Rattle.settings.specs.declared.step.Step.TheVariants.{Say, Await}
 use Rattle.session_thread.specs.Locks.{Holds, LockedStore, shown_in}
 use Rattle.session_thread.specs.Life.{Awaits, Departs, Does, HasShown, HasTurn, IsForgotten, IsOver, IsShortInTurn, Lives, LivesInPart, Moment, Says, SaysInPart, Steps, StopsIn, Turns, another, goes_on, greeted_at, moment, takes_more}
 use Rattle.workers_sync.specs.Carried.{Carried}

@@ -15,8 +15,8 @@ use Rattle.imap_session.specs.Exchange.{Feed, Folder, Leave, Left, Refused, Sent
 use Rattle.imap_session.specs.Commands.{most_changes}
 use Rattle.imap_session.specs.Store.{AnswersVerdict, IdleTurns}
 use Rattle.imap_session.specs.Dialogue.{Answered, Dialogue, answer_room, may_follow, tag_len}
-use Rattle.session_thread.specs.declared.life.Step.{Step}
-use Rattle.session_thread.specs.declared.life.Step.TheVariants.{Say, Await}
+use Rattle.settings.specs.declared.step.Step.{Step}
+use Rattle.settings.specs.declared.step.Step.TheVariants.{Say, Await}
 use Rattle.session_thread.specs.Locks.{Holds, In, LockedStore, shown_in}
 
 -- where a session stands: its client's dialogue, its handle, and all that was written

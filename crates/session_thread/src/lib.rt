@@ -11,7 +11,7 @@ mod speaking;
 mod turns;
 
 pub use laws::pieces_abut;
-pub use life::{Step, depart, live, takes_more};
+pub use life::{depart, live, takes_more};
 pub use locked_store::LockedStore;
 pub use speaking::answer;
 pub use turns::idle_turn;

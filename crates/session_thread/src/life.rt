@@ -12,20 +12,11 @@ use crate::locked_store::LockedStore;
 use crate::speaking::answer;
 use crate::turns::idle_turn;
 use imap_session::{After, Folder, ImapConnection, Store};
+use settings::Step;
 use std::alloc::{AllocError, Global};
 use std::sync::Wait;
 use std::thread;
 use workers_sync::{Courier, Gate, Lost};
-
-/// What a session's thread does next.
-#[derive(Drop)]
-pub enum Step {
-    /// The client sends these bytes.
-    Say(Vec<u8>),
-    /// While it idles the session has turns, until so many changes were shown since SELECT or
-    /// EXAMINE.
-    Await(u64),
-}
 
 /// Whether the client may send more: its session goes on, and awaits no verdict on a message.
 pub fn takes_more(connection: &ImapConnection) -> bool

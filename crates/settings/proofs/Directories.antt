@@ -1,5 +1,5 @@
 -- The directory that the settings name.
-use Rattle.std.proofs.Common.{◌≡◌, ℕ, Bool, true, false, List, [], ◌∷◌, length, map, ap, ◌∙◌, Option, Some, None, Result, Ok, Err}
+use Rattle.std.proofs.Common.{◌≡◌, ℕ, Bool, true, false, List, [], ◌∷◌, length, map, ap, ◌∙◌, Option, Some, None, Ok, Err}
 use Rattle.std.specs.Prelude.{nat_lt, not, if◌then◌else◌}
 use Rattle.std.specs.List.{list_all}
 use Rattle.envelope.specs.Directory.{Directory, Home, none_shut}

@@ -1,5 +1,5 @@
 -- The settings of a house: those that stand where none are given, their ranges, what may be wrong with them, and the directory of their mailboxes.
-use Rattle.std.specs.Prelude.{◌≡◌, ℕ, ◌+◌, ◌*◌, ◌<◌, ◌≤◌, ◌==◌, ◌&&◌, ◌||◌, not, Bool, nat_lt, List, [], ◌∷◌, length, map, count_by, codes, Option, Some, None, Result, Ok, Err, if◌then◌else◌}
+use Rattle.std.specs.Prelude.{◌≡◌, ◌≢◌, ℕ, ◌+◌, ◌*◌, ◌<◌, ◌≤◌, ◌==◌, ◌&&◌, ◌||◌, not, Bool, nat_lt, List, [], ◌∷◌, length, map, count_by, codes, Option, Some, None, Result, Ok, Err, if◌then◌else◌}
 use Rattle.std.specs.List.{list_any}
 use Rattle.envelope.specs.Directory.{Directory, Home, none_shut}
 use Rattle.envelope.specs.Names.{home_of, words_read}
@@ -49,8 +49,10 @@ pub record IsInRange (c : Config) : Type 0 where
   pub first_uid : IsFrom 1 4294967294 c.first_uid
   pub sessions : IsFrom 1 4 c.sessions
   pub workers : IsFrom 1 8 c.workers
-  pub lmtp_port : IsFrom 1 65535 c.lmtp_port
-  pub imap_port : IsFrom 1024 65472 c.imap_port
+  -- 0 is for ports that the system chooses
+  pub lmtp_port : IsFrom 0 65535 c.lmtp_port
+  pub imap_port : IsFrom 0 65472 c.imap_port
+  pub imap_given : c.imap_port ≢ 0 → 1024 ≤ c.imap_port
 
 -- ---- what may be wrong
 
@@ -72,9 +74,10 @@ has_slash word = list_any (λ b. b == 47) word
 abbrev pub users_in : Config → ℕ
 users_in c = count_by (λ w. not (has_slash w.items)) c.mailboxes.items
 
--- The port that mail comes to is not that of SMTP, nor that of some user: these are as many as there are users, from the first one on.
+-- The port that mail comes to is not that of SMTP, nor that of some user: these are as many as there are users, from the first one on. 0 is no port of a user: the
+-- system chooses theirs then.
 abbrev pub are_ports_wrong : Config → Bool
-are_ports_wrong c = (c.lmtp_port == 25) || (not (nat_lt c.lmtp_port c.imap_port) && nat_lt c.lmtp_port (c.imap_port + users_in c))
+are_ports_wrong c = (c.lmtp_port == 25) || (not (c.imap_port == 0) && (not (nat_lt c.lmtp_port c.imap_port) && nat_lt c.lmtp_port (c.imap_port + users_in c)))
 
 -- what is wrong with the numbers, where the names are right
 unfoldable pub fault_of_numbers : Config → Option ConfigFault

@@ -1,6 +1,6 @@
 //! The settings of a house, and what may be wrong with them. No house is made here, and no command line is read.
 
-ghost use Rattle.std.specs.Prelude.{◌≡◌, ◌<◌, IfOk, length, map, true, false};
+ghost use Rattle.std.specs.Prelude.{◌≡◌, ◌≢◌, ◌<◌, ◌≤◌, IfOk, length, map, true, false};
 ghost use Rattle.envelope.specs.Names.{texts};
 ghost use Rattle.settings.specs.Settings.{IsDefault, IsFrom, IsInRange, fault_named};
 
@@ -39,9 +39,11 @@ pub struct Config {
     pub sessions: u8,
     /// So many LMTP connections may be served at a time, 1 to 8. Only a server looks at it, and at the ports.
     pub workers: u8,
-    /// The port that mail comes to, 1 to 65535: not 25, where others expect SMTP (RFC 2033, 5), nor one of the users'.
+    /// The port that mail comes to, 1 to 65535: not 25, where others expect SMTP (RFC 2033, 5), nor one of the users'. 0 where the
+    /// system is to choose a free one.
     pub lmtp_port: u16,
-    /// The port of the first user's sessions, 1024 to 65472; the others' follow, in the order of the users.
+    /// The port of the first user's sessions, 1024 to 65472; the others' follow, in the order of the users. 0 where the system is
+    /// to choose a free one for each user.
     pub imap_port: u16,
 }
 
@@ -184,8 +186,9 @@ impl Config {
         ensures uidvalidity { result ≡ true → IsFrom 1 4294967295 self.now.uidvalidity }
         ensures first_uid { result ≡ true → IsFrom 1 4294967294 self.now.first_uid }
         ensures workers { result ≡ true → IsFrom 1 8 self.now.workers }
-        ensures lmtp_port { result ≡ true → IsFrom 1 65535 self.now.lmtp_port }
-        ensures imap_port { result ≡ true → IsFrom 1024 65472 self.now.imap_port }
+        ensures lmtp_port { result ≡ true → IsFrom 0 65535 self.now.lmtp_port }
+        ensures imap_port { result ≡ true → IsFrom 0 65472 self.now.imap_port }
+        ensures imap_given { result ≡ true → self.now.imap_port ≢ 0 → 1024 ≤ self.now.imap_port }
         ensures beyond { result ≡ false → IsInRange self.now → ⊥ }
     {
         if !numbers::UIDVALIDITY.allows(u64::from(self.uidvalidity)) {
@@ -201,6 +204,12 @@ impl Config {
             return false;
         }
         if !numbers::IMAP_PORT.allows(u64::from(self.imap_port)) {
+            return false;
+        }
+        if self.imap_port == 0 {
+            return true;
+        }
+        if u64::from(self.imap_port) < numbers::LEAST_IMAP_PORT {
             return false;
         }
         true

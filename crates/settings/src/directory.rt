@@ -85,7 +85,8 @@ fn are_ports_wrong(config: &Config) -> bool
     ensures { result ≡ are_ports_wrong config.now }
 {
     let (port, first) = (usize::from(config.lmtp_port), usize::from(config.imap_port));
-    config.lmtp_port == SMTP_PORT || (first <= port && port - first < users_in(config))
+    config.lmtp_port == SMTP_PORT
+        || (first != 0 && first <= port && port - first < users_in(config))
 }
 
 // What is wrong with the numbers.
@@ -108,7 +109,7 @@ fn fault_of_numbers(config: &Config) -> Option<ConfigFault>
 /// Errors, the first that holds: `TooMany` for more than 64 mailboxes; `BadName` for the host, then for the domain; then the fault
 /// of the first word that has one, `BadName` if it is spelled wrong or its user has no word before it, `Twice` if it names an
 /// earlier one's mailbox in upper or lower case; `Ring` where the ring keeps fewer than two changes for each message, or its most
-/// is not 0 and is less than it; `Ports` where mail is to come to port 25 or to a user's port. In place of any of them, and where
+/// is not 0 and is less than it; `Ports` where mail is to come to port 25 or to a user's port that is given. In place of any of them, and where
 /// nothing else is wrong, `NoMemory` if memory is refused.
 pub fn directory_of(alloc: Global, config: &Config) -> Result<Directory, ConfigFault>
     // Each number is in its range, and there is a mailbox: `Config::is_in_range`.

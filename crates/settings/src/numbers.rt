@@ -95,16 +95,19 @@ pub const WORKERS: Number = Number {
     default: 4,
 };
 
-/// The port that mail comes to.
+/// The port that mail comes to; 0 for one that the system chooses.
 pub const LMTP_PORT: Number = Number {
-    least: 1,
+    least: 0,
     most: 65_535,
     default: 2424,
 };
 
-/// The port of the first user's sessions.
+/// The port of the first user's sessions; 0 for ports that the system chooses, one for each user.
 pub const IMAP_PORT: Number = Number {
-    least: 1024,
+    least: 0,
     most: 65_472,
     default: 14_300,
 };
+
+/// The least port of the first user's sessions but for 0.
+pub const LEAST_IMAP_PORT: u64 = 1024;

@@ -1,7 +1,7 @@
 //! Who isn't there has no mailboxes. A house asks for those of its users alone.
 
 use envelope::{Directory, DirectoryFault};
-use house_peers::folders_of;
+use imap_session::folders_of;
 use std::alloc::Global;
 
 // Two users, one of whom has a folder.

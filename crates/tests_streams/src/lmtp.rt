@@ -8,7 +8,9 @@ ghost use Rattle.lane_work.specs.Permits.{AreInForce};
 
 use delivery_token::{Job, Noted, Verdict};
 use envelope::Directory;
-use lane_work::{Desk, Ending, LanePermit, Office, Summons, TalkFault, Unkept, converse};
+use lane_work::{
+    Context, Desk, Ending, LanePermit, Office, Producer, Summons, TalkFault, Unkept, converse,
+};
 use line_io::Sink;
 use shard_queue::{
     ConsumerPermit, Ended, ProducerPermit, ReceiverPermit, ReplyChannel, SenderPermit, ShardQueue,
@@ -365,21 +367,19 @@ fn has_front(bytes: &[u8], replies: &[&[u8]], room: usize) -> bool {
 
 // Plays the connection of a case, and answers whether it came as it was to come.
 fn talk<R: Wait, S: Summons>(
-    rt: &R,
-    alloc: Global,
-    office: &Office,
-    summons: &S,
-    channel: &ReplyChannel<Noted>,
-    desk: &mut Desk,
+    context: &Context<'_, R, S>,
+    producer: &mut Producer<'_, Open, Unkept>,
     stop: &AtomicBool,
     case: &Case,
 ) -> Result<bool, AllocError>
-    requires permits { AreInForce office.now.directory office.now.lanes.items desk.old.number
-        desk.old.permits.items }
-    requires receiver { IsReceiver channel.now desk.old.receiver }
-    requires lanes { office.now.directory.shards ≡ length office.now.lanes.items }
-    requires host { length office.now.host.items < 256 }
-    ensures { length desk.new.permits.items ≡ length office.now.lanes.items }
+    requires permits { AreInForce context.now.office.now.directory
+        context.now.office.now.lanes.items producer.old.desk.number
+        producer.old.desk.permits.items }
+    requires receiver { IsReceiver context.now.channel.now producer.old.desk.receiver }
+    requires lanes { context.now.office.now.directory.shards
+        ≡ length context.now.office.now.lanes.items }
+    requires host { length context.now.office.now.host.items < 256 }
+    ensures { length producer.new.desk.permits.items ≡ length context.now.office.now.lanes.items }
 {
     let mut input = Pieces {
         pieces: case.pieces,
@@ -391,25 +391,16 @@ fn talk<R: Wait, S: Summons>(
         stops_at: case.stops_at,
     };
     let mut output = Taking {
-        bytes: Vec::new(alloc),
+        bytes: Vec::new(context.alloc),
         room: case.room,
         has_failed: false,
     };
-    let mut out = Vec::from_slice(alloc, b"what stood there before")?;
+    let mut out = Vec::from_slice(context.alloc, b"what stood there before")?;
     let mut buffer = [0u8; 300];
     let most = case.buffer.clamp(1, 300);
-    let gate = Open;
-    let mut pace = Pace::new(&gate, Actor::Worker(0));
-    let mut book = Unkept;
     let came = converse(
-        rt,
-        alloc,
-        &mut pace,
-        office,
-        summons,
-        channel,
-        desk,
-        &mut book,
+        context,
+        producer,
         7,
         &mut input,
         &mut output,
@@ -427,7 +418,7 @@ fn with_clerk<R: Wait>(
     office: &Office,
     lane: &ShardQueue<Job>,
     channel: &ReplyChannel<Noted>,
-    desk: &mut Desk,
+    producer: &mut Producer<'_, Open, Unkept>,
     permit: ConsumerPermit<Job>,
     sender: SenderPermit<Noted>,
     case: &Case,
@@ -436,14 +427,15 @@ fn with_clerk<R: Wait>(
     SenderPermit<Noted>,
     Result<bool, AllocError>,
 )
-    requires permits { AreInForce office.now.directory office.now.lanes.items desk.old.number
-        desk.old.permits.items }
-    requires receiver { IsReceiver channel.now desk.old.receiver }
+    requires permits { AreInForce office.now.directory office.now.lanes.items
+        producer.old.desk.number
+        producer.old.desk.permits.items }
+    requires receiver { IsReceiver channel.now producer.old.desk.receiver }
     requires lanes { office.now.directory.shards ≡ length office.now.lanes.items }
     requires host { length office.now.host.items < 256 }
     requires takes { IsConsumer lane.now permit }
     requires answers { IsSender channel.now sender }
-    ensures { length desk.new.permits.items ≡ length office.now.lanes.items }
+    ensures { length producer.new.desk.permits.items ≡ length office.now.lanes.items }
 {
     let stop = AtomicBool::new(false);
     let counter = Counter {
@@ -456,7 +448,14 @@ fn with_clerk<R: Wait>(
         stop: &stop,
         stops: case.stops_at_put,
     };
-    let told = talk(rt, alloc, office, &counter, channel, desk, &stop, case);
+    let context = Context {
+        rt,
+        alloc,
+        office,
+        summons: &counter,
+        channel,
+    };
+    let told = talk(&context, producer, &stop, case);
     let Counter {
         clerk,
         stop: _,
@@ -715,11 +714,21 @@ fn play_in<R: Wait>(
         lanes,
         closings: Vec::new(alloc),
     };
-    let mut desk = desk_of(hand, receiver);
+    let gate = Open;
+    let mut own = Producer {
+        pace: Pace::new(&gate, Actor::Worker(0)),
+        desk: desk_of(hand, receiver),
+        book: Unkept,
+    };
     let served = &office.lanes[0];
     let (permit, sender, told) = with_clerk(
-        rt, alloc, &office, served, &channel, &mut desk, permit, sender, case,
+        rt, alloc, &office, served, &channel, &mut own, permit, sender, case,
     );
+    let Producer {
+        pace: _,
+        desk,
+        book: _,
+    } = own;
     senders.push_reserved(sender);
     let back = Back {
         live,

@@ -2,8 +2,7 @@
 
 use house_floor::Guest;
 use running_house::Plan;
-use session_thread::Step;
-use settings::Config;
+use settings::{Config, Step};
 use std::alloc::{AllocError, Global};
 
 /// What each mailbox tells as its UIDVALIDITY.

@@ -168,7 +168,7 @@ fn put_all<H: Hall, R: Wait>(
     ensures permits { ArePermits floor.now.office.lanes.items desk.old.number
         desk.new.permits.items }
 {
-    let help = Clerks::new(clerks, &floor.office.lanes, &floor.depot, &Unhindered);
+    let help = Clerks::new(clerks, &floor.office.lanes, &floor.depot, &Unhindered, 8);
     let number = desk.number;
     let mut stored = 0usize;
     for serial in 0..COPIES {
@@ -207,7 +207,7 @@ fn labour<H: Hall, R: Wait + Abort>(
         ends: _,
     } = desk;
     let mut pace = Pace::new(&Unhindered, Actor::Worker(number));
-    let help = Clerks::new(clerks, &floor.office.lanes, &floor.depot, &Unhindered);
+    let help = Clerks::new(clerks, &floor.office.lanes, &floor.depot, &Unhindered, 8);
     let ended = end_all(rt, &mut pace, &floor.office, &help, number, permits, room);
     packed(Left {
         ended,
@@ -588,7 +588,7 @@ fn help_once<H: Hall, T: Wait>(rt: &T, floor: &Floor, clerks: &[Mutex<Clerk<H>>]
     requires lanes { H.lanes ≡ Some floor.now.office.lanes.items }
     requires depot { H.depot ≡ Some floor.now.depot }
 {
-    let help = Clerks::new(clerks, &floor.office.lanes, &floor.depot, &Unhindered);
+    let help = Clerks::new(clerks, &floor.office.lanes, &floor.depot, &Unhindered, 8);
     help.help(rt, shard);
 }
 

@@ -22,7 +22,7 @@ use Rattle.lmtp_machine.specs.declared.connection.What.{What}
 use Rattle.lmtp_machine.specs.declared.connection.What.TheVariants.{Quit}
 use Rattle.house.specs.Printing.{ConnectionGoes}
 use Rattle.house.specs.Scene.{Lingers, SessionGoes, SessionIdles, SessionTalks, most_serials, place_of, seat_of}
-use Rattle.house_peers.specs.Folders.{has_user}
+use Rattle.imap_session.specs.Folders.{has_user}
 use Rattle.house_peers.specs.HouseSession.{with_more}
 use Rattle.house_peers.specs.ConnectionStands.{StandsForConnection}
 use Rattle.house_peers.specs.SeatedSession.{SeatedSession, StandsForSeated, with_place}

@@ -13,7 +13,7 @@ use Rattle.workers_sync.specs.Carried.{Carried}
 use Rattle.imap_session.specs.Commands.{greeting}
 use Rattle.session_thread.specs.Life.{Lives, Moment, greeted_at}
 use Rattle.session_thread.specs.Locks.{LockedStore}
-use Rattle.house_peers.specs.Folders.{folders_of}
+use Rattle.imap_session.specs.Folders.{folders_of}
 use Rattle.delivery_token.specs.declared.log.Noted.{Noted}
 use Rattle.lane_work.specs.declared.worker.Fate.TheVariants.{Whole}
 use Rattle.lane_work.specs.declared.worker.Worked.{Worked}
@@ -23,7 +23,8 @@ use Rattle.lane_work.specs.Speaking.{premises_of}
 use Rattle.shard_queue.specs.declared.ends.ReplyChannel.{ReplyChannel}
 use Rattle.shard_queue.specs.Reply.{IsReceiver, received}
 use Rattle.shard_queue.specs.Permits.{said}
-use Rattle.house_floor.specs.Left.{Plans, IsProduceOf, IsServiceOf, SessionAccount, most_of}
+use Rattle.house_floor.specs.Left.{Plans, IsServiceOf, most_of}
+use Rattle.reckoning.specs.Produced.{IsProduceOf, SessionAccount}
 
 -- ---- promises
 

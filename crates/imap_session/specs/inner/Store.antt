@@ -2,16 +2,19 @@
 use Rattle.imap_session.specs.declared.standing.After.TheVariants.{Go, Bye}
 use Rattle.imap_grammar.specs.declared.command.Command.{Command}
 use Rattle.imap_grammar.specs.declared.command.Command.TheVariants as commands
-use Rattle.std.specs.Prelude.{◌≡◌, ℕ, Bool, true, false, codes, List, [], ◌++◌, Option, Some, Result, Ok, Err, None}
+use Rattle.std.specs.Prelude.{◌≡◌, ℕ, Bool, true, false, List, [], ◌++◌, Option, Some, Result, Ok, Err, None}
 use Rattle.mailbox.specs.declared.clients.MailFault.{MailFault}
 use Rattle.imap_session.specs.declared.standing.After.{After}
 use Rattle.imap_session.specs.declared.standing.Selected.{Selected}
-use Rattle.imap_session.specs.Exchange.{Call, Answer, Event, Exchange, Done, Standing, Turn, played, refused, refusal_text, refusal_after, bye, closed, tagged}
-use Rattle.imap_answers.specs.Answers.{crlf}
+use Rattle.imap_session.specs.Exchange.{Call, Answer, Event, Exchange, Done, Standing, Turn, played, refused, refusal_text, refusal_after, bye, closed, tagged, untagged}
 use Rattle.imap_session.specs.Commands.{completed, notice, on_command}
 use Rattle.imap_session.specs.Store.{Met}
 use Rattle.imap_session.specs.Response.{Response}
 use Rattle.imap_session.specs.inner.Response.{Adds}
+use Rattle.imap_session.specs.declared.texts.ResponseText.TheVariants as texts
+use Rattle.imap_session.specs.Texts.{response_text}
+use Rattle.imap_session.specs.declared.texts.ResponseText.{ResponseText}
+use Rattle.imap_grammar.specs.declared.command.Verb.TheVariants as verbs
 
 -- ---- part of a turn
 
@@ -53,13 +56,13 @@ Moves step from to x y old new before after (Err fault) =
 
 -- ---- a whole exchange
 
--- what a command leaves to the outermost call: the words of the last line
-abbrev pub last : List ℕ → Exchange
-last words = Done words Go
+-- what a command leaves to the outermost call: the text of the last line
+abbrev pub last : ResponseText → Exchange
+last text = Done (response_text text) Go
 
 -- the last line, or what is said of a fault
-abbrev pub last_words : List ℕ → Result (List ℕ) MailFault → List ℕ
-last_words tag (Ok words) = tagged tag words
+abbrev pub last_words : List ℕ → Result ResponseText MailFault → List ℕ
+last_words tag (Ok text) = tagged tag (response_text text)
 last_words tag (Err fault) = refusal_text tag fault
 
 abbrev pub after_result : {V : Type 0} → After → Result V MailFault → After
@@ -78,11 +81,11 @@ pub record Plays {S : Type 0} (step : S → Call → Answer → S → Type 0) (t
 -- a notice as a line; nothing where there is none
 abbrev pub notice_line : Option (List ℕ) → List ℕ
 notice_line None = []
-notice_line (Some words) = codes "* " ++ words ++ crlf
+notice_line (Some words) = untagged words
 
 -- what a command says of the server before all else, in room that was reserved
 abbrev pub first_line : Command → List ℕ
-first_line commands.Logout = bye (codes "Logging out")
+first_line commands.Logout = bye (response_text texts.LoggingOut)
 first_line command = notice_line (notice command)
 
 -- what is done then: behind a notice nothing more
@@ -91,7 +94,7 @@ behind_notice None command x = x
 behind_notice (Some words) command x = completed command
 
 abbrev pub behind_first_line : Standing → Command → Exchange
-behind_first_line now commands.Logout = Done (codes "OK LOGOUT completed") Bye
+behind_first_line now commands.Logout = Done (response_text (texts.Completed verbs.Logout)) Bye
 behind_first_line now command = behind_notice (notice command) command (on_command now command)
 
 -- what a client may send after a command that was done
@@ -110,5 +113,5 @@ is_open (commands.Append append) = true
 is_open _ = false
 
 -- the last line of a command, after which a client may send this
-abbrev pub ending : After → List ℕ → Exchange
-ending after words = Done words after
+abbrev pub ending : After → ResponseText → Exchange
+ending after text = Done (response_text text) after

@@ -310,6 +310,11 @@ wanting_memory_for_sets : written in_inbox (Line (codes "a2 FETCH 1 (FLAGS)") (S
 unfolding read digits
 wanting_memory_for_sets = refl
 
+-- where the set names none, no UID is to be kept
+uid_expunge_of_none_without_memory : turn_of in_inbox (codes "a2 UID EXPUNGE 7") (Looked (1 ∷ []) ∷ Starved 0 ∷ []) ≡ None
+unfolding read digits
+uid_expunge_of_none_without_memory = refl
+
 -- where nothing is told of a message none is wanted
 silent_without_memory : turn_of in_inbox (codes "a2 STORE 1 +FLAGS.SILENT (\\Deleted)") (Looked (1 ∷ []) ∷ Altered (Some (flags false false true false false)) ∷ Starved 0 ∷ []) ≡ None
 unfolding read digits

@@ -1,6 +1,5 @@
 -- What the program does with a script, and as a server, by how it went.
-use Rattle.std.specs.Prelude.{◌≡◌, ℕ, ◌⊎◌, Bool, true, List, [], Option, Some, None, Result, Ok, Err, OnOk, take}
-use Rattle.std.specs.Io.KnownBytes.{Appends}
+use Rattle.std.specs.Prelude.{◌≡◌, ℕ, ◌⊎◌, Bool, true, List, [], Option, Some, None, Result, Ok, Err, OnOk}
 use Rattle.house.specs.Setup.{setup_of}
 use Rattle.settings.specs.Settings.{config_fault}
 use Rattle.house.specs.House.{House}
@@ -22,7 +21,7 @@ use Rattle.post_house.specs.declared.failure.Failure.TheVariants as failures
 use Rattle.script.specs.Promise.{WroteOnce}
 use Rattle.script.specs.Script.{ScriptLine, script_of}
 use Rattle.script.specs.Leaving.{IsLeft, IsLeftWanting, Writes, WritesBeginning, WritesFirst}
-use Rattle.serving.specs.Announcing.{announcement}
+use Rattle.serving.specs.Announcing.{HasAnnounced, HasBegun}
 use Rattle.serving.specs.declared.server.Uidvalidity.{Uidvalidity}
 use Rattle.serving.specs.Producers.{server_fault}
 use Rattle.serving.specs.declared.fault.ServeFault.{ServeFault}
@@ -48,18 +47,14 @@ pub record RanScript (config : Config) (bytes : List ℕ) (failed : Bool) (resul
   pub played : WasPlayed config (script_of bytes) failed result old new
   pub once : WroteOnce (setup_of config) (script_of bytes) old new
 
--- what is said of the listeners of a server with these settings
-abbrev pub lines_of : Config → Uidvalidity → List ℕ
-lines_of config uidvalidity = announcement config.lmtp_port config.imap_port (setup_of config).directory.homes uidvalidity
-
 -- A server with these settings ended so; a beginning of its lines was written, and all of them where all went well.
 pub record HasServed (config : Config) (uidvalidity : Uidvalidity) (result : Result (Unit {0}) ServeFault) (old new : Option (List ℕ)) : Type 0 where
   pub wrong : (fault : ConfigFault) → result ≡ Err (serve_faults.Config fault) → server_fault config ≡ Some fault
   pub right : OnOk result (server_fault config ≡ None)
   -- wrong settings are told, or want of memory is, and nothing was written
   pub refused : (fault : ConfigFault) → server_fault config ≡ Some fault → ((result ≡ Err (serve_faults.Config fault)) ⊎ (result ≡ Err serve_faults.NoMemory)) × (new ≡ old)
-  pub told : (n : ℕ) × Appends old new (take n (lines_of config uidvalidity))
-  pub all : OnOk result (Appends old new (lines_of config uidvalidity))
+  pub told : HasBegun config uidvalidity old new
+  pub all : OnOk result (HasAnnounced config uidvalidity old new)
 
 -- This came of what was asked for: of a script, from an input of which this remained, if that is known, or of a server.
 abbrev pub HasDone : Asked → Done → (remaining : Option (List ℕ)) → (failed : Bool) → (old new : Option (List ℕ)) → Type 0

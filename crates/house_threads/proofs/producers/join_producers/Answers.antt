@@ -1,7 +1,7 @@
 use Rattle.std.proofs.Common.{rules, ◌≡◌, ◌∷◌, sym, subst, vec_len, arith}
 use Rattle.std.specs.Vec.Iter.{into_iter_items}
 use Rattle.house_floor.specs.Crew.{AllAt}
-use Rattle.house_floor.specs.Left.{IsProduceOf}
+use Rattle.reckoning.specs.Produced.{IsProduceOf}
 use Rattle.house_threads.specs.inner.Crew.{IsHired}
 use Rattle.house_floor.proofs.Positions.{head_at, more_at}
 use Rattle.house_threads.proofs.producers.join_producers.Goals as goal

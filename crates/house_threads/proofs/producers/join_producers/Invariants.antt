@@ -1,7 +1,7 @@
 use Rattle.std.proofs.Common.{◌≡◌, ◌≤◌, ◌+◌, vec_len, vec_capacity}
 use Rattle.std.specs.Vec.Iter.{into_iter_items, into_iter_len}
 use Rattle.house_floor.specs.Crew.{AllAt}
-use Rattle.house_floor.specs.Left.{IsProduceOf}
+use Rattle.reckoning.specs.Produced.{IsProduceOf}
 use Rattle.house_threads.specs.inner.Crew.{IsHired}
 use Rattle.house_threads.proofs.producers.join_producers.Given as goal
 

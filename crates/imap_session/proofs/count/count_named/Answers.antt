@@ -1,4 +1,4 @@
-use Rattle.std.proofs.Common.{ℕ, false, List, Ok, Err, sym, None}
+use Rattle.std.proofs.Common.{false, Ok, Err, sym, None}
 use Rattle.std.proofs.lemmas.Result.{err_from_is_err_and}
 use Rattle.imap_grammar.specs.declared.command.Command.TheVariants as commands
 use Rattle.imap_session.specs.Exchange.{Exchange, Standing, Folder, nothing_sent}
@@ -6,6 +6,7 @@ use Rattle.imap_session.specs.Commands.{completed, counting}
 use Rattle.imap_session.specs.inner.Store.{last}
 use Rattle.imap_session.proofs.Naming.{does_found, reaches_missing}
 use Rattle.imap_session.proofs.count.count_named.Goals as goal
+use Rattle.imap_session.specs.declared.texts.ResponseText.{ResponseText}
 
 pub returns-in_default : goal.returns-in_default
 returns-in_default g c tag now =
@@ -16,7 +17,7 @@ returns-in_err-count_folder g c =
     let standing : Standing = record { folders = c.args.folders.now; selected = c.args.selected; idling = None; ended = false; mailing = nothing_sent None } in
     let next : Folder → Exchange = counting standing c.args.name.now c.args.items.now in
     let p = err_from_is_err_and c.from_residual.result c.from_residual.ensures.1 in
-    rw (p.1, p.2) (does_found {V = List ℕ} g.S.Store.step c.args.name.now c.args.folders.now _ next last _ _ _ _ (Err _)
+    rw (p.1, p.2) (does_found {V = ResponseText} g.S.Store.step c.args.name.now c.args.folders.now _ next last _ _ _ _ (Err _)
     c.in-Some.ensures (c.in_err-count_folder.ensures (completed (commands.Status c.args.name.now c.args.items.now))))
 
 pub returns : goal.returns

@@ -1,10 +1,11 @@
-use Rattle.std.proofs.Common.{ℕ, List, Ok, Err}
+use Rattle.std.proofs.Common.{List, Ok, Err}
 use Rattle.std.proofs.lemmas.Result.{err_from_is_err_and}
 use Rattle.imap_grammar.specs.declared.command.Command.TheVariants as commands
 use Rattle.imap_session.specs.Commands.{completed, showing}
 use Rattle.imap_session.specs.inner.Store.{last}
 use Rattle.imap_session.proofs.Naming.{starves_write, writes_then}
 use Rattle.imap_session.proofs.count.list_folders.Goals as goal
+use Rattle.imap_session.specs.declared.texts.ResponseText.{ResponseText}
 
 pub returns-in_err-write_names : goal.returns-in_err-write_names
 returns-in_err-write_names g c =
@@ -15,7 +16,7 @@ pub returns-in_err-show_pending : goal.returns-in_err-show_pending
 returns-in_err-show_pending g c =
     let listed = completed (commands.List c.args.reference.now c.args.pattern.now) in
     let p = err_from_is_err_and c.from_residual-in_err-show_pending.result c.from_residual-in_err-show_pending.ensures.1 in
-    rw (p.1, p.2) (writes_then {V = List ℕ} g.S.Store.step _ (showing c.args.selected listed) last _ _ _ _ _ (Err _) c.in_ok-write_names.ensures.text
+    rw (p.1, p.2) (writes_then {V = ResponseText} g.S.Store.step _ (showing c.args.selected listed) last _ _ _ _ _ (Err _) c.in_ok-write_names.ensures.text
     (c.in_err-show_pending.ensures.done listed))
 
 pub returns : goal.returns

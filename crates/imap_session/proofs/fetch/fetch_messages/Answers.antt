@@ -1,4 +1,4 @@
-use Rattle.std.proofs.Common.{◌∙◌, ℕ, Bool, false, codes, List, [], Err}
+use Rattle.std.proofs.Common.{◌∙◌, ℕ, Bool, false, List, [], Err}
 use Rattle.std.proofs.lemmas.Result.{err_from_is_err_and}
 use Rattle.imap_grammar.specs.declared.command.Command.TheVariants as commands
 use Rattle.imap_session.specs.Exchange.{Exchange}
@@ -8,6 +8,9 @@ use Rattle.imap_session.proofs.Runs.{nothing_added, reaches_then, reaches_write,
 use Rattle.imap_session.proofs.Saying.{does_then, does_wanting}
 use Rattle.imap_session.proofs.Choosing.{does_chosen, reaches_too_high}
 use Rattle.imap_session.proofs.fetch.fetch_messages.Goals as goal
+use Rattle.imap_session.specs.declared.texts.ResponseText.TheVariants as texts
+use Rattle.imap_session.specs.Texts.{response_text}
+use Rattle.imap_session.specs.declared.texts.ResponseText.{ResponseText}
 
 pub returns-in_err-items : goal.returns-in_err-items
 returns-in_err-items g c =
@@ -17,14 +20,14 @@ returns-in_err-items g c =
 pub returns-in_err-messages : goal.returns-in_err-messages
 returns-in_err-messages g c =
     let p = err_from_is_err_and c.from_residual-in_err-messages.result c.from_residual-in_err-messages.ensures.1 in
-    rw (p.1, p.2) (does_wanting {V = List ℕ} g.S.Store.step _ last _ _ _ _ (Err _) (λ tag now. stops_look g.S.Store.step tag now _ _ _ _ _ _ c.in_err-messages.ensures.event))
+    rw (p.1, p.2) (does_wanting {V = ResponseText} g.S.Store.step _ last _ _ _ _ (Err _) (λ tag now. stops_look g.S.Store.step tag now _ _ _ _ _ _ c.in_err-messages.ensures.event))
 
 pub returns-in_default : goal.returns-in_default
 returns-in_default g c tag now =
     let command = c.args.fetch.now in
     let looks = rw c.in_default.is at c.in_ok-messages.ensures.event in
     let next : List ℕ → List ℕ → Exchange = λ view uids. fetching command c.args.mark_seen view (messages_done (commands.Fetch command) command.by_uid) uids false in
-    reaches_then g.S.Store.step tag now now now (wanting (on_set command.by_uid command.set next)) (on_set command.by_uid command.set next) (says (codes "BAD Sequence number too high")) _ _ _ _ _ _
+    reaches_then g.S.Store.step tag now now now (wanting (on_set command.by_uid command.set next)) (on_set command.by_uid command.set next) (says (response_text texts.SequenceTooHigh)) _ _ _ _ _ _
     (reaches_write g.S.Store.step tag now [] (on_set command.by_uid command.set next) c.args.store.now _ _ (nothing_added c.args.response.now))
     (reaches_too_high g.S.Store.step command.by_uid command.set next looks.0 c.args.store.now c.args.response.now looks.1 looks.2 tag now)
 
@@ -34,7 +37,7 @@ returns-in_err-gone g c =
     let looks = rw c.in-Some.is at c.in_ok-messages.ensures.event in
     let done : Bool → Exchange = messages_done (commands.Fetch command) command.by_uid in
     let p = err_from_is_err_and c.from_residual-in_err-gone.result c.from_residual-in_err-gone.ensures.1 in
-    rw (p.1, p.2) (does_wanting {V = List ℕ} g.S.Store.step _ last _ _ _ _ (Err _) (does_chosen {V = List ℕ} g.S.Store.step command.by_uid command.set (λ view uids. fetching command c.args.mark_seen view done uids false) last looks.0 c.in-Some.messages.items _ _ _ _ (Err _) looks.1 looks.2
+    rw (p.1, p.2) (does_wanting {V = ResponseText} g.S.Store.step _ last _ _ _ _ (Err _) (does_chosen {V = ResponseText} g.S.Store.step command.by_uid command.set (λ view uids. fetching command c.args.mark_seen view done uids false) last looks.0 c.in-Some.messages.items _ _ _ _ (Err _) looks.1 looks.2
     (λ uids are. c.in_err-gone.ensures looks.0 uids (c.as_slice.ensures.value ∙ are) done)))
 
 pub returns : goal.returns

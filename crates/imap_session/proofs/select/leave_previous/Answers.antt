@@ -21,4 +21,4 @@ returns-in_err-leave-clause-done g c x =
 pub returns-clause-done : goal.returns-clause-done
 returns-clause-done g c x =
     let some : is_none c.args.selected.now ≡ false = search rules in
-    moves_closed g.S.Store.step c.args.selected.now x c.in_ok-leave.field-0 _ _ _ _ _ some c.in_ok-leave.ensures c.put.ensures
+    moves_closed g.S.Store.step c.args.selected.now x c.in_ok-leave.field-0 _ _ _ _ _ some c.in_ok-leave.ensures c.put_untagged.ensures

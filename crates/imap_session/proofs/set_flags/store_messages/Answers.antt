@@ -1,4 +1,4 @@
-use Rattle.std.proofs.Common.{◌∙◌, ℕ, Bool, false, List, Err}
+use Rattle.std.proofs.Common.{◌∙◌, Bool, false, Err}
 use Rattle.std.proofs.lemmas.Result.{err_from_is_err_and}
 use Rattle.imap_grammar.specs.declared.command.Command.TheVariants as commands
 use Rattle.imap_session.specs.Exchange.{Exchange}
@@ -8,6 +8,7 @@ use Rattle.imap_session.proofs.Runs.{stops_look}
 use Rattle.imap_session.proofs.Saying.{does_then}
 use Rattle.imap_session.proofs.Choosing.{does_chosen, reaches_too_high}
 use Rattle.imap_session.proofs.set_flags.store_messages.Goals as goal
+use Rattle.imap_session.specs.declared.texts.ResponseText.{ResponseText}
 
 pub returns-in_err-messages : goal.returns-in_err-messages
 returns-in_err-messages g c =
@@ -26,7 +27,7 @@ returns-in_err-gone g c =
     let looks = rw c.in-Some.is at c.in_ok-messages.ensures.event in
     let done : Bool → Exchange = messages_done (commands.Store command) command.by_uid in
     let p = err_from_is_err_and c.from_residual-in_err-gone.result c.from_residual-in_err-gone.ensures.1 in
-    rw (p.1, p.2) (does_chosen {V = List ℕ} g.S.Store.step command.by_uid command.set (λ view uids. storing command view done uids false) last looks.0 c.in-Some.messages.items _ _ _ _ (Err _) looks.1 looks.2
+    rw (p.1, p.2) (does_chosen {V = ResponseText} g.S.Store.step command.by_uid command.set (λ view uids. storing command view done uids false) last looks.0 c.in-Some.messages.items _ _ _ _ (Err _) looks.1 looks.2
     (λ uids are. c.in_err-gone.ensures looks.0 uids (c.as_slice.ensures.value ∙ are) done))
 
 pub returns : goal.returns

@@ -1,4 +1,3 @@
-use Rattle.std.proofs.Common.{codes}
 use Rattle.imap_grammar.specs.declared.command.Command.TheVariants as commands
 use Rattle.imap_session.specs.declared.standing.After.TheVariants.{Bye}
 use Rattle.imap_session.specs.Exchange.{Done}
@@ -6,6 +5,9 @@ use Rattle.imap_session.specs.Commands.{completed, wrong_state}
 use Rattle.imap_session.proofs.Runs.{reaches_here}
 use Rattle.imap_session.proofs.Ending.{moves_still}
 use Rattle.imap_session.proofs.turn.carry_out.Goals as goal
+use Rattle.imap_session.specs.declared.texts.ResponseText.TheVariants as texts
+use Rattle.imap_session.specs.Texts.{response_text}
+use Rattle.imap_grammar.specs.declared.command.Verb.TheVariants as verbs
 
 pub returns-in-Capability : goal.returns-in-Capability
 returns-in-Capability g c mailing tag now was = rw (c.in-Capability.is, ← was) (reaches_here g.S.Store.step tag now (completed commands.Capability) _ _)
@@ -14,7 +16,7 @@ pub returns-in-Namespace : goal.returns-in-Namespace
 returns-in-Namespace g c mailing tag now was = rw (c.in-Namespace.is, ← was) (reaches_here g.S.Store.step tag now (completed commands.Namespace) _ _)
 
 pub returns-in-Logout : goal.returns-in-Logout
-returns-in-Logout g c mailing tag now was = rw (c.in-Logout.is, ← was) (reaches_here g.S.Store.step tag now (Done (codes "OK LOGOUT completed") Bye) _ _)
+returns-in-Logout g c mailing tag now was = rw (c.in-Logout.is, ← was) (reaches_here g.S.Store.step tag now (Done (response_text (texts.Completed verbs.Logout)) Bye) _ _)
 
 pub returns-in-Login : goal.returns-in-Login
 returns-in-Login g c mailing tag now was = rw (c.in-Login.is, ← was) (reaches_here g.S.Store.step tag now wrong_state _ _)

@@ -11,7 +11,7 @@ use Rattle.lane_work.specs.Permits.{AreLive}
 use Rattle.lane_work.proofs.hearing.hear_all.Given as goal
 
 abbrev pub invariant-loop : goal.invariant-loop
-invariant-loop g l = IsReceiver l.channel l.desk.receiver × SameButReceiver l.fn.desk l.desk × CountsEnds l.fn.desk l.desk × Fills l.fn.verdicts.slots l.verdicts.slots
+invariant-loop g l = IsReceiver l.context.channel.now l.desk.receiver × SameButReceiver l.fn.desk l.desk × CountsEnds l.fn.desk l.desk × Fills l.fn.verdicts.slots l.verdicts.slots
     × IsStartOf (received l.fn.desk.receiver) (received l.desk.receiver)
     × (length (received l.desk.receiver) + unknown l.verdicts.slots + ends_in (received l.fn.desk.receiver) ≡ length (received l.fn.desk.receiver) + unknown l.fn.verdicts.slots + ends_in (received l.desk.receiver))
     × WereHeard (received l.desk.receiver) (copies_of (submission_of l.message)) l.fn.verdicts.slots l.verdicts.slots

@@ -11,16 +11,16 @@ use Rattle.lane_work.proofs.talk.go_on.Given as goal
 
 abbrev pub invariant-loop : goal.invariant-loop
 invariant-loop g l =
-    AreInForce l.office.directory l.office.lanes.items l.fn.desk.number l.desk.permits.items
-    × IsReceiver l.channel l.desk.receiver
-    × (l.desk.number ≡ l.fn.desk.number)
-    × CountsEnds l.fn.desk l.desk
-    × (g.N.Notebook.owner l.book ≡ g.N.Notebook.owner l.fn.book)
+    AreInForce l.context.office.now.directory l.context.office.now.lanes.items l.fn.producer.desk.number l.producer.desk.permits.items
+    × IsReceiver l.context.channel.now l.producer.desk.receiver
+    × (l.producer.desk.number ≡ l.fn.producer.desk.number)
+    × CountsEnds l.fn.producer.desk l.producer.desk
+    × (g.N.Notebook.owner l.producer.book ≡ g.N.Notebook.owner l.fn.producer.book)
     × (l.machine.pending ≡ [])
     × (l.machine.setting ≡ l.fn.machine.setting) × (l.machine.host ≡ l.fn.machine.host)
     × (g.O.Sink.failed l.output ≡ false)
     × (length l.buffer ≡ length l.fn.buffer)
     × ((done : List Judged)
-    → Stands l.office.directory l.office.directory (rooms_of l.office.lanes.items) l.fn.desk.number done [] false l.fn.machine l.fn.out.items (g.N.Notebook.tells l.fn.book) (received l.fn.desk.receiver) (map put_by l.fn.desk.permits.items)
-    → Goes (premises_of l.office) l.fn.desk.number done (g.I.Read.remaining l.fn.input) (g.I.Read.remaining l.input) (g.O.Sink.taken l.fn.output) (g.O.Sink.taken l.output) l.machine l.out.items (g.N.Notebook.tells l.book) (received l.desk.receiver) (map put_by l.desk.permits.items))
-    × IsStartOf (received l.fn.desk.receiver) (received l.desk.receiver)
+    → Stands l.context.office.now.directory l.context.office.now.directory (rooms_of l.context.office.now.lanes.items) l.fn.producer.desk.number done [] false l.fn.machine l.fn.out.items (g.N.Notebook.tells l.fn.producer.book) (received l.fn.producer.desk.receiver) (map put_by l.fn.producer.desk.permits.items)
+    → Goes (premises_of l.context.office.now) l.fn.producer.desk.number done (g.I.Read.remaining l.fn.input) (g.I.Read.remaining l.input) (g.O.Sink.taken l.fn.output) (g.O.Sink.taken l.output) l.machine l.out.items (g.N.Notebook.tells l.producer.book) (received l.producer.desk.receiver) (map put_by l.producer.desk.permits.items))
+    × IsStartOf (received l.fn.producer.desk.receiver) (received l.producer.desk.receiver)

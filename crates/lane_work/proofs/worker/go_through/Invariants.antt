@@ -11,11 +11,11 @@ use Rattle.lane_work.proofs.worker.go_through.Given as goal
 
 abbrev pub invariant-loop-i : goal.invariant-loop-i
 invariant-loop-i g l =
-    AreInForce l.directory l.office.lanes.items l.fn.desk.number l.desk.permits.items
-    × IsReceiver l.channel l.desk.receiver
-    × (l.desk.number ≡ l.fn.desk.number)
-    × CountsEnds l.fn.desk l.desk
-    × (l.log.seat ≡ l.fn.log.seat)
-    × HasServed (premises_of l.office) l.fn.desk.number (map (λ b. b.items) (take l.i l.connections)) (map (λ b. b.items) l.replies.items) (notes_tell l.log.notes) (received l.desk.receiver) (map put_by l.desk.permits.items)
-    × IsMarkedBefore (closings_at l.office l.fn.desk.number) l.i l.office.directory l.directory
-    × HearsItsOwn l.fn.desk l.desk
+    AreInForce l.directory l.context.office.now.lanes.items l.fn.producer.desk.number l.producer.desk.permits.items
+    × IsReceiver l.context.channel.now l.producer.desk.receiver
+    × (l.producer.desk.number ≡ l.fn.producer.desk.number)
+    × CountsEnds l.fn.producer.desk l.producer.desk
+    × (l.producer.book.seat ≡ l.fn.producer.book.seat)
+    × HasServed (premises_of l.context.office.now) l.fn.producer.desk.number (map (λ b. b.items) (take l.i l.connections)) (map (λ b. b.items) l.replies.items) (notes_tell l.producer.book.notes) (received l.producer.desk.receiver) (map put_by l.producer.desk.permits.items)
+    × IsMarkedBefore (closings_at l.context.office.now l.fn.producer.desk.number) l.i l.context.office.now.directory l.directory
+    × HearsItsOwn l.fn.producer.desk l.producer.desk

@@ -54,15 +54,15 @@ returns-clause-verdicts g c =
 pub returns-clause-books : goal.returns-clause-books
 returns-clause-books g c open_to judged books =
     let kept = ap (λ (v : Vec LanePermit Global). map put_by v.items) (sym c.hear_all.ensures.same.1) in
-    let p = c.args.desk.now.number in
-    let d = c.args.office.now.directory in
+    let p = c.args.producer.now.desk.number in
+    let d = c.args.context.now.office.now.directory in
     let m = submission_of c.args.message.now in
-    let before = map put_by c.args.desk.now.permits.items in
+    let before = map put_by c.args.producer.now.desk.permits.items in
     let mid = c.put_all.new.desk.permits.items in
-    books_more d (rooms_of c.args.office.now.lanes.items) p judged (g.N.Notebook.tells c.args.book.now) (g.N.Notebook.tells c.note_all.new.self) (received c.args.desk.now.receiver) (received c.hear_all.new.desk.receiver) m c.put_all.new.verdicts.slots c.hear_all.new.verdicts.slots c.known_in-verdicts.result.items before (map put_by c.hear_all.new.desk.permits.items)
+    books_more d (rooms_of c.args.context.now.office.now.lanes.items) p judged (g.N.Notebook.tells c.args.producer.now.book) (g.N.Notebook.tells c.note_all.new.self) (received c.args.producer.now.desk.receiver) (received c.hear_all.new.desk.receiver) m c.put_all.new.verdicts.slots c.hear_all.new.verdicts.slots c.known_in-verdicts.result.items before (map put_by c.hear_all.new.desk.permits.items)
     (search rules) (search rules) (c.put_all.ensures.tried open_to) c.hear_all.ensures.fills c.known_in-verdicts.ensures.each
     (subst (HavePut d p (copies_of m) c.put_all.new.verdicts.slots before) kept (c.put_all.ensures.put open_to))
-    (ap length (sym kept) ∙ length-map mid put_by ∙ overs_length mid c.args.desk.now.permits.items c.put_all.ensures.same.3 ∙ sym (length-map c.args.desk.now.permits.items put_by))
+    (ap length (sym kept) ∙ length-map mid put_by ∙ overs_length mid c.args.producer.now.desk.permits.items c.put_all.ensures.same.3 ∙ sym (length-map c.args.producer.now.desk.permits.items put_by))
     (search rules) (subst (λ (r : ReceiverPermit Noted). IsStartOf (received r) (received c.hear_all.new.desk.receiver)) c.put_all.ensures.same.1 c.hear_all.ensures.grew) c.hear_all.ensures.heard books
 
 pub returns-clause-only : goal.returns-clause-only

@@ -15,28 +15,28 @@ use Rattle.lane_work.proofs.worker.work.Goals as goal
 pub go_through-fate-requires-clause-begun : goal.go_through-fate-requires-clause-begun
 go_through-fate-requires-clause-begun g c = (
   c.new-replies.ensures.items,
-  books_begin c.args.office.now.directory (rooms_of c.args.office.now.lanes.items) c.args.desk.number c.new-log.result.notes (received c.args.desk.receiver) c.args.desk.permits.items c.new-log.ensures.notes c.requires.permits.1,
+  books_begin c.args.context.now.office.now.directory (rooms_of c.args.context.now.office.now.lanes.items) c.args.desk.number c.new-log.result.notes (received c.args.desk.receiver) c.args.desk.permits.items c.new-log.ensures.notes c.requires.permits.1,
 )
 
 pub returns-clause-worked : goal.returns-clause-worked
 returns-clause-worked g c =
     let number = c.go_through-fate.ensures.number in
     let f = c.finish.ensures in
-    let before = map put_by c.go_through-fate.new.desk.permits.items in
+    let before = map put_by c.go_through-fate.new.producer.desk.permits.items in
     let after = map said c.finish.result.ended.items in (
-      subst (λ n. AreEnded c.args.office.now.lanes.items n c.finish.result.ended.items) number f.ended,
+      subst (λ n. AreEnded c.args.context.now.office.now.lanes.items n c.finish.result.ended.items) number f.ended,
       f.receiver,
       ap (λ (l : WorkerLog). l.seat) f.kept.0 ∙ c.go_through-fate.ensures.seat ∙ c.new-log.ensures.seat,
       λ whole.
-          let account = account_of (premises_of c.args.office.now) c.args.desk.number (map (λ b. b.items) c.args.connections.now) (map (λ b. b.items) c.go_through-fate.new.replies.items)
-          c.go_through-fate.new.log.notes (received c.go_through-fate.new.desk.receiver) (received c.finish.result.receiver) before after f.grew (subst (λ n. HaveEnded n before after) number f.said) (c.go_through-fate.ensures.whole (f.whole whole)) in
-          subst (λ (l : WorkerLog). Account (premises_of c.args.office.now) c.args.desk.number (map (λ b. b.items) c.args.connections.now) (map (λ b. b.items) c.finish.result.replies.items) l.notes (received c.finish.result.receiver) after) (sym f.kept.0)
-          (subst (λ (r : Vec (Vec ℕ Global) Global). Account (premises_of c.args.office.now) c.args.desk.number (map (λ b. b.items) c.args.connections.now) (map (λ b. b.items) r.items) c.go_through-fate.new.log.notes (received c.finish.result.receiver) after) (sym f.kept.1) account),
+          let account = account_of (premises_of c.args.context.now.office.now) c.args.desk.number (map (λ b. b.items) c.args.connections.now) (map (λ b. b.items) c.go_through-fate.new.replies.items)
+          c.go_through-fate.new.producer.book.notes (received c.go_through-fate.new.producer.desk.receiver) (received c.finish.result.receiver) before after f.grew (subst (λ n. HaveEnded n before after) number f.said) (c.go_through-fate.ensures.whole (f.whole whole)) in
+          subst (λ (l : WorkerLog). Account (premises_of c.args.context.now.office.now) c.args.desk.number (map (λ b. b.items) c.args.connections.now) (map (λ b. b.items) c.finish.result.replies.items) l.notes (received c.finish.result.receiver) after) (sym f.kept.0)
+          (subst (λ (r : Vec (Vec ℕ Global) Global). Account (premises_of c.args.context.now.office.now) c.args.desk.number (map (λ b. b.items) c.args.connections.now) (map (λ b. b.items) r.items) c.go_through-fate.new.producer.book.notes (received c.finish.result.receiver) after) (sym f.kept.1) account),
     )
 
 pub returns-clause-only : goal.returns-clause-only
 returns-clause-only g c whole =
-    let desk = c.go_through-fate.new.desk in
+    let desk = c.go_through-fate.new.producer.desk in
     let own = c.go_through-fate.ensures.only (c.finish.ensures.whole whole) in
     let quiet = quiet_counts (received desk.receiver) (received c.finish.result.receiver) (c.finish.ensures.quiet whole) in
     let ended = ended_counts desk.number (map put_by desk.permits.items) (map said c.finish.result.ended.items) c.finish.ensures.said in

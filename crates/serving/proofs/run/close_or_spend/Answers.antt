@@ -12,7 +12,7 @@ use Rattle.serving.proofs.run.close_or_spend.Goals as goal
 pub give_up-requires-clause-posts : goal.give_up-requires-clause-posts
 give_up-requires-clause-posts g c =
     let dealt = c.requires.none_started c.if-none_started.true in
-    (dealt.1, posts_left c.args.site.floor 0 c.args.over.posts.items dealt.0)
+    (dealt.1, posts_left c.args.site.workplace.floor 0 c.args.over.posts.items dealt.0)
 
 pub returns-clause-setting : goal.returns-clause-setting
 returns-clause-setting g c fault =
@@ -26,12 +26,12 @@ returns-clause-whole g c =
     let served = c.args.over.served in
     let dismissed = c.dismiss_all-dismissed.result in
     let left = c.requires.served c.if-none_started.false in
-    let each : length served.items ≡ length site.floor.depot.channels.items = (let n = left.1 in omega (arith, n, served.ok.0)) in
-    let count : length dismissed.consumed.items ≡ length site.floor.office.lanes.items = (let n = c.dismiss_all-dismissed.ensures.count in omega (arith, n, dismissed.consumed.ok.0)) in
-    by_end c.args.over.all_started c.args.over.is_told c.close_all-closes.result c.told.result (λ r. IfOk r (CameTo site.floor workers))
+    let each : length served.items ≡ length site.workplace.floor.depot.channels.items = (let n = left.1 in omega (arith, n, served.ok.0)) in
+    let count : length dismissed.consumed.items ≡ length site.workplace.floor.office.lanes.items = (let n = c.dismiss_all-dismissed.ensures.count in omega (arith, n, dismissed.consumed.ok.0)) in
+    by_end c.args.over.all_started c.args.over.is_told c.close_all-closes.result c.told.result (λ r. IfOk r (CameTo site.workplace.floor workers))
     c.told.ensures.spawn c.told.ensures.device c.told.ensures.torn c.told.ensures.done (λ all. tt) tt tt (λ taken said is.
-    came_to site.floor workers served.items dismissed taken left.0 each (c.requires.mail c.if-none_started.false) count c.dismiss_all-dismissed.ensures.services
-    (subst (λ (o : Option Closes). IfSome o (WasClosed site.floor served.items dismissed)) is c.close_all-closes.ensures))
+    came_to site.workplace.floor workers served.items dismissed taken left.0 each (c.requires.mail c.if-none_started.false) count c.dismiss_all-dismissed.ensures.services
+    (subst (λ (o : Option Closes). IfSome o (WasClosed site.workplace.floor served.items dismissed)) is c.close_all-closes.ensures))
 
 pub returns-clause-told : goal.returns-clause-told
 returns-clause-told g c =

@@ -16,7 +16,7 @@ use Rattle.serving.proofs.sessions.attend_there.Goals as goal
 
 pub answer_clients-requires : goal.answer_clients-requires
 answer_clients-requires g c =
-    let floor = c.args.site.now.floor in
+    let floor = c.args.site.now.workplace.floor in
     let post = c.into_inner-desk.result in
     let is : IsPost floor c.args.number post = subst (IsPost floor c.args.number) (sym c.into_inner-desk.ensures) c.requires.post in
     let same : c.from.result ≡ c.args.number = search rules in record {
@@ -27,19 +27,18 @@ answer_clients-requires g c =
         c.requires.house.shards,
         new_live post.desk.permits.items is.fresh,
       );
-      imap = c.gateway_of-gateway.ensures.imap;
     }
 
 pub leave-requires-clause-room : goal.leave-requires-clause-room
 leave-requires-clause-room g c =
-    let floor = c.args.site.now.floor in
+    let floor = c.args.site.now.workplace.floor in
     let post = c.into_inner-desk.result in
     let is : IsPost floor c.args.number post = subst (IsPost floor c.args.number) (sym c.into_inner-desk.ensures) c.requires.post in
     (is.empty, subst (λ (o : Office). length o.lanes.items ≤ vec_capacity post.room) (sym c.answer_clients.ensures.same.0) is.room)
 
 pub returns-clause-served : goal.returns-clause-served
 returns-clause-served g c =
-    let floor = c.args.site.now.floor in
+    let floor = c.args.site.now.workplace.floor in
     let post = c.into_inner-desk.result in
     let is : IsPost floor c.args.number post = subst (IsPost floor c.args.number) (sym c.into_inner-desk.ensures) c.requires.post in
     let same : c.from.result ≡ c.args.number = search rules in
@@ -50,7 +49,7 @@ returns-clause-served g c =
     served_by floor c.from.result c.args.number now.desk.number c.index.result.now left _ same numbered c.packed.ensures
     (subst (λ (o : Office). AreEnded o.lanes.items now.desk.number left.ended.items) life.same.0 c.leave.ensures.ended)
     (subst (λ (x : ReplyChannel Noted). IsReceiver x left.receiver) (life.same.1 ∙ c.index.ensures)
-    (subst (λ (r : ReceiverPermit Noted). IsReceiver now.channel.now r) (sym c.leave.ensures.receiver) life.ready.1))
+    (subst (λ (r : ReceiverPermit Noted). IsReceiver now.context.channel.now r) (sym c.leave.ensures.receiver) life.ready.1))
     (λ mail whole. absurd (let e : true ≡ false = sym mail ∙ c.leave.ensures.mail in cc))
     (λ none whole.
     let fresh = clients_begin floor.office post.desk.number post.desk.receiver post.desk.permits.items is.fresh in

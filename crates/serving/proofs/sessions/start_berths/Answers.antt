@@ -9,7 +9,7 @@ use Rattle.serving.proofs.sessions.start_berths.Goals as goal
 pub loop-berth-preserved : goal.loop-berth-preserved
 loop-berth-preserved g c =
     let v = c.loop-berth.invariant in
-    let floor = c.args.site.now.floor in
+    let floor = c.args.site.now.workplace.floor in
     let before = c.loop-berth.hired in
     let more = c.push_reserved.ensures.len in
     let some : 0 < length c.loop-berth.posts.items = omega (arith, v.1, c.loop-berth-test.true, c.loop-berth.posts.ok.0) in

@@ -8,15 +8,15 @@ use Rattle.serving_workers.proofs.accepting.serve_all.Goals as goal
 pub loop-serial-preserved : goal.loop-serial-preserved
 loop-serial-preserved g c =
     let v = c.loop-serial.invariant in
-    let office = c.args.office.now in
+    let office = c.args.context.now.office.now in
     let house = premises_of office in
-    let now = c.attend.new.desk in (
+    let now = c.attend.new.producer.desk in (
       subst (λ n. AreInForce office.directory office.lanes.items n now.permits.items) v.2 c.attend.ensures.permits,
       c.attend.ensures.receiver,
       c.attend.ensures.number ∙ v.2,
       search rules,
       λ begun.
-          let before = subst (λ n. AreServed house n c.loop-serial.serial (received c.loop-serial.desk.receiver) (map put_by c.loop-serial.desk.permits.items)) (sym v.2) (v.4 begun) in
+          let before = subst (λ n. AreServed house n c.loop-serial.serial (received c.loop-serial.producer.desk.receiver) (map put_by c.loop-serial.producer.desk.permits.items)) (sym v.2) (v.4 begun) in
           subst (λ n. AreServed house n (c.loop-serial.serial + 1) (received now.receiver) (map put_by now.permits.items)) v.2 (c.attend.ensures.mail (search rules) before),
     )
 

@@ -7,7 +7,7 @@ use Rattle.serving_workers.proofs.accepting.serve_all.Given as goal
 
 abbrev pub invariant-loop-serial : goal.invariant-loop-serial
 invariant-loop-serial g l =
-    AreInForce l.office.directory l.office.lanes.items l.fn.desk.number l.desk.permits.items × IsReceiver l.channel l.desk.receiver
-    × (l.desk.number ≡ l.fn.desk.number) × (0 < length l.buffers.input.items)
-    × (AreServed (premises_of l.office) l.fn.desk.number 0 (received l.fn.desk.receiver) (map put_by l.fn.desk.permits.items)
-    → AreServed (premises_of l.office) l.fn.desk.number l.serial (received l.desk.receiver) (map put_by l.desk.permits.items))
+    AreInForce l.context.office.now.directory l.context.office.now.lanes.items l.fn.producer.desk.number l.producer.desk.permits.items × IsReceiver l.context.channel.now l.producer.desk.receiver
+    × (l.producer.desk.number ≡ l.fn.producer.desk.number) × (0 < length l.buffers.input.items)
+    × (AreServed (premises_of l.context.office.now) l.fn.producer.desk.number 0 (received l.fn.producer.desk.receiver) (map put_by l.fn.producer.desk.permits.items)
+    → AreServed (premises_of l.context.office.now) l.fn.producer.desk.number l.serial (received l.producer.desk.receiver) (map put_by l.producer.desk.permits.items))

@@ -8,8 +8,8 @@ use Rattle.serving_workers.proofs.accepting.serve_until_stopped.Goals as goal
 
 pub returns-clause-served : goal.returns-clause-served
 returns-clause-served g c fresh is =
-    let office = c.args.office.now in
+    let office = c.args.context.now.office.now in
     let number = c.args.desk.number in
-    let now = c.serve_all-torn.new.desk in
+    let now = c.serve_all-torn.new.producer.desk in
     let served = c.serve_all-torn.ensures.mail is (mail_begins office number c.args.desk.receiver c.args.desk.permits.items fresh) in
     mail_ends (premises_of office) number now.number served.0 (received now.receiver) (map put_by now.permits.items) (map said c.end_all-ended.result.items) c.serve_all-torn.ensures.number served.1 c.end_all-ended.ensures.said

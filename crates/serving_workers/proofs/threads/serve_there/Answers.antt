@@ -10,7 +10,7 @@ use Rattle.serving_workers.proofs.threads.serve_there.Goals as goal
 
 pub serve_until_stopped-requires-clause-permits : goal.serve_until_stopped-requires-clause-permits
 serve_until_stopped-requires-clause-permits g c =
-    let floor = c.args.floor.now in
+    let floor = c.args.workplace.now.floor in
     let post = c.into_inner-desk.result in
     let is : IsPost floor c.args.number post = subst (IsPost floor c.args.number) (sym c.into_inner-desk.ensures) c.requires.post in
     let permits = post.desk.permits.items in
@@ -18,7 +18,7 @@ serve_until_stopped-requires-clause-permits g c =
 
 pub serve_until_stopped-requires-clause-receiver : goal.serve_until_stopped-requires-clause-receiver
 serve_until_stopped-requires-clause-receiver g c =
-    let floor = c.args.floor.now in
+    let floor = c.args.workplace.now.floor in
     let is : IsPost floor c.args.number c.into_inner-desk.result = subst (IsPost floor c.args.number) (sym c.into_inner-desk.ensures) c.requires.post in
     let same : c.from.result ≡ c.args.number = search rules in
     subst (λ (x : ReplyChannel Noted). IsReceiver x c.into_inner-desk.result.desk.receiver) (sym c.index.ensures)
@@ -26,7 +26,7 @@ serve_until_stopped-requires-clause-receiver g c =
 
 pub returns-clause-served : goal.returns-clause-served
 returns-clause-served g c =
-    let floor = c.args.floor.now in
+    let floor = c.args.workplace.now.floor in
     let is : IsPost floor c.args.number c.into_inner-desk.result = subst (IsPost floor c.args.number) (sym c.into_inner-desk.ensures) c.requires.post in
     let same : c.from.result ≡ c.args.number = search rules in
     served_by floor c.from.result c.args.number c.into_inner-desk.result.desk.number c.index.result.now c.serve_until_stopped.result _ same is.number c.packed.ensures

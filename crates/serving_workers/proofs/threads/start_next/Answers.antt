@@ -11,7 +11,7 @@ returns-clause-hired g c =
     let count = c.requires.hired.1 in
     let len = c.push_reserved.ensures.len in
     let at : c.args.number ≡ 0 + length had.items = omega (arith, count, had.ok.0) in (
-      more_at (IsHired c.args.floor.now) 0 had.items c.push_reserved.new.self.items c.start_worker.result c.args.number c.push_reserved.ensures.items c.requires.hired.0 at c.start_worker.ensures.hired,
+      more_at (IsHired c.args.workplace.now.floor) 0 had.items c.push_reserved.new.self.items c.start_worker.result c.args.number c.push_reserved.ensures.items c.requires.hired.0 at c.start_worker.ensures.hired,
       omega (arith, len, count),
     )
 

@@ -5,7 +5,7 @@ use Rattle.serving_workers.proofs.threads.start_workers.Given as goal
 
 abbrev pub invariant-loop-position : goal.invariant-loop-position
 invariant-loop-position g l =
-    AllAt (IsPost l.floor) l.position l.posts.items × (vec_len l.posts + l.position ≡ length l.floor.depot.channels.items)
+    AllAt (IsPost l.workplace.floor) l.position l.posts.items × (vec_len l.posts + l.position ≡ length l.workplace.floor.depot.channels.items)
     × All (λ b. 0 < length b.input.items) l.buffers.items × (vec_len l.buffers + l.position ≡ length l.grips)
-    × AllAt (IsHired l.floor) 0 l.hired.items × (vec_len l.hired ≡ l.position) × (length l.floor.depot.channels.items ≤ vec_capacity l.hired)
+    × AllAt (IsHired l.workplace.floor) 0 l.hired.items × (vec_len l.hired ≡ l.position) × (length l.workplace.floor.depot.channels.items ≤ vec_capacity l.hired)
     × All (λ h. serves_mail h ≡ true) l.hired.items

@@ -1,7 +1,7 @@
 use Rattle.std.proofs.Common.{◌≡◌, ◌+◌, ◌-◌, ◌<◌, ◌∙◌, ap, arith, false, inl, length, List, ℕ, None, Option, Some, refl, subst, sym, true, get_or}
 use Rattle.delivery_core.proofs.Follow.{get_or-any}
 use Rattle.imap_session.specs.Exchange.{Folder}
-use Rattle.house_peers.specs.Folders.{has_user}
+use Rattle.imap_session.specs.Folders.{has_user}
 use Rattle.house_peers.specs.SeatedSession.{SeatedSession, StandsForSeated}
 use Rattle.house_peers.specs.SeatedVisitor.{seated_greeted}
 use Rattle.house.specs.House.{House}

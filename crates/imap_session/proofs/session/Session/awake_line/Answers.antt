@@ -1,4 +1,4 @@
-use Rattle.std.proofs.Common.{◌≡◌, ◌++◌, ap₂, Err, List, ℕ, Ok, ◌∙◌, ap, subst, sym}
+use Rattle.std.proofs.Common.{◌≡◌, ◌++◌, Err, List, ℕ, Ok, ◌∙◌, ap, subst, sym}
 use Rattle.imap_grammar.specs.Reading.{read}
 use Rattle.imap_session.specs.inner.Appends.{Leads}
 use Rattle.imap_session.specs.Response.{Response}
@@ -29,7 +29,7 @@ returns-else-is_idle-clause-answered g c =
     let tag : response.tag ≡ c.in-Ok.tag = ap (λ (r : Response). r.tag) c.new-response-in-Ok.ensures ∙ c.as_bytes-tag.ensures in
     let found : read c.args.line.now ≡ Ok (response.tag, c.in-Ok.command) = sym c.read_line.ensures.exact ∙ c.in-Ok.is ∙ ap (λ t. Ok (t, c.in-Ok.command)) (sym tag) in
     let kept : response.text ≡ c.args.out.now.items ++ first_line c.in-Ok.command =
-    ap (λ (r : Response). r.text) c.new-response-in-Ok.ensures ∙ c.put.ensures.items ∙ ap₂ (λ (a b : List ℕ). a ++ b) c.reserve.ensures.items c.first_line-first.ensures.line in
+    ap (λ (r : Response). r.text) c.new-response-in-Ok.ensures ∙ c.put_first_line-first.ensures.line ∙ ap (λ (t : List ℕ). t ++ first_line c.in-Ok.command) c.reserve.ensures.items in
     let next = record c.args.self.now { selected = c.answer.new.self.selected } in
     answers_command g.S.Store.step c.args.self.now next c.answer.new.self c.args.line.now response.tag c.in-Ok.command c.args.store.now
     c.answer.new.store c.args.out.now.items c.answer.new.out.items c.answer.result c.requires.alone c.requires.awake found

@@ -1,16 +1,18 @@
-use Rattle.std.proofs.Common.{◌++◌, ◌∙◌, ap, refl, codes, ℕ, List, None, Some, [], append-nil, subst, sym, ◌<◌, length}
+use Rattle.std.proofs.Common.{◌++◌, ◌∙◌, ap, refl, ℕ, List, None, Some, [], append-nil, subst, sym, ◌<◌, length}
 use Rattle.imap_session.specs.Exchange.{Dropped, ForLiteral, Unasked, bye, most_in_place}
 use Rattle.imap_session.specs.Commands.{coming, number_named}
 use Rattle.imap_session.proofs.Appends.{begun_again, ended_again, leads_dropping, leads_parting, leads_waits}
 use Rattle.imap_session.proofs.session.Session.expect_literal.Goals as goal
+use Rattle.imap_session.specs.declared.texts.ResponseText.TheVariants as texts
+use Rattle.imap_session.specs.Texts.{response_text}
 
 pub returns-in_default-clause-leads : goal.returns-in_default-clause-leads
 returns-in_default-clause-leads c =
     let a = c.args.append.now in
     let now = c.args.self.now in
-    leads_parting c.args.response.tag (number_named a.name now.folders) a.flags a.literal.size now _ c.args.response.text c.put.new.out.items
+    leads_parting c.args.response.tag (number_named a.name now.folders) a.flags a.literal.size now _ c.args.response.text c.put_bye.new.out.items
     (subst (λ (t : List ℕ). most_in_place < length t) c.release-tag.ensures.tag c.in_default.ensures.memory)
-    (c.put.ensures.items ∙ ap (λ (t : List ℕ). t ++ bye (codes "Out of memory")) c.release-tag.ensures.text) (ended_again c.self.view_is)
+    (c.put_bye.ensures.text ∙ ap (λ (t : List ℕ). t ++ bye (response_text texts.ByeOutOfMemory)) c.release-tag.ensures.text) (ended_again c.self.view_is)
 
 pub returns-in-Ok-prepared-clause-leads : goal.returns-in-Ok-prepared-clause-leads
 returns-in-Ok-prepared-clause-leads c =

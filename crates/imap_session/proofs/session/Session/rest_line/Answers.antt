@@ -1,9 +1,10 @@
-use Rattle.std.proofs.Common.{◌≡◌, ◌∙◌, ◌++◌, ap₂, refl, List, ℕ}
+use Rattle.std.proofs.Common.{◌≡◌, ◌∙◌, ◌++◌, ap, refl, List, ℕ}
 use Rattle.imap_session.specs.declared.standing.After.TheVariants.{Go, Submit}
 use Rattle.imap_session.specs.Exchange.{tagged}
 use Rattle.imap_session.specs.inner.Seen.{appending_of}
 use Rattle.imap_session.proofs.Lines.{rest_led}
 use Rattle.imap_session.proofs.session.Session.rest_line.Goals as goal
+use Rattle.imap_session.specs.Texts.{response_text}
 
 pub returns-in-Ok-clause-answered : goal.returns-in-Ok-clause-answered
 returns-in-Ok-clause-answered c =
@@ -14,5 +15,5 @@ pub returns-in-Err-clause-answered : goal.returns-in-Err-clause-answered
 returns-in-Err-clause-answered c =
     let R = c.reserve.new.self.items in
     let own : c.as_slice-in-Err.result.now ≡ c.in-Err.tag = c.as_slice-in-Err.ensures in
-    rest_led c.args.begun.tag (appending_of c.args.begun) _ c.args.self.now c.submit.new.self _ _ R c.args.out.now.items (R ++ tagged c.in-Err.tag c.in-Err.words) c.put_tagged.new.out.items Go
-    c.self.view_is c.is_empty.ensures c.reserve.ensures.items (c.put_tagged.ensures.text ∙ ap₂ (λ (t w : List ℕ). R ++ tagged t w) own c.words.view_is) (c.in-Err.ensures.refused R)
+    rest_led c.args.begun.tag (appending_of c.args.begun) _ c.args.self.now c.submit.new.self _ _ R c.args.out.now.items (R ++ tagged c.in-Err.tag (response_text c.in-Err.text)) c.put_last.new.out.items Go
+    c.self.view_is c.is_empty.ensures c.reserve.ensures.items (c.put_last.ensures ∙ ap (λ (t : List ℕ). R ++ tagged t (response_text c.in-Err.text)) own) (c.in-Err.ensures.refused R)

@@ -1,16 +1,18 @@
-use Rattle.std.proofs.Common.{[], ◌++◌, ◌∙◌, ap, append-nil, codes, refl, sym}
+use Rattle.std.proofs.Common.{[], ◌++◌, ◌∙◌, ap, append-nil, refl, sym}
 use Rattle.imap_session.specs.contracts.session.Session.{the_view}
 use Rattle.imap_session.specs.Exchange.{ForVerdict, Standing, Wait, tagged}
 use Rattle.imap_session.specs.Commands.{on_rest}
 use Rattle.imap_session.specs.inner.Seen.{appending_of}
 use Rattle.imap_session.proofs.Appends.{leads_says, leads_starved, leads_wanting_waits, submitted_again}
 use Rattle.imap_session.proofs.session.Session.submit.Goals as goal
+use Rattle.imap_session.specs.declared.texts.ResponseText.TheVariants as texts
+use Rattle.imap_session.specs.Texts.{response_text}
 
 pub returns-in-Err-clause-refused : goal.returns-in-Err-clause-refused
 returns-in-Err-clause-refused c before =
     let now = c.args.self.now in
     let same = ap the_view c.self-inside.view_is ∙ c.self.view_is in
-    leads_says c.args.begun.tag c.in-Err.words now now (on_rest now.mailing (appending_of c.args.begun) c.args.ends) before (before ++ tagged c.args.begun.tag c.in-Err.words)
+    leads_says c.args.begun.tag (response_text c.in-Err.text) now now (on_rest now.mailing (appending_of c.args.begun) c.args.ends) before (before ++ tagged c.args.begun.tag (response_text c.in-Err.text))
     (c.in-Err.ensures.says now.mailing (appending_of c.args.begun) (sym (ap (λ (s : Standing). s.mailing.most) same)) (sym (ap (λ (s : Standing). s.mailing.number) same)) refl refl refl)
     refl refl
 
@@ -18,7 +20,7 @@ pub returns-in_default-clause-refused : goal.returns-in_default-clause-refused
 returns-in_default-clause-refused c before =
     let now = c.args.self.now in
     let same = ap the_view c.self-inside.view_is ∙ c.self.view_is in
-    leads_starved c.args.begun.tag now now (on_rest now.mailing (appending_of c.args.begun) c.args.ends) (Wait [] (ForVerdict c.in-Ok.mailbox c.args.begun.flags c.in-Ok.text.items)) before (before ++ tagged c.args.begun.tag (codes "NO Out of memory"))
+    leads_starved c.args.begun.tag now now (on_rest now.mailing (appending_of c.args.begun) c.args.ends) (Wait [] (ForVerdict c.in-Ok.mailbox c.args.begun.flags c.in-Ok.text.items)) before (before ++ tagged c.args.begun.tag (response_text texts.OutOfMemory))
     (c.in-Ok.ensures.ready now.mailing (appending_of c.args.begun) (sym (ap (λ (s : Standing). s.mailing.most) same)) (sym (ap (λ (s : Standing). s.mailing.number) same)) refl refl refl)
     refl refl
 

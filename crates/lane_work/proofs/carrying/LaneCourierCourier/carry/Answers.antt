@@ -12,8 +12,8 @@ use Rattle.lane_work.proofs.carrying.LaneCourierCourier.carry.Goals as goal
 pub returns-clause-carried : goal.returns-clause-carried
 returns-clause-carried g c done books =
     let self = c.args.self.now in
-    let d = self.office.now.directory in
-    let rooms = rooms_of self.office.now.lanes.items in
+    let d = self.context.office.now.directory in
+    let rooms = rooms_of self.context.office.now.lanes.items in
     let p = self.desk.number in
     let verdict = c.in-Ok.verdict in
     let one : Carried = record { message = c.args.message; mailbox = c.args.mailbox; text = c.args.text.now; flags = c.args.flags; verdict = verdict } in
@@ -39,7 +39,7 @@ returns-clause-kept g c first k =
             (omega (arith, own, heard)),
             (
               more.0 ++ one ∷ [],
-              carries_more first.office.now self.office.now first.serial self.serial first.desk self.desk c.judge.new.desk more.0 one same.0 k.1 same.2 more.1 c.in-Ok.ensures.judged c.judge.ensures.grew,
+              carries_more first.context.office.now self.context.office.now first.serial self.serial first.desk self.desk c.judge.new.desk more.0 one same.0 k.1 same.2 more.1 c.in-Ok.ensures.judged c.judge.ensures.grew,
             ),
           ),
     )

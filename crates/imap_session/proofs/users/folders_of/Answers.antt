@@ -1,6 +1,6 @@
 use Rattle.std.proofs.Common.{arith}
-use Rattle.house_peers.proofs.FolderLaws.{folders_next}
-use Rattle.house_peers.proofs.folders.folders_of.Goals as goal
+use Rattle.imap_session.proofs.FolderLaws.{folders_next}
+use Rattle.imap_session.proofs.users.folders_of.Goals as goal
 
 pub loop-mailbox-preserved : goal.loop-mailbox-preserved
 loop-mailbox-preserved c =

@@ -2,10 +2,10 @@
 
 ghost use Rattle.std.specs.Prelude.{◌≡◌, ◌<◌, ◌++◌, ◌∷◌, [], IfOk, IfSome, OnOk, length, slice_get};
 ghost use Rattle.std.specs.Option.{option_copied};
-ghost use Rattle.house_peers.specs.Folders.{folders_from, folders_of, has_user, name_of};
+ghost use Rattle.imap_session.specs.Folders.{folders_from, folders_of, has_user, name_of};
 
+use crate::standing::Folder;
 use envelope::Directory;
-use imap_session::Folder;
 use std::alloc::{AllocError, Global};
 
 // The name that a user knows a mailbox by.

@@ -2,8 +2,8 @@ use Rattle.std.proofs.Common.{◌≡◌, ◌+◌, ◌<◌, ◌∙◌, ℕ, suc, 
 use Rattle.std.specs.List.{list_any}
 use Rattle.std.specs.Str.{bytes_eq}
 use Rattle.envelope.specs.Directory.{Home}
-use Rattle.house_peers.proofs.FolderLaws.{any_at, is_name, none_more}
-use Rattle.house_peers.proofs.folders.has_user.Goals as goal
+use Rattle.imap_session.proofs.FolderLaws.{any_at, is_name, none_more}
+use Rattle.imap_session.proofs.users.has_user.Goals as goal
 
 pub returns-then-eq : goal.returns-then-eq
 returns-then-eq c =

@@ -5,7 +5,7 @@ use Rattle.std.specs.List.{list_any}
 use Rattle.std.specs.Str.{bytes_eq}
 use Rattle.envelope.specs.Directory.{Home}
 use Rattle.imap_session.specs.Exchange.{Folder}
-use Rattle.house_peers.specs.Folders.{folders_from}
+use Rattle.imap_session.specs.Folders.{folders_from}
 
 more_by : (b : Bool) (f : Folder) (rest more last : List Folder) → more ≡ rest ++ last → (if b then f ∷ more else more) ≡ (if b then f ∷ rest else rest) ++ last
 more_by true f rest more last e = ap (λ (x : List Folder). f ∷ x) e

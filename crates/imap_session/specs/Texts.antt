@@ -1,0 +1,62 @@
+-- The texts that a session says (RFC 9051, 7.1): the one table of them.
+use Rattle.std.specs.Prelude.{◌≡◌, ℕ, ◌&&◌, ◌==◌, Bool, true, false, codes, nat_le, List, [], ◌∷◌, ◌++◌, if◌then◌else◌}
+use Rattle.std.specs.List.{list_all}
+use Rattle.imap_grammar.specs.Verbs.{word_of, stands_behind_uid}
+use Rattle.imap_grammar.specs.declared.command.Verb.{Verb}
+use Rattle.imap_session.specs.declared.texts.ResponseText.{ResponseText}
+use Rattle.imap_session.specs.declared.texts.ResponseText.TheVariants.{Completed, SelectCompleted, ExamineCompleted, NoSuchMailbox, TryCreate, NotOffered, MessagesGone, ReadOnly, MailboxSpent, MessageTooBig, NulByte, OutOfMemory, ShardFull, ShardClosed, MailboxFull, NoUidLeft, WrongState, SequenceTooHigh, InvalidArguments, UnknownCommand, ExpectedDone, PreviousClosed, MissingTag, LineTooLong, Greeting, Capabilities, Namespaces, LoggingOut, InternalFault, ChangesMissed, LiteralTooBig, ByeOutOfMemory, Idling, Ready}
+
+abbrev pub verb_text : Verb → List ℕ
+verb_text verb = if stands_behind_uid verb then codes "UID " ++ word_of verb else word_of verb
+
+abbrev pub response_text : ResponseText → List ℕ
+-- behind a tag
+response_text (Completed verb) = codes "OK " ++ verb_text verb ++ codes " completed"
+response_text SelectCompleted = codes "OK [READ-WRITE] SELECT completed"
+response_text ExamineCompleted = codes "OK [READ-ONLY] EXAMINE completed"
+response_text NoSuchMailbox = codes "NO [NONEXISTENT] No such mailbox"
+response_text TryCreate = codes "NO [TRYCREATE] No such mailbox"
+response_text NotOffered = codes "NO [CANNOT] Not offered here"
+response_text MessagesGone = codes "NO [EXPUNGEISSUED] Some messages are gone"
+response_text ReadOnly = codes "NO Mailbox is read-only"
+response_text MailboxSpent = codes "NO Mailbox is spent"
+response_text MessageTooBig = codes "NO Message too big"
+response_text NulByte = codes "NO NUL byte"
+response_text OutOfMemory = codes "NO Out of memory"
+response_text ShardFull = codes "NO Shard full"
+response_text ShardClosed = codes "NO Shard closed"
+response_text MailboxFull = codes "NO Mailbox full"
+response_text NoUidLeft = codes "NO No UID left"
+response_text WrongState = codes "BAD Wrong state"
+response_text SequenceTooHigh = codes "BAD Sequence number too high"
+response_text InvalidArguments = codes "BAD Invalid arguments"
+response_text UnknownCommand = codes "BAD Unknown command"
+response_text ExpectedDone = codes "BAD Expected DONE"
+-- behind a star
+response_text PreviousClosed = codes "OK [CLOSED] Previous mailbox is closed"
+response_text MissingTag = codes "BAD Missing tag"
+response_text LineTooLong = codes "BAD Line too long"
+response_text Greeting = codes "PREAUTH IMAP4rev2 server ready"
+response_text Capabilities = codes "CAPABILITY IMAP4rev2 IDLE"
+response_text Namespaces = codes "NAMESPACE ((\"\" \"/\")) NIL NIL"
+-- behind BYE
+response_text LoggingOut = codes "Logging out"
+response_text InternalFault = codes "Internal fault"
+response_text ChangesMissed = codes "Too many changes were missed"
+response_text LiteralTooBig = codes "Literal too big"
+response_text ByeOutOfMemory = codes "Out of memory"
+-- behind a plus
+response_text Idling = codes "idling"
+response_text Ready = codes "ready"
+
+-- the byte is printable ASCII, a space among it: no CR, no LF and no NUL
+abbrev pub is_printable : ℕ → Bool
+is_printable b = nat_le 32 b && nat_le b 126
+
+-- The text goes on one line: it isn't empty, its bytes are printable, and the last is no brace, so that no literal is announced (RFC 9051, 4.3).
+pub record IsLineText (text : List ℕ) : Type 0 where
+  pub front : List ℕ
+  pub last : ℕ
+  pub is : text ≡ front ++ last ∷ []
+  pub printable : list_all is_printable text ≡ true
+  pub no_count : (last == 125) ≡ false
