@@ -412,12 +412,12 @@ fn talk<R: Wait, S: Summons>(
 }
 
 // The same with a clerk who serves the lane.
-fn with_clerk<R: Wait>(
-    rt: &R,
+fn with_clerk<'x, R: Wait>(
+    rt: &'x R,
     alloc: Global,
-    office: &Office,
-    lane: &ShardQueue<Job>,
-    channel: &ReplyChannel<Noted>,
+    office: &'x Office,
+    lane: &'x ShardQueue<Job>,
+    channel: &'x ReplyChannel<Noted>,
     producer: &mut Producer<'_, Open, Unkept>,
     permit: ConsumerPermit<Job>,
     sender: SenderPermit<Noted>,
