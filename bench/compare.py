@@ -2,11 +2,15 @@
 """What serving costs, beside smtp-sink and beside the floor, and which goals are met.
 
     compare.py PROGRAM [--rounds 3] [--part 1.0] [--only WORDS] [--option WORD]..
+    compare.py PROGRAM --others [--cyrus FOLDER] [--rounds 3] [--part 1.0] [--option WORD]..
 
 The program, Postfix's smtp-sink (where it is installed) and the floor (floor.c) take the same loads by turns, each on a server that was started anew. The first
 table has what goals are set for: medians of the rounds, the program's number by the floor's and by smtp-sink's, the goal, and whether it is met. The second one
 has what else was measured. README.md says what each number is. `--part` takes so much of each load, for a quick look; goals are for all of it. `--only` takes the
 loads with these words in their names. Each `--option` is one more word of the program's command line: `--option=--shards --option=4`.
+
+With `--others` one table is written in place of these two: the program, smtp-sink, Dovecot and Cyrus (side_by_side.py), each where it is installed. `--cyrus`
+names a folder where programs of Cyrus are looked for first.
 
 It needs a C compiler. Let nothing else run meanwhile.
 """
@@ -18,6 +22,7 @@ import sys
 from clients import end_by_exit
 from measures import BODIES, COPY, REFUSED, add_options, by_turns, ratio, shown
 from servers import Floor, Program, Sink, compiled
+from side_by_side import tell_others
 
 
 class OfFloor:
@@ -74,6 +79,7 @@ class Servers:
     """Who is measured: the program, the floor in its two ways, and smtp-sink or nothing."""
 
     def __init__(self, asked, tools):
+        self.is_whole = asked.part >= 1
         self.program = Program(asked.program, asked.option)
         self.floor, self.chain = Floor(tools["floor"]), Floor(tools["floor"], "chain")
         self.sinks = Sink.installed()
@@ -87,9 +93,11 @@ class Servers:
         return " | ".join((shown(ours), floors, shown(sink), ratio(ours, floor), ratio(ours, sink)))
 
     def verdict(self, goal, values, refused):
-        """Whether the program meets this goal; where copies were refused it was another load."""
+        """Whether the program meets this goal; where copies were refused, or not all was sent, it was another load."""
         if refused.get(self.program):
             return "copies were refused"
+        if not self.is_whole:
+            return "not judged"
         return "met" if goal.is_met(values[self.program], values.get(self.floor)) else "missed"
 
 
@@ -119,21 +127,31 @@ def compare(servers, tools, asked):
     tell_rest(servers, rest)
 
 
+def compare_all(servers, tools, asked):
+    """Says what is missing, and prints both tables."""
+    if not servers.sinks:
+        print("smtp-sink isn't installed (package postfix): its columns are empty")
+    print(flush=True)
+    compare(servers, tools, asked)
+
+
 def main():
     parser = argparse.ArgumentParser(description="What serving costs, beside smtp-sink and beside the floor, and which goals are met.")
     parser.add_argument("program")
+    parser.add_argument("--others", action="store_true", help="beside smtp-sink, Dovecot and Cyrus")
+    parser.add_argument("--cyrus", help="a folder with programs of Cyrus")
     add_options(parser, 3)
     asked = parser.parse_args()
     end_by_exit()
+    words = f"rounds: {asked.rounds}; part: {asked.part}; options: {' '.join(asked.option) or 'none'}"
+    print(f"{os.cpu_count()} processors; load before: {os.getloadavg()[0]:.1f}; {words}")
     with compiled() as tools:
-        servers = Servers(asked, tools)
-        words = f"rounds: {asked.rounds}; part: {asked.part}; options: {' '.join(asked.option) or 'none'}"
-        print(f"{os.cpu_count()} processors; load before: {os.getloadavg()[0]:.1f}; {words}")
-        if not servers.sinks:
-            print("smtp-sink isn't installed (package postfix): its columns are empty")
-        print(flush=True)
-        compare(servers, tools, asked)
-        print(f"\nload after: {os.getloadavg()[0]:.1f}")
+        if asked.others:
+            print(flush=True)
+            tell_others(tools, asked)
+        else:
+            compare_all(Servers(asked, tools), tools, asked)
+    print(f"\nload after: {os.getloadavg()[0]:.1f}")
 
 
 if __name__ == "__main__":

@@ -1,9 +1,9 @@
 /*
  * How soon sessions that idle are told of a message.
  *
- *     idle_latency --port P --idle-port P [--idlers 1] [--count 1500] [--size 1024] [--pause 2000] [--pid PID]
+ *     idle_latency --port P --idle-port P [--idlers 1] [--count 1500] [--size 1024] [--pause 2000] [--login 0] [--pid PID]
  *
- * So many sessions idle on one user's port. Messages to that user, who is `u0`, come one by one over one connection, each in one call with its commands, and
+ * So many sessions idle on one user's port; with `--login 1` each logs in first, as `u0` with any password. Messages to that user, who is `u0`, come one by one over one connection, each in one call with its commands, and
  * so many microseconds after all that the last one brought was read. One thread does it all, with poll. A first message isn't measured.
  *
  * The one line that is written, of words NAME=NUMBER, tells in microseconds, each with a half, nine in ten and all but one in a hundred of the messages below
@@ -19,7 +19,7 @@
 enum { MOST_IDLERS = 64, REPLIES = 4 };
 
 /* What is asked for. */
-static long port, idle_port, idler_count = 1, count = 1500, size = 1024, pause_microseconds = 2000, pid;
+static long port, idle_port, idler_count = 1, count = 1500, size = 1024, pause_microseconds = 2000, logs_in, pid;
 
 /* One connection, and what is awaited on it. */
 struct peer {
@@ -71,7 +71,24 @@ static void read_to(struct peer *peer, const char *end) {
 static void greet(struct peer *peer) {
     peer->stream = connected(port);
     send_all(peer->stream, "LHLO c.example\r\n", 16);
-    read_to(peer, "250 8BITMIME\r\n");
+    do
+        read_more(peer);
+    while (!is_greeting(peer->input));
+    peer->length = 0;
+}
+
+/* Logs in where that is asked for: the greeting is read, and then to the tagged line of the answer. What was read is dropped. */
+static void log_in(struct peer *peer) {
+    static const char command[] = "l LOGIN u0 x\r\n";
+    if (!logs_in)
+        return;
+    read_to(peer, "\r\n");
+    send_all(peer->stream, command, sizeof command - 1);
+    do {
+        read_more(peer);
+    } while (!strstr(peer->input, "\nl ") || !ends_with(peer->input, peer->length, "\r\n"));
+    if (!strstr(peer->input, "\nl OK"))
+        die("a session can't log in");
     peer->length = 0;
 }
 
@@ -80,6 +97,7 @@ static long idle(struct peer *peer) {
     static const char commands[] = "s SELECT INBOX\r\ni IDLE\r\n";
     long stand = 0;
     peer->stream = connected(idle_port);
+    log_in(peer);
     send_all(peer->stream, commands, sizeof commands - 1);
     read_to(peer, "+ idling\r\n");
     const char *line = strstr(peer->input, " EXISTS\r\n");
@@ -107,11 +125,17 @@ static int is_answered(const struct peer *peer) {
     return 1;
 }
 
+/* Whether a session was told this line, whatever came before or behind it. */
+static int is_told(const struct peer *peer, const char *exists) {
+    const char *line = strstr(peer->input, exists);
+    return line && (line == peer->input || line[-1] == '\n');
+}
+
 /* Reads once on this connection. Whether all that is awaited on it is there; then it is noted when, and it isn't polled any more. */
 static int is_through(struct peer *peer, struct pollfd *polled, const char *exists) {
     read_more(peer);
     double now = seconds_of(CLOCK_MONOTONIC);
-    if (!(peer == peers ? is_answered(peer) : ends_with(peer->input, peer->length, exists)))
+    if (!(peer == peers ? is_answered(peer) : is_told(peer, exists)))
         return 0;
     peer->at = now;
     peer->length = 0;
@@ -195,10 +219,10 @@ static int is_possible(void) {
 }
 
 int main(int word_count, char **words) {
-    long *targets[] = {&port, &idle_port, &idler_count, &count, &size, &pause_microseconds, &pid};
+    long *targets[] = {&port, &idle_port, &idler_count, &count, &size, &pause_microseconds, &logs_in, &pid};
     static const struct option options[] = {
-        {"port", 1, NULL, 0}, {"idle-port", 1, NULL, 1}, {"idlers", 1, NULL, 2}, {"count", 1, NULL, 3},
-        {"size", 1, NULL, 4}, {"pause", 1, NULL, 5},     {"pid", 1, NULL, 6},    {NULL, 0, NULL, 0},
+        {"port", 1, NULL, 0}, {"idle-port", 1, NULL, 1}, {"idlers", 1, NULL, 2}, {"count", 1, NULL, 3}, {"size", 1, NULL, 4},
+        {"pause", 1, NULL, 5}, {"login", 1, NULL, 6},    {"pid", 1, NULL, 7},    {NULL, 0, NULL, 0},
     };
     int option;
     while ((option = getopt_long(word_count, words, "", options, NULL)) != -1) {

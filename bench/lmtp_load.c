@@ -111,11 +111,10 @@ static void take_replies(struct peer *peer) {
     memmove(peer->input, at, peer->input_length);
 }
 
-/* Whether the replies to the greeting are all there; they are dropped. The last line of LHLO's has a space behind its code. */
+/* Whether the replies to the greeting are all there; they are dropped. */
 static int is_greeted(struct peer *peer) {
     peer->input[peer->input_length] = 0;
-    char *last = strstr(peer->input, "\r\n250 ");
-    if (!last || !strstr(last + 2, "\r\n"))
+    if (!is_greeting(peer->input))
         return 0;
     peer->input_length = 0;
     return 1;

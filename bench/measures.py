@@ -33,12 +33,16 @@ def said(words):
     return done.stdout.splitlines()
 
 
+def load(tools, server, count, **words):
+    """The numbers of a load of mail that this server takes."""
+    more = [text for name, number in words.items() for text in (f"--{name}", number)]
+    return numbers_of(said([tools["lmtp_load"], "--port", server.lmtp_port, "--pid", server.pid, "--count", count, *more])[0])
+
+
 def take(tools, server, count, users=1, recipients=1, **words):
     """The numbers of a load of mail that this server takes. A first message isn't measured."""
-    common = [tools["lmtp_load"], "--port", server.lmtp_port, "--pid", server.pid, "--users", users, "--recipients", recipients]
-    said([*common, "--count", 1])
-    more = [text for name, number in words.items() for text in (f"--{name}", number)]
-    return numbers_of(said([*common, "--count", count, *more])[0])
+    load(tools, server, 1, users=users, recipients=recipients)
+    return load(tools, server, count, users=users, recipients=recipients, **words)
 
 
 def take_whole(tools, server, count):
@@ -85,10 +89,12 @@ def idling(server, count):
     """So many sessions that idle and read what they are told, while a load lasts."""
     words = [sys.executable, os.path.join(HERE, "idlers.py"), str(server.idle_port), str(count)]
     with subprocess.Popen(words, stdout=subprocess.PIPE) as process:
-        if process.stdout.readline() != b"idle\n":
-            raise RuntimeError("the sessions don't idle")
-        yield
-        process.terminate()
+        try:
+            if process.stdout.readline() != b"idle\n":
+                raise RuntimeError("the sessions don't idle")
+            yield
+        finally:
+            process.terminate()
 
 
 class Latency:
@@ -172,10 +178,10 @@ def middle(row, numbers):
     return sum(numbers) if row[1] == REFUSED else statistics.median(numbers)
 
 
-def by_turns(kinds, tools, rounds, part, only=""):
+def by_turns(kinds, tools, rounds, part, only="", measures=MEASURES):
     """Of each load with these words in its name what the rounds come to: each number by the load and unit that it is told by, and by the server. In each round
     each server takes the load once, so that what else the machine does hits all of them. What the first server can't take is left out."""
-    for measure in MEASURES:
+    for measure in measures:
         if only not in measure.name or measure.wants not in kinds[0].can:
             continue
         values = {}
@@ -189,7 +195,7 @@ def shown(value):
     """A number with as many digits as say something; nothing where there is none."""
     if value is None:
         return ""
-    return f"{value:.0f}" if abs(value) >= 1000 else f"{value:.3g}"
+    return f"{value:.0f}" if abs(value) >= 999.5 else f"{value:.3g}"
 
 
 def ratio(value, other):

@@ -95,6 +95,12 @@ static inline int ends_with(const char *bytes, size_t length, const char *text) 
     return length >= wanted && memcmp(bytes + length - wanted, text, wanted) == 0;
 }
 
+/* Whether this is a whole reply to LHLO, behind the greeting: its last line has a space behind its code. What was read is ended by a 0. */
+static inline int is_greeting(const char *text) {
+    const char *last = strstr(text, "\r\n250 ");
+    return last && strstr(last + 2, "\r\n");
+}
+
 enum { LINE = 78 };
 
 /* The data of a message: lines up to this size in all, which is 32 at least, then the dot that ends them. */

@@ -44,7 +44,9 @@ class Started:
         atexit.register(self.kill)
 
     def stop(self):
-        """Ends it. That a signal ended it is no fault."""
+        """Ends it. That this signal ended it is no fault; that it has ended before is one, whatever its status."""
+        if self.process.poll() is not None:
+            return self.process.returncode or -1
         self.process.terminate()
         self.process.wait(10)
         return 0
@@ -92,17 +94,28 @@ class Sink:
         return [cls(path)] if path else []
 
     def start(self, **_):
-        """Starts one, on another port where somebody has taken the first one since it was found free."""
+        """Starts one."""
         # It wants to be somebody else where the superuser starts it.
         user = ("-u", "postfix") if os.geteuid() == 0 else ()
-        for _ in range(5):
+
+        def start_one():
             port = free_ports(1)
             server = Started([self.path, "-L", *user, f"{ADDRESS}:{port}", "128"], subprocess.DEVNULL)
             server.lmtp_port = port
-            if listens(server):
-                return server
-            server.kill()
-        raise RuntimeError("smtp-sink doesn't serve")
+            return server
+
+        return first_to_listen(start_one, self.name)
+
+
+def first_to_listen(start_one, name):
+    """A server that serves. It is started again where it doesn't, since somebody can have taken its port since that was found free."""
+    for _ in range(5):
+        server = start_one()
+        if listens(server):
+            return server
+        faults = server.faults()
+        server.kill()
+    raise RuntimeError(f"{name} doesn't serve {faults}")
 
 
 def listens(server):
