@@ -11,9 +11,14 @@ use imap_session::After;
 use line_io::Sink;
 use std::alloc::Global;
 use std::io::{ErrorKind, Read};
-use std::sync::atomic::{AtomicBool, Ordering};
+use std::sync::atomic::{AtomicBool, AtomicU64, Ordering};
 use std::sync::{Arc, Mutex, Wait};
+use std::time::Duration;
 use workers_sync::{Courier, Gate, Sleeper};
+
+/// So many microseconds a watch rests behind a look. A message that comes alone is shown at once; of many that follow one another
+/// several are shown by one look and one send.
+const REST: u64 = 200;
 
 /// What ends the read of the thread that serves a berth's client.
 pub trait Hush {
@@ -44,6 +49,8 @@ pub struct Berth<'a, R: Wait, G: Gate, W: Sink> {
     visit: Mutex<Option<Visit<'a, R, G, W>>>,
     // Whether the session idles, for those who log changes. It is set before the session's first turn.
     idles: Arc<AtomicBool>,
+    // On which a watch rests: it stays 0, and nobody wakes who waits there.
+    quiet: AtomicU64,
 }
 
 impl<'a, R: Wait, G: Gate, W: Sink + Drop> Berth<'a, R, G, W> {
@@ -53,6 +60,7 @@ impl<'a, R: Wait, G: Gate, W: Sink + Drop> Berth<'a, R, G, W> {
         Berth {
             visit: Mutex::new(None),
             idles,
+            quiet: AtomicU64::new(0),
         }
     }
 
@@ -91,7 +99,8 @@ impl<'a, R: Wait, G: Gate, W: Sink + Drop> Berth<'a, R, G, W> {
     }
 
     /// Sleeps until the bell is rung, and shows the client what there is, where there is one and its
-    /// session idles; so again and again, until it is rung and `over` is set.
+    /// session idles; so again and again, until it is rung and `over` is set. Behind each look it rests for
+    /// a fifth of a millisecond, so that changes which follow one another are shown together.
     ///
     /// Where that ends the visit, as it does where the client missed too many changes or the output
     /// fails, `line` is hushed: the thread that attends may wait for bytes that nobody would answer.
@@ -104,6 +113,7 @@ impl<'a, R: Wait, G: Gate, W: Sink + Drop> Berth<'a, R, G, W> {
                 return;
             }
             self.look(rt, line);
+            self.quiet.park_timeout(rt, 0, Duration::from_micros(REST));
         }
         unreachable!()
     }
