@@ -38,6 +38,9 @@ REFUSED = (
     "serve --imap-port 1023 alice",
     "serve --imap-port 65473 alice",
     "serve --imap-port 00001 alice",
+    "script --json=true alice",
+    "script --json --json alice",
+    "serve --json alice",
     "serve --lmtp-port 65536 alice",
     (b"script", b"\xff"),
 )
@@ -68,6 +71,8 @@ WRONG = (
 RIGHT = (
     "script --ring 2048 alice alice/Work",
     "script --ring-max 2048 alice alice/Work",
+    "script --json alice",
+    "script alice --json",
 )
 
 # Names that are given, and the reply to each line that they show in. That each number reaches its own setting the worked cases show, where they are set.

@@ -17,10 +17,11 @@ use Rattle.clap.specs.declared.parser.matches.SubCommand.{SubCommand}
 use Rattle.clap.proofs.WalkLemmas.{first_value-rows, raw_values-rows}
 use Rattle.settings.specs.Settings.{IsDefault, words_of}
 use Rattle.settings.specs.declared.config.Config.{Config}
+use Rattle.script.specs.declared.telling.Form.TheVariants as forms
 use Rattle.serving.specs.declared.server.Uidvalidity.{Uidvalidity}
 use Rattle.serving.specs.declared.server.Uidvalidity.TheVariants.{Given, Default}
 use Rattle.std.proofs.lemmas.List.{length-map}
-use Rattle.post_house.specs.Asking.{AreHouseSettings, AsksForScript, AsksForServer, mailboxes_given, number_given, number_or, server_shards, text_given, uidvalidity_given}
+use Rattle.post_house.specs.Asking.{AreHouseSettings, AsksForScript, AsksForServer, form_by, form_given, mailboxes_given, number_given, number_or, server_shards, text_given, uidvalidity_given}
 
 -- ---- one option
 
@@ -69,6 +70,15 @@ some_uidvalidity f o text is some =
 pub no_uidvalidity : (f : Found) (o : Option (Bor Text)) → option_map (λ s. s.now) o ≡ first_value f (codes "uidvalidity") → o ≡ None → Default ≡ uidvalidity_given (rows_of f)
 no_uidvalidity f o is none =
     ap (λ (p : Option Text). if is_some p then Given else Default) (ap (option_map (λ (s : Bor Text). s.now)) (sym none) ∙ first_is f (codes "uidvalidity") o is)
+
+-- ---- in which form a script is told
+
+pub some_form : (f : Found) (o : Option (Bor Text)) (value : Bor Text) → option_map (λ s. s.now) o ≡ first_value f (codes "json") → o ≡ Some value
+    → form_by (Some value.now) ≡ form_given (rows_of f)
+some_form f o value is some = ap form_by (ap (option_map (λ (s : Bor Text). s.now)) (sym some) ∙ first_is f (codes "json") o is)
+
+pub no_form : (f : Found) (o : Option (Bor Text)) → option_map (λ s. s.now) o ≡ first_value f (codes "json") → o ≡ None → forms.Text ≡ form_given (rows_of f)
+no_form f o is none = ap form_by (ap (option_map (λ (s : Bor Text). s.now)) (sym none) ∙ first_is f (codes "json") o is)
 
 -- ---- the mailboxes
 

@@ -3,19 +3,23 @@ use Rattle.std.proofs.Common.{lit<, ◌≡◌, ◌⊎◌, ◌∙◌, ap, ℕ, Bo
 use Rattle.std.specs.Prelude.{IfSome}
 use Rattle.house.specs.Setup.{setup_of}
 use Rattle.house.specs.House.{House}
+use Rattle.settings.specs.Settings.{config_fault}
 use Rattle.settings.specs.declared.config.Config.{Config}
 use Rattle.settings.specs.declared.config.ConfigFault.{ConfigFault}
 use Rattle.settings.specs.declared.config.ConfigFault.TheVariants as config_faults
-use Rattle.script.specs.Leaving.{IsLeft, IsLeftWanting, WritesBeginning, WritesFirst}
 use Rattle.script.specs.Promise.{WroteOnce}
-use Rattle.script.specs.Script.{ScriptLine}
+use Rattle.script.specs.Script.{ScriptLine, script_of}
+use Rattle.script.specs.Telling.{RunTells, lines_of}
+use Rattle.script.specs.declared.telling.Form.{Form}
+use Rattle.script.specs.declared.telling.Form.TheVariants.{Json, Text}
 use Rattle.script.specs.declared.run.RunFault.{RunFault}
 use Rattle.script.specs.declared.run.RunFault.TheVariants as run_faults
 use Rattle.script.proofs.Once.{wrote_beginning}
 use Rattle.script.proofs.RunLaws.{run_unbegun}
+use Rattle.script.proofs.TellingLaws.{all_written, ran_first, ran_once, ran_unread, ran_wanting}
 use Rattle.serving.specs.declared.fault.ServeFault.{ServeFault}
 use Rattle.serving.specs.declared.fault.ServeFault.TheVariants as serve_faults
-use Rattle.post_house.specs.inner.Playing.{WasPlayed}
+use Rattle.post_house.specs.inner.Playing.{RanIn, WasPlayed, WasTold}
 use Rattle.post_house.specs.Status.{config_failure, run_failure, serve_failure, status_of}
 use Rattle.post_house.specs.inner.Status.{IsStatus, status_for, status_of_done, status_served}
 use Rattle.post_house.specs.declared.outcome.Done.{Done}
@@ -29,18 +33,60 @@ unplayed config lines old =
     wrote_beginning (setup_of config) lines (λ number held others s. Unit {0}) old old (run_unbegun (setup_of config) lines old (λ number held others s. Unit {0}) tt)
 
 -- a run that failed, by its fault
-pub failed_played : (config : Config) (lines : List ScriptLine) (h : House) (failed : Bool) (old new : Option (List ℕ)) (f : RunFault) (r : Failure) → r ≡ run_failure f
-    → ((sent : ℕ) → ◌≡◌ {A = Result (Unit {0}) RunFault} (Err f) (Err (run_faults.Write sent)) → WritesFirst (setup_of config) lines sent h old new)
+pub failed_told : (form : Form) (config : Config) (lines : List (List ℕ)) (h : House) (failed : Bool) (old new : Option (List ℕ)) (f : RunFault) (r : Failure) → r ≡ run_failure f
+    → RunTells form (setup_of config) lines h (Err f) old new
     → ((sent : ℕ) → ◌≡◌ {A = Result (Unit {0}) RunFault} (Err f) (Err (run_faults.Write sent)) → failed ≡ true)
-    → (◌≡◌ {A = Result (Unit {0}) RunFault} (Err f) (Err run_faults.NoMemory) → WritesBeginning (setup_of config) lines (IsLeftWanting (setup_of config) h) old new)
-    → (◌≡◌ {A = Result (Unit {0}) RunFault} (Err f) (Err run_faults.Read) → WritesBeginning (setup_of config) lines (IsLeft (setup_of config) h) old new)
-    → WasPlayed config lines failed (Err r) old new
-failed_played config lines h failed old new (run_faults.Write sent) r e write fails wants reads =
-    subst (λ (x : Failure). WasPlayed config lines failed (Err x) old new) (sym e) (inr (h, sent, write sent refl, fails sent refl))
-failed_played config lines h failed old new run_faults.Read r e write fails wants reads =
-    subst (λ (x : Failure). WasPlayed config lines failed (Err x) old new) (sym e) (inl (h, reads refl))
-failed_played config lines h failed old new run_faults.NoMemory r e write fails wants reads =
-    subst (λ (x : Failure). WasPlayed config lines failed (Err x) old new) (sym e) (inr (h, wants refl))
+    → WasTold form config lines failed (Err r) old new
+failed_told form config lines h failed old new (run_faults.Write sent) r e tells fails =
+    subst (λ (x : Failure). WasTold form config lines failed (Err x) old new) (sym e) (inr (h, sent, tells, fails sent refl))
+failed_told form config lines h failed old new run_faults.Read r e tells fails =
+    subst (λ (x : Failure). WasTold form config lines failed (Err x) old new) (sym e) (inl (h, tells))
+failed_told form config lines h failed old new run_faults.NoMemory r e tells fails =
+    subst (λ (x : Failure). WasTold form config lines failed (Err x) old new) (sym e) (inr (h, tells))
+
+-- settings that are wrong, or want of memory as they were looked at: nothing was written
+pub wrong_told : (form : Form) (config : Config) (lines : List (List ℕ)) (failed : Bool) (old : Option (List ℕ)) (f : ConfigFault) (r : Failure) → r ≡ config_failure f
+    → WasTold form config lines failed (Err r) old old
+wrong_told form config lines failed old config_faults.NoMemory r e = subst (λ (x : Failure). WasTold form config lines failed (Err x) old old) (sym e) (inl refl)
+wrong_told form config lines failed old config_faults.TooMany r e = subst (λ (x : Failure). WasTold form config lines failed (Err x) old old) (sym e) refl
+wrong_told form config lines failed old config_faults.BadName r e = subst (λ (x : Failure). WasTold form config lines failed (Err x) old old) (sym e) refl
+wrong_told form config lines failed old config_faults.Twice r e = subst (λ (x : Failure). WasTold form config lines failed (Err x) old old) (sym e) refl
+wrong_told form config lines failed old config_faults.Ring r e = subst (λ (x : Failure). WasTold form config lines failed (Err x) old old) (sym e) refl
+wrong_told form config lines failed old config_faults.Ports r e = subst (λ (x : Failure). WasTold form config lines failed (Err x) old old) (sym e) refl
+
+-- ---- what is told as text is what the script prints
+
+pub text_played : (config : Config) (bytes : List ℕ) (failed : Bool) (r : Result (Unit {0}) Failure) (old new : Option (List ℕ)) → WasTold Text config (lines_of bytes) failed r old new
+    → WasPlayed config (script_of bytes) failed r old new
+text_played config bytes failed (Ok done) old new (h, w) = (h, all_written (setup_of config) bytes h old new w)
+text_played config bytes failed (Err (failures.Config fault)) old new same = same
+text_played config bytes failed (Err failures.Device) old new (inl (h, w)) = inl (h, ran_unread (setup_of config) bytes (Err run_faults.Read) h old new refl w)
+text_played config bytes failed (Err failures.Device) old new (inr (h, sent, w, failing)) =
+    inr (h, sent, ran_first (setup_of config) bytes sent (Err (run_faults.Write sent)) h old new refl w, failing)
+text_played config bytes failed (Err failures.NoMemory) old new (inl same) = inl same
+text_played config bytes failed (Err failures.NoMemory) old new (inr (h, w)) = inr (h, ran_wanting (setup_of config) bytes (Err run_faults.NoMemory) h old new refl w)
+text_played config bytes failed (Err failures.Torn) old new none = absurd none
+
+-- nothing was written
+none_once : (config : Config) (bytes : List ℕ) (old new : Option (List ℕ)) → new ≡ old → WroteOnce (setup_of config) (script_of bytes) old new
+none_once config bytes old new same = subst (λ (x : Option (List ℕ)). WroteOnce (setup_of config) (script_of bytes) old x) (sym same) (unplayed config (script_of bytes) old)
+
+pub text_once : (config : Config) (bytes : List ℕ) (failed : Bool) (r : Result (Unit {0}) Failure) (old new : Option (List ℕ)) → WasTold Text config (lines_of bytes) failed r old new
+    → WroteOnce (setup_of config) (script_of bytes) old new
+text_once config bytes failed (Ok done) old new (h, w) = ran_once (setup_of config) bytes (Ok done) h old new w
+text_once config bytes failed (Err (failures.Config fault)) old new same = none_once config bytes old new same
+text_once config bytes failed (Err failures.Device) old new (inl (h, w)) = ran_once (setup_of config) bytes (Err run_faults.Read) h old new w
+text_once config bytes failed (Err failures.Device) old new (inr (h, sent, w, failing)) = ran_once (setup_of config) bytes (Err (run_faults.Write sent)) h old new w
+text_once config bytes failed (Err failures.NoMemory) old new (inl same) = none_once config bytes old new same
+text_once config bytes failed (Err failures.NoMemory) old new (inr (h, w)) = ran_once (setup_of config) bytes (Err run_faults.NoMemory) h old new w
+text_once config bytes failed (Err failures.Torn) old new none = absurd none
+
+-- in the form that was asked for
+pub ran_in : (form : Form) (config : Config) (bytes : List ℕ) (failed : Bool) (r : Result (Unit {0}) Failure) (old new : Option (List ℕ))
+    → ((fault : ConfigFault) → r ≡ Err (failures.Config fault) → config_fault config ≡ Some fault) → WasTold form config (lines_of bytes) failed r old new
+    → RanIn form config bytes failed r old new
+ran_in Text config bytes failed r old new wrong told = record { wrong = wrong; played = text_played config bytes failed r old new told; once = text_once config bytes failed r old new told }
+ran_in Json config bytes failed r old new wrong told = record { wrong = wrong; told = told }
 
 -- ---- settings that are wrong
 

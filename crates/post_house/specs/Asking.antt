@@ -1,9 +1,12 @@
 -- What the words of a command line ask for: of each setting what is given for it, or what stands where nothing is.
 use Rattle.std.specs.Prelude.{◌≡◌, ℕ, List, [], Option, Some, None, codes, if◌then◌else◌, is_some, length, max, min, unwrap_or}
+use Rattle.std.specs.Str.{bytes_eq}
 use Rattle.std.specs.Str.Parse.{digits_value}
 use Rattle.clap.specs.Words.{Row, Text, all_of, first_of, subcommand_of}
 use Rattle.settings.specs.Settings.{IsInRange, words_of}
 use Rattle.settings.specs.declared.config.Config.{Config}
+use Rattle.script.specs.declared.telling.Form.{Form}
+use Rattle.script.specs.declared.telling.Form.TheVariants as forms
 use Rattle.serving.specs.declared.server.Uidvalidity.{Uidvalidity}
 use Rattle.serving.specs.declared.server.Uidvalidity.TheVariants.{Given, Default}
 use Rattle.post_house.specs.Words.{program}
@@ -12,7 +15,7 @@ use Rattle.post_house.specs.declared.asked.Asked.TheVariants.{Script, Serve}
 
 -- with settings that are in their ranges
 abbrev pub IsAskedInRange : Asked → Type 0
-IsAskedInRange (Script config) = IsInRange config
+IsAskedInRange (Script config form) = IsInRange config
 IsAskedInRange (Serve config uidvalidity) = IsInRange config
 
 -- ---- what is given for an option, by the rows of what clap found
@@ -37,6 +40,15 @@ mailboxes_given rows = unwrap_or (all_of (codes "MAILBOX") rows) []
 -- whether a UIDVALIDITY is given, of which a server doesn't warn then
 abbrev pub uidvalidity_given : List Row → Uidvalidity
 uidvalidity_given rows = if is_some (first_of (codes "uidvalidity") rows) then Given else Default
+
+-- a flag that stands there has the value `true`
+abbrev pub form_by : (value : Option Text) → Form
+form_by None = forms.Text
+form_by (Some value) = if bytes_eq value (codes "true") then forms.Json else forms.Text
+
+-- in which form a script is told
+abbrev pub form_given : List Row → Form
+form_given rows = form_by (first_of (codes "json") rows)
 
 -- ---- settings
 
@@ -87,7 +99,7 @@ pub record AsksForServer (rows : List Row) (config : Config) (uidvalidity : Uidv
 
 -- Where clap found this subcommand with these rows, it is asked for, with the settings that these give.
 abbrev pub AsksBy : Option (Text × List Row) → Asked → Type 0
-AsksBy found (Script config) = (rows : List Row) × (found ≡ Some (codes "script", rows)) × AsksForScript rows config
+AsksBy found (Script config form) = (rows : List Row) × (found ≡ Some (codes "script", rows)) × AsksForScript rows config × (form ≡ form_given rows)
 AsksBy found (Serve config uidvalidity) = (rows : List Row) × (found ≡ Some (codes "serve", rows)) × AsksForServer rows config uidvalidity
 
 -- These words, the first of which is the program's name, ask for that. What clap finds in them is said there (`subcommand_of`).

@@ -3,7 +3,7 @@
 use Rattle.std.specs.Prelude.{◌≡◌, ◌⊎◌, ℕ, ◌++◌, List, [], ◌∷◌, Some, codes, true, false}
 use Rattle.clap.specs.Lexer.{usize_max}
 use Rattle.clap.specs.Words.{App, IsAmong, Kinds, Rule, Shape, Text, fault_of, new_app, new_rule}
-use Rattle.clap.specs.declared.builder.action.ArgAction.TheVariants.{Append, Set}
+use Rattle.clap.specs.declared.builder.action.ArgAction.TheVariants.{Append, Set, SetTrue}
 use Rattle.clap.specs.declared.builder.value_parser.ValueParser.TheVariants.{Unsigned}
 use Rattle.clap.specs.declared.error.kind.ErrorKind.{ErrorKind}
 use Rattle.clap.specs.declared.error.kind.ErrorKind.TheVariants as kind
@@ -15,6 +15,10 @@ name_rule name = record (new_rule name) { long = Some name; action = Some Set }
 -- an option that sets a number from `least` to `most`
 abbrev pub number_rule : Text → (least most : ℕ) → Rule
 number_rule name least most = record (new_rule name) { long = Some name; action = Some Set; parser = Some (Unsigned least most) }
+
+-- an option that stands there or doesn't
+abbrev pub flag_rule : Text → Rule
+flag_rule name = record (new_rule name) { long = Some name; action = Some SetTrue }
 
 -- one mailbox or more
 abbrev pub mailbox_rule : Rule
@@ -36,6 +40,10 @@ house_rules =
     ∷ mailbox_rule
     ∷ []
 
+-- what `script` takes besides
+abbrev pub script_rules : List Rule
+script_rules = flag_rule (codes "json") ∷ []
+
 -- what `serve` takes besides
 abbrev pub server_rules : List Rule
 server_rules =
@@ -46,7 +54,7 @@ server_rules =
     ∷ []
 
 abbrev pub script : Shape
-script = record (new_app (codes "script")).top { rules = house_rules }
+script = record (new_app (codes "script")).top { rules = house_rules ++ script_rules }
 
 abbrev pub serve : Shape
 serve = record (new_app (codes "serve")).top { rules = house_rules ++ server_rules }

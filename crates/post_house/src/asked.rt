@@ -6,7 +6,7 @@ ghost use Rattle.std.specs.List.{list_all};
 ghost use Rattle.clap.specs.Words.{IsAmong, app_of, found_of, kind_of, rows_of, subcommand_rows_of};
 ghost use Rattle.settings.specs.Settings.{IsDefault, IsFrom, IsInRange};
 ghost use Rattle.post_house.specs.Asking.{AsksBy, AsksFor, AsksForScript, IsAskedInRange};
-ghost use Rattle.post_house.specs.Asking.{mailboxes_given, number_given, server_shards, text_given, uidvalidity_given};
+ghost use Rattle.post_house.specs.Asking.{form_by, form_given, mailboxes_given, number_given, server_shards, text_given, uidvalidity_given};
 ghost use Rattle.post_house.specs.Words as words_taken;
 
 use crate::options::{
@@ -15,6 +15,7 @@ use crate::options::{
 };
 use clap::error::ErrorKind;
 use clap::{ArgMatches, Command, Error};
+use script::Form;
 use serving::Uidvalidity;
 use settings::Config;
 use settings::numbers::LEAST_IMAP_PORT;
@@ -24,8 +25,13 @@ use std::convert::AsStr;
 /// What the words ask for.
 #[derive(Drop)]
 pub enum Asked {
-    /// A script from the input, on a house of these settings.
-    Script(Config),
+    /// A script from the input.
+    Script {
+        /// The settings of its house.
+        config: Config,
+        /// How what its lines print is told.
+        form: Form,
+    },
     /// A server with these settings.
     Serve {
         /// The settings, its ports and numbers of threads among them.
@@ -346,13 +352,37 @@ fn server_of<'a>(alloc: Global, matches: &ArgMatches<'a>) -> Result<Asked, Refus
     })
 }
 
+// In which form a script is told, by the value that clap gives the flag.
+fn form_by(value: &str) -> Form
+    ensures { result ≡ form_by (Some value.now) }
+{
+    if value == "true" {
+        Form::Json
+    } else {
+        Form::Text
+    }
+}
+
+// In which form a script is told.
+fn form_of<'a>(matches: &ArgMatches<'a>) -> Form
+    ensures { result ≡ form_given (rows_of (found_of matches.now)) }
+{
+    match matches.get_str("json") {
+        Some(value) => form_by(value),
+        None => Form::Text,
+    }
+}
+
 // What the options and words of `script` ask for.
 fn script_of<'a>(alloc: Global, matches: &ArgMatches<'a>) -> Result<Asked, Refused<'a>>
     ensures range { IfOk result IsAskedInRange }
     ensures asks { IfOk result (AsksBy (Some (codes "script", rows_of (found_of matches.now)))) }
 {
     let config = settings_of(alloc, matches)?;
-    Ok(Asked::Script(config))
+    Ok(Asked::Script {
+        config,
+        form: form_of(matches),
+    })
 }
 
 // What the words ask for whose subcommand isn't `script`.
@@ -445,7 +475,7 @@ fn asked_by<'a, S: AsStr>(
 }
 
 /// What these words ask for, the first of which is the program's name: `script` or `serve`, options, mailboxes; each setting is what is
-/// given for it, or its default. Each number is in its range, and there is a mailbox; names are not looked at, nor whether the ports are
+/// given for it, or its default. A script is told in JSON where `--json` is given. Each number is in its range, and there is a mailbox; names are not looked at, nor whether the ports are
 /// right.
 ///
 /// The error is clap's: a mistake in the words, a number that is out of its range or has other than digits, a port of users from 1 to 1023, or a

@@ -9,13 +9,11 @@ mod outcome;
 
 ghost use Rattle.std.specs.Prelude.{◌≡◌, ◌⊎◌, ◌↔◌, false, true, ℕ, List, Some, Err, map};
 ghost use Rattle.clap.specs.Words.{kind_of};
-ghost use Rattle.script.specs.Script.{script_of};
-ghost use Rattle.script.specs.Promise.{WroteOnce};
-ghost use Rattle.house.specs.Setup.{setup_of};
+ghost use Rattle.script.specs.Telling.{lines_of};
 ghost use Rattle.settings.specs.Settings.{IsInRange, config_fault};
 ghost use Rattle.settings.specs.declared.config.ConfigFault.{ConfigFault};
 ghost use Rattle.post_house.specs.Asking.{IsAskedInRange};
-ghost use Rattle.post_house.specs.inner.Playing.{HasDone, HasRun, WasPlayed};
+ghost use Rattle.post_house.specs.inner.Playing.{HasDone, HasRun, WasTold};
 ghost use Rattle.post_house.specs.Status.{status_of};
 ghost use Rattle.post_house.specs.inner.Status.{IsStatus, status_of_done};
 ghost use Rattle.post_house.specs.inner.Telling.{HasTold, IsRequest, Tells};
@@ -27,7 +25,7 @@ use clap::Error;
 use clap::error::ErrorKind;
 use house::House;
 use line_io::{Sink, Watched, send};
-use script::drive;
+use script::{Form, drive_as};
 use serving::serve;
 use settings::Config;
 use std::alloc::Global;
@@ -99,20 +97,19 @@ fn tell<W: Sink, F: Write>(alloc: Global, error: &Error, output: &mut W, faults:
     NOT_ASKED_RIGHT
 }
 
-// Runs the script from the input on a house of these settings. Where they are wrong, their first fault is told.
+// Runs the script from the input on a house of these settings, and tells in this form what it prints. Where the settings are wrong, their
+// first fault is told.
 fn play<R: BufRead, W: Sink>(
     alloc: Global,
     config: &Config,
+    form: Form,
     input: &mut R,
     output: &mut W,
 ) -> Result<(), Failure>
     requires range { IsInRange config.now }
     requires live { W.failed output.old ≡ false }
-    ensures played { (bytes : List ℕ) → R.remaining input.old ≡ Some bytes →
-        WasPlayed config.now (script_of bytes) (W.failed output.new) result (W.taken output.old)
-        (W.taken output.new) }
-    ensures once { (bytes : List ℕ) → R.remaining input.old ≡ Some bytes →
-        WroteOnce (setup_of config.now) (script_of bytes) (W.taken output.old)
+    ensures told { (bytes : List ℕ) → R.remaining input.old ≡ Some bytes →
+        WasTold form config.now (lines_of bytes) (W.failed output.new) result (W.taken output.old)
         (W.taken output.new) }
     ensures fault { (fault : ConfigFault) → result ≡ Err (Failure.Config fault)
         → config_fault config.now ≡ Some fault }
@@ -123,7 +120,7 @@ fn play<R: BufRead, W: Sink>(
         Ok(house) => house,
         Err(fault) => return Err(Failure::from(fault)),
     };
-    match drive(alloc, &mut house, input, output) {
+    match drive_as(form, alloc, &mut house, input, output) {
         Ok(()) => Ok(()),
         Err(fault) => Err(device_or_memory(fault)),
     }
@@ -142,7 +139,9 @@ fn carry_out<
         (W.taken output.old) (W.taken output.new) }
 {
     match asked {
-        Asked::Script(config) => Done::Played(play(alloc, config, input, output)),
+        Asked::Script { config, form } => {
+            Done::Played(play(alloc, config, *form, input, output))
+        }
         Asked::Serve {
             config,
             uidvalidity,
@@ -164,8 +163,8 @@ fn finish<F: Write>(done: Done, faults: &mut F) -> u8
 /// Does what the words ask for, the first of which is the program's name, and hands out what came of it, with the exit status: 0 where all
 /// was done, also where only the help was asked for; 2 for a command line that is refused, with clap's text on `faults`; 3 for settings that are wrong,
 /// 4 for a device that fails, 5 for want of memory and 6 for a server that was torn, each with a line of its own on `faults`. At 2 and 3
-/// nothing is written to `output`. A script's bytes are played as they come, and what was written is what it prints, or after a failure a
-/// beginning of it. A server writes a line for each of its listeners, or after a failure a beginning of them, and ends with the input.
+/// nothing is written to `output`. A script's bytes are played as they come, and what was written is what it prints, in the form that was
+/// asked for, or after a failure a beginning of it. A server writes a line for each of its listeners, or after a failure a beginning of them, and ends with the input.
 fn command<
     R: Net<Listener = TcpListener, Stream = TcpStream> + Threads + Wait + Sync,
     S: AsStr,

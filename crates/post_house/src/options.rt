@@ -257,6 +257,27 @@ fn with_house<'a>(
     with_options(alloc, named, HOUSE_OPTIONS, &helps.house)?.arg(mailboxes(alloc))
 }
 
+// Whether what a script prints is told in JSON.
+fn json<'a>(alloc: Global) -> Arg<'a>
+    ensures rule { rule_of result ≡ words.flag_rule (codes "json") }
+    ensures local { result.global ≡ false }
+{
+    Arg::new(alloc, "json")
+        .long("json")
+        .help("Prints one JSON object for each line: its number, the line, and what it printed")
+        .action(ArgAction::SetTrue)
+}
+
+// A subcommand with what `script` may be given besides.
+fn with_script_options<'a>(
+    alloc: Global,
+    subcommand: Command<'a>,
+) -> Result<Command<'a>, AllocError>
+    ensures { IfOk result (HasMore words.script_rules subcommand.entry) }
+{
+    subcommand.arg(json(alloc))
+}
+
 // `script`, with its options and its mailboxes.
 fn script_line<'a>(alloc: Global, helps: &'a Helps) -> Result<Command<'a>, AllocError>
     requires { AreThere helps.now }
@@ -266,7 +287,8 @@ fn script_line<'a>(alloc: Global, helps: &'a Helps) -> Result<Command<'a>, Alloc
     let script = Command::new(alloc, "script").about(
         "Runs a script from standard input on a house of its own",
     );
-    with_house(alloc, script, helps)
+    let housed = with_house(alloc, script, helps)?;
+    with_script_options(alloc, housed)
 }
 
 // `serve`, with its options and its mailboxes.

@@ -3,6 +3,7 @@ use Rattle.std.proofs.Common.{◌≡◌, ◌≢◌, ℕ, zero, suc, ◌+◌, ◌
 use Rattle.std.specs.Io.BufRead.{drop_through, ends_with_byte, strip_last, take_through}
 use Rattle.std.specs.Io.KnownBytes.{Consumes}
 use Rattle.std.proofs.BufReadLemmas.{take_through-nil}
+use Rattle.std.proofs.Math.Seq.{take-append-le, take-take}
 use Rattle.script.specs.Script.{Skip, Bad, asked, line_of, most_bytes, request_of}
 use Rattle.script.specs.inner.Kept.{HasRead, IsPart, IsKept, behind_line, most_kept, still_to_come}
 
@@ -148,3 +149,36 @@ asks_the_same (b ∷ bs) whole (inr long) =
     let more = long.1 in
     long_line_asks b bs (omega (arith, long.0))
     ∙ sym (ap (λ l. asked (line_of l)) long.2 ∙ long_line_asks b (bs ++ more) (omega (arith, long.0, length-append bs more)))
+
+-- ---- and shows the same front
+
+-- a byte that goes off the end isn't in the front
+front_kept : (n byte : ℕ) (xs : List ℕ) → n < length xs → take n (strip_last byte xs) ≡ take n xs
+front_kept n byte xs long = by (ends_with_byte byte xs)
+  where
+    by : (is : Bool) → take n (if is then take (length xs - 1) xs else xs) ≡ take n xs
+    by false = refl
+    by true = take-take n (length xs - 1) xs (omega (arith, long))
+
+stripped_length : (n byte : ℕ) (xs : List ℕ) → suc n < length xs → n < length (strip_last byte xs)
+stripped_length n byte xs long = by (ends_with_byte byte xs)
+  where
+    by : (is : Bool) → n < length (if is then take (length xs - 1) xs else xs)
+    by false = omega (arith, long)
+    by true = omega (arith, long, length-take-le (length xs - 1) xs (omega arith))
+
+front_of_line : (n : ℕ) (xs : List ℕ) → suc n < length xs → take n (line_of xs) ≡ take n xs
+front_of_line n xs long = by (ends_with_byte 10 xs)
+  where
+    by : (is : Bool) → take n (if is then strip_last 13 (strip_last 10 xs) else xs) ≡ take n xs
+    by false = refl
+    by true = front_kept n 13 (strip_last 10 xs) (stripped_length n 10 xs long) ∙ front_kept n 10 xs (omega (arith, long))
+
+same_front_of : (n : ℕ) (kept more : List ℕ) → suc n < length kept → take n (line_of kept) ≡ take n (line_of (kept ++ more))
+same_front_of n kept more long =
+    front_of_line n kept long ∙ sym (take-append-le n kept more (omega (arith, long))) ∙ sym (front_of_line n (kept ++ more) (omega (arith, long, length-append kept more)))
+
+pub shows_the_same : (kept whole : List ℕ) → IsKept kept whole → take most_bytes (line_of kept) ≡ take most_bytes (line_of whole)
+shows_the_same kept whole (inl same) = ap (λ l. take most_bytes (line_of l)) same
+shows_the_same kept whole (inr long) =
+    same_front_of most_bytes kept long.1 (omega (arith, long.0)) ∙ sym (ap (λ l. take most_bytes (line_of l)) long.2)

@@ -5,5 +5,7 @@ pub mod RunLaws
 pub mod SessionLaws
 pub mod EventLaws
 pub mod Once
+pub mod TellingLaws
+pub mod ObjectLaws
 pub mod Parts
 pub mod Refuted

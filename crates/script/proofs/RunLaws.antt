@@ -28,12 +28,15 @@ use Rattle.house.specs.Steps.{FollowsInPart, IsEmptySeat, IsNoSeat, IsSpent, IsU
 use Rattle.house.specs.Settled.{BrokeOffFrom, SettledFrom, is_held}
 use Rattle.house.specs.Settling.{Settles, SettlingBreaksOff}
 use Rattle.house.specs.Window.{PrintsWindow}
-use Rattle.script.specs.Script.{IsAway, IsNoConnection, IsOwing, LinePlays, NobodyThere, Script, ScriptLine, Asks, Enters, Leaves, Sends, Vanishes, Hold, Free, Closes, Tail, Skip, Bad, asked, brought, closes_nobody, goes_again, goes_nobody, held_after, held_by, is_bad, line_of, none_held, refusal, script_of, skips, stands_nobody, stands_still, tails, tails_nobody}
-use Rattle.script.specs.Leaving.{Writes, WritesBeginning, WritesFirst, unwritten, LineBegins, LineWanting, undone, begun, PlayWanting, settling}
+use Rattle.script.specs.Script.{IsAway, IsNoConnection, IsOwing, LinePlays, NobodyThere, ScriptLine, Asks, Enters, Leaves, Sends, Vanishes, Hold, Free, Closes, Tail, Skip, Bad, asked, brought, closes_nobody, goes_again, goes_nobody, held_after, held_by, is_bad, line_of, most_bytes, none_held, refusal, skips, stands_nobody, stands_still, tails, tails_nobody}
+use Rattle.script.specs.Leaving.{WritesBeginning, unwritten, LineBegins, LineWanting, undone, begun, PlayWanting, settling}
 use Rattle.std.specs.Prelude.{Bool, IfNone, IfSome, codes, false, true}
-use Rattle.script.specs.inner.Running.{HasRun, IsClipped, IsOver, IsUnread as IsUnreadTurn, IsUnwritten, LineCut, LineDone, LinePlayed, LineWritten, SetsHeld, TurnTells, sets, sets_nobody}
+use Rattle.script.specs.inner.Running.{HasRun, IsClipped, IsOver, IsUnread as IsUnreadTurn, IsUnwritten, LineCut, LineDone, LinePlayed, LineTold, LineWritten, SetsHeld, TellWanting, playing, telling, TurnTells, sets, sets_nobody}
+use Rattle.script.specs.Telling.{IsLeftUntold, wanting, untold, LineByLine, TellsAll, TellsBeginning, TellsFirst, asked_by, lines_of, rendered, told}
+use Rattle.script.specs.declared.telling.Form.{Form}
 use Rattle.script.proofs.Once.{script_once}
-use Rattle.script.proofs.ScriptLaws.{first_line, script_push}
+use Rattle.script.proofs.ScriptLaws.{first_of_lines}
+use Rattle.script.proofs.TellingLaws.{asked_both, delivers, plays_on, same_front, told_on}
 
 -- ---- nobody is there
 
@@ -147,39 +150,53 @@ played k number held holds line s g h mid new d same f =
       out = t.out ∙ ap (λ (x : List ℕ). x ++ t.printed) d.out;
     }
 
+-- and what it printed is told
+pub tells_line : (form : Form) (k : Setup) (number : ℕ) (held : List Bool) (line : List ℕ) (s : Scene) (h : House) (text new : List ℕ) → LinePlayed k number held (asked line) s h [] text
+    → new ≡ rendered form number line text → LineTold form k number held line s h new
+tells_line form k number held line s h text new p is =
+    record { after = p.after; printed = p.printed; plays = p.plays; stands = p.stands; out = is ∙ ap (rendered form number line) p.out }
+
 -- ---- a turn
 
-pub turn_written : (k : Setup) (number : ℕ) (held holds : List Bool) (s : Scene) (input piece text : List ℕ) (h : House) (left old new : Option (List ℕ)) (sent : ℕ)
-    → asked (line_of piece) ≡ asked (line_of (take_through 10 input)) → 0 < length (take_through 10 input) → left ≡ Some (drop_through 10 input) → LinePlayed k number held (asked (line_of piece)) s h [] text → holds ≡ held_after held (asked (line_of piece))
-    → Appends old new text → sent ≡ length text → LineWritten k number held s input h holds left old new sent
-turn_written k number held holds s input piece text h left old new sent e some rest p now a n = record {
-  line = asked (line_of piece);
-  rest = drop_through 10 input;
-  remaining = rest;
-  first = first_line input some ∙ ap (λ (x : ScriptLine). x ∷ script_of (drop_through 10 input)) (sym e);
-  after = p.after;
-  printed = p.printed;
-  plays = p.plays;
-  holds_now = now;
-  stands = p.stands;
-  out = subst (Appends old new) p.out a;
-  count = n ∙ ap length p.out;
-}
+pub turn_written : (form : Form) (k : Setup) (number : ℕ) (held holds : List Bool) (s : Scene) (input piece text : List ℕ) (h : House) (left old new : Option (List ℕ)) (sent : ℕ)
+    → asked (line_of piece) ≡ asked (line_of (take_through 10 input)) → take most_bytes (line_of piece) ≡ take most_bytes (line_of (take_through 10 input))
+    → 0 < length (take_through 10 input) → left ≡ Some (drop_through 10 input) → LineTold form k number held (line_of piece) s h text → holds ≡ held_after held (asked (line_of piece))
+    → Appends old new text → sent ≡ length text → LineWritten form k number held s input h holds left old new sent
+turn_written form k number held holds s input piece text h left old new sent e front some rest p now a n =
+    let line = line_of (take_through 10 input) in
+    let whole : text ≡ rendered form number line p.printed = p.out ∙ same_front form number (line_of piece) line p.printed front in
+    record {
+      line = line;
+      rest = drop_through 10 input;
+      remaining = rest;
+      first = first_of_lines input some;
+      after = p.after;
+      printed = p.printed;
+      plays = subst (λ (x : ScriptLine). LinePlays k number held x s p.after p.printed) e p.plays;
+      holds_now = now ∙ ap (held_after held) e;
+      stands = p.stands;
+      out = subst (Appends old new) whole a;
+      count = n ∙ ap length whole;
+    }
 
-pub turn_cut : (k : Setup) (number : ℕ) (held : List Bool) (s : Scene) (input piece text : List ℕ) (h : House) (old new : Option (List ℕ)) (sent : ℕ)
-    → asked (line_of piece) ≡ asked (line_of (take_through 10 input)) → 0 < length (take_through 10 input) → LinePlayed k number held (asked (line_of piece)) s h [] text
-    → Appends old new (take sent text) → sent < length text → LineCut k number held s input h old new sent
-turn_cut k number held s input piece text h old new sent e some p a n = record {
-  line = asked (line_of piece);
-  others = script_of (drop_through 10 input);
-  first = first_line input some ∙ ap (λ (x : ScriptLine). x ∷ script_of (drop_through 10 input)) (sym e);
-  after = p.after;
-  printed = p.printed;
-  plays = p.plays;
-  stands = p.stands;
-  within = subst (λ (x : List ℕ). sent < length x) p.out n;
-  out = subst (λ (x : List ℕ). Appends old new (take sent x)) p.out a;
-}
+pub turn_cut : (form : Form) (k : Setup) (number : ℕ) (held : List Bool) (s : Scene) (input piece text : List ℕ) (h : House) (old new : Option (List ℕ)) (sent : ℕ)
+    → asked (line_of piece) ≡ asked (line_of (take_through 10 input)) → take most_bytes (line_of piece) ≡ take most_bytes (line_of (take_through 10 input))
+    → 0 < length (take_through 10 input) → LineTold form k number held (line_of piece) s h text
+    → Appends old new (take sent text) → sent < length text → LineCut form k number held s input h old new sent
+turn_cut form k number held s input piece text h old new sent e front some p a n =
+    let line = line_of (take_through 10 input) in
+    let whole : text ≡ rendered form number line p.printed = p.out ∙ same_front form number (line_of piece) line p.printed front in
+    record {
+      line = line;
+      others = lines_of (drop_through 10 input);
+      first = first_of_lines input some;
+      after = p.after;
+      printed = p.printed;
+      plays = subst (λ (x : ScriptLine). LinePlays k number held x s p.after p.printed) e p.plays;
+      stands = p.stands;
+      within = subst (λ (x : List ℕ). sent < length x) whole n;
+      out = subst (λ (x : List ℕ). Appends old new (take sent x)) whole a;
+    }
 
 -- ---- numbers of shards
 
@@ -225,118 +242,150 @@ by_as_many held [] = refl
 by_as_many held (l ∷ ls) = by_as_many (held_after held l) ls ∙ held_as_many held l
 
 -- there is one for each shard
-pub one_for_each : (k : Setup) (input : List ℕ) (count : ℕ) (h : House) (holds : List Bool) (left old new : Option (List ℕ)) (sent : ℕ) (start : Scene)
-    → HasRun k input count h holds left old new sent start → length holds ≡ k.config.shards
-one_for_each k input count h holds left old new sent start r = ap length r.holds_now ∙ by_as_many (none_held k) r.lines ∙ length-replicate k.config.shards false
+pub one_for_each : (form : Form) (k : Setup) (input : List ℕ) (count : ℕ) (h : House) (holds : List Bool) (left old new : Option (List ℕ)) (sent : ℕ) (start : Scene)
+    → HasRun form k input count h holds left old new sent start → length holds ≡ k.config.shards
+one_for_each form k input count h holds left old new sent start r = ap length r.holds_now ∙ by_as_many (none_held k) (asked_by r.lines) ∙ length-replicate k.config.shards false
 
-pub none_run : (k : Setup) (input : List ℕ) (h : House) (holds : List Bool) (left old : Option (List ℕ)) (start : Scene) → StandsFor k h start → holds ≡ none_held k → left ≡ Some input → HasRun k input 0 h holds left old old 0 start
-none_run k input h holds left old start st none e = record {
+pub none_run : (form : Form) (k : Setup) (input : List ℕ) (h : House) (holds : List Bool) (left old : Option (List ℕ)) (start : Scene) → StandsFor k h start → holds ≡ none_held k → left ≡ Some input
+    → HasRun form k input 0 h holds left old old 0 start
+none_run form k input h holds left old start st none e = record {
   lines = [];
   rest = input;
   remaining = e;
   split = refl;
   counted = refl;
   after = start;
-  printed = [];
-  script = (refl, refl);
+  texts = [];
+  plays = (refl, refl);
   holds_now = none;
   stands = st;
   out = Appends-nil old;
   total = refl;
 }
 
-pub run_more : (k : Setup) (input : List ℕ) (count : ℕ) (g h : House) (held holds : List Bool) (before left old mid new : Option (List ℕ)) (sent more : ℕ) (start : Scene)
-    → (r : HasRun k input count g held before old mid sent start) → (o : Option ℕ) → o ≡ Some more → TurnTells k (count + 1) held r.after r.rest h holds left mid new (Ok o)
-    → HasRun k input (count + 1) h holds left old new (sent + more) start
-run_more k input count g h held holds before left old mid new sent more start r o is tells =
-    let w : LineWritten k (count + 1) held r.after r.rest h holds left mid new more = subst (λ (x : Option ℕ). TurnTells k (count + 1) held r.after r.rest h holds left mid new (Ok x)) is tells in
+pub run_more : (form : Form) (k : Setup) (input : List ℕ) (count : ℕ) (g h : House) (held holds : List Bool) (before left old mid new : Option (List ℕ)) (sent more : ℕ) (start : Scene)
+    → (r : HasRun form k input count g held before old mid sent start) → (o : Option ℕ) → o ≡ Some more → TurnTells form k (count + 1) held r.after r.rest h holds left mid new (Ok o)
+    → HasRun form k input (count + 1) h holds left old new (sent + more) start
+run_more form k input count g h held holds before left old mid new sent more start r o is tells =
+    let w : LineWritten form k (count + 1) held r.after r.rest h holds left mid new more = subst (λ (x : Option ℕ). TurnTells form k (count + 1) held r.after r.rest h holds left mid new (Ok x)) is tells in
+    let tells_on = told_on form k count r.lines w.line start r.after r.texts w.printed r.counted r.plays in
     record {
       lines = r.lines ++ w.line ∷ [];
       rest = w.rest;
       remaining = w.remaining;
-      split = r.split ∙ ap (λ (x : List ScriptLine). r.lines ++ x) w.first ∙ sym (append_assoc r.lines (w.line ∷ []) (script_of w.rest));
+      split = r.split ∙ ap (λ (x : List (List ℕ)). r.lines ++ x) w.first ∙ sym (append_assoc r.lines (w.line ∷ []) (lines_of w.rest));
       counted = length-append r.lines (w.line ∷ []) ∙ ap (λ (n : ℕ). n + 1) r.counted;
       after = w.after;
-      printed = r.printed ++ w.printed;
-      script = script_push k 1 (count + 1) (none_held k) r.lines w.line start r.after w.after r.printed w.printed (let e = r.counted in omega arith) r.script
-          (subst (λ (x : List Bool). LinePlays k (count + 1) x w.line r.after w.after w.printed) r.holds_now w.plays);
-      holds_now = w.holds_now ∙ ap (λ (x : List Bool). held_after x w.line) r.holds_now ∙ sym (held_push (none_held k) r.lines w.line);
+      texts = r.texts ++ w.printed ∷ [];
+      plays = plays_on k count r.lines w.line start r.after w.after r.texts w.printed r.counted r.plays
+          (subst (λ (x : List Bool). LinePlays k (count + 1) x (asked w.line) r.after w.after w.printed) r.holds_now w.plays);
+      holds_now = w.holds_now ∙ ap (λ (x : List Bool). held_after x (asked w.line)) r.holds_now ∙ sym (held_push (none_held k) (asked_by r.lines) (asked w.line))
+          ∙ ap (held_by (none_held k)) (sym (asked_both r.lines (w.line ∷ [])));
       stands = w.stands;
-      out = Appends-trans old mid new r.printed w.printed r.out w.out;
-      total = (let a = r.total in let b = w.count in let l = length-append r.printed w.printed in omega arith);
+      out = subst (Appends old new) (sym tells_on) (Appends-trans old mid new (told form 1 r.lines r.texts) (rendered form (count + 1) w.line w.printed) r.out w.out);
+      total = (let a = r.total in let b = w.count in let l = length-append (told form 1 r.lines r.texts) (rendered form (count + 1) w.line w.printed) in let m = ap length tells_on in omega (arith, a, b, l, m));
     }
 
-pub run_over : (k : Setup) (input : List ℕ) (count : ℕ) (g h : House) (held holds : List Bool) (before left old mid new : Option (List ℕ)) (sent : ℕ)
-    → (r : HasRun k input count g held before old mid sent (empty_scene k)) → (o : Option ℕ) → o ≡ None → TurnTells k (count + 1) held r.after r.rest h holds left mid new (Ok o) → Writes k (script_of input) h old new
-run_over k input count g h held holds before left old mid new sent r o is tells =
-    let over : IsOver k r.after r.rest h mid new = subst (λ (x : Option ℕ). TurnTells k (count + 1) held r.after r.rest h holds left mid new (Ok x)) is tells in
-    let played = subst (λ (ls : List ScriptLine). Script k 1 (none_held k) ls (empty_scene k) r.after r.printed) (sym (r.split ∙ ap (λ (x : List ℕ). r.lines ++ script_of x) over.ended ∙ append-nil r.lines)) r.script in
+pub run_over : (form : Form) (k : Setup) (input : List ℕ) (count : ℕ) (g h : House) (held holds : List Bool) (before left old mid new : Option (List ℕ)) (sent : ℕ)
+    → (r : HasRun form k input count g held before old mid sent (empty_scene k)) → (o : Option ℕ) → o ≡ None → TurnTells form k (count + 1) held r.after r.rest h holds left mid new (Ok o)
+    → TellsAll form k (lines_of input) h old new
+run_over form k input count g h held holds before left old mid new sent r o is tells =
+    let over : IsOver k r.after r.rest h mid new = subst (λ (x : Option ℕ). TurnTells form k (count + 1) held r.after r.rest h holds left mid new (Ok x)) is tells in
+    let whole : r.lines ≡ lines_of input = sym (r.split ∙ ap (λ (x : List ℕ). r.lines ++ lines_of x) over.ended ∙ append-nil r.lines) in
+    let played = subst (λ (ls : List (List ℕ)). LineByLine k 1 (none_held k) (asked_by ls) (empty_scene k) r.after r.texts) whole r.plays in
     record {
       after = r.after;
-      printed = r.printed;
-      script = played;
-      once = script_once k (script_of input) r.after r.printed played;
+      texts = r.texts;
+      plays = played;
+      once = delivers k (lines_of input) r.after r.texts played;
       stands = over.stands;
-      out = subst (λ (x : Option (List ℕ)). Appends old x r.printed) (sym over.silent) r.out;
+      out = subst (λ (ls : List (List ℕ)). Appends old new (told form 1 ls r.texts)) whole (subst (λ (x : Option (List ℕ)). Appends old x (told form 1 r.lines r.texts)) (sym over.silent) r.out);
     }
 
-pub run_stops : (k : Setup) (input : List ℕ) (count : ℕ) (h : House) (held : List Bool) (left old mid new : Option (List ℕ)) (sent : ℕ) (Left : ℕ → List Bool → List ScriptLine → Scene → Type 0)
-    → (r : HasRun k input count h held left old mid sent (empty_scene k)) → Left (count + 1) held (script_of r.rest) r.after → new ≡ mid → WritesBeginning k (script_of input) Left old new
-run_stops k input count h held left old mid new sent Left r is same = record {
+pub run_stops : (form : Form) (k : Setup) (input : List ℕ) (count : ℕ) (h : House) (held : List Bool) (left old mid new : Option (List ℕ)) (sent : ℕ) (Left : ℕ → List Bool → List ScriptLine → Scene → Type 0)
+    → (r : HasRun form k input count h held left old mid sent (empty_scene k)) → Left (count + 1) held (asked_by (lines_of r.rest)) r.after → new ≡ mid
+    → TellsBeginning form k (lines_of input) Left old new
+run_stops form k input count h held left old mid new sent Left r is same = record {
   some = r.lines;
-  others = script_of r.rest;
+  others = lines_of r.rest;
   split = r.split;
   after = r.after;
-  printed = r.printed;
-  script = r.script;
-  once = script_once k r.lines r.after r.printed r.script;
-  left = subst (λ (n : ℕ). Left (n + 1) (held_by (none_held k) r.lines) (script_of r.rest) r.after) (sym r.counted) (subst (λ (x : List Bool). Left (count + 1) x (script_of r.rest) r.after) r.holds_now is);
-  out = subst (λ (x : Option (List ℕ)). Appends old x r.printed) (sym same) r.out;
+  texts = r.texts;
+  plays = r.plays;
+  once = delivers k r.lines r.after r.texts r.plays;
+  left = subst (λ (n : ℕ). Left (n + 1) (held_by (none_held k) (asked_by r.lines)) (asked_by (lines_of r.rest)) r.after) (sym r.counted)
+      (subst (λ (x : List Bool). Left (count + 1) x (asked_by (lines_of r.rest)) r.after) r.holds_now is);
+  out = subst (λ (x : Option (List ℕ)). Appends old x (told form 1 r.lines r.texts)) (sym same) r.out;
 }
 
 -- nothing was read or written yet
 pub run_unbegun : (k : Setup) (lines : List ScriptLine) (old : Option (List ℕ)) (Left : ℕ → List Bool → List ScriptLine → Scene → Type 0) → Left 1 (none_held k) lines (empty_scene k) → WritesBeginning k lines Left old old
 run_unbegun k lines old Left is = record { some = []; others = lines; split = refl; after = (empty_scene k); printed = []; script = (refl, refl); once = script_once k [] (empty_scene k) [] (refl, refl); left = is; out = Appends-nil old }
 
-pub run_cut : (k : Setup) (input : List ℕ) (count : ℕ) (g h : House) (held holds : List Bool) (before left old mid new : Option (List ℕ)) (sent more : ℕ)
-    → (r : HasRun k input count g held before old mid sent (empty_scene k)) → (f : TurnFault) → f ≡ turn_faults.Write more → TurnTells k (count + 1) held r.after r.rest h holds left mid new (Err f)
-    → WritesFirst k (script_of input) (sent + more) h old new
-run_cut k input count g h held holds before left old mid new sent more r f is tells =
-    let w : LineCut k (count + 1) held r.after r.rest h mid new more = subst (λ (x : TurnFault). TurnTells k (count + 1) held r.after r.rest h holds left mid new (Err x)) is tells in
-    let played = script_push k 1 (count + 1) (none_held k) r.lines w.line (empty_scene k) r.after w.after r.printed w.printed (let e = r.counted in omega arith) r.script
-    (subst (λ (x : List Bool). LinePlays k (count + 1) x w.line r.after w.after w.printed) r.holds_now w.plays) in
+-- the same, in any form
+pub told_unbegun : (form : Form) (k : Setup) (lines : List (List ℕ)) (old : Option (List ℕ)) (Left : ℕ → List Bool → List ScriptLine → Scene → Type 0)
+    → Left 1 (none_held k) (asked_by lines) (empty_scene k) → TellsBeginning form k lines Left old old
+told_unbegun form k lines old Left is = record {
+  some = [];
+  others = lines;
+  split = refl;
+  after = (empty_scene k);
+  texts = [];
+  plays = (refl, refl);
+  once = delivers k [] (empty_scene k) [] (refl, refl);
+  left = is;
+  out = Appends-nil old;
+}
+
+pub run_cut : (form : Form) (k : Setup) (input : List ℕ) (count : ℕ) (g h : House) (held holds : List Bool) (before left old mid new : Option (List ℕ)) (sent more : ℕ)
+    → (r : HasRun form k input count g held before old mid sent (empty_scene k)) → (f : TurnFault) → f ≡ turn_faults.Write more → TurnTells form k (count + 1) held r.after r.rest h holds left mid new (Err f)
+    → TellsFirst form k (lines_of input) (sent + more) h old new
+run_cut form k input count g h held holds before left old mid new sent more r f is tells =
+    let w : LineCut form k (count + 1) held r.after r.rest h mid new more = subst (λ (x : TurnFault). TurnTells form k (count + 1) held r.after r.rest h holds left mid new (Err x)) is tells in
+    let front = told form 1 r.lines r.texts in
+    let last = rendered form (count + 1) w.line w.printed in
+    let tells_on = told_on form k count r.lines w.line (empty_scene k) r.after r.texts w.printed r.counted r.plays in
+    let played = plays_on k count r.lines w.line (empty_scene k) r.after w.after r.texts w.printed r.counted r.plays
+    (subst (λ (x : List Bool). LinePlays k (count + 1) x (asked w.line) r.after w.after w.printed) r.holds_now w.plays) in
     record {
       some = r.lines ++ w.line ∷ [];
       others = w.others;
-      split = r.split ∙ ap (λ (x : List ScriptLine). r.lines ++ x) w.first ∙ sym (append_assoc r.lines (w.line ∷ []) w.others);
+      split = r.split ∙ ap (λ (x : List (List ℕ)). r.lines ++ x) w.first ∙ sym (append_assoc r.lines (w.line ∷ []) w.others);
       after = w.after;
-      printed = r.printed ++ w.printed;
-      script = played;
-      once = script_once k (r.lines ++ w.line ∷ []) w.after (r.printed ++ w.printed) played;
+      texts = r.texts ++ w.printed ∷ [];
+      plays = played;
+      once = delivers k (r.lines ++ w.line ∷ []) w.after (r.texts ++ w.printed ∷ []) played;
       stands = w.stands;
-      within = (let a = r.total in let b = w.within in let l = length-append r.printed w.printed in omega arith);
-      out = subst (Appends old new) (sym (take-append-add r.printed w.printed more) ∙ ap (λ (n : ℕ). take (n + more) (r.printed ++ w.printed)) (sym r.total)) (Appends-trans old mid new r.printed (take more w.printed) r.out w.out);
+      within = (let a = r.total in let b = w.within in let l = length-append front last in let m = ap length tells_on in omega (arith, a, b, l, m));
+      out = subst (λ (x : List ℕ). Appends old new (take (sent + more) x)) (sym tells_on)
+          (subst (Appends old new) (sym (take-append-add front last more) ∙ ap (λ (n : ℕ). take (n + more) (front ++ last)) (sym r.total)) (Appends-trans old mid new front (take more last) r.out w.out));
     }
 
 -- a turn failed before it read anything
-pub turn_unread : (k : Setup) (number : ℕ) (held : List Bool) (s : Scene) (input : List ℕ) (h : House) (holds : List Bool) (left old new : Option (List ℕ)) (f : TurnFault)
-    → f ≡ turn_faults.Read → TurnTells k number held s input h holds left old new (Err f) → IsUnreadTurn k s h old new
-turn_unread k number held s input h holds left old new f is tells = subst (λ (x : TurnFault). TurnTells k number held s input h holds left old new (Err x)) is tells
+pub turn_unread : (form : Form) (k : Setup) (number : ℕ) (held : List Bool) (s : Scene) (input : List ℕ) (h : House) (holds : List Bool) (left old new : Option (List ℕ)) (f : TurnFault)
+    → f ≡ turn_faults.Read → TurnTells form k number held s input h holds left old new (Err f) → IsUnreadTurn k s h old new
+turn_unread form k number held s input h holds left old new f is tells = subst (λ (x : TurnFault). TurnTells form k number held s input h holds left old new (Err x)) is tells
 
 -- memory was wanting in a turn
-pub turn_unwritten : (k : Setup) (number : ℕ) (held : List Bool) (s : Scene) (input : List ℕ) (h : House) (holds : List Bool) (left old new : Option (List ℕ)) (f : TurnFault)
-    → f ≡ turn_faults.NoMemory → TurnTells k number held s input h holds left old new (Err f) → IsUnwritten k number held s input h old new
-turn_unwritten k number held s input h holds left old new f is tells = subst (λ (x : TurnFault). TurnTells k number held s input h holds left old new (Err x)) is tells
+pub turn_unwritten : (form : Form) (k : Setup) (number : ℕ) (held : List Bool) (s : Scene) (input : List ℕ) (h : House) (holds : List Bool) (left old new : Option (List ℕ)) (f : TurnFault)
+    → f ≡ turn_faults.NoMemory → TurnTells form k number held s input h holds left old new (Err f) → IsUnwritten form k number held s input h old new
+turn_unwritten form k number held s input h holds left old new f is tells = subst (λ (x : TurnFault). TurnTells form k number held s input h holds left old new (Err x)) is tells
 
--- memory was wanting as a line was played
-pub turn_wanting : (k : Setup) (number : ℕ) (held : List Bool) (s : Scene) (input piece : List ℕ) (h : House) (old new : Option (List ℕ))
-    → asked (line_of piece) ≡ asked (line_of (take_through 10 input)) → 0 < length (take_through 10 input) → PlayWanting k number held (asked (line_of piece)) s h → new ≡ old
-    → IsUnwritten k number held s input h old new
-turn_wanting k number held s input piece h old new e some p same = record {
-  left = unwritten (asked (line_of piece)) (script_of (drop_through 10 input))
-      (first_line input some ∙ ap (λ (x : ScriptLine). x ∷ script_of (drop_through 10 input)) (sym e)) p;
-  silent = same;
-}
+-- memory was wanting as a line was played, or behind that
+pub turn_wanting : (form : Form) (k : Setup) (number : ℕ) (held : List Bool) (s : Scene) (input piece : List ℕ) (h : House) (old new : Option (List ℕ))
+    → asked (line_of piece) ≡ asked (line_of (take_through 10 input)) → 0 < length (take_through 10 input) → TellWanting form k number held (asked (line_of piece)) s h → new ≡ old
+    → IsUnwritten form k number held s input h old new
+turn_wanting form k number held s input piece h old new e some p same = record { left = left_so p; silent = same }
+  where
+    behind : List ScriptLine
+    behind = asked_by (lines_of (drop_through 10 input))
+
+    first : asked_by (lines_of input) ≡ asked (line_of piece) ∷ behind
+    first = ap asked_by (first_of_lines input some) ∙ ap (λ (x : ScriptLine). x ∷ behind) (sym e)
+
+    left_so : TellWanting form k number held (asked (line_of piece)) s h → IsLeftUntold form k h number held (asked_by (lines_of input)) s
+    left_so (playing w) = wanting (unwritten (asked (line_of piece)) behind first w)
+    left_so (telling is after printed plays st) = untold (asked (line_of piece)) behind after printed is first plays st
 
 -- memory was wanting as the house settled behind a line
 pub settling_wanting : (k : Setup) (number : ℕ) (held holds : List Bool) (line : ScriptLine) (s : Scene) (g h : House) (mid new : List ℕ) → LineDone k number line s g [] mid → holds ≡ held_after held line

@@ -1,5 +1,6 @@
 pub mod Script
 pub mod Promise
 pub mod Leaving
+pub mod Telling
 pub mod inner
 pub mod rows

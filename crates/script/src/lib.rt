@@ -5,6 +5,8 @@
 mod line;
 mod reading;
 mod run;
+mod telling;
 
 pub use line::ScriptLine;
-pub use run::{RunFault, drive};
+pub use run::{RunFault, drive, drive_as};
+pub use telling::Form;

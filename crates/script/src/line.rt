@@ -73,7 +73,8 @@ pub fn without_end(piece: &[u8]) -> &[u8]
     }
 }
 
-fn is_skipped(line: &[u8]) -> bool
+/// Whether a line is empty, or a comment.
+pub fn is_skipped(line: &[u8]) -> bool
     ensures { result ≡ is_skipped line.now }
 {
     match line.split_first() {

@@ -3,7 +3,7 @@
 
 ghost use Rattle.std.specs.Prelude.{false, true, ◌≡◌, ◌≢◌, ◌↔◌, ◌++◌, ◌∷◌, ◌<◌, ◌≤◌, ◌+◌, ℕ, List, Some, Ok, Err, IfNone, IfOk, IfSome, OnOk, OnErr, length, [], take, drop, slice_index};
 ghost use Rattle.std.specs.Io.BufRead.{take_through, drop_through};
-ghost use Rattle.script.specs.Script.{asked, line_of};
+ghost use Rattle.script.specs.Script.{asked, line_of, most_bytes};
 ghost use Rattle.script.specs.inner.Kept.{HasRead, IsPart, behind_line, most_kept};
 
 use crate::line::MOST_BYTES;
@@ -121,6 +121,9 @@ fn skip_rest<R: BufRead>(reader: &mut R, ended: bool) -> Result<(), TurnFault>
 pub(crate) fn read_piece<R: BufRead>(reader: &mut R, line: &mut Vec<u8>) -> Result<bool, TurnFault>
     ensures some { OnOk result ((xs : List ℕ) → R.remaining reader.old ≡ Some xs
         → asked (line_of line.new.items) ≡ asked (line_of (take_through 10 xs))) }
+    ensures front { OnOk result ((xs : List ℕ) → R.remaining reader.old ≡ Some xs
+        → take most_bytes (line_of line.new.items)
+        ≡ take most_bytes (line_of (take_through 10 xs))) }
     ensures rest { OnOk result ((xs : List ℕ) → R.remaining reader.old ≡ Some xs
         → R.remaining reader.new ≡ Some (drop_through 10 xs)) }
     ensures end { IfOk result (λ some. some ≡ false → (xs : List ℕ)

@@ -8,7 +8,7 @@ ghost use Rattle.line_io.specs.Wire.{crlf};
 ghost use Rattle.std.specs.List.{list_all};
 ghost use Rattle.std.specs.Char.{digit_value};
 ghost use Rattle.std.specs.Str.Parse.{digits_value};
-ghost use Rattle.script.specs.inner.Running.{IsClipped, line_for, LineDone, LinePlayed, SetsHeld, TurnTells};
+ghost use Rattle.script.specs.inner.Running.{IsClipped, line_for, LineDone, LinePlayed, LineTold, SetsHeld, TellWanting, TurnTells};
 ghost use Rattle.house.specs.Scene as scene;
 ghost use Rattle.house.specs.Setup.{Setup};
 ghost use Rattle.house.specs.Steps.{MayFindNothing};
@@ -18,9 +18,11 @@ ghost use Rattle.script.specs.Script.{asked, brought, held_after, is_digit, line
 ghost use Rattle.script.specs.Leaving.{IsLeft, IsLeftWanting, LineWanting, PlayWanting, Writes, WritesBeginning, WritesFirst};
 ghost use Rattle.house.specs.Stands.{StandsFor};
 ghost use Rattle.script.specs.Promise.{WroteOnce};
+ghost use Rattle.script.specs.Telling.{RunTells, lines_of};
 
 use crate::line::{ScriptLine, read_line, without_end};
 use crate::reading::read_piece;
+use crate::telling::{Form, Spelled, render};
 use hex::{FromHexError, decode};
 use house::{Event, House, HouseFault};
 use itoa::Buffer;
@@ -57,14 +59,15 @@ pub(crate) enum TurnFault {
     NoMemory,
 }
 
-// What a run keeps from line to line: which shards are held, and room for the line as it was read, for what a connection is told, and
-// for what is printed.
+// What a run keeps from line to line: which shards are held, and room for the line as it was read, for what a connection is told, for
+// what is printed or tells of it, and for what is spelled in JSON.
 #[derive(Drop)]
 struct Room {
     held: Vec<bool>,
     line: Vec<u8>,
     piece: Vec<u8>,
     out: Vec<u8>,
+    spelled: Spelled,
 }
 
 // Prints that line `number` can't be done, or nothing.
@@ -366,6 +369,7 @@ fn play_line(house: &mut House, number: u64, room: &mut Room) -> Result<(), Allo
     ensures held { OnOk result (room.new.held.items
         ≡ held_after room.old.held.items (asked (line_of room.old.line.items))) }
     ensures as_many { length room.new.held.items ≡ length room.old.held.items }
+    ensures line { room.new.line.items ≡ room.old.line.items }
 {
     room.out.clear();
     do_line(
@@ -379,6 +383,31 @@ fn play_line(house: &mut House, number: u64, room: &mut Room) -> Result<(), Allo
     house.settle(&room.held, &mut room.out)
 }
 
+// Does the line that was read, settles, and has what tells of it.
+fn tell_line(form: Form, house: &mut House, number: u64, room: &mut Room) -> Result<(), AllocError>
+    requires { length room.old.held.items ≤ 256 }
+    ensures told { OnOk result ((k : Setup) (s : scene.Scene) → StandsFor k house.old s
+        → length room.old.held.items ≡ k.config.shards →
+        LineTold form k number room.old.held.items (line_of room.old.line.items) s house.new
+        room.new.out.items) }
+    ensures wanting { OnErr result ((k : Setup) (s : scene.Scene) → StandsFor k house.old s
+        → length room.old.held.items ≡ k.config.shards →
+        TellWanting form k number room.old.held.items (asked (line_of room.old.line.items)) s
+        house.new) }
+    ensures held { OnOk result (room.new.held.items
+        ≡ held_after room.old.held.items (asked (line_of room.old.line.items))) }
+    ensures as_many { length room.new.held.items ≡ length room.old.held.items }
+{
+    play_line(house, number, room)?;
+    render(
+        form,
+        number,
+        without_end(&room.line),
+        &mut room.spelled,
+        &mut room.out,
+    )
+}
+
 // At the start no shard is held.
 fn none_held(alloc: Global, shards: u8) -> Result<Vec<bool>, AllocError>
     ensures { IfOk result (λ v. v.items ≡ replicate shards false) }
@@ -390,9 +419,10 @@ fn none_held(alloc: Global, shards: u8) -> Result<Vec<bool>, AllocError>
     Ok(held)
 }
 
-// A turn of the run: the next line is read and played, and what it printed is written. It gives the number of bytes written, or None
+// A turn of the run: the next line is read and played, and what tells of it is written. It gives the number of bytes written, or None
 // where the input is at its end.
 fn take_turn<R: BufRead, W: Sink>(
+    form: Form,
     house: &mut House,
     number: u64,
     room: &mut Room,
@@ -403,7 +433,7 @@ fn take_turn<R: BufRead, W: Sink>(
     requires few { length room.old.held.items ≤ 256 }
     ensures tells { (k : Setup) (s : scene.Scene) (input : List ℕ) → StandsFor k house.old s →
         length room.old.held.items ≡ k.config.shards → R.remaining reader.old ≡ Some input →
-        TurnTells k number room.old.held.items s input house.new room.new.held.items
+        TurnTells form k number room.old.held.items s input house.new room.new.held.items
         (R.remaining reader.new) (W.taken writer.old)
         (W.taken writer.new) result }
     ensures live { OnOk result (W.failed writer.new ≡ false) }
@@ -414,7 +444,7 @@ fn take_turn<R: BufRead, W: Sink>(
     if !read_piece(reader, &mut room.line)? {
         return Ok(None);
     }
-    let Ok(()) = play_line(house, number, room) else {
+    let Ok(()) = tell_line(form, house, number, room) else {
         return Err(TurnFault::NoMemory);
     };
     match send(writer, &room.out) {
@@ -423,6 +453,54 @@ fn take_turn<R: BufRead, W: Sink>(
             sent: fault.sent as u128,
         }),
     }
+}
+
+/// Runs a script to the end of its input, as `drive` does, and tells what each line printed in this form. What `drive` promises of all that
+/// was printed holds of the texts that are told, in either form.
+///
+/// `Read`: the reader failed, or 2^32 lines were read; `NoMemory`: memory was wanting, and the line at hand was played in part or not at all, or, in
+/// JSON, it was played, and no memory was left to tell of it. What tells of the lines before was then written, and nothing of the line at hand.
+/// `Write`: the writer failed; the first `sent` bytes of what tells of the lines were written, and not all that tells of the last one.
+pub fn drive_as<R: BufRead, W: Sink>(
+    form: Form,
+    alloc: Global,
+    house: &mut House,
+    reader: &mut R,
+    writer: &mut W,
+) -> Result<(), RunFault>
+    // The writer hasn't failed.
+    requires { W.failed writer.old ≡ false }
+
+    // In a new house, by a reader whose bytes are known: what tells of the lines was written, or by the result a beginning of it.
+    ensures tells { (k : Setup) (input : List ℕ) → StandsFor k house.old (empty_scene k)
+        → R.remaining reader.old ≡ Some input →
+        RunTells form k (lines_of input) house.new result (W.taken writer.old)
+        (W.taken writer.new) }
+    ensures failed { (sent : ℕ) → result ≡ Err (RunFault.Write sent) → W.failed writer.new ≡ true }
+{
+    let Ok(held) = none_held(alloc, house.shards()) else {
+        return Err(RunFault::NoMemory);
+    };
+    let mut room = Room {
+        held,
+        line: Vec::new(alloc),
+        piece: Vec::new(alloc),
+        out: Vec::new(alloc),
+        spelled: Spelled::new(alloc),
+    };
+    let mut sent: u128 = 0;
+    for done in 0..MOST_LINES {
+        match take_turn(form, house, done + 1, &mut room, reader, writer) {
+            Ok(Some(count)) => sent += count as u128,
+            Ok(None) => return Ok(()),
+            Err(TurnFault::Write { sent: some }) => return Err(RunFault::Write {
+                sent: sent + some,
+            }),
+            Err(TurnFault::Read) => return Err(RunFault::Read),
+            Err(TurnFault::NoMemory) => return Err(RunFault::NoMemory),
+        }
+    }
+    Err(RunFault::Read)
 }
 
 /// Runs a script to the end of its input: each line is done, the house settles, and what the line printed is written at once. At the end
@@ -479,26 +557,5 @@ pub fn drive<R: BufRead, W: Sink>(
         WritesBeginning k (script_of input) (IsLeft k house.new) (W.taken writer.old)
         (W.taken writer.new) }
 {
-    let Ok(held) = none_held(alloc, house.shards()) else {
-        return Err(RunFault::NoMemory);
-    };
-    let mut room = Room {
-        held,
-        line: Vec::new(alloc),
-        piece: Vec::new(alloc),
-        out: Vec::new(alloc),
-    };
-    let mut sent: u128 = 0;
-    for done in 0..MOST_LINES {
-        match take_turn(house, done + 1, &mut room, reader, writer) {
-            Ok(Some(count)) => sent += count as u128,
-            Ok(None) => return Ok(()),
-            Err(TurnFault::Write { sent: some }) => return Err(RunFault::Write {
-                sent: sent + some,
-            }),
-            Err(TurnFault::Read) => return Err(RunFault::Read),
-            Err(TurnFault::NoMemory) => return Err(RunFault::NoMemory),
-        }
-    }
-    Err(RunFault::Read)
+    drive_as(Form::Text, alloc, house, reader, writer)
 }

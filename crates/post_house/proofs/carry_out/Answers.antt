@@ -3,18 +3,15 @@ use Rattle.post_house.specs.declared.asked.Asked.{Asked}
 use Rattle.post_house.specs.declared.asked.Asked.TheVariants.{Script, Serve}
 use Rattle.post_house.specs.inner.Playing.{HasDone}
 use Rattle.post_house.specs.declared.outcome.Done.TheVariants.{Played, Served}
-use Rattle.post_house.proofs.Playing.{played_not_set, served_not_set}
+use Rattle.post_house.proofs.Playing.{played_not_set, ran_in, served_not_set}
 use Rattle.post_house.proofs.carry_out.Goals as goal
 
 pub returns-in-Script-clause-done : goal.returns-in-Script-clause-done
 returns-in-Script-clause-done g c =
-    let is : c.args.asked.now ≡ Script c.in-Script.config = search rules in
+    let is : c.args.asked.now ≡ Script c.in-Script.config c.in-Script.form = search rules in
     subst (λ (a : Asked). HasDone a (Played c.play.result) (g.I.Read.remaining c.args.input.now) (g.W.Sink.failed c.play.new.output) (g.W.Sink.taken c.args.output.now) (g.W.Sink.taken c.play.new.output)) (sym is)
-    (λ bytes e. record {
-      wrong = c.play.ensures.fault;
-      played = c.play.ensures.played bytes e;
-      once = c.play.ensures.once bytes e;
-    })
+    (λ bytes e. ran_in c.in-Script.form c.in-Script.config bytes (g.W.Sink.failed c.play.new.output) c.play.result (g.W.Sink.taken c.args.output.now) (g.W.Sink.taken c.play.new.output)
+    c.play.ensures.fault (c.play.ensures.told bytes e))
 
 pub returns-in-Serve-clause-done : goal.returns-in-Serve-clause-done
 returns-in-Serve-clause-done g c =

@@ -21,6 +21,9 @@ use Rattle.post_house.specs.declared.failure.Failure.TheVariants as failures
 use Rattle.script.specs.Promise.{WroteOnce}
 use Rattle.script.specs.Script.{ScriptLine, script_of}
 use Rattle.script.specs.Leaving.{IsLeft, IsLeftWanting, Writes, WritesBeginning, WritesFirst}
+use Rattle.script.specs.Telling.{IsLeftUntold, TellsAll, TellsBeginning, TellsFirst, lines_of}
+use Rattle.script.specs.declared.telling.Form.{Form}
+use Rattle.script.specs.declared.telling.Form.TheVariants as forms
 use Rattle.serving.specs.Announcing.{HasAnnounced, HasBegun}
 use Rattle.serving.specs.declared.server.Uidvalidity.{Uidvalidity}
 use Rattle.serving.specs.Producers.{server_fault}
@@ -41,11 +44,32 @@ WasPlayed config lines failed (Err failures.Device) old new = StoppedByDevice co
 WasPlayed config lines failed (Err failures.NoMemory) old new = (new ≡ old) ⊎ ((h : House) × WritesBeginning (setup_of config) lines (IsLeftWanting (setup_of config) h) old new)
 WasPlayed config lines failed (Err failures.Torn) old new = ⊥
 
+-- What tells of these lines with these settings was written in this form, by how it went.
+abbrev pub WasTold : Form → Config → (lines : List (List ℕ)) → (failed : Bool) → Result (Unit {0}) Failure → (old new : Option (List ℕ)) → Type 0
+WasTold form config lines failed (Ok done) old new = (h : House) × TellsAll form (setup_of config) lines h old new
+WasTold form config lines failed (Err (failures.Config fault)) old new = new ≡ old
+WasTold form config lines failed (Err failures.Device) old new =
+    ((h : House) × TellsBeginning form (setup_of config) lines (IsLeft (setup_of config) h) old new)
+    ⊎ ((h : House) × (sent : ℕ) × TellsFirst form (setup_of config) lines sent h old new × (failed ≡ true))
+WasTold form config lines failed (Err failures.NoMemory) old new =
+    (new ≡ old) ⊎ ((h : House) × TellsBeginning form (setup_of config) lines (IsLeftUntold form (setup_of config) h) old new)
+WasTold form config lines failed (Err failures.Torn) old new = ⊥
+
 -- These bytes were played as a script with these settings, and so it went; what was written delivers exactly once.
 pub record RanScript (config : Config) (bytes : List ℕ) (failed : Bool) (result : Result (Unit {0}) Failure) (old new : Option (List ℕ)) : Type 0 where
   pub wrong : (fault : ConfigFault) → result ≡ Err (failures.Config fault) → config_fault config ≡ Some fault
   pub played : WasPlayed config (script_of bytes) failed result old new
   pub once : WroteOnce (setup_of config) (script_of bytes) old new
+
+-- They were played so, and told in JSON; what was told delivers exactly once, as each of its records says.
+pub record ToldScript (config : Config) (bytes : List ℕ) (failed : Bool) (result : Result (Unit {0}) Failure) (old new : Option (List ℕ)) : Type 0 where
+  pub wrong : (fault : ConfigFault) → result ≡ Err (failures.Config fault) → config_fault config ≡ Some fault
+  pub told : WasTold forms.Json config (lines_of bytes) failed result old new
+
+-- in this form
+abbrev pub RanIn : Form → Config → (bytes : List ℕ) → (failed : Bool) → Result (Unit {0}) Failure → (old new : Option (List ℕ)) → Type 0
+RanIn forms.Text config bytes failed result old new = RanScript config bytes failed result old new
+RanIn forms.Json config bytes failed result old new = ToldScript config bytes failed result old new
 
 -- A server with these settings ended so; a beginning of its lines was written, and all of them where all went well.
 pub record HasServed (config : Config) (uidvalidity : Uidvalidity) (result : Result (Unit {0}) ServeFault) (old new : Option (List ℕ)) : Type 0 where
@@ -58,7 +82,7 @@ pub record HasServed (config : Config) (uidvalidity : Uidvalidity) (result : Res
 
 -- This came of what was asked for: of a script, from an input of which this remained, if that is known, or of a server.
 abbrev pub HasDone : Asked → Done → (remaining : Option (List ℕ)) → (failed : Bool) → (old new : Option (List ℕ)) → Type 0
-HasDone (Script config) (Played result) remaining failed old new = (bytes : List ℕ) → remaining ≡ Some bytes → RanScript config bytes failed result old new
+HasDone (Script config form) (Played result) remaining failed old new = (bytes : List ℕ) → remaining ≡ Some bytes → RanIn form config bytes failed result old new
 HasDone (Serve config uidvalidity) (Served result) remaining failed old new = HasServed config uidvalidity result old new
 HasDone asked done remaining failed old new = ⊥
 

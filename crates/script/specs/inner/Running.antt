@@ -6,8 +6,11 @@ use Rattle.house.specs.declared.event.Event.{Event}
 use Rattle.house.specs.declared.event.Event.TheVariants.{Bytes, Vanish, Enter, Say, Leave, Close}
 use Rattle.house.specs.Setup.{Setup}
 use Rattle.house.specs.Scene.{Scene}
-use Rattle.script.specs.Script.{LineDoes, LinePlays, Script, ScriptLine, Sends, Vanishes, Enters, Asks, Leaves, Closes, Bad, held_after, held_by, none_held, refusal, script_of}
-use Rattle.script.specs.Leaving.{IsLeftWanting}
+use Rattle.script.specs.Script.{LineDoes, LinePlays, ScriptLine, Sends, Vanishes, Enters, Asks, Leaves, Closes, Bad, asked, held_after, held_by, none_held, refusal}
+use Rattle.script.specs.Leaving.{PlayWanting}
+use Rattle.script.specs.Telling.{IsLeftUntold, LineByLine, asked_by, lines_of, rendered, told}
+use Rattle.script.specs.declared.telling.Form.{Form}
+use Rattle.script.specs.declared.telling.Form.TheVariants.{Json}
 use Rattle.house.specs.Stands.{StandsFor}
 use Rattle.script.specs.declared.run.TurnFault.{TurnFault}
 use Rattle.script.specs.declared.run.TurnFault.TheVariants as faults
@@ -38,31 +41,44 @@ pub record LinePlayed (k : Setup) (number : ℕ) (held : List Bool) (line : Scri
   pub stands : StandsFor k h after
   pub out : new ≡ old ++ printed
 
--- A turn: the first line of the input was read and played, and what it printed was written.
-pub record LineWritten (k : Setup) (number : ℕ) (held : List Bool) (s : Scene) (input : List ℕ) (h : House) (holds : List Bool) (left old new : Option (List ℕ)) (sent : ℕ) : Type 0 where
-  pub line : ScriptLine
+-- and what it printed is told
+pub record LineTold (form : Form) (k : Setup) (number : ℕ) (held : List Bool) (line : List ℕ) (s : Scene) (h : House) (new : List ℕ) : Type 0 where
+  pub after : Scene
+  pub printed : List ℕ
+  pub plays : LinePlays k number held (asked line) s after printed
+  pub stands : StandsFor k h after
+  pub out : new ≡ rendered form number line printed
+
+-- memory was wanting as the line was played, or, in JSON alone, behind that
+pub data TellWanting (form : Form) (k : Setup) (number : ℕ) (held : List Bool) (line : ScriptLine) (s : Scene) (h : House) : Type 0 where
+  playing : PlayWanting k number held line s h → TellWanting form k number held line s h
+  telling : form ≡ Json → (after : Scene) (printed : List ℕ) → LinePlays k number held line s after printed → StandsFor k h after → TellWanting form k number held line s h
+
+-- A turn: the first line of the input was read and played, and what tells of it was written.
+pub record LineWritten (form : Form) (k : Setup) (number : ℕ) (held : List Bool) (s : Scene) (input : List ℕ) (h : House) (holds : List Bool) (left old new : Option (List ℕ)) (sent : ℕ) : Type 0 where
+  pub line : List ℕ
   pub rest : List ℕ
   pub remaining : left ≡ Some rest
-  pub first : script_of input ≡ line ∷ script_of rest
+  pub first : lines_of input ≡ line ∷ lines_of rest
   pub after : Scene
   pub printed : List ℕ
-  pub plays : LinePlays k number held line s after printed
-  pub holds_now : holds ≡ held_after held line
+  pub plays : LinePlays k number held (asked line) s after printed
+  pub holds_now : holds ≡ held_after held (asked line)
   pub stands : StandsFor k h after
-  pub out : Appends old new printed
-  pub count : sent ≡ length printed
+  pub out : Appends old new (rendered form number line printed)
+  pub count : sent ≡ length (rendered form number line printed)
 
--- of what it printed only the first bytes were written
-pub record LineCut (k : Setup) (number : ℕ) (held : List Bool) (s : Scene) (input : List ℕ) (h : House) (old new : Option (List ℕ)) (sent : ℕ) : Type 0 where
-  pub line : ScriptLine
-  pub others : List ScriptLine
-  pub first : script_of input ≡ line ∷ others
+-- of what tells of it only the first bytes were written
+pub record LineCut (form : Form) (k : Setup) (number : ℕ) (held : List Bool) (s : Scene) (input : List ℕ) (h : House) (old new : Option (List ℕ)) (sent : ℕ) : Type 0 where
+  pub line : List ℕ
+  pub others : List (List ℕ)
+  pub first : lines_of input ≡ line ∷ others
   pub after : Scene
   pub printed : List ℕ
-  pub plays : LinePlays k number held line s after printed
+  pub plays : LinePlays k number held (asked line) s after printed
   pub stands : StandsFor k h after
-  pub within : sent < length printed
-  pub out : Appends old new (take sent printed)
+  pub within : sent < length (rendered form number line printed)
+  pub out : Appends old new (take sent (rendered form number line printed))
 
 -- the input was at its end, nothing was written, and the house stands for the scene that it stood for
 pub record IsOver (k : Setup) (s : Scene) (input : List ℕ) (h : House) (old new : Option (List ℕ)) : Type 0 where
@@ -76,32 +92,32 @@ pub record IsUnread (k : Setup) (s : Scene) (h : House) (old new : Option (List 
   pub silent : new ≡ old
 
 -- memory was wanting, and nothing was written
-pub record IsUnwritten (k : Setup) (number : ℕ) (held : List Bool) (s : Scene) (input : List ℕ) (h : House) (old new : Option (List ℕ)) : Type 0 where
-  pub left : IsLeftWanting k h number held (script_of input) s
+pub record IsUnwritten (form : Form) (k : Setup) (number : ℕ) (held : List Bool) (s : Scene) (input : List ℕ) (h : House) (old new : Option (List ℕ)) : Type 0 where
+  pub left : IsLeftUntold form k h number held (asked_by (lines_of input)) s
   pub silent : new ≡ old
 
 -- what a turn says by its answer
-abbrev pub TurnTells : Setup → ℕ → (held : List Bool) → Scene → List ℕ → House → (holds : List Bool) → (left old new : Option (List ℕ)) → Result (Option ℕ) TurnFault → Type 0
-TurnTells k number held s input h holds left old new (Ok None) = IsOver k s input h old new
-TurnTells k number held s input h holds left old new (Ok (Some sent)) = LineWritten k number held s input h holds left old new sent
-TurnTells k number held s input h holds left old new (Err (faults.Write sent)) = LineCut k number held s input h old new sent
-TurnTells k number held s input h holds left old new (Err faults.Read) = IsUnread k s h old new
-TurnTells k number held s input h holds left old new (Err faults.NoMemory) = IsUnwritten k number held s input h old new
+abbrev pub TurnTells : Form → Setup → ℕ → (held : List Bool) → Scene → List ℕ → House → (holds : List Bool) → (left old new : Option (List ℕ)) → Result (Option ℕ) TurnFault → Type 0
+TurnTells form k number held s input h holds left old new (Ok None) = IsOver k s input h old new
+TurnTells form k number held s input h holds left old new (Ok (Some sent)) = LineWritten form k number held s input h holds left old new sent
+TurnTells form k number held s input h holds left old new (Err (faults.Write sent)) = LineCut form k number held s input h old new sent
+TurnTells form k number held s input h holds left old new (Err faults.Read) = IsUnread k s h old new
+TurnTells form k number held s input h holds left old new (Err faults.NoMemory) = IsUnwritten form k number held s input h old new
 
--- The run so far: of the script these lines were played, and what they printed was written.
-pub record HasRun (k : Setup) (input : List ℕ) (count : ℕ) (h : House) (holds : List Bool) (left old new : Option (List ℕ)) (sent : ℕ) (start : Scene) : Type 0 where
-  pub lines : List ScriptLine
+-- The run so far: these lines were played, and what tells of them was written.
+pub record HasRun (form : Form) (k : Setup) (input : List ℕ) (count : ℕ) (h : House) (holds : List Bool) (left old new : Option (List ℕ)) (sent : ℕ) (start : Scene) : Type 0 where
+  pub lines : List (List ℕ)
   pub rest : List ℕ
   pub remaining : left ≡ Some rest
-  pub split : script_of input ≡ lines ++ script_of rest
+  pub split : lines_of input ≡ lines ++ lines_of rest
   pub counted : length lines ≡ count
   pub after : Scene
-  pub printed : List ℕ
-  pub script : Script k 1 (none_held k) lines start after printed
-  pub holds_now : holds ≡ held_by (none_held k) lines
+  pub texts : List (List ℕ)
+  pub plays : LineByLine k 1 (none_held k) (asked_by lines) start after texts
+  pub holds_now : holds ≡ held_by (none_held k) (asked_by lines)
   pub stands : StandsFor k h after
-  pub out : Appends old new printed
-  pub total : sent ≡ length printed
+  pub out : Appends old new (told form 1 lines texts)
+  pub total : sent ≡ length (told form 1 lines texts)
 
 -- the number itself, or 256 where that is less
 abbrev pub IsClipped : ℕ → ℕ → Type 0

@@ -1,8 +1,10 @@
--- Lines of a script and what they ask for, each by computing.
+-- Lines of a script, what they ask for, and what tells of them, each by computing.
 use Rattle.std.specs.Prelude.{◌≡◌, codes, [], ◌∷◌, ◌++◌, refl}
 use Rattle.hex.specs.Hex.{decode_pairs}
 use Rattle.line_io.specs.Wire.{crlf}
 use Rattle.script.specs.Script.{Sends, Vanishes, Enters, Asks, Leaves, Hold, Free, Closes, Tail, Skip, Bad, asked, line_of, pieces}
+use Rattle.script.specs.Telling.{rendered}
+use Rattle.script.specs.declared.telling.Form.TheVariants.{Json}
 
 an_empty_line_comes : asked (codes "L1") ≡ Sends 1 (codes "" ++ crlf)
 an_empty_line_comes = refl
@@ -148,3 +150,8 @@ a_cr_alone_stays = refl
 
 three_pieces : pieces (codes "L1\r\n\nx") ≡ codes "L1\r\n" ∷ codes "\n" ∷ codes "x" ∷ []
 three_pieces = refl
+
+-- ---- what tells of a line in JSON
+
+nothing_of_a_comment : rendered Json 7 (codes "# x") [] ≡ []
+nothing_of_a_comment = refl
