@@ -18,18 +18,18 @@ TOP = os.path.dirname(os.path.dirname(os.path.abspath(__file__)))
 
 # Each figure, in the order in which they are printed, and its limit.
 LIMITS = {
-    "crates": 43,
+    "crates": 44,
     "longest chain of crates": 11,
     "product crates under 150 lines of code": 5,
-    "product functions with 8 arguments or more": 15,
+    "product functions with 8 arguments or more": 17,
     "most arguments of a product function": 9,
     "per mille of clauses that begin with a line over 100 columns": 0,
     "lines of proofs": 82000,
     "lines of docs/PROVING.md": 300,
-    "lines of code, definitions and proofs": 154000,
+    "lines of code, definitions and proofs": 160000,
     "files that name an option (ring_max)": 49,
-    "files that name a setting of serve (lmtp_port)": 29,
-    "files that name a refusal of a copy (MailboxFull)": 34,
+    "files that name a setting of serve (lmtp_port)": 32,
+    "files that name a refusal of a copy (MailboxFull)": 39,
     "files that name a field of the house (visitors)": 54,
     "files that name a verb with an answer (STATUS)": 41,
     "files that name an item of FETCH (RFC822.SIZE)": 35,

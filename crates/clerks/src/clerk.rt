@@ -41,6 +41,10 @@ pub struct Clerk<H: Hall> {
     stall: Stall,
     // Whether it took a copy that was nobody's.
     torn: bool,
+    // How many copies it has taken since it last found its lane empty.
+    in_a_row: u64,
+    // The most of these that there were.
+    longest: u64,
     of: PhantomData<H>,
 }
 
@@ -77,6 +81,8 @@ impl<H: Hall> Clerk<H> {
         Clerk {
             stall,
             torn: false,
+            in_a_row: 0,
+            longest: 0,
             of: PhantomData,
         }
     }
@@ -86,6 +92,20 @@ impl<H: Hall> Clerk<H> {
         ensures { result ≡ self.now.shard }
     {
         self.stall.shard
+    }
+
+    /// The most copies that it has taken in a row before it found its lane empty: no more ever waited
+    /// there as it began to take. It is for people alone, so nothing is proved of it.
+    pub fn longest(&self) -> u64 {
+        self.longest
+    }
+
+    // It found its lane empty.
+    fn note_empty(&mut self)
+        ensures { self.new ≡ self.old }
+    {
+        self.longest = self.longest.max(self.in_a_row);
+        self.in_a_row = 0;
     }
 
     // Takes and serves what stands first on its lane. Whether anything did.
@@ -108,6 +128,7 @@ impl<H: Hall> Clerk<H> {
         match take_turn(rt, pace, depot, lane, &mut self.stall) {
             Turn::Copy(ours) => {
                 self.torn |= !ours;
+                self.in_a_row = self.in_a_row.saturating_add(1);
                 true
             }
             Turn::End => true,
@@ -139,6 +160,7 @@ impl<H: Hall> Clerk<H> {
     {
         for _ in rt.forever() {
             if !self.step(rt, pace, lanes, depot) {
+                self.note_empty();
                 return;
             }
         }
@@ -170,7 +192,13 @@ impl<H: Hall> Clerk<H> {
         ensures none { (result.taken.items ≡ []) × (result.kept ≡ false) }
         ensures count { vec_len result.senders ≡ length depot.now.channels.items }
     {
-        let Clerk { stall, torn, of: _ } = self;
+        let Clerk {
+            stall,
+            torn,
+            in_a_row: _,
+            longest: _,
+            of: _,
+        } = self;
         let Stall {
             shard,
             permit,
@@ -201,6 +229,8 @@ impl<H: Hall> Clerk<H> {
         let Clerk {
             stall,
             torn: _,
+            in_a_row: _,
+            longest: _,
             of: _,
         } = self;
         stall

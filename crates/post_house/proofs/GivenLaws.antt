@@ -1,5 +1,5 @@
 -- What is given for each setting, as clap's getters read it.
-use Rattle.std.proofs.Common.{◌≡◌, ◌∙◌, ◌<◌, ◌^◌, ◌&&◌, ◌∷◌, ℕ, Bool, true, if◌then◌else◌, is_some, List, [], Option, Some, None, Result, Ok, Err, ap, codes, length, map, refl, sym}
+use Rattle.std.proofs.Common.{◌≡◌, ◌∙◌, ◌<◌, ◌^◌, ◌&&◌, ◌∷◌, ℕ, Bool, true, false, if◌then◌else◌, is_some, List, [], Option, Some, None, Result, Ok, Err, ap, codes, length, map, refl, sym}
 use Rattle.std.specs.Borrow.{Bor}
 use Rattle.std.specs.Box.{box_value}
 use Rattle.std.specs.Prelude.{Box, OkIff, option_map, unwrap_or}
@@ -17,11 +17,11 @@ use Rattle.clap.specs.declared.parser.matches.SubCommand.{SubCommand}
 use Rattle.clap.proofs.WalkLemmas.{first_value-rows, raw_values-rows}
 use Rattle.settings.specs.Settings.{IsDefault, words_of}
 use Rattle.settings.specs.declared.config.Config.{Config}
-use Rattle.script.specs.declared.telling.Form.TheVariants as forms
+use Rattle.serving.specs.declared.reporting.Reporting.{Reporting}
 use Rattle.serving.specs.declared.server.Uidvalidity.{Uidvalidity}
 use Rattle.serving.specs.declared.server.Uidvalidity.TheVariants.{Given, Default}
 use Rattle.std.proofs.lemmas.List.{length-map}
-use Rattle.post_house.specs.Asking.{AreHouseSettings, AsksForScript, AsksForServer, form_by, form_given, mailboxes_given, number_given, number_or, server_shards, text_given, uidvalidity_given}
+use Rattle.post_house.specs.Asking.{AreHouseSettings, AsksForScript, AsksForServer, is_flag, is_given, mailboxes_given, number_given, number_or, port_of, reporting_given, server_shards, text_given, uidvalidity_given}
 
 -- ---- one option
 
@@ -71,14 +71,24 @@ pub no_uidvalidity : (f : Found) (o : Option (Bor Text)) → option_map (λ s. s
 no_uidvalidity f o is none =
     ap (λ (p : Option Text). if is_some p then Given else Default) (ap (option_map (λ (s : Bor Text). s.now)) (sym none) ∙ first_is f (codes "uidvalidity") o is)
 
--- ---- in which form a script is told
+-- ---- the page
 
-pub some_form : (f : Found) (o : Option (Bor Text)) (value : Bor Text) → option_map (λ s. s.now) o ≡ first_value f (codes "json") → o ≡ Some value
-    → form_by (Some value.now) ≡ form_given (rows_of f)
-some_form f o value is some = ap form_by (ap (option_map (λ (s : Bor Text). s.now)) (sym some) ∙ first_is f (codes "json") o is)
+pub no_page : (f : Found) (o : Option (Bor Text)) → option_map (λ s. s.now) o ≡ first_value f (codes "status-port") → o ≡ None → None ≡ port_of (first_of (codes "status-port") (rows_of f))
+no_page f o is none = ap port_of (ap (option_map (λ (s : Bor Text). s.now)) (sym none) ∙ first_is f (codes "status-port") o is)
 
-pub no_form : (f : Found) (o : Option (Bor Text)) → option_map (λ s. s.now) o ≡ first_value f (codes "json") → o ≡ None → forms.Text ≡ form_given (rows_of f)
-no_form f o is none = ap form_by (ap (option_map (λ (s : Bor Text). s.now)) (sym none) ∙ first_is f (codes "json") o is)
+pub some_page : (f : Found) (o : Option (Bor Text)) (text : Bor Text) (number port : ℕ) → option_map (λ s. s.now) o ≡ first_value f (codes "status-port") → o ≡ Some text
+    → number ≡ number_given (rows_of f) (codes "status-port") 0 → port ≡ number → Some port ≡ port_of (first_of (codes "status-port") (rows_of f))
+some_page f o text number port is some given same =
+    let at : Some text.now ≡ first_of (codes "status-port") (rows_of f) = ap (option_map (λ (s : Bor Text). s.now)) (sym some) ∙ first_is f (codes "status-port") o is in
+    ap (λ (n : ℕ). Some n) (same ∙ given ∙ ap (λ (p : Option Text). number_or p 0) (sym at)) ∙ ap port_of at
+
+-- ---- whether an option is given that has no value
+
+pub some_flag : (f : Found) (name : Text) (o : Option (Bor Text)) (value : Bor Text) → option_map (λ s. s.now) o ≡ first_value f name → o ≡ Some value → is_flag (Some value.now) ≡ is_given name (rows_of f)
+some_flag f name o value is some = ap is_flag (ap (option_map (λ (s : Bor Text). s.now)) (sym some) ∙ first_is f name o is)
+
+pub no_flag : (f : Found) (name : Text) (o : Option (Bor Text)) → option_map (λ s. s.now) o ≡ first_value f name → o ≡ None → false ≡ is_given name (rows_of f)
+no_flag f name o is none = ap is_flag (ap (option_map (λ (s : Bor Text). s.now)) (sym none) ∙ first_is f name o is)
 
 -- ---- the mailboxes
 
@@ -160,12 +170,12 @@ shards_given rows b c given shards rest =
     }
 
 -- and what else is given to a server
-pub server_given : (rows : List Row) (b c d : Config) (u : Uidvalidity) → AsksForScript rows b → c.shards ≡ number_given rows (codes "shards") (server_shards (length b.mailboxes.items))
+pub server_given : (rows : List Row) (b c d : Config) (u : Uidvalidity) (r : Reporting) → AsksForScript rows b → c.shards ≡ number_given rows (codes "shards") (server_shards (length b.mailboxes.items))
     → c ≡ record b { shards = c.shards } → d.lmtp_port ≡ number_given rows (codes "lmtp-port") c.lmtp_port
     → d.imap_port ≡ number_given rows (codes "imap-port") c.imap_port → d.workers ≡ number_given rows (codes "workers") c.workers
     → d.sessions ≡ number_given rows (codes "sessions") c.sessions
-    → d ≡ record c { lmtp_port = d.lmtp_port; imap_port = d.imap_port; workers = d.workers; sessions = d.sessions } → u ≡ uidvalidity_given rows → AsksForServer rows d u
-server_given rows b c d u given shards rest1 lmtp_port imap_port workers sessions rest warned =
+    → d ≡ record c { lmtp_port = d.lmtp_port; imap_port = d.imap_port; workers = d.workers; sessions = d.sessions } → u ≡ uidvalidity_given rows → r ≡ reporting_given rows → AsksForServer rows d u r
+server_given rows b c d u r given shards rest1 lmtp_port imap_port workers sessions rest warned told =
     let house = shards_given rows b c given shards rest1 in
     record {
       house = record {
@@ -188,6 +198,7 @@ server_given rows b c d u given shards rest1 lmtp_port imap_port workers session
         sessions = sessions ∙ ap (number_given rows (codes "sessions")) (ap (λ (x : Config). x.sessions) rest1 ∙ given.server.sessions);
       };
       warned = warned;
+      told = told;
     }
 
 -- ---- the subcommand

@@ -1,5 +1,5 @@
 -- What the words of a command line ask for: of each setting what is given for it, or what stands where nothing is.
-use Rattle.std.specs.Prelude.{◌≡◌, ℕ, List, [], Option, Some, None, codes, if◌then◌else◌, is_some, length, max, min, unwrap_or}
+use Rattle.std.specs.Prelude.{◌≡◌, ℕ, Bool, false, List, [], Option, Some, None, codes, if◌then◌else◌, is_some, length, max, min, unwrap_or}
 use Rattle.std.specs.Str.{bytes_eq}
 use Rattle.std.specs.Str.Parse.{digits_value}
 use Rattle.clap.specs.Words.{Row, Text, all_of, first_of, subcommand_of}
@@ -7,6 +7,7 @@ use Rattle.settings.specs.Settings.{IsInRange, words_of}
 use Rattle.settings.specs.declared.config.Config.{Config}
 use Rattle.script.specs.declared.telling.Form.{Form}
 use Rattle.script.specs.declared.telling.Form.TheVariants as forms
+use Rattle.serving.specs.declared.reporting.Reporting.{Reporting}
 use Rattle.serving.specs.declared.server.Uidvalidity.{Uidvalidity}
 use Rattle.serving.specs.declared.server.Uidvalidity.TheVariants.{Given, Default}
 use Rattle.post_house.specs.Words.{program}
@@ -16,7 +17,7 @@ use Rattle.post_house.specs.declared.asked.Asked.TheVariants.{Script, Serve}
 -- with settings that are in their ranges
 abbrev pub IsAskedInRange : Asked → Type 0
 IsAskedInRange (Script config form) = IsInRange config
-IsAskedInRange (Serve config uidvalidity) = IsInRange config
+IsAskedInRange (Serve config uidvalidity report) = IsInRange config
 
 -- ---- what is given for an option, by the rows of what clap found
 
@@ -41,14 +42,26 @@ mailboxes_given rows = unwrap_or (all_of (codes "MAILBOX") rows) []
 abbrev pub uidvalidity_given : List Row → Uidvalidity
 uidvalidity_given rows = if is_some (first_of (codes "uidvalidity") rows) then Given else Default
 
--- a flag that stands there has the value `true`
-abbrev pub form_by : (value : Option Text) → Form
-form_by None = forms.Text
-form_by (Some value) = if bytes_eq value (codes "true") then forms.Json else forms.Text
+-- whether an option is given that has no value: one that stands there has the value `true`
+abbrev pub is_flag : (value : Option Text) → Bool
+is_flag None = false
+is_flag (Some value) = bytes_eq value (codes "true")
+
+abbrev pub is_given : Text → List Row → Bool
+is_given name rows = is_flag (first_of name rows)
 
 -- in which form a script is told
 abbrev pub form_given : List Row → Form
-form_given rows = form_by (first_of (codes "json") rows)
+form_given rows = if is_given (codes "json") rows then forms.Json else forms.Text
+
+-- the port that these digits spell, where there are any
+abbrev pub port_of : Option Text → Option ℕ
+port_of None = None
+port_of (Some digits) = Some (digits_value 10 digits)
+
+-- what a server is to tell beside its listeners: its log, where that is given, and its page, where a port is given for it
+abbrev pub reporting_given : List Row → Reporting
+reporting_given rows = record { log = is_given (codes "log") rows; status = port_of (first_of (codes "status-port") rows) }
 
 -- ---- settings
 
@@ -92,15 +105,16 @@ pub record AsksForScript (rows : List Row) (config : Config) : Type 0 where
   pub server : AreServerDefaults config
 
 -- a server
-pub record AsksForServer (rows : List Row) (config : Config) (uidvalidity : Uidvalidity) : Type 0 where
+pub record AsksForServer (rows : List Row) (config : Config) (uidvalidity : Uidvalidity) (report : Reporting) : Type 0 where
   pub house : AreHouseSettings rows (server_shards (length (mailboxes_given rows))) config
   pub server : AreServerSettings rows config
   pub warned : uidvalidity ≡ uidvalidity_given rows
+  pub told : report ≡ reporting_given rows
 
 -- Where clap found this subcommand with these rows, it is asked for, with the settings that these give.
 abbrev pub AsksBy : Option (Text × List Row) → Asked → Type 0
 AsksBy found (Script config form) = (rows : List Row) × (found ≡ Some (codes "script", rows)) × AsksForScript rows config × (form ≡ form_given rows)
-AsksBy found (Serve config uidvalidity) = (rows : List Row) × (found ≡ Some (codes "serve", rows)) × AsksForServer rows config uidvalidity
+AsksBy found (Serve config uidvalidity report) = (rows : List Row) × (found ≡ Some (codes "serve", rows)) × AsksForServer rows config uidvalidity report
 
 -- These words, the first of which is the program's name, ask for that. What clap finds in them is said there (`subcommand_of`).
 abbrev pub AsksFor : List Text → Asked → Type 0

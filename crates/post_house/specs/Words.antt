@@ -16,7 +16,7 @@ name_rule name = record (new_rule name) { long = Some name; action = Some Set }
 abbrev pub number_rule : Text → (least most : ℕ) → Rule
 number_rule name least most = record (new_rule name) { long = Some name; action = Some Set; parser = Some (Unsigned least most) }
 
--- an option that stands there or doesn't
+-- an option that is given or not, and has no value; how often it is given is counted
 abbrev pub flag_rule : Text → Rule
 flag_rule name = record (new_rule name) { long = Some name; action = Some SetTrue }
 
@@ -44,14 +44,19 @@ house_rules =
 abbrev pub script_rules : List Rule
 script_rules = flag_rule (codes "json") ∷ []
 
--- what `serve` takes besides
-abbrev pub server_rules : List Rule
-server_rules =
+-- what `serve` takes besides, up to its log
+abbrev pub logged_rules : List Rule
+logged_rules =
     number_rule (codes "lmtp-port") 0 65535
     ∷ number_rule (codes "imap-port") 0 65472
     ∷ number_rule (codes "workers") 1 8
     ∷ number_rule (codes "sessions") 1 4
+    ∷ flag_rule (codes "log")
     ∷ []
+
+-- and behind it the port of its page
+abbrev pub server_rules : List Rule
+server_rules = logged_rules ++ number_rule (codes "status-port") 0 65535 ∷ []
 
 abbrev pub script : Shape
 script = record (new_app (codes "script")).top { rules = house_rules ++ script_rules }
@@ -71,7 +76,7 @@ program = record {
 abbrev pub faults_at : List Text → Kinds
 faults_at words = fault_of program words
 
--- what clap takes, and the program doesn't: a number that is spelled with other than digits, a port of users that is neither 0 nor high enough, no mailbox, no
+-- what clap takes, and the program doesn't: a number that is spelled with other than digits, a port of users or of the page that is neither 0 nor high enough, no mailbox, no
 -- subcommand
 abbrev pub own_faults : Kinds
 own_faults = kind.ValueValidation ∷ kind.MissingRequiredArgument ∷ kind.MissingSubcommand ∷ []

@@ -3,20 +3,20 @@
 ghost use Rattle.std.specs.Prelude.{◌≡◌, ◌≢◌, ◌≤◌, ◌<◌, [], codes, length, map, IfOk, MatchResult, OnOk, Some};
 ghost use Rattle.std.specs.Char.{is_ascii_digit};
 ghost use Rattle.std.specs.List.{list_all};
-ghost use Rattle.clap.specs.Words.{IsAmong, app_of, found_of, kind_of, rows_of, subcommand_rows_of};
+ghost use Rattle.clap.specs.Words.{IsAmong, app_of, first_of, found_of, kind_of, rows_of, subcommand_rows_of};
 ghost use Rattle.settings.specs.Settings.{IsDefault, IsFrom, IsInRange};
 ghost use Rattle.post_house.specs.Asking.{AsksBy, AsksFor, AsksForScript, IsAskedInRange};
-ghost use Rattle.post_house.specs.Asking.{form_by, form_given, mailboxes_given, number_given, server_shards, text_given, uidvalidity_given};
+ghost use Rattle.post_house.specs.Asking.{form_given, is_flag, is_given, mailboxes_given, number_given, port_of, reporting_given, server_shards, text_given, uidvalidity_given};
 ghost use Rattle.post_house.specs.Words as words_taken;
 
 use crate::options::{
-    DEPTH, FIRST_UID, Helps, IMAP_PORT, LMTP_PORT, MAX_MESSAGE, MESSAGES, NumberOption, RING,
-    RING_MAX, SESSIONS, SHARDS, UIDVALIDITY, WORKERS, command_line,
+    DEPTH, FIRST_UID, Helps, IMAP_PORT, JSON, LMTP_PORT, LOG, MAX_MESSAGE, MESSAGES, NumberOption,
+    RING, RING_MAX, SESSIONS, SHARDS, STATUS_PORT, UIDVALIDITY, WORKERS, command_line,
 };
 use clap::error::ErrorKind;
 use clap::{ArgMatches, Command, Error};
 use script::Form;
-use serving::Uidvalidity;
+use serving::{Reporting, Uidvalidity};
 use settings::Config;
 use settings::numbers::LEAST_IMAP_PORT;
 use std::alloc::{AllocError, Global};
@@ -38,6 +38,8 @@ pub enum Asked {
         config: Config,
         /// Whether the UIDVALIDITY among them was given, or is the default: of that the server warns.
         uidvalidity: Uidvalidity,
+        /// What it is to tell of what happens.
+        report: Reporting,
     },
 }
 
@@ -46,8 +48,8 @@ pub enum Asked {
 enum Refused<'a> {
     /// A number that is spelled with more than digits, as `+5`.
     Spelling(&'static str, &'a str),
-    /// A port of the first user that is neither 0 nor 1024 or more.
-    LowPort(u64),
+    /// A port of this option that is neither 0 nor 1024 or more.
+    LowPort(&'static str, u64),
     /// There is no mailbox.
     NoMailbox,
     /// There is no subcommand.
@@ -92,6 +94,21 @@ fn given<'a>(
     }
 }
 
+// A port of this option, which is 0 or high enough.
+fn allowed_port<'a>(name: &'static str, port: u64) -> Result<u16, Refused<'a>>
+    requires { port ≤ 65535 }
+    ensures same { IfOk result (λ n. n ≡ port) }
+    ensures least { IfOk result (λ n. n ≢ 0 → 1024 ≤ n) }
+{
+    if port == 0 {
+        return Ok(0);
+    }
+    if port < LEAST_IMAP_PORT {
+        return Err(Refused::LowPort(name, port));
+    }
+    Ok(port as u16)
+}
+
 // The port of the first user that was given, or else its default.
 fn given_user_port<'a>(matches: &ArgMatches<'a>, default: u16) -> Result<u16, Refused<'a>>
     requires most { default ≤ 65472 }
@@ -102,13 +119,20 @@ fn given_user_port<'a>(matches: &ArgMatches<'a>, default: u16) -> Result<u16, Re
         n ≡ number_given (rows_of (found_of matches.now)) (codes "imap-port") default) }
 {
     let port = given(matches, IMAP_PORT, u64::from(default))?;
-    if port == 0 {
-        return Ok(0);
-    }
-    if port < LEAST_IMAP_PORT {
-        return Err(Refused::LowPort(port));
-    }
-    Ok(port as u16)
+    allowed_port(IMAP_PORT.name, port)
+}
+
+// The port of the page, where one was given.
+fn given_page_port<'a>(matches: &ArgMatches<'a>) -> Result<Option<u16>, Refused<'a>>
+    ensures { IfOk result (λ port.
+        port ≡ port_of (first_of (codes "status-port") (rows_of (found_of matches.now)))) }
+{
+    let Some(_text) = matches.get_str(STATUS_PORT.name) else {
+        return Ok(None);
+    };
+    let number = given(matches, STATUS_PORT, 0)?;
+    let port = allowed_port(STATUS_PORT.name, number)?;
+    Ok(Some(port))
 }
 
 // A name is set where one was given.
@@ -338,6 +362,34 @@ fn uidvalidity_of<'a>(matches: &ArgMatches<'a>) -> Uidvalidity
     }
 }
 
+// Whether an option is given that has no value, by the one that clap gives it.
+fn is_flag(value: &str) -> bool
+    ensures { result ≡ is_flag (Some value.now) }
+{
+    value == "true"
+}
+
+// Whether an option is given that has no value.
+fn is_given<'a>(matches: &ArgMatches<'a>, name: &str) -> bool
+    ensures { result ≡ is_given name.now (rows_of (found_of matches.now)) }
+{
+    match matches.get_str(name) {
+        Some(value) => is_flag(value),
+        None => false,
+    }
+}
+
+// What a server is to tell.
+fn reporting_of<'a>(matches: &ArgMatches<'a>) -> Result<Reporting, Refused<'a>>
+    ensures { IfOk result (λ report. report ≡ reporting_given (rows_of (found_of matches.now))) }
+{
+    let status = given_page_port(matches)?;
+    Ok(Reporting {
+        log: is_given(matches, LOG),
+        status,
+    })
+}
+
 // What the options and words of `serve` ask for.
 fn server_of<'a>(alloc: Global, matches: &ArgMatches<'a>) -> Result<Asked, Refused<'a>>
     ensures range { IfOk result IsAskedInRange }
@@ -346,30 +398,22 @@ fn server_of<'a>(alloc: Global, matches: &ArgMatches<'a>) -> Result<Asked, Refus
     let mut config = settings_of(alloc, matches)?;
     set_server_shards(matches, &mut config)?;
     set_server(matches, &mut config)?;
+    let report = reporting_of(matches)?;
     Ok(Asked::Serve {
         config,
         uidvalidity: uidvalidity_of(matches),
+        report,
     })
-}
-
-// In which form a script is told, by the value that clap gives the flag.
-fn form_by(value: &str) -> Form
-    ensures { result ≡ form_by (Some value.now) }
-{
-    if value == "true" {
-        Form::Json
-    } else {
-        Form::Text
-    }
 }
 
 // In which form a script is told.
 fn form_of<'a>(matches: &ArgMatches<'a>) -> Form
     ensures { result ≡ form_given (rows_of (found_of matches.now)) }
 {
-    match matches.get_str("json") {
-        Some(value) => form_by(value),
-        None => Form::Text,
+    if is_given(matches, JSON) {
+        Form::Json
+    } else {
+        Form::Text
     }
 }
 
@@ -420,13 +464,18 @@ fn misspelled<'a>(
     command.error(ErrorKind::ValueValidation, &text)
 }
 
-// The mistake in a port of users that is too low.
-fn too_low<'a>(alloc: Global, command: &mut Command<'a>, port: u64) -> Result<Error, AllocError>
+// The mistake in a port that is too low.
+fn too_low<'a>(
+    alloc: Global,
+    command: &mut Command<'a>,
+    name: &str,
+    port: u64,
+) -> Result<Error, AllocError>
     ensures { IfOk result (λ e. kind_of e ≡ ErrorKind.ValueValidation) }
 {
     let reason = format!(in alloc;
         "invalid value '{}' for '--{}': it is neither 0 nor {} or more",
-        port, IMAP_PORT.name, LEAST_IMAP_PORT
+        port, name, LEAST_IMAP_PORT
     )?;
     command.error(ErrorKind::ValueValidation, &reason)
 }
@@ -441,7 +490,7 @@ fn error_of<'a>(
 {
     match refused {
         Refused::Spelling(name, text) => misspelled(alloc, command, name, text),
-        Refused::LowPort(port) => too_low(alloc, command, port),
+        Refused::LowPort(name, port) => too_low(alloc, command, name, port),
         Refused::NoMailbox => {
             command.error(ErrorKind::MissingRequiredArgument, "there is no mailbox")
         }
@@ -478,8 +527,8 @@ fn asked_by<'a, S: AsStr>(
 /// given for it, or its default. A script is told in JSON where `--json` is given. Each number is in its range, and there is a mailbox; names are not looked at, nor whether the ports are
 /// right.
 ///
-/// The error is clap's: a mistake in the words, a number that is out of its range or has other than digits, a port of users from 1 to 1023, or a
-/// request for help; of kind `OutOfMemory` where memory is refused.
+/// The error is clap's: a mistake in the words, a number that is out of its range or has other than digits, a port of users or of
+/// the page from 1 to 1023, or a request for help; of kind `OutOfMemory` where memory is refused.
 pub fn asked_of<'a, S: AsStr>(alloc: Global, words: &'a [S]) -> Result<Asked, Error>
     ensures range { IfOk result IsAskedInRange }
     ensures asks { IfOk result (AsksFor (map S.text words.entry.now)) }

@@ -126,12 +126,13 @@ fn play<R: BufRead, W: Sink>(
     }
 }
 
-// Does what is asked for, and hands out what came of it.
+// Does what is asked for, and hands out what came of it. A server's log goes to `log`, where it is asked for.
 fn carry_out<
     R: Net<Listener = TcpListener, Stream = TcpStream> + Threads + Wait + Sync,
     I: BufRead,
     W: Sink,
->(rt: &R, alloc: Global, asked: &Asked, input: &mut I, output: &mut W) -> Done
+    L: Write + Drop + Send,
+>(rt: &R, alloc: Global, asked: &Asked, input: &mut I, output: &mut W, log: L) -> Done
     requires range { IsAskedInRange asked.now }
     requires live { W.failed output.old ≡ false }
     ensures not_set { status_of_done result ≡ 3 → output.new ≡ output.old }
@@ -145,7 +146,8 @@ fn carry_out<
         Asked::Serve {
             config,
             uidvalidity,
-        } => Done::Served(serve(rt, alloc, config, *uidvalidity, input, output)),
+            report,
+        } => Done::Served(serve(rt, alloc, config, *uidvalidity, *report, input, output, log)),
     }
 }
 
@@ -164,14 +166,16 @@ fn finish<F: Write>(done: Done, faults: &mut F) -> u8
 /// was done, also where only the help was asked for; 2 for a command line that is refused, with clap's text on `faults`; 3 for settings that are wrong,
 /// 4 for a device that fails, 5 for want of memory and 6 for a server that was torn, each with a line of its own on `faults`. At 2 and 3
 /// nothing is written to `output`. A script's bytes are played as they come, and what was written is what it prints, in the form that was
-/// asked for, or after a failure a beginning of it. A server writes a line for each of its listeners, or after a failure a beginning of them, and ends with the input.
+/// asked for, or after a failure a beginning of it. A server writes a line for each of its listeners, or after a failure a beginning of them,
+/// and ends with the input. Where a log is asked for its lines go to `log`.
 fn command<
     R: Net<Listener = TcpListener, Stream = TcpStream> + Threads + Wait + Sync,
     S: AsStr,
     I: BufRead,
     W: Sink,
     F: Write,
->(rt: &R, alloc: Global, words: &[S], input: &mut I, output: &mut W, faults: &mut F) -> Ran
+    L: Write + Drop + Send,
+>(rt: &R, alloc: Global, words: &[S], input: &mut I, output: &mut W, faults: &mut F, log: L) -> Ran
     requires { W.failed output.old ≡ false }
 
     // The exit status is 0, or 2 to 6; at 2 and 3 nothing was written to `output`.
@@ -191,7 +195,7 @@ fn command<
             return Ran { outcome, status };
         }
     };
-    let done = carry_out(rt, alloc, &asked, input, output);
+    let done = carry_out(rt, alloc, &asked, input, output, log);
     let status = finish(done, faults);
     let outcome = Outcome::Did(asked, done);
     Ran { outcome, status }
@@ -223,7 +227,8 @@ fn program<
         + Wait
         + Sync,
     F: Write,
->(rt: &R, faults: &mut F) -> u8
+    L: Write + Drop + Send,
+>(rt: &R, faults: &mut F, log: L) -> u8
     ensures { IsStatus result }
 {
     let alloc = rt.alloc();
@@ -241,10 +246,11 @@ fn program<
         &mut input,
         &mut Watched::new(io::writer(rt)),
         faults,
+        log,
     );
     ran.status
 }
 
 fn main(rt: HostRuntime) -> ExitCode {
-    ExitCode::from(program(&rt, &mut rt.stderr()))
+    ExitCode::from(program(&rt, &mut rt.stderr(), rt.stderr()))
 }

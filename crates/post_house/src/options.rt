@@ -106,6 +106,24 @@ pub(crate) const SESSIONS: NumberOption = NumberOption {
     besides: "",
 };
 
+/// The port of a server's page, which has none where that isn't given.
+pub(crate) const STATUS_PORT: NumberOption = NumberOption {
+    name: "status-port",
+    help: "The port of a page over HTTP that tells what the server is doing, 1024 or more; 0 for a free one",
+    number: Number {
+        least: 0,
+        most: 65_535,
+        default: 0,
+    },
+    besides: "",
+};
+
+/// Whether what a script prints is told in JSON.
+pub(crate) const JSON: &str = "json";
+
+/// Whether a server writes a log.
+pub(crate) const LOG: &str = "log";
+
 // What both subcommands may be given.
 const HOUSE_OPTIONS: &[NumberOption] = &[
     SHARDS,
@@ -232,6 +250,17 @@ fn with_names_of<'a>(
         .arg(name(alloc, "domain", &helps[1]))
 }
 
+// An option that is given or not.
+fn flag<'a>(alloc: Global, name: &'static str, help: &'static str) -> Arg<'a>
+    ensures rule { rule_of result ≡ words.flag_rule name.now }
+    ensures local { result.global ≡ false }
+{
+    Arg::new(alloc, name)
+        .long(name)
+        .help(help)
+        .action(ArgAction::SetTrue)
+}
+
 // The mailboxes, of which there is one at least.
 fn mailboxes<'a>(alloc: Global) -> Arg<'a>
     ensures rule { rule_of result ≡ words.mailbox_rule }
@@ -262,10 +291,11 @@ fn json<'a>(alloc: Global) -> Arg<'a>
     ensures rule { rule_of result ≡ words.flag_rule (codes "json") }
     ensures local { result.global ≡ false }
 {
-    Arg::new(alloc, "json")
-        .long("json")
-        .help("Prints one JSON object for each line: its number, the line, and what it printed")
-        .action(ArgAction::SetTrue)
+    flag(
+        alloc,
+        JSON,
+        "Prints one JSON object for each line: its number, the line, and what it printed",
+    )
 }
 
 // A subcommand with what `script` may be given besides.
@@ -276,6 +306,47 @@ fn with_script_options<'a>(
     ensures { IfOk result (HasMore words.script_rules subcommand.entry) }
 {
     subcommand.arg(json(alloc))
+}
+
+// A subcommand with what a server alone has, up to its log.
+fn with_log<'a>(
+    alloc: Global,
+    subcommand: Command<'a>,
+    helps: &'a Helps,
+) -> Result<Command<'a>, AllocError>
+    requires { AreThere helps.now }
+    ensures { IfOk result (HasMore words.logged_rules subcommand.entry) }
+{
+    with_options(alloc, subcommand, SERVER_OPTIONS, &helps.server)?.arg(flag(
+        alloc,
+        LOG,
+        "Writes a line to standard error for each thing that happens",
+    ))
+}
+
+// A number that has a help of its own, and no default that is told.
+fn plain_option<'a>(alloc: Global, option: NumberOption, help: &'static str) -> Arg<'a>
+    ensures rule { rule_of result ≡ rule_for option }
+    ensures local { result.global ≡ false }
+{
+    Arg::new(alloc, option.name)
+        .long(option.name)
+        .help(help)
+        .action(ArgAction::Set)
+        .value_parser(ValueParser::unsigned(option.number.least, option.number.most))
+}
+
+// A subcommand with what a server alone has.
+fn with_server<'a>(
+    alloc: Global,
+    subcommand: Command<'a>,
+    helps: &'a Helps,
+) -> Result<Command<'a>, AllocError>
+    requires { AreThere helps.now }
+    ensures { IfOk result (HasMore words.server_rules subcommand.entry) }
+{
+    let logged = with_log(alloc, subcommand, helps)?;
+    logged.arg(plain_option(alloc, STATUS_PORT, STATUS_PORT.help))
 }
 
 // `script`, with its options and its mailboxes.
@@ -301,7 +372,7 @@ fn serve_line<'a>(alloc: Global, helps: &'a Helps) -> Result<Command<'a>, AllocE
         "Serves on the loopback address until standard input is at its end",
     );
     let housed = with_house(alloc, serve, helps)?;
-    with_options(alloc, housed, SERVER_OPTIONS, &helps.server)
+    with_server(alloc, housed, helps)
 }
 
 // The program, with no subcommand yet.

@@ -8,7 +8,7 @@ use Rattle.envelope.specs.Directory.{Home}
 use Rattle.house_floor.specs.Users.{is_inbox}
 use Rattle.settings.specs.Settings.{IsFrom, directory_for}
 use Rattle.settings.specs.declared.config.Config.{Config}
-use Rattle.serving.specs.Announcing.{AreUserPorts, HasBegun, IsAnnouncement, IsPortFor, announcement, imap_lines, ports_from, users_of}
+use Rattle.serving.specs.Announcing.{AreUserPorts, HasBegun, IsAnnouncement, IsPageFor, IsPortFor, announcement, imap_lines, ports_from, users_of}
 use Rattle.serving.specs.declared.server.Uidvalidity.{Uidvalidity}
 
 -- ---- lines
@@ -84,20 +84,27 @@ no_users first = record { same = λ some. refl; each = λ none. refl; free = λ 
 
 -- ---- what is said
 
-pub announced : (c : Config) (u : Uidvalidity) (homes : List Home) (users lmtp : ℕ) (imap lines : List ℕ) → homes ≡ (directory_for c).homes → users ≡ length (users_of homes)
-    → IsPortFor c.lmtp_port lmtp → AreUserPorts c.imap_port users imap → lines ≡ announcement lmtp imap homes u → IsAnnouncement c u lines
-announced c u homes users lmtp imap lines is count mail ports are = record {
+pub announced : (c : Config) (given : Option ℕ) (u : Uidvalidity) (homes : List Home) (users lmtp : ℕ) (imap : List ℕ) (page : Option ℕ) (lines : List ℕ) → homes ≡ (directory_for c).homes
+    → users ≡ length (users_of homes) → IsPortFor c.lmtp_port lmtp → AreUserPorts c.imap_port users imap → IsPageFor given page → lines ≡ announcement lmtp imap page homes u
+    → IsAnnouncement c given u lines
+announced c given u homes users lmtp imap page lines is count mail ports status are = record {
   lmtp = lmtp;
   imap = imap;
+  page = page;
   mail = mail;
   users = subst (λ (hs : List Home). AreUserPorts c.imap_port (length (users_of hs)) imap) is (subst (λ (n : ℕ). AreUserPorts c.imap_port n imap) count ports);
-  are = are ∙ ap (λ (hs : List Home). announcement lmtp imap hs u) is;
+  status = status;
+  are = are ∙ ap (λ (hs : List Home). announcement lmtp imap page hs u) is;
 }
 
 -- some port is free in any case
 some_mail : (given : ℕ) → (port : ℕ) × IsPortFor given port
 some_mail zero = (1, record { same = λ some. absurd (some refl); free = λ none. (lit≤ tt, lit≤ tt) })
 some_mail (suc n) = (suc n, record { same = λ some. refl; free = λ none. absurd (let z : ⊥ = omega (arith, none) in z) })
+
+some_page : (given : Option ℕ) → (page : Option ℕ) × IsPageFor given page
+some_page None = (None, tt)
+some_page (Some given) = (let one = some_mail given in (Some one.0, one.1))
 
 ones : (n : ℕ) → All (IsFrom 1 65535) (replicate n 1)
 ones zero = All-nil (IsFrom 1 65535)
@@ -118,21 +125,30 @@ nothing (Some xs) = at_end xs where
   at_end [] = refl
   at_end (x ∷ xs) = ap (λ (t : List ℕ). x ∷ t) (at_end xs)
 
-pub nothing_said : (c : Config) (u : Uidvalidity) (taken : Option (List ℕ)) → HasBegun c u taken taken
-nothing_said c u taken =
+pub nothing_said : (c : Config) (given : Option ℕ) (u : Uidvalidity) (taken : Option (List ℕ)) → HasBegun c given u taken taken
+nothing_said c given u taken =
     let homes = (directory_for c).homes in
     let mail = some_mail c.lmtp_port in
     let users = some_ports c.imap_port (length (users_of homes)) in
+    let page = some_page given in
     record {
-      lines = announcement mail.0 users.0 homes u;
-      announced = record { lmtp = mail.0; imap = users.0; mail = mail.1; users = users.1; are = refl };
+      lines = announcement mail.0 users.0 page.0 homes u;
+      announced = record { lmtp = mail.0; imap = users.0; page = page.0; mail = mail.1; users = users.1; status = page.1; are = refl };
       count = 0;
       written = nothing taken;
     }
 
--- where both ports are given the lines are these
-pub given_lines : (c : Config) (u : Uidvalidity) (lines : List ℕ) → c.lmtp_port ≢ 0 → c.imap_port ≢ 0 → IsAnnouncement c u lines
-    → let homes = (directory_for c).homes in lines ≡ announcement c.lmtp_port (ports_from c.imap_port (length (users_of homes))) homes u
-given_lines c u lines mail users is =
-    is.are ∙ ap (λ (n : ℕ). announcement n is.imap (directory_for c).homes u) (is.mail.same mail)
-    ∙ ap (λ (ps : List ℕ). announcement c.lmtp_port ps (directory_for c).homes u) (is.users.same users)
+-- a page has the port that is given for it, and none where none is
+page_given : (given page : Option ℕ) → ((port : ℕ) → given ≡ Some port → port ≢ 0) → IsPageFor given page → page ≡ given
+page_given None None some is = refl
+page_given None (Some port) some is = absurd is
+page_given (Some given) None some is = absurd is
+page_given (Some given) (Some port) some is = ap (λ (n : ℕ). Some n) (is.same (some given refl))
+
+-- where both ports are given, and that of the page if there is one, the lines are these
+pub given_lines : (c : Config) (given : Option ℕ) (u : Uidvalidity) (lines : List ℕ) → c.lmtp_port ≢ 0 → c.imap_port ≢ 0 → ((port : ℕ) → given ≡ Some port → port ≢ 0) → IsAnnouncement c given u lines
+    → let homes = (directory_for c).homes in lines ≡ announcement c.lmtp_port (ports_from c.imap_port (length (users_of homes))) given homes u
+given_lines c given u lines mail users some is =
+    is.are ∙ ap (λ (n : ℕ). announcement n is.imap is.page (directory_for c).homes u) (is.mail.same mail)
+    ∙ ap (λ (ps : List ℕ). announcement c.lmtp_port ps is.page (directory_for c).homes u) (is.users.same users)
+    ∙ ap (λ (o : Option ℕ). announcement c.lmtp_port (ports_from c.imap_port (length (users_of (directory_for c).homes))) o (directory_for c).homes u) (page_given given is.page some is.status)

@@ -1,5 +1,5 @@
 -- What is said of a server's listeners: a line for each. A socket has no model: of a port that the system chooses no more is said than how far it goes.
-use Rattle.std.specs.Prelude.{ℕ, zero, suc, ◌≡◌, ◌≢◌, ◌+◌, ◌++◌, ◌∷◌, [], List, All, Option, codes, decimal, if◌then◌else◌, length, take}
+use Rattle.std.specs.Prelude.{ℕ, zero, suc, ◌≡◌, ◌≢◌, ◌+◌, ◌++◌, ◌∷◌, [], List, All, Option, Some, None, ⊤, codes, decimal, if◌then◌else◌, length, take}
 use Rattle.std.specs.Io.KnownBytes.{Appends}
 use Rattle.envelope.specs.Directory.{Home}
 use Rattle.house_floor.specs.Users.{is_inbox}
@@ -31,6 +31,13 @@ pub record AreUserPorts (given users : ℕ) (ports : List ℕ) : Type 0 where
   pub each : given ≡ 0 → length ports ≡ users
   pub free : given ≡ 0 → All (IsFrom 1 65535) ports
 
+-- The port of the page: one where it is asked for, as of a listener, and none where it isn't.
+abbrev pub IsPageFor : (given port : Option ℕ) → Type 0
+IsPageFor None None = ⊤
+IsPageFor None (Some port) = ⊥
+IsPageFor (Some given) None = ⊥
+IsPageFor (Some given) (Some port) = IsPortFor given port
+
 -- ---- the lines
 
 abbrev pub lmtp_line : ℕ → List ℕ
@@ -45,31 +52,42 @@ imap_lines [] ports = []
 imap_lines (user ∷ users) [] = []
 imap_lines (user ∷ users) (port ∷ ports) = imap_line port user ++ imap_lines users ports
 
+-- where a page is asked for
+abbrev pub page_line : ℕ → List ℕ
+page_line port = codes "STATUS http://127.0.0.1:" ++ decimal port ++ codes "/\n"
+
+-- where the page is asked for, if there is one
+abbrev pub page_lines : Option ℕ → List ℕ
+page_lines None = []
+page_lines (Some port) = page_line port
+
 -- UIDs begin anew at each start, so a client may take new messages for old ones where the UIDVALIDITY is the same (RFC 9051, 2.3.1.1)
 abbrev pub warning : Uidvalidity → List ℕ
 warning Given = []
 warning Default = codes "UIDVALIDITY is the same at each start: give --uidvalidity a number that grows, as the time in seconds\n"
 
-abbrev pub announcement : (lmtp : ℕ) → (imap : List ℕ) → List Home → Uidvalidity → List ℕ
-announcement lmtp imap homes uidvalidity = lmtp_line lmtp ++ imap_lines (users_of homes) imap ++ warning uidvalidity
+abbrev pub announcement : (lmtp : ℕ) → (imap : List ℕ) → (page : Option ℕ) → List Home → Uidvalidity → List ℕ
+announcement lmtp imap page homes uidvalidity = lmtp_line lmtp ++ imap_lines (users_of homes) imap ++ page_lines page ++ warning uidvalidity
 
--- what a server with these settings may say: the lines of the ports that its listeners have
-pub record IsAnnouncement (config : Config) (uidvalidity : Uidvalidity) (lines : List ℕ) : Type 0 where
+-- what a server with these settings may say, which has a page where a port is given for it: the lines of the ports that its listeners have
+pub record IsAnnouncement (config : Config) (given : Option ℕ) (uidvalidity : Uidvalidity) (lines : List ℕ) : Type 0 where
   pub lmtp : ℕ
   pub imap : List ℕ
+  pub page : Option ℕ
   pub mail : IsPortFor config.lmtp_port lmtp
   pub users : AreUserPorts config.imap_port (length (users_of (directory_for config).homes)) imap
-  pub are : lines ≡ announcement lmtp imap (directory_for config).homes uidvalidity
+  pub status : IsPageFor given page
+  pub are : lines ≡ announcement lmtp imap page (directory_for config).homes uidvalidity
 
 -- a beginning of such lines was written
-pub record HasBegun (config : Config) (uidvalidity : Uidvalidity) (old new : Option (List ℕ)) : Type 0 where
+pub record HasBegun (config : Config) (given : Option ℕ) (uidvalidity : Uidvalidity) (old new : Option (List ℕ)) : Type 0 where
   pub lines : List ℕ
-  pub announced : IsAnnouncement config uidvalidity lines
+  pub announced : IsAnnouncement config given uidvalidity lines
   pub count : ℕ
   pub written : Appends old new (take count lines)
 
 -- all of them were
-pub record HasAnnounced (config : Config) (uidvalidity : Uidvalidity) (old new : Option (List ℕ)) : Type 0 where
+pub record HasAnnounced (config : Config) (given : Option ℕ) (uidvalidity : Uidvalidity) (old new : Option (List ℕ)) : Type 0 where
   pub lines : List ℕ
-  pub announced : IsAnnouncement config uidvalidity lines
+  pub announced : IsAnnouncement config given uidvalidity lines
   pub written : Appends old new lines

@@ -2,7 +2,7 @@
 
 ghost use Rattle.std.specs.Prelude.{ℕ, ◌≡◌, ◌<◌, ◌++◌, ◌∷◌, List, [], false, true, IfOk, IfSome, OnOk, length, slice_get, take};
 ghost use Rattle.std.specs.Io.KnownBytes.{Appends};
-ghost use Rattle.serving.specs.Announcing.{announcement, imap_line, imap_lines, lmtp_line, users_of};
+ghost use Rattle.serving.specs.Announcing.{announcement, imap_line, imap_lines, lmtp_line, page_line, page_lines, users_of};
 
 use crate::server::Uidvalidity;
 use crate::sockets::Ports;
@@ -76,6 +76,32 @@ fn announce_users(directory: &Directory, ports: &[u16], out: &mut Vec<u8>) -> Re
     Ok(())
 }
 
+// The line of a page at this port.
+fn announce_page_at(port: usize, out: &mut Vec<u8>) -> Result<(), AllocError>
+    ensures { OnOk result (out.new.items ≡ out.old.items ++ page_line port) }
+{
+    let mut digits = Buffer::new();
+    let port = digits.format(port).as_bytes();
+    append_parts(
+        &[
+            b"STATUS http://127.0.0.1:".as_slice(),
+            port,
+            b"/\n".as_slice(),
+        ],
+        out,
+    )
+}
+
+// The line of the page, where it has a port.
+fn announce_page(port: Option<u16>, out: &mut Vec<u8>) -> Result<(), AllocError>
+    ensures { OnOk result (out.new.items ≡ out.old.items ++ page_lines port) }
+{
+    match port {
+        None => Ok(()),
+        Some(port) => announce_page_at(usize::from(port), out),
+    }
+}
+
 // What is said where the UIDVALIDITY is the one that stands where none is given.
 const WARNING: &[u8] =
     b"UIDVALIDITY is the same at each start: give --uidvalidity a number that grows, as the time in seconds\n";
@@ -90,11 +116,13 @@ pub(crate) fn announce(
     uidvalidity: Uidvalidity,
 ) -> Result<Vec<u8>, AllocError>
     ensures { IfOk result (λ v. v.items
-        ≡ announcement ports.now.mail ports.now.users.items directory.now.homes uidvalidity) }
+        ≡ announcement ports.now.mail ports.now.users.items ports.now.page directory.now.homes
+        uidvalidity) }
 {
     let mut out = Vec::new(alloc);
     announce_mail(usize::from(ports.mail), &mut out)?;
     announce_users(directory, &ports.users, &mut out)?;
+    announce_page(ports.page, &mut out)?;
     match uidvalidity {
         Uidvalidity::Given => {}
         Uidvalidity::Default => out.extend_from_slice(WARNING)?,

@@ -3,6 +3,7 @@
 ghost use Rattle.std.specs.Prelude.{◌≡◌, ◌≤◌, ◌<◌, [], All, IfOk, length, vec_len, vec_capacity};
 
 use crate::sessions::ClientBerth;
+use server_report::Presence;
 use serving_workers::{Buffers, Hired};
 use std::alloc::{AllocError, Global};
 use std::sync::{Arc, Wait};
@@ -44,6 +45,15 @@ fn grips_for(alloc: Global, count: usize) -> Result<Vec<Grip>, AllocError>
     let mut all = Vec::with_capacity(alloc, count)?;
     for _ in 0..count {
         all.push_reserved(Grip::new());
+    }
+    Ok(all)
+}
+
+/// What each of so many workers shows while it has no connection at hand. An error where memory is refused.
+pub(crate) fn presences_of(alloc: Global, count: usize) -> Result<Vec<Presence>, AllocError> {
+    let mut all = Vec::with_capacity(alloc, count)?;
+    for _ in 0..count {
+        all.push(Presence::new())?;
     }
     Ok(all)
 }

@@ -7,12 +7,18 @@ mod announcing;
 mod berths;
 mod equipment;
 mod fault;
+mod gathering;
+mod page;
+mod reporting;
 mod run;
 mod server;
 mod sessions;
 mod site;
 mod sockets;
 mod stopping;
+mod telling;
+mod visiting;
 
 pub use fault::ServeFault;
+pub use reporting::Reporting;
 pub use server::{Uidvalidity, serve};

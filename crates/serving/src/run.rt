@@ -16,38 +16,43 @@ ghost use Rattle.serving.specs.inner.Dealing.{IsDealt};
 ghost use Rattle.serving.specs.inner.Ending.{CameTo, FirstTakeMail};
 
 use crate::announcing::Announcer;
-use crate::equipment::{Crowd, Equipment, Grips, crowd_for, equip, grips_of_all};
+use crate::equipment::{Crowd, Equipment, Grips, crowd_for, equip, grips_of_all, presences_of};
 use crate::fault::ServeFault;
+use crate::reporting::{Writing, start_writing};
 use crate::sessions::{Furnishings, start_berths};
 use crate::site::Site;
 use crate::sockets::Sockets;
-use crate::stopping::{await_end, stop_all};
+use crate::stopping::{await_end, bytes_held, longest_lane, stop_all};
+use crate::telling::start_telling;
+use crate::visiting::{Sign, signs_of};
 use clerks::{Hall, Staff, Unhindered, dismiss_all, hire_all, stand_down};
 use delivery_token::Noted;
 use house_floor::{Baskets, Crew, Floor, Guest, Post, Ran, Stand, Started};
 use lane_work::{Consumed, Worked};
 use line_io::Sink;
 use reckoning::{Closes, abandon};
+use server_report::{Held, Log, Presence};
 use serving_workers::{
     Begun, Buffers, Hired, Mark, Served, Workplace, close_all, join_producers, packed,
     start_workers,
 };
 use shard_queue::SenderEnded;
 use std::alloc::AllocError;
-use std::io::Read;
+use std::io::{Read, Write};
 use std::mem::ManuallyDrop;
 use std::sync::Wait;
 use std::thread;
 use std::thread::Threads;
 use workers_sync::Sleeper;
 
-// What the threads of the producers leave; or their posts, where there was no memory to note the threads in and none was started.
+// What the threads of the producers leave; or their posts, where there was no memory to note the threads in, or no thread for the log, and
+// none of them was started.
 struct Over {
     served: Vec<Served>,
     posts: Vec<Post>,
-    // Whether each thread could be made, or none was tried.
+    // Whether each thread that was tried could be made.
     all_started: bool,
-    // Whether none was started.
+    // Whether no producer was started.
     none_started: bool,
     // Whether all was said of the listeners.
     is_told: bool,
@@ -188,6 +193,14 @@ fn start_and_tell<'s, 'o, E, H: Hall + Send, R: Threads + Wait + Sync, W: Sink>(
             announcer,
         };
     }
+    if !start_telling::<E, H, R>(scope, rt, site) {
+        return Begin {
+            hired,
+            all_started: false,
+            is_told: false,
+            announcer,
+        };
+    }
     let (announcer, is_told) = announcer.tell(lines);
     if !is_told {
         site.workplace.mark.set();
@@ -200,18 +213,30 @@ fn start_and_tell<'s, 'o, E, H: Hall + Send, R: Threads + Wait + Sync, W: Sink>(
     }
 }
 
-// What is left where no thread was tried.
-fn untried(served: Vec<Served>, posts: Vec<Post>) -> Over
+// What is left where no thread of a producer was tried: for want of memory, or since a thread before them could not be made.
+fn untried(served: Vec<Served>, posts: Vec<Post>, all_started: bool) -> Over
     ensures left { (result.served ≡ served) × (result.posts ≡ posts) }
-    ensures none { (result.none_started ≡ true) × (result.all_started ≡ true)
+    ensures none { (result.none_started ≡ true) × (result.all_started ≡ all_started)
         × (result.is_told ≡ false) }
 {
     Over {
         served,
         posts,
-        all_started: true,
+        all_started,
         none_started: true,
         is_told: false,
+    }
+}
+
+// The log ends: whoever writes it tells what was counted, and what the server held.
+fn end_log<H: Hall, R: Wait>(rt: &R, site: &Site<H>) {
+    let workplace = &site.workplace;
+    if workplace.log.is_on() {
+        let held = Held {
+            bytes: bytes_held(rt, &workplace.floor.depot.mailboxes),
+            longest_lane: longest_lane(rt, &workplace.clerks),
+        };
+        workplace.log.end(rt, held);
     }
 }
 
@@ -257,16 +282,27 @@ fn stop_and_join<'s, 'o, H: Hall, R: Threads + Wait, I: Read + Drop, W: Sink>(
         none_started: false,
         is_told,
     };
+    end_log(rt, site);
     Left { over, announcer }
 }
 
-// All that is done in the scope: the threads are started and that is said, the end is awaited, all are stopped, and the producers are
-// joined.
-fn in_scope<'s, 'o, E, H: Hall + Send, R: Threads + Wait + Sync, I: Read + Drop, W: Sink>(
+// All that is done in the scope: whoever writes the log is started first; the threads are started and that is said, the end is awaited, all are
+// stopped, and the producers are joined.
+fn in_scope<
+    's,
+    'o,
+    E,
+    H: Hall + Send,
+    R: Threads + Wait + Sync,
+    I: Read + Drop,
+    W: Sink,
+    F: Write + Drop + Send + 's,
+>(
     scope: &thread::Scope<'s, E>,
     rt: &'s R,
     site: &'s Site<H>,
     dealt: ManuallyDrop<Dealt>,
+    writing: Writing<F>,
     stop: I,
     lines: &[u8],
     announcer: Announcer<'o, W>,
@@ -315,9 +351,13 @@ fn in_scope<'s, 'o, E, H: Hall + Send, R: Threads + Wait + Sync, I: Read + Drop,
         site.workplace.floor.depot.channels.len(),
     );
     let Ok(Crowd { hired, berths }) = crowd_for(alloc, producers, &bells) else {
-        let over = untried(served, posts);
+        let over = untried(served, posts, true);
         return Left { over, announcer };
     };
+    if !start_writing::<E, H, R, F>(scope, rt, site, writing) {
+        let over = untried(served, posts, false);
+        return Left { over, announcer };
+    }
     let Equipment {
         buffers,
         client_buffers,
@@ -342,10 +382,17 @@ fn in_scope<'s, 'o, E, H: Hall + Send, R: Threads + Wait + Sync, I: Read + Drop,
 }
 
 // The scope of all threads, in which it is said that they stand.
-fn serve_in_threads<H: Hall + Send, R: Threads + Wait + Sync, I: Read + Drop, W: Sink>(
+fn serve_in_threads<
+    H: Hall + Send,
+    R: Threads + Wait + Sync,
+    I: Read + Drop,
+    W: Sink,
+    F: Write + Drop + Send,
+>(
     rt: &R,
     site: &Site<H>,
     dealt: Dealt,
+    writing: Writing<F>,
     stop: I,
     lines: &[u8],
     output: &mut W,
@@ -418,7 +465,7 @@ fn serve_in_threads<H: Hall + Send, R: Threads + Wait + Sync, I: Read + Drop, W:
             ensures all { result.over.is_told ≡ true
                 → Appends (W.taken announcer.entry.output.now) (W.taken result.announcer.output.now)
                 lines.entry.now }
-        { in_scope(scope, rt, site, dealt, stop, lines, announcer) },
+        { in_scope(scope, rt, site, dealt, writing, stop, lines, announcer) },
     );
     let Announcer { output: _told } = announcer;
     over
@@ -430,10 +477,17 @@ struct Rooms<H: Hall> {
     equipment: Equipment,
     served: Vec<Served>,
     staff: Staff<H>,
+    signs: Vec<Sign>,
+    presences: Vec<Presence>,
 }
 
-// What so many workers and berths of a house want before the first thread. An error where memory is refused.
-fn make_rooms<H: Hall>(floor: &Floor, workers: usize, berths: usize) -> Result<Rooms<H>, AllocError>
+// What so many workers and berths of a house want before the first thread; the berths have these bells. An error where memory is refused.
+fn make_rooms<H: Hall>(
+    floor: &Floor,
+    workers: usize,
+    berths: usize,
+    bells: &[Sleeper],
+) -> Result<Rooms<H>, AllocError>
     requires few { workers + berths < 256 }
     ensures buffers { IfOk result (λ r.
         All (λ b. 0 < length b.input.items) r.equipment.buffers.items
@@ -453,6 +507,8 @@ fn make_rooms<H: Hall>(floor: &Floor, workers: usize, berths: usize) -> Result<R
     let alloc = floor.alloc;
     let grips = grips_of_all(alloc, workers, berths)?;
     let equipment = equip(alloc, workers, berths)?;
+    let signs = signs_of(alloc, bells)?;
+    let presences = presences_of(alloc, workers)?;
     let served = Vec::with_capacity(alloc, workers + berths)?;
     let Ok(staff) = Staff::with_room(alloc, floor.office.lanes.len()) else {
         served.destroy_empty();
@@ -463,6 +519,8 @@ fn make_rooms<H: Hall>(floor: &Floor, workers: usize, berths: usize) -> Result<R
         equipment,
         served,
         staff,
+        signs,
+        presences,
     })
 }
 
@@ -569,6 +627,8 @@ fn close_or_spend<H: Hall, R: Wait>(
         guests: _,
         imap: _,
         grips: _,
+        signs: _,
+        page: _,
     } = site;
     let Workplace {
         floor,
@@ -577,6 +637,10 @@ fn close_or_spend<H: Hall, R: Wait>(
         lmtp: _,
         mark: _,
         pause: _,
+        log: _,
+        workers: _,
+        sessions: _,
+        presences: _,
     } = workplace;
     let staff = Staff {
         clerks,
@@ -593,7 +657,12 @@ fn close_or_spend<H: Hall, R: Wait>(
     if none_started {
         served.destroy_empty();
         let stands = stand_down(&floor, staff);
-        return Err(give_up(floor, worked, consumed, stands, posts, baskets));
+        let fault = give_up(floor, worked, consumed, stands, posts, baskets);
+        return Err(if all_started {
+            fault
+        } else {
+            ServeFault::Spawn
+        });
     }
     posts.destroy_empty();
     let dismissed = dismiss_all(rt, &gate, &floor, staff, consumed);
@@ -602,7 +671,7 @@ fn close_or_spend<H: Hall, R: Wait>(
 }
 
 /// Who is to serve in a house.
-pub(crate) struct Manning {
+pub(crate) struct Manning<F> {
     /// So many workers, the first of the producers.
     pub(crate) workers: usize,
     /// So many copies of a message each of them puts at once.
@@ -611,6 +680,12 @@ pub(crate) struct Manning {
     pub(crate) guests: Vec<Guest>,
     /// For each berth its own end of its bell.
     pub(crate) bells: Vec<Sleeper>,
+    /// How many berths each user has.
+    pub(crate) sessions: u8,
+    /// What happens is told there.
+    pub(crate) log: Log,
+    /// Who writes that, and where to.
+    pub(crate) writing: Writing<F>,
 }
 
 /// Serves the house until `stop` is at its end, closes it, and hands out what was taken of its queues. Its producers are
@@ -619,10 +694,16 @@ pub(crate) struct Manning {
 /// Errors, the first that holds: `NoMemory` where memory is refused before the first thread, and `Spawn` where a thread can't be made: then
 /// nothing was written; `Device` where the lines can't be written: after these three nobody was served. `Torn` where somebody met what he
 /// didn't await, or a queue could not be closed. All of the house is spent then too.
-pub(crate) fn run_house_in<H: Hall + Send, R: Threads + Wait + Sync, I: Read + Drop, W: Sink>(
+pub(crate) fn run_house_in<
+    H: Hall + Send,
+    R: Threads + Wait + Sync,
+    I: Read + Drop,
+    W: Sink,
+    F: Write + Drop + Send,
+>(
     rt: &R,
     floor: Floor,
-    manning: Manning,
+    manning: Manning<F>,
     crew: Crew,
     baskets: Baskets,
     sockets: Sockets,
@@ -656,6 +737,9 @@ pub(crate) fn run_house_in<H: Hall + Send, R: Threads + Wait + Sync, I: Read + D
         at_once,
         guests,
         bells,
+        sessions,
+        log,
+        writing,
     } = manning;
     let Crew {
         stands,
@@ -665,7 +749,7 @@ pub(crate) fn run_house_in<H: Hall + Send, R: Threads + Wait + Sync, I: Read + D
         unmanned,
     } = crew;
     unmanned.destroy_empty();
-    let Ok(rooms) = make_rooms::<H>(&floor, workers, guests.len()) else {
+    let Ok(rooms) = make_rooms::<H>(&floor, workers, guests.len(), &bells) else {
         return Err(give_up(floor, worked, consumed, stands, posts, baskets));
     };
     let Rooms {
@@ -673,13 +757,20 @@ pub(crate) fn run_house_in<H: Hall + Send, R: Threads + Wait + Sync, I: Read + D
         equipment,
         served,
         staff,
+        signs,
+        presences,
     } = rooms;
     let Staff {
         clerks,
         rooms,
         stands,
     } = hire_all(&floor, stands, staff);
-    let Sockets { lmtp, imap, pause } = sockets;
+    let Sockets {
+        lmtp,
+        imap,
+        pause,
+        page,
+    } = sockets;
     let workplace = Workplace {
         floor,
         clerks,
@@ -687,6 +778,10 @@ pub(crate) fn run_house_in<H: Hall + Send, R: Threads + Wait + Sync, I: Read + D
         lmtp,
         mark: Mark::new(),
         pause,
+        log,
+        workers: workers as u8,
+        sessions,
+        presences,
     };
     let site = Site {
         workplace,
@@ -694,6 +789,8 @@ pub(crate) fn run_house_in<H: Hall + Send, R: Threads + Wait + Sync, I: Read + D
         guests,
         imap,
         grips,
+        signs,
+        page,
     };
     let dealt = Dealt {
         posts,
@@ -701,6 +798,6 @@ pub(crate) fn run_house_in<H: Hall + Send, R: Threads + Wait + Sync, I: Read + D
         equipment,
         served,
     };
-    let over = serve_in_threads(rt, &site, dealt, stop, &lines, output);
+    let over = serve_in_threads(rt, &site, dealt, writing, stop, &lines, output);
     close_or_spend(rt, site, rooms, stands, over, worked, consumed, baskets)
 }

@@ -12,6 +12,7 @@ ghost use Rattle.house_floor.specs.Users.{user_numbered};
 use crate::announcing::announce;
 use crate::berths::{berths_for, count_users};
 use crate::fault::ServeFault;
+use crate::reporting::{Records, Reporting, Writing, records_for};
 use crate::run::{Manning, run_house_in};
 use crate::sockets::{Open, Sockets, open_sockets};
 use clerks::copies_at_once;
@@ -21,7 +22,7 @@ use line_io::Sink;
 use mailbox::{History, Limits};
 use settings::{Config, ConfigFault, directory_of};
 use std::alloc::Global;
-use std::io::Read;
+use std::io::{Read, Write};
 use std::marker::Brand;
 use std::net::{Net, TcpListener, TcpStream};
 use std::sync::Wait;
@@ -104,11 +105,12 @@ fn listen<R: Net<Listener = TcpListener, Stream = TcpStream>>(
     alloc: Global,
     config: &Config,
     directory: &Directory,
+    status: Option<u16>,
     uidvalidity: Uidvalidity,
 ) -> Result<Listeners, ServeFault>
     requires range { IsInRange config.now }
     requires directory { directory.now ≡ directory_for config.now }
-    ensures lines { IfOk result (λ l. IsAnnouncement config.now uidvalidity l.lines.items) }
+    ensures lines { IfOk result (λ l. IsAnnouncement config.now status uidvalidity l.lines.items) }
     ensures fault { IfErr result IsOfSocket }
     ensures imap { IfOk result (λ l. vec_len l.sockets.imap
         ≡ length (users_of directory.now.homes)) }
@@ -120,6 +122,7 @@ fn listen<R: Net<Listener = TcpListener, Stream = TcpStream>>(
         config.lmtp_port,
         config.imap_port,
         users,
+        status,
     )?;
     let lines = announce(alloc, directory, &ports, uidvalidity)?;
     Ok(Listeners { sockets, lines })
@@ -134,23 +137,33 @@ fn listen<R: Net<Listener = TcpListener, Stream = TcpStream>>(
 /// data is closed and no copy of it is made, one that awaits verdicts is told these first; a session is told `* BYE Shutting down`.
 /// What is not through five seconds later is cut. What fails on one connection ends that connection alone.
 ///
+/// Where `report` gives a port for a page, a thread of its own tells over HTTP there what the server is doing, to one peer after another. Its line
+/// stands behind the users'. A port that is 0 is chosen by the system.
+///
+/// What happens is kept as `report` says. Where it asks for a log its lines are written to `errors` by a thread of their own, many at once,
+/// and at the end what was counted: so nobody who brings mail or is served waits for that writer. What doesn't fit into the room of the
+/// lines that wait is lost, and counted.
+///
 /// Errors, the first that holds: `Config`, of the first fault of the settings in the order of `House::new`, then `TooMany` where workers
-/// and berths together are more than 255; `Device` where a listener
-/// can't be made; `Spawn` where a thread can't be made; `Device` where the lines can't be written; `Torn` where a worker, a berth
-/// or a clerk met what it didn't await, or a queue could not be closed. `NoMemory` where memory is refused before the first thread runs: that
+/// and berths together are more than 255; `Device` where a listener,
+/// or a socket for the log, can't be made; `Spawn` where a thread can't be made; `Device` where the lines can't be written; `Torn` where a worker, a berth
+/// or a clerk met what it didn't await, or a queue could not be closed. `NoMemory` where memory, or the thread that writes the log, is refused before the first of the others runs: that
 /// comes in place of whatever would have come later, `Config` too. But for `Torn` nobody was served, and but for the second `Device` nothing
 /// was written.
 pub fn serve<
     R: Net<Listener = TcpListener, Stream = TcpStream> + Threads + Wait + Sync,
     I: Read,
     W: Sink,
+    F: Write + Drop + Send,
 >(
     rt: &R,
     alloc: Global,
     config: &Config,
     uidvalidity: Uidvalidity,
+    report: Reporting,
     stop: &mut I,
     output: &mut W,
+    errors: F,
 ) -> Result<(), ServeFault>
     // The settings are within their ranges, and the output hasn't failed.
     requires range { IsInRange config.now }
@@ -174,12 +187,21 @@ pub fn serve<
 
     // Nothing but a beginning of the lines was written, and all of them where it served: one for each listener, of its port. That is the port
     // that is given, and where that is 0 the one that the system chose.
-    ensures told { HasBegun config.now uidvalidity (W.taken output.old) (W.taken output.new) }
-    ensures all { OnOk result (HasAnnounced config.now uidvalidity (W.taken output.old)
-        (W.taken output.new)) }
+    ensures told { HasBegun config.now report.status uidvalidity (W.taken output.old)
+        (W.taken output.new) }
+    ensures all { OnOk result (HasAnnounced config.now report.status uidvalidity
+        (W.taken output.old) (W.taken output.new)) }
 {
     let Layout { directory, guests } = lay_out(alloc, config)?;
-    let Listeners { sockets, lines } = listen(rt, alloc, config, &directory, uidvalidity)?;
+    let Listeners { sockets, lines } = listen(
+        rt,
+        alloc,
+        config,
+        &directory,
+        report.status,
+        uidvalidity,
+    )?;
+    let Records { log, scribe } = records_for(rt, alloc, report)?;
     let Opened {
         floor,
         crew,
@@ -198,9 +220,12 @@ pub fn serve<
         at_once,
         guests,
         bells: sleepers,
+        sessions: config.sessions,
+        log,
+        writing: Writing { scribe, errors },
     };
     // Over sockets nothing can be named that what was taken could be compared with.
-    let _taken = run_house_in::<Brand, R, &mut I, W>(
+    let _taken = run_house_in::<Brand, R, &mut I, W, F>(
         rt, floor, manning, crew, baskets, sockets, stop, lines, output,
     )?;
     Ok(())

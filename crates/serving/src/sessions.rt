@@ -17,13 +17,16 @@ ghost use Rattle.serving_workers.specs.Leaving.{AreAttended, IsHired, IsServed, 
 
 use crate::equipment::SharedBerth;
 use crate::site::Site;
+use crate::visiting::{Incoming, Sign, Signed, Visitor};
 use clerks::{Hall, Unhindered};
 use delivery_token::Job;
+use envelope::Directory;
 use house_floor::{Floor, Post, inbox_numbered, most_of};
 use imap_session::folders_of;
 use imap_stream::{Berth, Hush, Visit};
-use lane_work::{Context, Desk, LaneCourier, Summons, Unkept, end_all};
+use lane_work::{Context, Desk, LaneCourier, Summons, end_all};
 use line_io::{Sink, Watched};
+use server_report::{Happened, LogBook, Presence};
 use serving_workers::{Door, Hired, Mark, Served, Serves, have_threads, packed};
 use session_thread::LockedStore;
 use shard_queue::Ended;
@@ -35,10 +38,10 @@ use std::thread::Threads;
 use workers_sync::{Actor, Courier, Grip, Pace, Patience, Sleeper, Timely, prepare};
 
 /// Where a client's answers go.
-type ClientOutput = Watched<Timely<TcpStream>>;
+type ClientOutput<'a> = Signed<'a, Watched<Timely<TcpStream>>>;
 
 /// Where one client of a user is served at a time.
-pub(crate) type ClientBerth<'a, R> = Berth<'a, R, Unhindered, ClientOutput>;
+pub(crate) type ClientBerth<'a, R> = Berth<'a, R, Unhindered, ClientOutput<'a>>;
 
 // The connection that a berth's thread has at hand, for the watch beside it. It comes to hand before its visit stands in the berth, and
 // the next one only when that visit was taken out: see `answer_clients`.
@@ -66,6 +69,18 @@ pub(crate) struct Gateway<'s> {
     pub(crate) session: u8,
     /// The number of its user.
     pub(crate) user: u8,
+    /// What its client's session is seen to do.
+    pub(crate) sign: Option<&'s Sign>,
+    /// How many clients it has had before the one that it serves.
+    pub(crate) serial: u64,
+}
+
+// What this berth shows of the client that it has at hand.
+fn presence_in<H: Hall>(site: &Site<H>, berth: usize) -> Option<&Presence> {
+    match site.signs.get(berth) {
+        Some(sign) => Some(sign.presence()),
+        None => None,
+    }
 }
 
 // The gateway of this berth.
@@ -83,6 +98,9 @@ fn gateway_of<H: Hall>(site: &Site<H>, session: u8) -> Gateway<'_>
         listening: &site.imap[usize::from(user)],
         mark: &site.workplace.mark,
         pause: &site.workplace.pause,
+        log: &site.workplace.log,
+        names: site.workplace.names(),
+        presence: presence_in(site, berth),
     };
     Gateway {
         floor: &site.workplace.floor,
@@ -91,6 +109,28 @@ fn gateway_of<H: Hall>(site: &Site<H>, session: u8) -> Gateway<'_>
         grip: &site.grips.clients[berth],
         session,
         user,
+        sign: site.signs.get(berth),
+        serial: 0,
+    }
+}
+
+/// The name of the user of this number.
+pub(crate) fn name_of_user(directory: &Directory, user: u8) -> &[u8] {
+    match inbox_numbered(directory, user) {
+        Some(inbox) => directory.user_of(inbox),
+        None => b"?",
+    }
+}
+
+// The client that this berth serves, for the log.
+fn visitor_of<'s>(gateway: Gateway<'s>) -> Visitor<'s> {
+    let user = name_of_user(&gateway.floor.office.directory, gateway.user);
+    let door = gateway.door;
+    Visitor {
+        log: door.log,
+        alloc: gateway.floor.alloc,
+        caller: door.names.session(user, gateway.session, gateway.serial),
+        sign: gateway.sign,
     }
 }
 
@@ -121,23 +161,35 @@ fn open_visit<'a, R: Wait, W: Sink + Drop>(
     Some(visit)
 }
 
-// One client's visit, which is of this berth's user, from its first byte to its end.
+// How a visit ended, where this was the end of reading.
+fn how_it_ended(gateway: Gateway<'_>, visitor: Visitor<'_>, read: Happened) -> Happened {
+    if visitor.has_lapsed() {
+        return Happened::Lapsed;
+    }
+    if gateway.door.is_shut() {
+        return Happened::Shut;
+    }
+    read
+}
+
+// One client's visit, which is of this berth's user, from its first byte to its end; and how it ended.
 fn attend_visit<'a, R: Wait, C: Courier>(
     rt: &'a R,
     berth: &ClientBerth<'a, R>,
     courier: &mut C,
     gateway: Gateway<'a>,
-    visit: Visit<'a, R, Unhindered, ClientOutput>,
+    visit: Visit<'a, R, Unhindered, ClientOutput<'a>>,
     stream: &TcpStream,
     buffer: &mut [u8],
-)
+) -> Happened
     requires ready { C.ready courier.old }
     requires visit { (before : Option (List ℕ))
         × IsVisitOf gateway.floor.now gateway.user before visit }
     ensures ready { C.ready courier.new }
     ensures kept { (first : C) → C.kept first courier.old → C.kept first courier.new }
 {
-    let mut input = stream;
+    let visitor = visitor_of(gateway);
+    let mut input = Incoming::new(rt, stream, visitor);
     // The berth has no other client: this thread alone brings them here.
     let _ = berth.attend(
         rt,
@@ -148,9 +200,10 @@ fn attend_visit<'a, R: Wait, C: Courier>(
         buffer,
         &gateway.door.mark.stop,
     );
+    how_it_ended(gateway, visitor, input.end())
 }
 
-// One client, from the greeting to its end.
+// One client, from the greeting to its end; and how it ended.
 fn serve_client<'a, R: Wait, C: Courier>(
     rt: &'a R,
     berth: &ClientBerth<'a, R>,
@@ -158,22 +211,22 @@ fn serve_client<'a, R: Wait, C: Courier>(
     gateway: Gateway<'a>,
     stream: &TcpStream,
     buffer: &mut [u8],
-)
+) -> Happened
     requires ready { C.ready courier.old }
     ensures ready { C.ready courier.new }
     ensures kept { (first : C) → C.kept first courier.old → C.kept first courier.new }
 {
     if prepare(stream, Patience::Endless).is_err() {
-        return;
+        return Happened::Broken;
     }
     let Ok(answers) = stream.try_clone() else {
-        return;
+        return Happened::Broken;
     };
-    let output = Watched::new(Timely::new(answers));
+    let output = Signed::new(Watched::new(Timely::new(answers)), gateway.sign);
     let Some(visit) = open_visit(rt, gateway, output) else {
-        return;
+        return Happened::OutOfMemory;
     };
-    attend_visit(rt, berth, courier, gateway, visit, stream, buffer);
+    attend_visit(rt, berth, courier, gateway, visit, stream, buffer)
 }
 
 // The client that was accepted is at hand while it is served. Whoever stops the house sets its mark first and then looks for what is at
@@ -191,8 +244,13 @@ fn receive<'a, R: Wait, C: Courier>(
     ensures kept { (first : C) → C.kept first courier.old → C.kept first courier.new }
 {
     if gateway.grip.hold(rt, stream) && !gateway.door.is_shut() {
-        serve_client(rt, berth, courier, gateway, stream, buffer);
+        let visitor = visitor_of(gateway);
+        visitor.open(rt);
+        gateway.door.show(gateway.serial);
+        let end = serve_client(rt, berth, courier, gateway, stream, buffer);
+        visitor.tell(rt, end);
         gateway.door.part(stream, buffer);
+        gateway.door.hide();
     }
     gateway.grip.clear(rt);
 }
@@ -202,7 +260,7 @@ fn receive<'a, R: Wait, C: Courier>(
 fn answer_clients<'a, R: Wait, S: Summons>(
     rt: &'a R,
     berth: &ClientBerth<'a, R>,
-    courier: &mut LaneCourier<'_, R, S, Unkept>,
+    courier: &mut LaneCourier<'_, R, S, LogBook<'_, R>>,
     gateway: Gateway<'a>,
     mut buffer: Vec<u8>,
 )
@@ -232,6 +290,7 @@ fn answer_clients<'a, R: Wait, S: Summons>(
             return;
         };
         courier.serial = serial;
+        let gateway = Gateway { serial, ..gateway };
         let buffer = buffer.as_mut_slice();
         receive(rt, berth, courier, gateway, &stream, buffer);
     }
@@ -239,7 +298,7 @@ fn answer_clients<'a, R: Wait, S: Summons>(
 
 // Ends the permits of a berth that serves nobody any more. It hears no end of its channel: those come when all have ended.
 fn leave<R: Wait, S: Summons>(
-    courier: LaneCourier<'_, R, S, Unkept>,
+    courier: LaneCourier<'_, R, S, LogBook<'_, R>>,
     gate: &Unhindered,
     session: u8,
     room: Vec<Ended<Job>>,
@@ -320,14 +379,15 @@ fn attend_there<'a, H: Hall, R: Wait>(
         summons: &summons,
         channel: &floor.depot.channels[usize::from(number)],
     };
+    let gateway = gateway_of(site, session);
+    let door = gateway.door;
     let mut courier = LaneCourier {
         context,
         desk,
         serial: 0,
-        book: Unkept,
+        book: LogBook::new(rt, floor.alloc, door.log, door.names),
         is_torn: false,
     };
-    let gateway = gateway_of(site, session);
     answer_clients(rt, &berth, &mut courier, gateway, buffer);
     packed(leave(courier, gate, session, room))
 }

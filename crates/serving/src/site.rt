@@ -1,6 +1,8 @@
 //! What all threads of a server share. What is dealt to each of them, and what they do, stands elsewhere.
 
 use crate::equipment::Grips;
+use crate::page::Page;
+use crate::visiting::Sign;
 use clerks::{Hall, Unhindered};
 use house_floor::Guest;
 use serving_workers::Workplace;
@@ -19,4 +21,8 @@ pub(crate) struct Site<H: Hall> {
     pub(crate) imap: Vec<Listening>,
     /// For the connections that threads have at hand.
     pub(crate) grips: Grips,
+    /// What the clients' sessions are seen to do, in the order of the berths.
+    pub(crate) signs: Vec<Sign>,
+    /// Where the page is asked for, if there is one.
+    pub(crate) page: Option<Page>,
 }

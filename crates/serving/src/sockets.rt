@@ -2,10 +2,11 @@
 
 ghost use Rattle.std.specs.Prelude.{ℕ, ◌≡◌, ◌≢◌, ◌≤◌, ◌+◌, All, IfErr, IfOk, length, vec_len};
 ghost use Rattle.settings.specs.Settings.{IsFrom};
-ghost use Rattle.serving.specs.Announcing.{AreUserPorts, IsPortFor};
+ghost use Rattle.serving.specs.Announcing.{AreUserPorts, IsPageFor, IsPortFor};
 ghost use Rattle.serving.specs.inner.Faults.{IsOfSocket};
 
 use crate::fault::{ServeFault, device_or_memory};
+use crate::page::Page;
 use std::alloc::Global;
 use std::net::{Net, TcpListener, TcpStream};
 use workers_sync::{Listening, Pause};
@@ -17,6 +18,8 @@ pub(crate) struct Sockets {
     /// For each user, in the order of their numbers.
     pub(crate) imap: Vec<Listening>,
     pub(crate) pause: Pause,
+    /// Where the page is asked for, if there is to be one.
+    pub(crate) page: Option<Page>,
 }
 
 /// The ports of the listeners.
@@ -26,6 +29,8 @@ pub(crate) struct Ports {
     pub(crate) mail: u16,
     /// Those of the users, in the order of their numbers.
     pub(crate) users: Vec<u16>,
+    /// That of the page, if there is one.
+    pub(crate) page: Option<u16>,
 }
 
 // A listener, and its port.
@@ -129,6 +134,33 @@ fn bind_all<R: Net<Listener = TcpListener, Stream = TcpStream>>(
     Ok(Bindings { mail, users })
 }
 
+// The listener of the page, if there is to be one, and its port.
+struct PageBinding {
+    page: Option<Page>,
+    port: Option<u16>,
+}
+
+// Listens on this port for whoever asks for the page, if there is to be one.
+fn bind_page<R: Net<Listener = TcpListener, Stream = TcpStream>>(
+    rt: &R,
+    given: Option<u16>,
+) -> Result<PageBinding, ServeFault>
+    ensures port { IfOk result (λ b. IsPageFor given b.port) }
+    ensures fault { IfErr result IsOfSocket }
+{
+    let Some(given) = given else {
+        return Ok(PageBinding {
+            page: None,
+            port: None,
+        });
+    };
+    let Bound { listening, port } = listen(rt, given)?;
+    Ok(PageBinding {
+        page: Some(Page::new(listening)),
+        port: Some(port),
+    })
+}
+
 /// The listeners, and their ports.
 pub(crate) struct Open {
     pub(crate) sockets: Sockets,
@@ -136,7 +168,7 @@ pub(crate) struct Open {
 }
 
 /// The listeners: one for mail, and one for each of so many users from the first one's port on. Where a port is 0 the system chooses a free
-/// one, for each user another.
+/// one, for each user another. The page has the last one, where its port is given, or 0 for a free one.
 ///
 /// Errors: `Device` where one can't be had, `NoMemory` where memory is refused.
 pub(crate) fn open_sockets<R: Net<Listener = TcpListener, Stream = TcpStream>>(
@@ -145,24 +177,29 @@ pub(crate) fn open_sockets<R: Net<Listener = TcpListener, Stream = TcpStream>>(
     lmtp_port: u16,
     imap_port: u16,
     users: u16,
+    status: Option<u16>,
 ) -> Result<Open, ServeFault>
     requires { imap_port + users ≤ 65536 }
     ensures count { IfOk result (λ o. vec_len o.sockets.imap ≡ users) }
     ensures mail { IfOk result (λ o. IsPortFor lmtp_port o.ports.mail) }
     ensures users { IfOk result (λ o. AreUserPorts imap_port users o.ports.users.items) }
+    ensures page { IfOk result (λ o. IsPageFor status o.ports.page) }
     ensures fault { IfErr result IsOfSocket }
 {
     let Bindings { mail, users } = bind_all(rt, alloc, lmtp_port, imap_port, users)?;
+    let PageBinding { page, port } = bind_page(rt, status)?;
     match Pause::new(rt) {
         Ok(pause) => Ok(Open {
             sockets: Sockets {
                 lmtp: mail.listening,
                 imap: users.listening,
                 pause,
+                page,
             },
             ports: Ports {
                 mail: mail.port,
                 users: users.ports,
+                page: port,
             },
         }),
         Err(error) => Err(device_or_memory(&error)),

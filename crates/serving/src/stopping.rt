@@ -2,10 +2,11 @@
 //! What a thread does then is its own matter.
 
 use crate::site::Site;
-use clerks::Hall;
+use clerks::{Clerk, Hall};
+use mailbox::Mailbox;
 use std::io::{ErrorKind, Read};
-use std::sync::Wait;
-use workers_sync::{Grip, Listening, Pause, SessionBell};
+use std::sync::{Mutex, Wait};
+use workers_sync::{Grip, SessionBell, count};
 
 /// So many pauses, of a tenth of a second each, all connections together have for their last words. What is done before and behind them
 /// is to fit into six seconds with them.
@@ -38,23 +39,42 @@ fn wake_all(rows: &[Vec<SessionBell>]) {
 }
 
 // Nothing is accepted any more.
-fn shut_listeners(lmtp: &Listening, imap: &[Listening]) {
-    lmtp.shut();
-    for listening in imap {
+fn shut_listeners<H: Hall>(site: &Site<H>) {
+    site.workplace.lmtp.shut();
+    for listening in &site.imap {
         listening.shut();
+    }
+    if let Some(page) = &site.page {
+        page.listening.shut();
     }
 }
 
 // No thread hears its peer any more.
-fn hush_all<R: Wait>(rt: &R, grips: &[Grip]) {
+fn hush_each<R: Wait>(rt: &R, grips: &[Grip]) {
     for grip in grips {
         grip.hush(rt);
     }
 }
 
-fn cut_all<R: Wait>(rt: &R, grips: &[Grip]) {
+fn hush_all<H: Hall, R: Wait>(rt: &R, site: &Site<H>) {
+    hush_each(rt, &site.grips.mail);
+    hush_each(rt, &site.grips.clients);
+    if let Some(page) = &site.page {
+        page.grip.hush(rt);
+    }
+}
+
+fn cut_each<R: Wait>(rt: &R, grips: &[Grip]) {
     for grip in grips {
         grip.cut(rt);
+    }
+}
+
+fn cut_all<H: Hall, R: Wait>(rt: &R, site: &Site<H>) {
+    cut_each(rt, &site.grips.mail);
+    cut_each(rt, &site.grips.clients);
+    if let Some(page) = &site.page {
+        page.grip.cut(rt);
     }
 }
 
@@ -62,26 +82,63 @@ fn are_empty<R: Wait>(rt: &R, grips: &[Grip]) -> bool {
     grips.iter().all(|grip| grip.is_empty(rt))
 }
 
+// Whether nobody is at the page.
+fn is_unread<H: Hall, R: Wait>(rt: &R, site: &Site<H>) -> bool {
+    match &site.page {
+        Some(page) => page.grip.is_empty(rt),
+        None => true,
+    }
+}
+
 // Waits until no connection is at hand, or the grace is over.
-fn give_grace<R: Wait>(rt: &R, pause: &Pause, workers: &[Grip], berths: &[Grip]) {
+fn give_grace<H: Hall, R: Wait>(rt: &R, site: &Site<H>) {
     for _ in 0..GRACE {
-        if are_empty(rt, workers) && are_empty(rt, berths) {
+        if are_empty(rt, &site.grips.mail)
+            && are_empty(rt, &site.grips.clients)
+            && is_unread(rt, site)
+        {
             return;
         }
-        pause.wait();
+        site.workplace.pause.wait();
     }
 }
 
 /// Stops the house: it is marked, nothing is accepted any more, no thread hears its peer any more, each watch is woken; and what is at
 /// hand some five seconds later is cut.
 pub(crate) fn stop_all<H: Hall, R: Wait>(rt: &R, site: &Site<H>) {
-    let (workers, berths) = (site.grips.mail.as_slice(), site.grips.clients.as_slice());
     site.workplace.mark.set();
-    shut_listeners(&site.workplace.lmtp, &site.imap);
-    hush_all(rt, workers);
-    hush_all(rt, berths);
+    shut_listeners(site);
+    hush_all(rt, site);
     wake_all(&site.workplace.floor.depot.sessions);
-    give_grace(rt, &site.workplace.pause, workers, berths);
-    cut_all(rt, workers);
-    cut_all(rt, berths);
+    give_grace(rt, site);
+    cut_all(rt, site);
+}
+
+// The most that a clerk took in a row, as it is found under its lock.
+fn longest_of<H: Hall, R: Wait>(rt: &R, clerk: &Mutex<Clerk<H>>) -> u64 {
+    clerk.lock(rt).longest()
+}
+
+/// The most that one of these clerks took of its lane in a row.
+pub(crate) fn longest_lane<H: Hall, R: Wait>(rt: &R, clerks: &[Mutex<Clerk<H>>]) -> u64 {
+    let mut longest = 0u64;
+    for clerk in clerks {
+        longest = longest.max(longest_of(rt, clerk));
+    }
+    longest
+}
+
+// How many bytes a mailbox holds, by a look under its lock.
+fn bytes_in<R: Wait>(rt: &R, mailbox: &Mutex<Mailbox>) -> u64 {
+    let held = mailbox.lock(rt);
+    u64::try_from(count(&held).size).unwrap_or(u64::MAX)
+}
+
+/// How many bytes these mailboxes hold, each as it is found under its lock.
+pub(crate) fn bytes_held<R: Wait>(rt: &R, mailboxes: &[Mutex<Mailbox>]) -> u64 {
+    let mut held = 0u64;
+    for mailbox in mailboxes {
+        held = held.saturating_add(bytes_in(rt, mailbox));
+    }
+    held
 }

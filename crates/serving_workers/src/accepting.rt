@@ -10,8 +10,9 @@ ghost use Rattle.serving_workers.specs.Leaving.{AreServed, HasServedMail};
 
 use crate::door::Door;
 use delivery_token::{Job, Noted};
-use lane_work::{Context, Desk, Ending, Producer, Summons, TalkFault, Unkept, converse, end_all};
+use lane_work::{Context, Desk, Ending, Producer, Summons, TalkFault, converse, end_all};
 use line_io::Watched;
+use server_report::{Happened, LogBook};
 use shard_queue::{Ended, ReceiverPermit};
 use std::net::TcpStream;
 use std::sync::Wait;
@@ -47,10 +48,22 @@ fn is_torn(ending: Result<Ending, TalkFault>) -> bool
     matches!(ending, Err(TalkFault::Torn))
 }
 
+// How a connection ended, as the log tells it.
+fn how_it_ended(ending: Result<Ending, TalkFault>) -> Happened {
+    match ending {
+        Ok(Ending::Quit) => Happened::Quit,
+        Ok(Ending::Gone) => Happened::Gone,
+        Ok(Ending::Stopped) => Happened::Shut,
+        Err(TalkFault::Read | TalkFault::Write) => Happened::Broken,
+        Err(TalkFault::NoMemory) => Happened::OutOfMemory,
+        Err(TalkFault::Torn) => Happened::Torn,
+    }
+}
+
 // One connection, from its greeting to its end, and whether a verdict came that the worker didn't await.
 fn serve_one<R: Wait, G: Gate, S: Summons>(
     context: &Context<'_, R, S>,
-    producer: &mut Producer<'_, G, Unkept>,
+    producer: &mut Producer<'_, G, LogBook<'_, R>>,
     serial: u64,
     door: &Door<'_>,
     stream: &TcpStream,
@@ -80,6 +93,10 @@ fn serve_one<R: Wait, G: Gate, S: Summons>(
     if prepare(stream, Patience::Limited).is_err() {
         return false;
     }
+    let number = producer.desk.number;
+    producer
+        .book
+        .tell_connection(number, serial, Happened::Open);
     let mut input = stream;
     let mut output = Watched::new(Timely::new(stream));
     let ending = converse(
@@ -92,6 +109,8 @@ fn serve_one<R: Wait, G: Gate, S: Summons>(
         buffers.input.as_mut_slice(),
         &mut buffers.output,
     );
+    let how = how_it_ended(ending);
+    producer.book.tell_connection(number, serial, how);
     is_torn(ending)
 }
 
@@ -99,7 +118,7 @@ fn serve_one<R: Wait, G: Gate, S: Summons>(
 // at hand, so a thread has to look at the mark behind that.
 fn attend<R: Wait, G: Gate, S: Summons>(
     context: &Context<'_, R, S>,
-    producer: &mut Producer<'_, G, Unkept>,
+    producer: &mut Producer<'_, G, LogBook<'_, R>>,
     serial: u64,
     door: &Door<'_>,
     grip: &Grip,
@@ -134,8 +153,10 @@ fn attend<R: Wait, G: Gate, S: Summons>(
         grip.clear(context.rt);
         return false;
     }
+    door.show(serial);
     let torn = serve_one(context, producer, serial, door, stream, buffers);
     door.part(stream, buffers.input.as_mut_slice());
+    door.hide();
     grip.clear(context.rt);
     torn
 }
@@ -144,7 +165,7 @@ fn attend<R: Wait, G: Gate, S: Summons>(
 // didn't await: then it serves nobody any more.
 fn serve_all<R: Wait, G: Gate, S: Summons>(
     context: &Context<'_, R, S>,
-    producer: &mut Producer<'_, G, Unkept>,
+    producer: &mut Producer<'_, G, LogBook<'_, R>>,
     door: &Door<'_>,
     grip: &Grip,
     buffers: &mut Buffers,
@@ -185,7 +206,7 @@ fn serve_all<R: Wait, G: Gate, S: Summons>(
 
 /// A worker's whole life in a server: once all threads stand, one connection after another until the house stops, each with the worker's
 /// number for its seat and with the next serial from 0 on; then its end on each lane, from shard 0 on. What it leaves has heard no end of
-/// its channel: those come when all workers have ended.
+/// its channel: those come when all workers have ended. What becomes of the copies, and of the connections, is told to the door's log.
 ///
 /// `room`, which is empty, has room for what is left of each permit.
 pub(crate) fn serve_until_stopped<R: Wait, G: Gate, S: Summons>(
@@ -214,11 +235,8 @@ pub(crate) fn serve_until_stopped<R: Wait, G: Gate, S: Summons>(
         → HasServedMail (premises_of context.now.office.now) desk.number (received result.receiver)
         (map said result.ended.items) }
 {
-    let mut producer = Producer {
-        pace,
-        desk,
-        book: Unkept,
-    };
+    let book = LogBook::new(context.rt, context.alloc, door.log, door.names);
+    let mut producer = Producer { pace, desk, book };
     let torn = serve_all(context, &mut producer, door, grip, &mut buffers);
     let Producer {
         mut pace,

@@ -2,6 +2,7 @@
 //! done with a connection stands elsewhere.
 
 use crate::mark::Mark;
+use server_report::{Log, Names, Presence};
 use std::net::TcpStream;
 use std::sync::Wait;
 use workers_sync::{Listening, Pause, farewell};
@@ -15,6 +16,12 @@ pub struct Door<'a> {
     pub mark: &'a Mark,
     /// Waited for where the system has no room for one more connection, and for the last words of a peer.
     pub pause: &'a Pause,
+    /// What becomes of a connection, and of its copies, is told there.
+    pub log: &'a Log,
+    /// By what the log tells connections apart.
+    pub names: Names<'a>,
+    /// What whoever accepts here shows of the connection at hand.
+    pub presence: Option<&'a Presence>,
 }
 
 impl<'a> Door<'a> {
@@ -40,10 +47,32 @@ impl<'a> Door<'a> {
         unreachable!()
     }
 
+    /// Shows that the connection with this serial is at hand.
+    pub fn show(&self, serial: u64) {
+        if let Some(presence) = self.presence {
+            presence.come(serial);
+        }
+    }
+
+    /// Shows that no connection is at hand any more.
+    pub fn hide(&self) {
+        if let Some(presence) = self.presence {
+            presence.go();
+        }
+    }
+
+    // Shows that the last word was said.
+    fn show_parting(&self) {
+        if let Some(presence) = self.presence {
+            presence.leave();
+        }
+    }
+
     /// Leaves a connection so that its peer can read what was said last. As the house stops the peer has a pause first: what it was
     /// sending comes in meanwhile and is dropped, where behind the connection's end it would be answered by a reset, which takes from the
     /// peer what it has not read yet.
     pub fn part(&self, stream: &TcpStream, buffer: &mut [u8]) {
+        self.show_parting();
         if self.is_shut() {
             self.pause.wait();
         }

@@ -83,7 +83,7 @@ fn serve_there<H: Hall, R: Wait>(
         summons: &summons,
         channel: &floor.depot.channels[usize::from(number)],
     };
-    let door = workplace.door();
+    let door = workplace.door(number);
     packed(serve_until_stopped(&context, pace, desk, room, &door, grip, buffers))
 }
 

@@ -6,6 +6,7 @@ use crate::door::Door;
 use crate::mark::Mark;
 use clerks::{Clerk, Clerks, Hall, Unhindered};
 use house_floor::Floor;
+use server_report::{Log, Names, Presence};
 use std::sync::Mutex;
 use workers_sync::{Listening, Pause};
 
@@ -24,6 +25,14 @@ pub struct Workplace<H: Hall> {
     pub mark: Mark,
     /// For threads that can't accept a connection, and for last words.
     pub pause: Pause,
+    /// What happens is told there.
+    pub log: Log,
+    /// How many workers take mail; the other producers are berths of users.
+    pub workers: u8,
+    /// How many berths each user has.
+    pub sessions: u8,
+    /// What each worker shows of the connection that it has at hand, in the order of their numbers.
+    pub presences: Vec<Presence>,
 }
 
 impl<H: Hall> Workplace<H> {
@@ -43,12 +52,24 @@ impl<H: Hall> Workplace<H> {
         )
     }
 
-    /// Where mail comes in, for a worker.
-    pub fn door(&self) -> Door<'_> {
+    /// By what the log tells those apart who call.
+    pub fn names(&self) -> Names<'_> {
+        Names {
+            directory: &self.floor.office.directory,
+            workers: self.workers,
+            sessions: self.sessions,
+        }
+    }
+
+    /// Where mail comes in, for the worker of this number.
+    pub fn door(&self, number: u8) -> Door<'_> {
         Door {
             listening: &self.lmtp,
             mark: &self.mark,
             pause: &self.pause,
+            log: &self.log,
+            names: self.names(),
+            presence: self.presences.get(usize::from(number)),
         }
     }
 }

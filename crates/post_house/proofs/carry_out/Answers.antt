@@ -15,7 +15,7 @@ returns-in-Script-clause-done g c =
 
 pub returns-in-Serve-clause-done : goal.returns-in-Serve-clause-done
 returns-in-Serve-clause-done g c =
-    let is : c.args.asked.now ≡ Serve c.in-Serve.config c.in-Serve.uidvalidity = search rules in
+    let is : c.args.asked.now ≡ Serve c.in-Serve.config c.in-Serve.uidvalidity c.in-Serve.report = search rules in
     subst (λ (a : Asked). HasDone a (Served c.serve.result) (g.I.Read.remaining c.args.input.now) (g.W.Sink.failed c.serve.new.output) (g.W.Sink.taken c.args.output.now) (g.W.Sink.taken c.serve.new.output)) (sym is)
     (record {
       wrong = c.serve.ensures.wrong;

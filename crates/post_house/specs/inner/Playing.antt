@@ -71,19 +71,19 @@ abbrev pub RanIn : Form → Config → (bytes : List ℕ) → (failed : Bool) �
 RanIn forms.Text config bytes failed result old new = RanScript config bytes failed result old new
 RanIn forms.Json config bytes failed result old new = ToldScript config bytes failed result old new
 
--- A server with these settings ended so; a beginning of its lines was written, and all of them where all went well.
-pub record HasServed (config : Config) (uidvalidity : Uidvalidity) (result : Result (Unit {0}) ServeFault) (old new : Option (List ℕ)) : Type 0 where
+-- A server with these settings, and with a page where a port is given for it, ended so; a beginning of its lines was written, and all of them where all went well.
+pub record HasServed (config : Config) (given : Option ℕ) (uidvalidity : Uidvalidity) (result : Result (Unit {0}) ServeFault) (old new : Option (List ℕ)) : Type 0 where
   pub wrong : (fault : ConfigFault) → result ≡ Err (serve_faults.Config fault) → server_fault config ≡ Some fault
   pub right : OnOk result (server_fault config ≡ None)
   -- wrong settings are told, or want of memory is, and nothing was written
   pub refused : (fault : ConfigFault) → server_fault config ≡ Some fault → ((result ≡ Err (serve_faults.Config fault)) ⊎ (result ≡ Err serve_faults.NoMemory)) × (new ≡ old)
-  pub told : HasBegun config uidvalidity old new
-  pub all : OnOk result (HasAnnounced config uidvalidity old new)
+  pub told : HasBegun config given uidvalidity old new
+  pub all : OnOk result (HasAnnounced config given uidvalidity old new)
 
 -- This came of what was asked for: of a script, from an input of which this remained, if that is known, or of a server.
 abbrev pub HasDone : Asked → Done → (remaining : Option (List ℕ)) → (failed : Bool) → (old new : Option (List ℕ)) → Type 0
 HasDone (Script config form) (Played result) remaining failed old new = (bytes : List ℕ) → remaining ≡ Some bytes → RanIn form config bytes failed result old new
-HasDone (Serve config uidvalidity) (Served result) remaining failed old new = HasServed config uidvalidity result old new
+HasDone (Serve config uidvalidity report) (Served result) remaining failed old new = HasServed config report.status uidvalidity result old new
 HasDone asked done remaining failed old new = ⊥
 
 -- Clap takes the words, they ask for this, with settings that are in their ranges, it was done, and the status tells what came of it.

@@ -9,8 +9,8 @@ use Rattle.serving.proofs.Endings.{came_to}
 use Rattle.serving.proofs.Serving.{by_end}
 use Rattle.serving.proofs.run.close_or_spend.Goals as goal
 
-pub give_up-requires-clause-posts : goal.give_up-requires-clause-posts
-give_up-requires-clause-posts g c =
+pub give_up-fault-requires-clause-posts : goal.give_up-fault-requires-clause-posts
+give_up-fault-requires-clause-posts g c =
     let dealt = c.requires.none_started c.if-none_started.true in
     (dealt.1, posts_left c.args.site.workplace.floor 0 c.args.over.posts.items dealt.0)
 

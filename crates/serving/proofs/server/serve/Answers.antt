@@ -16,10 +16,13 @@ run_house_in-requires-clause-imap g c κs lives =
     each_there c.in_ok-directory.field-0.directory.homes (vec_len c.in_ok-sockets.field-0.sockets.imap) c.in_ok-sockets.ensures.imap c.in_ok-directory.field-0.guests.items c.in_ok-directory.ensures.named
 
 pub returns-in_err-directory-clause-told : goal.returns-in_err-directory-clause-told
-returns-in_err-directory-clause-told g c = nothing_said c.args.config.now c.args.uidvalidity (g.W.Sink.taken c.args.output.now)
+returns-in_err-directory-clause-told g c = nothing_said c.args.config.now c.args.report.status c.args.uidvalidity (g.W.Sink.taken c.args.output.now)
 
 pub returns-in_err-sockets-clause-told : goal.returns-in_err-sockets-clause-told
-returns-in_err-sockets-clause-told g c = nothing_said c.args.config.now c.args.uidvalidity (g.W.Sink.taken c.args.output.now)
+returns-in_err-sockets-clause-told g c = nothing_said c.args.config.now c.args.report.status c.args.uidvalidity (g.W.Sink.taken c.args.output.now)
 
 pub returns-in_err-floor-clause-told : goal.returns-in_err-floor-clause-told
-returns-in_err-floor-clause-told g c = nothing_said c.args.config.now c.args.uidvalidity (g.W.Sink.taken c.args.output.now)
+returns-in_err-floor-clause-told g c = nothing_said c.args.config.now c.args.report.status c.args.uidvalidity (g.W.Sink.taken c.args.output.now)
+
+pub returns-in_err-log-clause-told : goal.returns-in_err-log-clause-told
+returns-in_err-log-clause-told g c = nothing_said c.args.config.now c.args.report.status c.args.uidvalidity (g.W.Sink.taken c.args.output.now)

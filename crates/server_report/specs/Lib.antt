@@ -1,0 +1,9 @@
+pub mod Asking
+pub mod Counting
+pub mod Escaping
+pub mod Http
+pub mod Lines
+pub mod Metrics
+pub mod Page
+pub mod Reasons
+pub mod Summing

@@ -1,0 +1,196 @@
+//! What a client's session is seen to do from without, for the log: that it idles, that it has lapsed, and how it ended. What it is answered
+//! stands in `imap_stream`.
+
+ghost use Rattle.std.specs.Prelude.{◌≡◌};
+
+use line_io::Sink;
+use server_report::{Caller, Happened, Log, Presence};
+use std::alloc::{AllocError, Global};
+use std::io;
+use std::io::Read;
+use std::net::TcpStream;
+use std::sync::atomic::{AtomicBool, Ordering};
+use std::sync::{Arc, Wait};
+use workers_sync::Sleeper;
+
+/// What is said last to a client that missed too many changes (RFC 9051, 7.1.5).
+const LAPSED: &[u8] = b"* BYE Too many changes were missed\r\n";
+
+/// What a berth shows of its client's session.
+#[derive(Drop)]
+pub(crate) struct Sign {
+    // Whether it idles: the mark of the berth's bell.
+    idles: Arc<AtomicBool>,
+    // Whether it was told that it has missed too many changes.
+    has_lapsed: AtomicBool,
+    // Which client the berth has at hand.
+    presence: Presence,
+}
+
+impl Sign {
+    /// Which client the berth has at hand.
+    pub(crate) fn presence(&self) -> &Presence {
+        &self.presence
+    }
+
+    /// Whether the client's session idles.
+    pub(crate) fn is_idling(&self) -> bool {
+        self.idles.load(Ordering::SeqCst)
+    }
+
+    // Looks whether this ends with what a client is told that has lapsed.
+    fn see(&self, said: &[u8]) {
+        if said.ends_with(LAPSED) {
+            self.has_lapsed.store(true, Ordering::SeqCst);
+        }
+    }
+}
+
+// The sign of a berth that has this bell.
+fn sign_of(bell: &Sleeper) -> Result<Sign, AllocError> {
+    Ok(Sign {
+        idles: bell.idling()?,
+        has_lapsed: AtomicBool::new(false),
+        presence: Presence::new(),
+    })
+}
+
+/// A sign for each berth, which have these bells. An error where memory is refused.
+pub(crate) fn signs_of(alloc: Global, bells: &[Sleeper]) -> Result<Vec<Sign>, AllocError> {
+    let mut signs = Vec::with_capacity(alloc, bells.len())?;
+    for bell in bells {
+        signs.push(sign_of(bell)?)?;
+    }
+    Ok(signs)
+}
+
+/// Where a client's answers go, past a sign that looks whether its session lapses.
+#[derive(Drop)]
+pub(crate) struct Signed<'s, W> {
+    output: W,
+    sign: Option<&'s Sign>,
+}
+
+impl<'s, W: Sink> Signed<'s, W> {
+    /// The output, past this sign, where there is one.
+    pub(crate) fn new(output: W, sign: Option<&'s Sign>) -> Signed<'s, W>
+        ensures taken { ⟦<Signed<'s, W> as Sink>⟧.taken result ≡ W.taken output }
+        ensures live { ⟦<Signed<'s, W> as Sink>⟧.failed result ≡ W.failed output }
+    {
+        Signed { output, sign }
+    }
+}
+
+impl<'s, W: Sink> Sink for Signed<'s, W> {
+    ghost taken = { λ s. W.taken s.output };
+
+    ghost failed = { λ s. W.failed s.output };
+
+    fn offer(&mut self, bytes: &[u8]) -> Option<usize> {
+        if let Some(sign) = self.sign {
+            sign.see(bytes);
+        }
+        self.output.offer(bytes)
+    }
+}
+
+/// One client, of whom the log is told.
+#[derive(Clone, Copy)]
+pub(crate) struct Visitor<'s> {
+    pub(crate) log: &'s Log,
+    pub(crate) alloc: Global,
+    pub(crate) caller: Caller<'s>,
+    /// The sign of its berth.
+    pub(crate) sign: Option<&'s Sign>,
+}
+
+impl<'s> Visitor<'s> {
+    /// This happened to it.
+    pub(crate) fn tell<R: Wait>(self, rt: &R, what: Happened) {
+        self.log.tell(rt, self.alloc, self.caller, what);
+    }
+
+    /// It comes: no session of its berth has lapsed yet.
+    pub(crate) fn open<R: Wait>(self, rt: &R) {
+        if let Some(sign) = self.sign {
+            sign.has_lapsed.store(false, Ordering::SeqCst);
+        }
+        self.tell(rt, Happened::Open);
+    }
+
+    // Whether its session idles.
+    fn is_idling(self) -> bool {
+        match self.sign {
+            Some(sign) => sign.is_idling(),
+            None => false,
+        }
+    }
+
+    /// Whether its session was told that it has missed too many changes.
+    pub(crate) fn has_lapsed(self) -> bool {
+        match self.sign {
+            Some(sign) => sign.has_lapsed.load(Ordering::SeqCst),
+            None => false,
+        }
+    }
+}
+
+/// What comes of a client. Before each read the log is told where its session has begun to idle; and it is kept how reading ended.
+#[derive(Drop)]
+pub(crate) struct Incoming<'s, 't, R: Wait> {
+    rt: &'s R,
+    stream: &'t TcpStream,
+    visitor: Visitor<'s>,
+    idled: bool,
+    end: Happened,
+}
+
+impl<'s, 't, R: Wait> Incoming<'s, 't, R> {
+    /// Nothing was read yet.
+    pub(crate) fn new(
+        rt: &'s R,
+        stream: &'t TcpStream,
+        visitor: Visitor<'s>,
+    ) -> Incoming<'s, 't, R> {
+        Incoming {
+            rt,
+            stream,
+            visitor,
+            idled: false,
+            end: Happened::Quit,
+        }
+    }
+
+    /// How reading ended; and where the peer has not ended it, that the session did.
+    pub(crate) fn end(&self) -> Happened {
+        self.end
+    }
+
+    // Tells where the session has begun to idle.
+    fn look(&mut self) {
+        let idles = self.visitor.is_idling();
+        if idles && !self.idled {
+            self.visitor.tell(self.rt, Happened::Idle);
+        }
+        self.idled = idles;
+    }
+
+    // Notes how a read ended.
+    fn note(&mut self, read: &io::Result<usize>) {
+        match read {
+            Ok(0) => self.end = Happened::Gone,
+            Ok(_) => self.end = Happened::Quit,
+            Err(_) => self.end = Happened::Broken,
+        }
+    }
+}
+
+impl<'s, 't, R: Wait> Read for Incoming<'s, 't, R> {
+    fn read(&mut self, buffer: &mut [u8]) -> io::Result<usize> {
+        self.look();
+        let mut stream = self.stream;
+        let read = stream.read(buffer);
+        self.note(&read);
+        read
+    }
+}
