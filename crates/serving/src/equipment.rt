@@ -1,10 +1,13 @@
 //! What the threads of a server use, made before the first of them. What they do with it stands elsewhere.
 
-ghost use Rattle.std.specs.Prelude.{◌≡◌, ◌≤◌, ◌<◌, [], All, IfOk, length, vec_len, vec_capacity};
+ghost use Rattle.std.specs.Prelude.{◌≡◌, ◌≤◌, ◌<◌, ◌+◌, [], All, IfOk, length, vec_len, vec_capacity};
 
 use crate::sessions::ClientBerth;
+use crate::visiting::{Sign, signs_of};
+use clerks::{Hall, Staff};
+use house_floor::Floor;
 use server_report::Presence;
-use serving_workers::{Buffers, Hired};
+use serving_workers::{Buffers, Hired, Served};
 use std::alloc::{AllocError, Global};
 use std::sync::{Arc, Wait};
 use workers_sync::{Grip, Sleeper};
@@ -163,4 +166,57 @@ pub(crate) fn crowd_for<'a, R: Wait>(
     let hired = Vec::with_capacity(alloc, producers)?;
     let berths = shared_berths(alloc, bells)?;
     Ok(Crowd { hired, berths })
+}
+
+/// All that is made before the first thread.
+pub(crate) struct Rooms<H: Hall> {
+    pub(crate) grips: Grips,
+    pub(crate) equipment: Equipment,
+    pub(crate) served: Vec<Served>,
+    pub(crate) staff: Staff<H>,
+    pub(crate) signs: Vec<Sign>,
+    pub(crate) presences: Vec<Presence>,
+}
+
+/// What so many workers and berths of a house want before the first thread; the berths have these bells. An error where memory is refused.
+pub(crate) fn make_rooms<H: Hall>(
+    floor: &Floor,
+    workers: usize,
+    berths: usize,
+    bells: &[Sleeper],
+) -> Result<Rooms<H>, AllocError>
+    requires few { workers + berths < 256 }
+    ensures buffers { IfOk result (λ r.
+        All (λ b. 0 < length b.input.items) r.equipment.buffers.items
+        × (vec_len r.equipment.buffers ≡ workers)) }
+    ensures grips { IfOk result (λ r. (vec_len r.grips.mail ≡ workers)
+        × (vec_len r.grips.clients ≡ berths)) }
+    ensures clients { IfOk result (λ r. vec_len r.equipment.client_buffers ≡ berths) }
+    ensures served { IfOk result (λ r. (r.served.items ≡ [])
+        × (workers + berths ≤ vec_capacity r.served)) }
+    ensures clerks { IfOk result (λ r. (r.staff.clerks.items ≡ [])
+        × (length floor.now.office.lanes.items ≤ vec_capacity r.staff.clerks)) }
+    ensures rooms { IfOk result (λ r. (r.staff.rooms.items ≡ [])
+        × (length floor.now.office.lanes.items ≤ vec_capacity r.staff.rooms)) }
+    ensures stands { IfOk result (λ r. (r.staff.stands.items ≡ [])
+        × (length floor.now.office.lanes.items ≤ vec_capacity r.staff.stands)) }
+{
+    let alloc = floor.alloc;
+    let grips = grips_of_all(alloc, workers, berths)?;
+    let equipment = equip(alloc, workers, berths)?;
+    let signs = signs_of(alloc, bells)?;
+    let presences = presences_of(alloc, workers)?;
+    let served = Vec::with_capacity(alloc, workers + berths)?;
+    let Ok(staff) = Staff::with_room(alloc, floor.office.lanes.len()) else {
+        served.destroy_empty();
+        return Err(AllocError);
+    };
+    Ok(Rooms {
+        grips,
+        equipment,
+        served,
+        staff,
+        signs,
+        presences,
+    })
 }

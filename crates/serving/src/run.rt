@@ -16,7 +16,7 @@ ghost use Rattle.serving.specs.inner.Dealing.{IsDealt};
 ghost use Rattle.serving.specs.inner.Ending.{CameTo, FirstTakeMail};
 
 use crate::announcing::Announcer;
-use crate::equipment::{Crowd, Equipment, Grips, crowd_for, equip, grips_of_all, presences_of};
+use crate::equipment::{Crowd, Equipment, Rooms, crowd_for, make_rooms};
 use crate::fault::ServeFault;
 use crate::reporting::{Writing, start_writing};
 use crate::sessions::{Furnishings, start_berths};
@@ -24,20 +24,18 @@ use crate::site::Site;
 use crate::sockets::Sockets;
 use crate::stopping::{await_end, bytes_held, longest_lane, stop_all};
 use crate::telling::start_telling;
-use crate::visiting::{Sign, signs_of};
 use clerks::{Hall, Staff, Unhindered, dismiss_all, hire_all, stand_down};
 use delivery_token::Noted;
 use house_floor::{Baskets, Crew, Floor, Guest, Post, Ran, Stand, Started};
 use lane_work::{Consumed, Worked};
 use line_io::Sink;
 use reckoning::{Closes, abandon};
-use server_report::{Held, Log, Presence};
+use server_report::{Held, Log};
 use serving_workers::{
     Begun, Buffers, Hired, Mark, Served, Workplace, close_all, join_producers, packed,
     start_workers,
 };
 use shard_queue::SenderEnded;
-use std::alloc::AllocError;
 use std::io::{Read, Write};
 use std::mem::ManuallyDrop;
 use std::sync::Wait;
@@ -469,59 +467,6 @@ fn serve_in_threads<
     );
     let Announcer { output: _told } = announcer;
     over
-}
-
-// All that is made before the first thread.
-struct Rooms<H: Hall> {
-    grips: Grips,
-    equipment: Equipment,
-    served: Vec<Served>,
-    staff: Staff<H>,
-    signs: Vec<Sign>,
-    presences: Vec<Presence>,
-}
-
-// What so many workers and berths of a house want before the first thread; the berths have these bells. An error where memory is refused.
-fn make_rooms<H: Hall>(
-    floor: &Floor,
-    workers: usize,
-    berths: usize,
-    bells: &[Sleeper],
-) -> Result<Rooms<H>, AllocError>
-    requires few { workers + berths < 256 }
-    ensures buffers { IfOk result (λ r.
-        All (λ b. 0 < length b.input.items) r.equipment.buffers.items
-        × (vec_len r.equipment.buffers ≡ workers)) }
-    ensures grips { IfOk result (λ r. (vec_len r.grips.mail ≡ workers)
-        × (vec_len r.grips.clients ≡ berths)) }
-    ensures clients { IfOk result (λ r. vec_len r.equipment.client_buffers ≡ berths) }
-    ensures served { IfOk result (λ r. (r.served.items ≡ [])
-        × (workers + berths ≤ vec_capacity r.served)) }
-    ensures clerks { IfOk result (λ r. (r.staff.clerks.items ≡ [])
-        × (length floor.now.office.lanes.items ≤ vec_capacity r.staff.clerks)) }
-    ensures rooms { IfOk result (λ r. (r.staff.rooms.items ≡ [])
-        × (length floor.now.office.lanes.items ≤ vec_capacity r.staff.rooms)) }
-    ensures stands { IfOk result (λ r. (r.staff.stands.items ≡ [])
-        × (length floor.now.office.lanes.items ≤ vec_capacity r.staff.stands)) }
-{
-    let alloc = floor.alloc;
-    let grips = grips_of_all(alloc, workers, berths)?;
-    let equipment = equip(alloc, workers, berths)?;
-    let signs = signs_of(alloc, bells)?;
-    let presences = presences_of(alloc, workers)?;
-    let served = Vec::with_capacity(alloc, workers + berths)?;
-    let Ok(staff) = Staff::with_room(alloc, floor.office.lanes.len()) else {
-        served.destroy_empty();
-        return Err(AllocError);
-    };
-    Ok(Rooms {
-        grips,
-        equipment,
-        served,
-        staff,
-        signs,
-        presences,
-    })
 }
 
 // Spends a house in which nothing ran.
