@@ -19,7 +19,7 @@ expect() {
     fi
 }
 
-expect "mailboxes are made in" "$(have 'Mailbox::new\(')" "1 crates/delivery_core/src/make.rt 1 crates/house_floor/src/fittings.rt "
-expect "receipts are spent in" "$(have 'verdict_of\(')" "1 crates/delivery_core/src/steps.rt 1 crates/lane_work/src/answering.rt 1 crates/locked_mailbox/src/locked.rt 1 crates/mailbox/src/answers.rt "
+expect "mailboxes are made in" "$(have 'Mailbox::new\(')" "1 crates/delivery_core/src/make.rt 2 crates/house_floor/src/fittings.rt "
+expect "receipts are spent in" "$(have 'verdict_of\(')" "1 crates/delivery_core/src/steps.rt 1 crates/locked_mailbox/src/locked.rt 1 crates/mailbox/src/answers.rt "
 [ $failed = 1 ] || echo "mailboxes are made in two places, and receipts spent in three"
 exit $failed

@@ -19,7 +19,7 @@ use Rattle.lane_work.specs.declared.consumer.Consumed.{Consumed}
 use Rattle.lane_work.specs.declared.consumer.Depot.{Depot}
 use Rattle.lane_work.specs.declared.consumer.Stall.{Stall}
 use Rattle.lane_work.proofs.AnswerLaws.{answers_close, torn_next}
-use Rattle.clerks.specs.Keeping.{IsOnLane}
+use Rattle.clerks.specs.Keeping.{IsOnLane, Parts, parts_of}
 use Rattle.clerks.specs.inner.Keeping.{IsAnswering, Keeps}
 
 abbrev inside : {A : Type 0} → A → Option A → A
@@ -35,25 +35,25 @@ unsent_at (s ∷ ss) so zero = All-head (λ s. sent_on s ≡ []) s ss so
 unsent_at (s ∷ ss) so (suc p) = unsent_at ss (All-tail (λ s. sent_on s ≡ []) s ss so) p
 
 -- before its first turn
-pub keeps_new : (lanes : Option (List (ShardQueue Job))) (depot : Option Depot) (stall : Stall) → ((ls : List (ShardQueue Job)) → lanes ≡ Some ls → IsOnLane ls stall)
-    → ((d : Depot) → depot ≡ Some d → AreSenders d.channels.items stall.shard stall.senders.items) → got stall.permit ≡ [] → All (λ s. sent_on s ≡ []) stall.senders.items
+pub keeps_new : {B : Type 0} (lanes : Option (List (ShardQueue Job))) (depot : Option Parts) (stall : Stall B) → ((ls : List (ShardQueue Job)) → lanes ≡ Some ls → IsOnLane ls stall)
+    → ((d : Parts) → depot ≡ Some d → AreSenders d.channels stall.shard stall.senders.items) → got stall.permit ≡ [] → All (λ s. sent_on s ≡ []) stall.senders.items
     → Keeps lanes depot stall Bool.false
 keeps_new lanes depot stall on senders fresh unsent =
     record {
       on_lane = on;
       answering = λ d is. record {
         senders = senders d is;
-        answered = λ p under. ([], subst (λ (l : List (Entry Job)). WereAnswered (length d.mailboxes.items) stall.shard p l []) (sym fresh) none, unsent_at stall.senders.items unsent p);
-        torn = ap (list_any (is_nobodys (length d.mailboxes.items) (length d.channels.items))) (sym fresh);
+        answered = λ p under. ([], subst (λ (l : List (Entry Job)). WereAnswered d.mailboxes stall.shard p l []) (sym fresh) none, unsent_at stall.senders.items unsent p);
+        torn = ap (list_any (is_nobodys d.mailboxes (length d.channels))) (sym fresh);
       };
     }
 
 -- after a turn, however it went
-pub keeps_next : (lanes : Option (List (ShardQueue Job))) (depot : Option Depot) (ls : List (ShardQueue Job)) (d : Depot) (old new : Stall) (lane : ShardQueue Job) (torn more : Bool)
+pub keeps_next : {B : Type 0} (lanes : Option (List (ShardQueue Job))) (depot : Option Parts) (ls : List (ShardQueue Job)) (d : Parts) (old new : Stall B) (lane : ShardQueue Job) (torn more : Bool)
     → lanes ≡ Some ls → depot ≡ Some d → slice_get ls old.shard ≡ Some lane → Keeps lanes depot old torn
-    → new.shard ≡ old.shard → IsConsumer lane new.permit → AreSenders d.channels.items old.shard new.senders.items
-    → HaveAnswered (length d.mailboxes.items) (length d.channels.items) old.shard (got new.permit) [] (map sent_on new.senders.items)
-    → more ≡ list_any (is_nobodys (length d.mailboxes.items) (length d.channels.items)) (got new.permit)
+    → new.shard ≡ old.shard → IsConsumer lane new.permit → AreSenders d.channels old.shard new.senders.items
+    → HaveAnswered d.mailboxes (length d.channels) old.shard (got new.permit) [] (map sent_on new.senders.items)
+    → more ≡ list_any (is_nobodys d.mailboxes (length d.channels)) (got new.permit)
     → Keeps lanes depot new more
 keeps_next lanes depot ls d old new lane torn more ls_is d_is here so shard permit senders answered torn_is =
     record {
@@ -68,8 +68,8 @@ keeps_next lanes depot ls d old new lane torn more ls_is d_is here so shard perm
 
       answering : IsAnswering d new more
       answering = record {
-        senders = subst (λ n. AreSenders d.channels.items n new.senders.items) (sym shard) senders;
-        answered = subst (λ n. HaveAnswered (length d.mailboxes.items) (length d.channels.items) n (got new.permit) [] (map sent_on new.senders.items)) (sym shard) answered;
+        senders = subst (λ n. AreSenders d.channels n new.senders.items) (sym shard) senders;
+        answered = subst (λ n. HaveAnswered d.mailboxes (length d.channels) n (got new.permit) [] (map sent_on new.senders.items)) (sym shard) answered;
         torn = torn_is;
       }
 
@@ -83,7 +83,7 @@ pub lane_at : (ls : List (ShardQueue Job)) (i n : ℕ) (lane : ShardQueue Job) �
 lane_at ls i n lane same under is = slice_get-get_or ls n lane under ∙ ap (λ k. Some (slice_index_or ls k lane)) (sym same) ∙ ap Some (sym is)
 
 -- what a clerk leaves, when its senders have ended
-pub leaves : (lane : ShardQueue Job) (ls : List (ShardQueue Job)) (d : Depot) (stall : Stall) (torn : Bool) (c : Consumed) → IsOnLane ls stall → IsAnswering d stall torn
+pub leaves : {B : Type 0} (lane : ShardQueue Job) (ls : List (ShardQueue Job)) (d : Depot B) (stall : Stall B) (torn : Bool) (c : Consumed B) → IsOnLane ls stall → IsAnswering (parts_of d) stall torn
     → slice_get ls stall.shard ≡ Some lane → c.permit ≡ stall.permit → c.kept ≡ Bool.false → c.torn ≡ torn → AreSendersEnded d.channels.items stall.shard c.senders.items
     → HaveClosed stall.shard (map sent_on stall.senders.items) (map said_on c.senders.items) → IsConsumed lane d stall.shard [] c
 leaves lane ls d stall torn c on so here permit kept is_torn ended closed =

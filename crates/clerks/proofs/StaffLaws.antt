@@ -42,15 +42,15 @@ past_all (x ∷ xs) zero is = absurd (cc)
 past_all (x ∷ xs) (suc n) is = past_all xs n (omega (arith, is))
 
 -- what all clerks left, said of their parts
-module _ (lanes : List (ShardQueue Job)) (depot : Depot) where
-  pub consumers_of : (n : ℕ) (cs : List Consumed) → AllAt (IsService lanes depot) n cs → n + length cs ≡ length lanes → AreConsumers (drop n lanes) (map (λ c. c.permit) cs)
+module _ {B : Type 0} (lanes : List (ShardQueue Job)) (depot : Depot B) where
+  pub consumers_of : (n : ℕ) (cs : List (Consumed B)) → AllAt (IsService lanes depot) n cs → n + length cs ≡ length lanes → AreConsumers (drop n lanes) (map (λ c. c.permit) cs)
   consumers_of n [] all count = subst (λ qs. AreConsumers qs []) (sym (past_all lanes n (omega (arith, count)))) tt
   consumers_of n (c ∷ cs) all count =
       let lane = some_at lanes n (omega (arith, count)) in
       subst (λ qs. AreConsumers qs (c.permit ∷ map (λ d. d.permit) cs)) (sym (from_here lanes n lane.0 lane.1))
       ((all.0.each lane.0 lane.1).permit, consumers_of (suc n) cs all.1 (omega (arith, count)))
 
-  pub sender_hands_of : (n : ℕ) (cs : List Consumed) → AllAt (IsService lanes depot) n cs → n + length cs ≡ length lanes → AreSenderEndedHands depot.channels.items n (map (λ c. c.senders.items) cs)
+  pub sender_hands_of : (n : ℕ) (cs : List (Consumed B)) → AllAt (IsService lanes depot) n cs → n + length cs ≡ length lanes → AreSenderEndedHands depot.channels.items n (map (λ c. c.senders.items) cs)
   sender_hands_of n [] all count = tt
   sender_hands_of n (c ∷ cs) all count =
       let lane = some_at lanes n (omega (arith, count)) in

@@ -7,13 +7,12 @@ ghost use Rattle.shard_queue.specs.declared.queue.ShardQueue.{ShardQueue};
 ghost use Rattle.shard_queue.specs.Reply.{sent_on};
 ghost use Rattle.shard_queue.specs.Permits.{WasEmpty, capacity_of, got, producers_of, take_seen};
 ghost use Rattle.shard_queue.specs.Shared.{IsStartOf};
-ghost use Rattle.lane_work.specs.declared.consumer.Depot.{Depot};
 ghost use Rattle.lane_work.specs.Consuming.{IsConsumed};
 ghost use Rattle.lane_work.specs.Permits.{AreSenders};
-ghost use Rattle.clerks.specs.Keeping.{IsOnLane};
+ghost use Rattle.clerks.specs.Keeping.{IsOnLane, Parts, parts_of};
 
 use crate::turn::{Turn, take_turn};
-use delivery_token::{Job, Noted};
+use house_history::{Answer, Letter, Naming};
 use lane_work::{Consumed, Depot, Stall, end_senders};
 use shard_queue::{SenderEnded, ShardQueue};
 use std::alloc::Global;
@@ -26,7 +25,7 @@ use workers_sync::{Gate, Pace};
 pub trait Hall {
     ghost lanes: { Option (List (ShardQueue Job)) };
 
-    ghost depot: { Option Depot };
+    ghost depot: { Option Parts };
 }
 
 impl Hall for Brand {
@@ -36,9 +35,9 @@ impl Hall for Brand {
 }
 
 /// A shard's consumer: whoever holds its lock acts for it.
-pub struct Clerk<H: Hall> {
+pub struct Clerk<B: Naming, H: Hall> {
     // Its bell is never waited on.
-    stall: Stall,
+    stall: Stall<B>,
     // Whether it took a copy that was nobody's.
     torn: bool,
     // How many copies it has taken since it last found its lane empty.
@@ -48,7 +47,7 @@ pub struct Clerk<H: Hall> {
     of: PhantomData<H>,
 }
 
-impl<H: Hall> Model for Clerk<H> {
+impl<B: Naming, H: Hall> Model for Clerk<B, H> {
     ghost use Rattle.clerks.specs.Clerk.{Clerk};
 
     ghost Value = { Clerk };
@@ -61,14 +60,14 @@ impl<H: Hall> Model for Clerk<H> {
     ghost invariant = { λ c. Keeps H.lanes H.depot c.stall c.torn };
 }
 
-impl<H: Hall> Clerk<H> {
+impl<B: Naming, H: Hall> Clerk<B, H> {
     /// The clerk of a shard whose stall was dealt and never worked at.
-    pub fn new(stall: Stall) -> Clerk<H>
+    pub fn new(stall: Stall<B>) -> Clerk<B, H>
         // The stall is one of the hall's: it has the consumer's permit of its lane there, and a sender's on each channel of its depot.
         requires lane { (lanes : List (ShardQueue Job)) → H.lanes ≡ Some lanes
             → IsOnLane lanes stall }
-        requires senders { (depot : Depot) → H.depot ≡ Some depot
-            → AreSenders depot.channels.items stall.shard stall.senders.items }
+        requires senders { (depot : Parts) → H.depot ≡ Some depot
+            → AreSenders depot.channels stall.shard stall.senders.items }
 
         // It has taken nothing, and sent nothing.
         requires fresh { (got stall.permit ≡ []) × All (λ s. sent_on s ≡ []) stall.senders.items }
@@ -113,11 +112,11 @@ impl<H: Hall> Clerk<H> {
         &mut self,
         rt: &R,
         pace: &mut Pace<'_, G>,
-        lanes: &[ShardQueue<Job>],
-        depot: &Depot,
+        lanes: &[ShardQueue<Letter<B>>],
+        depot: &Depot<B>,
     ) -> bool
         requires lanes { H.lanes ≡ Some lanes.now }
-        requires depot { H.depot ≡ Some depot.now }
+        requires depot { H.depot ≡ Some (parts_of depot.now) }
         ensures shard { self.new.shard ≡ self.old.shard }
         ensures took { IsStartOf self.old.took self.new.took }
         ensures empty { result ≡ false → (lane : ShardQueue Job)
@@ -143,12 +142,12 @@ impl<H: Hall> Clerk<H> {
         &mut self,
         rt: &R,
         pace: &mut Pace<'_, G>,
-        lanes: &[ShardQueue<Job>],
-        depot: &Depot,
+        lanes: &[ShardQueue<Letter<B>>],
+        depot: &Depot<B>,
     )
         // Lanes and depot are those of the clerk's hall.
         requires lanes { H.lanes ≡ Some lanes.now }
-        requires depot { H.depot ≡ Some depot.now }
+        requires depot { H.depot ≡ Some (parts_of depot.now) }
 
         // Its shard is the same, and what it had taken stands in front of what it has taken now.
         ensures shard { self.new.shard ≡ self.old.shard }
@@ -174,12 +173,12 @@ impl<H: Hall> Clerk<H> {
         self,
         rt: &R,
         pace: &mut Pace<'_, G>,
-        depot: &Depot,
-        room: Vec<SenderEnded<Noted>>,
+        depot: &Depot<B>,
+        room: Vec<SenderEnded<Answer<B>>>,
         alloc: Global,
-    ) -> Consumed
+    ) -> Consumed<B>
         // The depot is that of the clerk's hall.
-        requires depot { H.depot ≡ Some depot.now }
+        requires depot { H.depot ≡ Some (parts_of depot.now) }
         requires room { (room.items ≡ []) × (length depot.now.channels.items ≤ vec_capacity room) }
 
         // It leaves what a consumer leaves that had sent nothing before, of its lane in the hall.
@@ -216,15 +215,15 @@ impl<H: Hall> Clerk<H> {
     }
 
     /// Its stall, as far as it has worked there.
-    pub fn into_stall(self) -> Stall
+    pub fn into_stall(self) -> Stall<B>
         ensures shard { result.shard ≡ self.shard }
 
         // The stall has taken what the clerk had, and its permits are still those of its hall.
         ensures took { (got result.permit ≡ self.took) × (take_seen result.permit ≡ self.seen) }
         ensures lane { (lanes : List (ShardQueue Job)) → H.lanes ≡ Some lanes
             → IsOnLane lanes result }
-        ensures senders { (depot : Depot) → H.depot ≡ Some depot
-            → AreSenders depot.channels.items self.shard result.senders.items }
+        ensures senders { (depot : Parts) → H.depot ≡ Some depot
+            → AreSenders depot.channels self.shard result.senders.items }
     {
         let Clerk {
             stall,

@@ -4,10 +4,10 @@
 ghost use Rattle.std.specs.Prelude.{ℕ, ◌≡◌, ◌≤◌, ◌<◌, ◌+◌, ◌*◌, Some};
 ghost use Rattle.delivery_token.specs.declared.Job.{Job};
 ghost use Rattle.shard_queue.specs.declared.queue.ShardQueue.{ShardQueue};
-ghost use Rattle.lane_work.specs.declared.consumer.Depot.{Depot};
+ghost use Rattle.clerks.specs.Keeping.{parts_of};
 
 use crate::clerk::{Clerk, Hall};
-use delivery_token::Job;
+use house_history::{Letter, Naming};
 use lane_work::{Depot, Summons};
 use shard_queue::ShardQueue;
 use std::hint;
@@ -43,28 +43,28 @@ impl Gate for Unhindered {
 
 /// The clerks of all shards, each behind its lock at the position of its shard, with what they work on.
 #[derive(Drop)]
-pub struct Clerks<'a, H: Hall, G> {
-    clerks: &'a [Mutex<Clerk<H>>],
-    lanes: &'a [ShardQueue<Job>],
-    depot: &'a Depot,
+pub struct Clerks<'a, B: Naming, H: Hall, G> {
+    clerks: &'a [Mutex<Clerk<B, H>>],
+    lanes: &'a [ShardQueue<Letter<B>>],
+    depot: &'a Depot<B>,
     gate: &'a G,
     at_once: usize,
     ghost lanes_are: { H.lanes ≡ Some lanes.now },
-    ghost depot_is: { H.depot ≡ Some depot.now },
+    ghost depot_is: { H.depot ≡ Some (parts_of depot.now) },
 }
 
-impl<'a, H: Hall, G: Gate> Clerks<'a, H, G> {
+impl<'a, B: Naming, H: Hall, G: Gate> Clerks<'a, B, H, G> {
     /// The clerks of a hall with these lanes and this depot, who ask this gate before each of their
     /// steps, and are summoned behind so many copies of a message (`copies_at_once`; 0 counts as 1).
     pub fn new(
-        clerks: &'a [Mutex<Clerk<H>>],
-        lanes: &'a [ShardQueue<Job>],
-        depot: &'a Depot,
+        clerks: &'a [Mutex<Clerk<B, H>>],
+        lanes: &'a [ShardQueue<Letter<B>>],
+        depot: &'a Depot<B>,
         gate: &'a G,
         at_once: usize,
-    ) -> Clerks<'a, H, G>
+    ) -> Clerks<'a, B, H, G>
         requires lanes { H.lanes ≡ Some lanes.now }
-        requires depot { H.depot ≡ Some depot.now }
+        requires depot { H.depot ≡ Some (parts_of depot.now) }
     {
         Clerks {
             clerks,
@@ -84,7 +84,7 @@ impl<'a, H: Hall, G: Gate> Clerks<'a, H, G> {
         }
     }
 
-    fn help_behind<R: Wait>(&self, rt: &R, lock: &Mutex<Clerk<H>>) {
+    fn help_behind<R: Wait>(&self, rt: &R, lock: &Mutex<Clerk<B, H>>) {
         for _ in 0..LOOKS {
             if let Some(mut clerk) = lock.try_lock() {
                 self.clear(rt, &mut clerk);
@@ -96,14 +96,14 @@ impl<'a, H: Hall, G: Gate> Clerks<'a, H, G> {
         self.clear(rt, &mut clerk);
     }
 
-    fn clear<R: Wait>(&self, rt: &R, clerk: &mut Clerk<H>) {
+    fn clear<R: Wait>(&self, rt: &R, clerk: &mut Clerk<B, H>) {
         let mut pace = Pace::new(self.gate, Actor::Consumer(clerk.shard()));
         clerk.clear(rt, &mut pace, self.lanes, self.depot);
     }
 }
 
 /// A clerk is summoned by doing its work.
-impl<'a, H: Hall, G: Gate> Summons for Clerks<'a, H, G> {
+impl<'a, B: Naming, H: Hall, G: Gate> Summons for Clerks<'a, B, H, G> {
     fn summon<R: Wait>(&self, rt: &R, shard: usize) {
         self.help(rt, shard);
     }

@@ -2,16 +2,16 @@
 //! stood down where a run comes to nothing. What one clerk does does not belong here.
 
 ghost use Rattle.std.specs.Prelude.{◌≡◌, ◌≤◌, ◌<◌, [], All, IfOk, Some, true, false, length, map, vec_len, vec_capacity};
-ghost use Rattle.lane_work.specs.declared.consumer.Depot.{Depot};
 ghost use Rattle.lane_work.specs.Rooms.{AreRooms};
 ghost use Rattle.lane_work.specs.LanePermits.{AreConsumers};
 ghost use Rattle.lane_work.specs.ChannelPermits.{AreSenderEndedHands};
 ghost use Rattle.house_floor.specs.Crew.{AllAt, IsStand};
+ghost use Rattle.clerks.specs.Keeping.{Parts, parts_of};
 ghost use Rattle.clerks.specs.Staff.{IsService};
 
 use crate::clerk::{Clerk, Hall};
-use delivery_token::Noted;
 use house_floor::{Floor, Stand};
+use house_history::{Answer, Naming};
 use lane_work::Consumed;
 use shard_queue::SenderEnded;
 use std::alloc::{AllocError, Global};
@@ -19,26 +19,26 @@ use std::sync::{Mutex, Wait};
 use workers_sync::{Actor, Gate, Pace};
 
 /// The clerks of all shards.
-pub struct Staff<H: Hall> {
+pub struct Staff<B: Naming, H: Hall> {
     /// Each behind its lock, at the position of its shard.
-    pub clerks: Vec<Mutex<Clerk<H>>>,
+    pub clerks: Vec<Mutex<Clerk<B, H>>>,
     /// For each, room for what is left of its senders.
-    pub rooms: Vec<Vec<SenderEnded<Noted>>>,
+    pub rooms: Vec<Vec<SenderEnded<Answer<B>>>>,
     /// Room for their stands, where they are stood down.
-    pub stands: Vec<Stand>,
+    pub stands: Vec<Stand<B>>,
 }
 
 /// What all clerks left.
-pub struct Dismissed {
+pub struct Dismissed<B: Naming> {
     /// What each left, in their order.
-    pub consumed: Vec<Consumed>,
+    pub consumed: Vec<Consumed<B>>,
     /// Whether each clerk stood at the position of its shard. It always does, but a lock doesn't tell.
     pub in_order: bool,
 }
 
-impl<H: Hall> Staff<H> {
+impl<B: Naming, H: Hall> Staff<B, H> {
     /// Nobody, with room for so many. An error where memory is refused; nothing is left then.
-    pub fn with_room(alloc: Global, shards: usize) -> Result<Staff<H>, AllocError>
+    pub fn with_room(alloc: Global, shards: usize) -> Result<Staff<B, H>, AllocError>
         ensures clerks { IfOk result (λ s. (s.clerks.items ≡ [])
             × (shards ≤ vec_capacity s.clerks)) }
         ensures rooms { IfOk result (λ s. (s.rooms.items ≡ []) × (shards ≤ vec_capacity s.rooms)) }
@@ -64,13 +64,13 @@ impl<H: Hall> Staff<H> {
 }
 
 // The clerk of the stand at this position, behind a lock, and the room that was there.
-fn hire<H: Hall>(
-    floor: &Floor,
-    stand: Stand,
+fn hire<B: Naming, H: Hall>(
+    floor: &Floor<B>,
+    stand: Stand<B>,
     position: usize,
-) -> (Mutex<Clerk<H>>, Vec<SenderEnded<Noted>>)
+) -> (Mutex<Clerk<B, H>>, Vec<SenderEnded<Answer<B>>>)
     requires lanes { H.lanes ≡ Some floor.now.office.lanes.items }
-    requires depot { H.depot ≡ Some floor.now.depot }
+    requires depot { H.depot ≡ Some (parts_of floor.now.depot) }
     requires there { position < length floor.now.office.lanes.items }
     requires stand { IsStand floor.now position stand }
     ensures { (result.1.items ≡ [])
@@ -81,10 +81,14 @@ fn hire<H: Hall>(
 }
 
 /// A clerk for each stand, in their order. `staff`, which is empty, has room for all.
-pub fn hire_all<H: Hall>(floor: &Floor, mut stands: Vec<Stand>, mut staff: Staff<H>) -> Staff<H>
+pub fn hire_all<B: Naming, H: Hall>(
+    floor: &Floor<B>,
+    mut stands: Vec<Stand<B>>,
+    mut staff: Staff<B, H>,
+) -> Staff<B, H>
     // The floor is that of the staff's hall.
     requires lanes { H.lanes ≡ Some floor.now.office.lanes.items }
-    requires depot { H.depot ≡ Some floor.now.depot }
+    requires depot { H.depot ≡ Some (parts_of floor.now.depot) }
 
     // There is a stand for each shard, at its number, which has taken nothing and sent nothing.
     requires stands { AllAt (IsStand floor.now) 0 stands.items
@@ -112,15 +116,15 @@ pub fn hire_all<H: Hall>(floor: &Floor, mut stands: Vec<Stand>, mut staff: Staff
 }
 
 // What the clerk behind a lock leaves, and the number of its shard.
-fn dismiss<H: Hall, R: Wait, G: Gate>(
+fn dismiss<B: Naming, H: Hall, R: Wait, G: Gate>(
     rt: &R,
     gate: &G,
-    floor: &Floor,
-    clerk: Mutex<Clerk<H>>,
-    room: Vec<SenderEnded<Noted>>,
-) -> (u8, Consumed)
+    floor: &Floor<B>,
+    clerk: Mutex<Clerk<B, H>>,
+    room: Vec<SenderEnded<Answer<B>>>,
+) -> (u8, Consumed<B>)
     requires lanes { H.lanes ≡ Some floor.now.office.lanes.items }
-    requires depot { H.depot ≡ Some floor.now.depot }
+    requires depot { H.depot ≡ Some (parts_of floor.now.depot) }
     requires room { (room.items ≡ [])
         × (length floor.now.depot.channels.items ≤ vec_capacity room) }
     ensures service { IsService floor.now.office.lanes.items floor.now.depot result.0 result.1 }
@@ -137,16 +141,16 @@ fn dismiss<H: Hall, R: Wait, G: Gate>(
 
 /// Clears each lane a last time, and ends each clerk's permit on each reply channel: what all of them
 /// leave. No copy was kept. `consumed`, which is empty, has room for all.
-pub fn dismiss_all<H: Hall, R: Wait, G: Gate>(
+pub fn dismiss_all<B: Naming, H: Hall, R: Wait, G: Gate>(
     rt: &R,
     gate: &G,
-    floor: &Floor,
-    staff: Staff<H>,
-    mut consumed: Vec<Consumed>,
-) -> Dismissed
+    floor: &Floor<B>,
+    staff: Staff<B, H>,
+    mut consumed: Vec<Consumed<B>>,
+) -> Dismissed<B>
     // The floor is that of the staff's hall.
     requires lanes { H.lanes ≡ Some floor.now.office.lanes.items }
-    requires depot { H.depot ≡ Some floor.now.depot }
+    requires depot { H.depot ≡ Some (parts_of floor.now.depot) }
 
     // There is a clerk for each lane, and for each an empty list with room for what is left of all its senders.
     requires clerks { vec_len staff.clerks ≡ length floor.now.office.lanes.items }
@@ -189,10 +193,13 @@ pub fn dismiss_all<H: Hall, R: Wait, G: Gate>(
 }
 
 // The stand of the clerk behind a lock, with the room that was there.
-fn leave_stand<H: Hall>(clerk: Mutex<Clerk<H>>, room: Vec<SenderEnded<Noted>>) -> Stand
+fn leave_stand<B: Naming, H: Hall>(
+    clerk: Mutex<Clerk<B, H>>,
+    room: Vec<SenderEnded<Answer<B>>>,
+) -> Stand<B>
     requires room { room.items ≡ [] }
-    ensures senders { (depot : Depot) → H.depot ≡ Some depot
-        → vec_len result.stall.senders ≡ length depot.channels.items }
+    ensures senders { (depot : Parts) → H.depot ≡ Some depot
+        → vec_len result.stall.senders ≡ length depot.channels }
     ensures room { result.room.items ≡ [] }
 {
     let clerk = clerk.into_inner();
@@ -204,9 +211,9 @@ fn leave_stand<H: Hall>(clerk: Mutex<Clerk<H>>, room: Vec<SenderEnded<Noted>>) -
 
 /// Each clerk's stand, in their order, whether it has worked there or not: for a run that comes to
 /// nothing. None of its senders has ended.
-pub fn stand_down<H: Hall>(floor: &Floor, staff: Staff<H>) -> Vec<Stand>
+pub fn stand_down<B: Naming, H: Hall>(floor: &Floor<B>, staff: Staff<B, H>) -> Vec<Stand<B>>
     // The depot is that of the staff's hall.
-    requires depot { H.depot ≡ Some floor.now.depot }
+    requires depot { H.depot ≡ Some (parts_of floor.now.depot) }
 
     // There is a clerk for each lane, and for each an empty list with room for what is left of all its senders.
     requires clerks { vec_len staff.clerks ≡ length floor.now.office.lanes.items }

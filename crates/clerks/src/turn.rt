@@ -8,7 +8,7 @@ ghost use Rattle.lane_work.specs.inner.Answering.{HaveAnswered};
 ghost use Rattle.lane_work.specs.Permits.{AreSenders};
 ghost use Rattle.clerks.specs.inner.Turns.{Turned};
 
-use delivery_token::Job;
+use house_history::{Letter, Naming};
 use lane_work::{Depot, Stall, serve_copy};
 use shard_queue::{ShardQueue, Taken};
 use std::sync::Wait;
@@ -26,12 +26,12 @@ pub(crate) enum Turn {
 }
 
 /// Takes what stands first on the lane. A copy is delivered and its producer is told.
-pub(crate) fn take_turn<R: Wait, G: Gate>(
+pub(crate) fn take_turn<B: Naming, R: Wait, G: Gate>(
     rt: &R,
     pace: &mut Pace<'_, G>,
-    depot: &Depot,
-    lane: &ShardQueue<Job>,
-    stall: &mut Stall,
+    depot: &Depot<B>,
+    lane: &ShardQueue<Letter<B>>,
+    stall: &mut Stall<B>,
 ) -> Turn
     requires permit { IsConsumer lane.now stall.old.permit }
     requires senders { AreSenders depot.now.channels.items stall.old.shard stall.old.senders.items }
@@ -49,10 +49,10 @@ pub(crate) fn take_turn<R: Wait, G: Gate>(
 {
     pace.pass();
     match lane.take_as(rt, &mut stall.permit) {
-        Taken::Item(producer, job) => {
+        Taken::Item(producer, letter) => {
             let shard = stall.shard;
             let senders = &mut stall.senders;
-            Turn::Copy(serve_copy(rt, pace, depot, shard, senders, producer, &job))
+            Turn::Copy(serve_copy(rt, pace, depot, shard, senders, producer, letter))
         }
         Taken::End(_) => Turn::End,
         Taken::Empty => Turn::Empty,

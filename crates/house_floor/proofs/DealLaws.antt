@@ -16,7 +16,7 @@ use Rattle.lane_work.specs.ChannelPermits.{AreReceivers, AreSenderHands}
 use Rattle.house_floor.specs.Crew.{AllAt}
 
 -- a producer's permits on all lanes, which have put nothing
-abbrev pub IsHand : List (ShardQueue Job) → ℕ → Vec LanePermit Global → Type 0
+abbrev pub IsHand : List (ShardQueue Job) → ℕ → Vec (LanePermit Job) Global → Type 0
 IsHand lanes n v = ArePermits lanes n v.items × All IsNew v.items
 
 -- a consumer's on all channels, which have sent nothing
@@ -30,7 +30,7 @@ IsReceiverAt channels n permit = (channel : ReplyChannel Noted) → slice_get ch
 abbrev pub IsConsumerAt : List (ShardQueue Job) → ℕ → ConsumerPermit Job → Type 0
 IsConsumerAt lanes n permit = (lane : ShardQueue Job) → slice_get lanes n ≡ Some lane → IsConsumer lane permit
 
-pub hands_at : (lanes : List (ShardQueue Job)) (n : ℕ) (vs : List (Vec LanePermit Global)) → AreHands lanes n (map (λ v. v.items) vs) → AllAt (IsHand lanes) n vs
+pub hands_at : (lanes : List (ShardQueue Job)) (n : ℕ) (vs : List (Vec (LanePermit Job) Global)) → AreHands lanes n (map (λ v. v.items) vs) → AllAt (IsHand lanes) n vs
 hands_at lanes n [] h = tt
 hands_at lanes n (v ∷ vs) h = (h.0, hands_at lanes (suc n) vs h.1)
 

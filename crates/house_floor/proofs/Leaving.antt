@@ -8,14 +8,14 @@ use Rattle.house_floor.specs.declared.floor.Post.{Post}
 use Rattle.house_floor.specs.declared.floor.Stand.{Stand}
 use Rattle.house_floor.specs.Left.{IsPostLeft, IsStandLeft}
 
-pub posts_left : (floor : Floor) (n : ℕ) (ps : List Post) → AllAt (IsPost floor) n ps → All (IsPostLeft (length floor.office.lanes.items)) ps
+pub posts_left : {B : Type 0} (floor : Floor B) (n : ℕ) (ps : List (Post B)) → AllAt (IsPost floor) n ps → All (IsPostLeft (length floor.office.lanes.items)) ps
 posts_left floor n [] all = All-nil (IsPostLeft (length floor.office.lanes.items))
 posts_left floor n (p ∷ ps) all =
     let permits = permits_length floor.office.lanes.items n p.desk.permits.items all.0.permits in
     let none : length p.room.items ≡ 0 = ap length all.0.empty in
     All-cons (IsPostLeft (length floor.office.lanes.items)) p ps (omega (arith, permits, none, p.desk.permits.ok.0, p.room.ok.0)) (posts_left floor (suc n) ps all.1)
 
-pub stands_left : (floor : Floor) (producers : ℕ) → length floor.depot.channels.items ≡ producers → (n : ℕ) (ss : List Stand) → AllAt (IsStand floor) n ss → All (IsStandLeft producers) ss
+pub stands_left : {B : Type 0} (floor : Floor B) (producers : ℕ) → length floor.depot.channels.items ≡ producers → (n : ℕ) (ss : List (Stand B)) → AllAt (IsStand floor) n ss → All (IsStandLeft producers) ss
 stands_left floor producers same n [] all = All-nil (IsStandLeft producers)
 stands_left floor producers same n (s ∷ ss) all =
     let senders = senders_length floor.depot.channels.items n s.stall.senders.items all.0.senders in

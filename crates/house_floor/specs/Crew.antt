@@ -20,7 +20,7 @@ AllAt P n [] = Unit {0}
 AllAt P n (x ∷ xs) = P n x × AllAt P (suc n) xs
 
 -- the house that they work in is one: a shard for each lane, and a channel for each producer
-pub record IsHouse (floor : Floor) (producers : ℕ) : Type 0 where
+pub record IsHouse {B : Type 0} (floor : Floor B) (producers : ℕ) : Type 0 where
   pub shards : floor.office.directory.shards ≡ length floor.office.lanes.items
   pub host : length floor.office.host.items < 256
   pub few_lanes : length floor.office.lanes.items < 256
@@ -28,25 +28,26 @@ pub record IsHouse (floor : Floor) (producers : ℕ) : Type 0 where
   pub few_producers : producers < 256
 
 -- each session's user is one of the directory, and each mailbox has a list of bells; there are no more sessions than an actor's number tells apart
-pub record AreGuests (floor : Floor) (guests : List Guest) : Type 0 where
+pub record AreGuests {B : Type 0} (floor : Floor B) (guests : List Guest) : Type 0 where
   pub few : length guests ≤ 256
   pub named : All (λ v. user_numbered v.user floor.office.directory.homes ≢ None) guests
   pub bells : length floor.office.directory.homes ≤ length floor.depot.sessions.items
 
 -- ---- what is dealt
 
--- the post of producer n: it has put nothing, and hears its own channel, of which it has heard nothing yet
-pub record IsPost (floor : Floor) (n : ℕ) (post : Post) : Type 0 where
+-- the post of producer n: it has put nothing, and hears its own channel, of which it has heard nothing yet; its seat has sent nothing
+pub record IsPost {B : Type 0} (floor : Floor B) (n : ℕ) (post : Post B) : Type 0 where
   pub number : post.desk.number ≡ n
   pub permits : ArePermits floor.office.lanes.items n post.desk.permits.items
   pub fresh : All IsNew post.desk.permits.items
   pub receiver : (channel : ReplyChannel Noted) → slice_get floor.depot.channels.items n ≡ Some channel → IsReceiver channel post.desk.receiver
   pub unheard : (received post.desk.receiver ≡ []) × (post.desk.ends ≡ 0)
+  pub dispatch : (post.desk.dispatch.number ≡ n) × (post.desk.dispatch.sent ≡ [])
   pub empty : post.room.items ≡ []
   pub room : length floor.office.lanes.items ≤ vec_capacity post.room
 
 -- the stand of consumer n: it has taken nothing and sent nothing, and takes from its own lane
-pub record IsStand (floor : Floor) (n : ℕ) (stand : Stand) : Type 0 where
+pub record IsStand {B : Type 0} (floor : Floor B) (n : ℕ) (stand : Stand B) : Type 0 where
   pub shard : stand.stall.shard ≡ n
   pub permit : (lane : ShardQueue Job) → slice_get floor.office.lanes.items n ≡ Some lane → IsConsumer lane stand.stall.permit
   pub fresh : got stand.stall.permit ≡ []
@@ -56,7 +57,7 @@ pub record IsStand (floor : Floor) (n : ℕ) (stand : Stand) : Type 0 where
   pub room : length floor.depot.channels.items ≤ vec_capacity stand.room
 
 -- a stand for each lane, a post for each producer, and room for what comes of them
-pub record IsCrew (floor : Floor) (producers : ℕ) (crew : Crew) : Type 0 where
+pub record IsCrew {B : Type 0} (floor : Floor B) (producers : ℕ) (crew : Crew B) : Type 0 where
   pub stands : AllAt (IsStand floor) 0 crew.stands.items
   pub each_lane : vec_len crew.stands ≡ length floor.office.lanes.items
   pub posts : AllAt (IsPost floor) 0 crew.posts.items

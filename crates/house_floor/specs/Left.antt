@@ -24,27 +24,27 @@ abbrev pub most_of : ℕ → ℕ
 most_of max_message = min max_message 4294967295
 
 -- what consumer n left is what a consumer's life promises that had sent nothing before, of its own lane
-pub record IsServiceOf (floor : Floor) (n : ℕ) (c : Consumed) : Type 0 where
+pub record IsServiceOf {B : Type 0} (floor : Floor B) (n : ℕ) (c : Consumed B) : Type 0 where
   pub each : (lane : ShardQueue Job) → slice_get floor.office.lanes.items n ≡ Some lane
       → (before : List (List (Entry Noted))) × All (λ e. e ≡ []) before × IsConsumed lane floor.depot n before c
 
 -- every actor has left what it was to leave, and nothing is left of what was dealt
-pub record LeavesAll (floor : Floor) (plans : Plans) (guests : List Guest) (ran : Ran) : Type 0 where
+pub record LeavesAll {B : Type 0} (floor : Floor B) (plans : Plans) (guests : List Guest) (ran : Ran B) : Type 0 where
   pub consumed : vec_len ran.consumed ≡ length floor.office.lanes.items
   pub worked : vec_len ran.worked ≡ length plans + length guests
   pub stands : ran.stands.items ≡ []
   pub posts : ran.posts.items ≡ []
 
 -- a post that no thread has had: each permit stands there, or what is left of it
-abbrev pub IsPostLeft : ℕ → Post → Type 0
+abbrev pub IsPostLeft : {B : Type 0} → ℕ → Post B → Type 0
 IsPostLeft lanes post = vec_len post.desk.permits + vec_len post.room ≤ lanes
 
 -- a stand that no thread has had: none of its senders has ended
-abbrev pub IsStandLeft : ℕ → Stand → Type 0
+abbrev pub IsStandLeft : {B : Type 0} → ℕ → Stand B → Type 0
 IsStandLeft producers stand = (vec_len stand.stall.senders ≤ producers) × (stand.room.items ≡ [])
 
 -- However the threads were started: of each producer there is what it left or its post, of each consumer what it left or its stand, and none has more permits than it was dealt.
-pub record IsSpendable (floor : Floor) (producers : ℕ) (ran : Ran) : Type 0 where
+pub record IsSpendable {B : Type 0} (floor : Floor B) (producers : ℕ) (ran : Ran B) : Type 0 where
   pub each_producer : vec_len ran.posts + vec_len ran.worked ≡ producers
   pub each_lane : vec_len ran.stands + vec_len ran.consumed ≡ length floor.office.lanes.items
   pub posts : All (IsPostLeft (length floor.office.lanes.items)) ran.posts.items

@@ -15,7 +15,7 @@ abbrev pub reply_room : ℕ
 reply_room = 128
 
 -- the floor is that of a house with this directory, each consumer has a bell, and each queue is as large as the sizes say
-pub record IsFloor (directory : Directory) (sizes : Sizes) (floor : Floor) : Type 0 where
+pub record IsFloor {B : Type 0} (directory : Directory) (sizes : Sizes) (floor : Floor B) : Type 0 where
   pub house : IsHouse floor sizes.producers
   pub is : floor.office.directory ≡ directory
   pub host : floor.office.host.items ≡ sizes.host.now
@@ -28,11 +28,11 @@ pub record IsFloor (directory : Directory) (sizes : Sizes) (floor : Floor) : Typ
   pub channels : All (λ c. (room_of c ≡ reply_room) × (senders_of c ≡ directory.shards)) floor.depot.channels.items
 
 -- nothing lies in these lists
-abbrev pub AreNoSpares : Spares → Type 0
+abbrev pub AreNoSpares : {B : Type 0} → Spares B → Type 0
 AreNoSpares s = (s.permits.items ≡ []) × (s.ended.items ≡ []) × (s.senders.items ≡ []) × (s.senders_ended.items ≡ [])
 
 -- nor in these, and each has room for so many
-pub record AreSpares (n : ℕ) (s : Spares) : Type 0 where
+pub record AreSpares {B : Type 0} (n : ℕ) (s : Spares B) : Type 0 where
   pub empty : AreNoSpares s
   pub permits : n ≤ vec_capacity s.permits
   pub ended : n ≤ vec_capacity s.ended
@@ -40,7 +40,7 @@ pub record AreSpares (n : ℕ) (s : Spares) : Type 0 where
   pub senders_ended : n ≤ vec_capacity s.senders_ended
 
 -- nothing lies in the baskets, and there is room for what so many producers and consumers leave
-pub record AreBaskets (producers shards : ℕ) (b : Baskets) : Type 0 where
+pub record AreBaskets {B : Type 0} (producers shards : ℕ) (b : Baskets B) : Type 0 where
   pub hands : (b.hands.items ≡ []) × (producers ≤ vec_capacity b.hands)
   pub lists : AreRooms shards producers b.lists
   pub sender_hands : (b.sender_hands.items ≡ []) × (shards ≤ vec_capacity b.sender_hands)

@@ -3,7 +3,7 @@
 
 ghost use Rattle.std.specs.Prelude.{◌≡◌, ◌≤◌, [], All, length, map, vec_len, vec_capacity};
 ghost use Rattle.house_floor.specs.Crew.{AllAt, IsPost, IsStand};
-ghost use Rattle.house_floor.specs.inner.Making.{AreUndealt};
+ghost use Rattle.house_floor.specs.inner.Making.{AreUndealt, IsWholeSeating};
 ghost use Rattle.lane_work.specs.Rooms.{AreRooms};
 ghost use Rattle.lane_work.specs.LanePermits.{AreConsumers, AreHands};
 ghost use Rattle.lane_work.specs.ChannelPermits.{AreReceivers, AreSenderHands};
@@ -11,29 +11,32 @@ ghost use Rattle.shard_queue.specs.Reply.{received, senders_of};
 ghost use Rattle.shard_queue.specs.Permits.{got, producers_of};
 
 use crate::floor::{Floor, Post, Stand};
+use crate::seating::{Seating, seat_next};
 use crossbeam_utils::sync::Parker;
-use delivery_token::{Job, Noted};
+use house_history::{Answer, Letter, Naming};
 use lane_work::{Desk, Hands, LanePermit, Stall, deal_all, deal_all_senders};
 use shard_queue::{
     ConsumerPermit, Ended, ProducerPermit, ReceiverPermit, SenderEnded, SenderPermit,
 };
 
 // A post for each of so many producers, from the hands that were dealt to them, from the receivers'
-// ends of their channels, and from empty lists with room for what is left of their permits. `posts`,
+// ends of their channels, from the seats of the house's history, and from empty lists with room for what is left of their permits. `posts`,
 // which is empty, has room for all.
-fn set_posts(
-    floor: &Floor,
+fn set_posts<B: Naming>(
+    floor: &Floor<B>,
     producers: u8,
-    mut hands: Vec<Vec<LanePermit>>,
-    mut receivers: Vec<ReceiverPermit<Noted>>,
-    mut rooms: Vec<Vec<Ended<Job>>>,
-    mut posts: Vec<Post>,
-) -> Vec<Post>
+    mut hands: Vec<Vec<LanePermit<Letter<B>>>>,
+    mut receivers: Vec<ReceiverPermit<Answer<B>>>,
+    mut seating: Seating<B>,
+    mut rooms: Vec<Vec<Ended<Letter<B>>>>,
+    mut posts: Vec<Post<B>>,
+) -> Vec<Post<B>>
     requires hands { (vec_len hands ≡ producers)
         × AreHands floor.now.office.lanes.items 0 (map (λ v. v.items) hands.items) }
     requires receivers { (vec_len receivers ≡ producers)
         × AreReceivers floor.now.depot.channels.items receivers.items }
     requires unheard { All (λ s. received s ≡ []) receivers.items }
+    requires seating { IsWholeSeating seating }
     requires rooms { AreRooms producers (length floor.now.office.lanes.items) rooms }
     requires posts { (posts.items ≡ []) × (producers ≤ vec_capacity posts) }
     ensures count { vec_len result ≡ producers }
@@ -45,6 +48,7 @@ fn set_posts(
             permits: hands.remove(0),
             receiver: receivers.remove(0),
             ends: 0,
+            dispatch: seat_next(&mut seating),
         };
         posts.push_reserved(Post {
             desk,
@@ -60,15 +64,15 @@ fn set_posts(
 // A stand for each of so many consumers, from the hands that were dealt to them, from their ends of
 // their lanes and of their bells, and from empty lists with room for what is left of their permits.
 // `stands`, which is empty, has room for all.
-fn set_stands(
-    floor: &Floor,
+fn set_stands<B: Naming>(
+    floor: &Floor<B>,
     shards: u8,
-    mut hands: Vec<Vec<SenderPermit<Noted>>>,
-    mut consumers: Vec<ConsumerPermit<Job>>,
+    mut hands: Vec<Vec<SenderPermit<Answer<B>>>>,
+    mut consumers: Vec<ConsumerPermit<Letter<B>>>,
     mut parkers: Vec<Parker>,
-    mut rooms: Vec<Vec<SenderEnded<Noted>>>,
-    mut stands: Vec<Stand>,
-) -> Vec<Stand>
+    mut rooms: Vec<Vec<SenderEnded<Answer<B>>>>,
+    mut stands: Vec<Stand<B>>,
+) -> Vec<Stand<B>>
     requires hands { (vec_len hands ≡ shards)
         × AreSenderHands floor.now.depot.channels.items 0 (map (λ v. v.items) hands.items) }
     requires consumers { (vec_len consumers ≡ shards)
@@ -99,38 +103,40 @@ fn set_stands(
 }
 
 /// What is to be dealt, and the empty lists that it goes into.
-pub(crate) struct Undealt {
+pub(crate) struct Undealt<B: Naming> {
     /// For each lane the producers' permits.
-    pub(crate) lane_permits: Vec<Vec<ProducerPermit<Job>>>,
+    pub(crate) lane_permits: Vec<Vec<ProducerPermit<Letter<B>>>>,
     /// For each producer its end of its reply channel.
-    pub(crate) receivers: Vec<ReceiverPermit<Noted>>,
+    pub(crate) receivers: Vec<ReceiverPermit<Answer<B>>>,
     /// For each reply channel the consumers' permits.
-    pub(crate) channel_permits: Vec<Vec<SenderPermit<Noted>>>,
+    pub(crate) channel_permits: Vec<Vec<SenderPermit<Answer<B>>>>,
     /// For each consumer its end of its lane.
-    pub(crate) consumers: Vec<ConsumerPermit<Job>>,
+    pub(crate) consumers: Vec<ConsumerPermit<Letter<B>>>,
     /// For each consumer its own end of its bell.
     pub(crate) parkers: Vec<Parker>,
+    /// For each producer a seat with tickets.
+    pub(crate) seating: Seating<B>,
     /// For each producer's permits.
-    pub(crate) hands: Hands<LanePermit>,
+    pub(crate) hands: Hands<LanePermit<Letter<B>>>,
     /// For what is left of each producer's permits.
-    pub(crate) rooms: Vec<Vec<Ended<Job>>>,
+    pub(crate) rooms: Vec<Vec<Ended<Letter<B>>>>,
     /// For each consumer's permits.
-    pub(crate) sender_hands: Hands<SenderPermit<Noted>>,
+    pub(crate) sender_hands: Hands<SenderPermit<Answer<B>>>,
     /// For what is left of each consumer's permits.
-    pub(crate) sender_rooms: Vec<Vec<SenderEnded<Noted>>>,
+    pub(crate) sender_rooms: Vec<Vec<SenderEnded<Answer<B>>>>,
 }
 
 /// Deals the permits of all lanes and channels, none of which has put, taken or sent anything: a stand
 /// for each of so many consumers and a post for each of so many producers, in the order of their
 /// numbers. The two lists, which are empty, have room for all.
-pub(crate) fn deal_out(
-    floor: &Floor,
+pub(crate) fn deal_out<B: Naming>(
+    floor: &Floor<B>,
     producers: u8,
     shards: u8,
-    undealt: Undealt,
-    stands: Vec<Stand>,
-    posts: Vec<Post>,
-) -> (Vec<Stand>, Vec<Post>)
+    undealt: Undealt<B>,
+    stands: Vec<Stand<B>>,
+    posts: Vec<Post<B>>,
+) -> (Vec<Stand<B>>, Vec<Post<B>>)
     requires lanes { (length floor.now.office.lanes.items ≡ shards)
         × All (λ q. producers_of q ≡ producers) floor.now.office.lanes.items }
     requires channels { (length floor.now.depot.channels.items ≡ producers)
@@ -149,6 +155,7 @@ pub(crate) fn deal_out(
         channel_permits,
         consumers,
         parkers,
+        seating,
         hands,
         rooms,
         sender_hands,
@@ -167,6 +174,6 @@ pub(crate) fn deal_out(
         sender_rooms,
         stands,
     );
-    let posts = set_posts(floor, producers, hands, receivers, rooms, posts);
+    let posts = set_posts(floor, producers, hands, receivers, seating, rooms, posts);
     (stands, posts)
 }

@@ -1,16 +1,19 @@
 //! What a house is made of, as far as it may be let go again: so it is made first, and where memory is
 //! refused nothing has to be undone. What can't be let go stands in `stock`.
 
-ghost use Rattle.std.specs.Prelude.{◌≡◌, ◌<◌, ◌≤◌, IfOk, length, map, vec_len};
+ghost use Rattle.std.specs.Prelude.{◌≡◌, ◌<◌, ◌≤◌, IfOk, [], length, map, vec_len};
+ghost use Rattle.mailbox.specs.Stands.{Stands};
 ghost use Rattle.house_floor.specs.inner.Making.{AreFittings, ArePapers};
 
 use crate::bells::{Bells, hang_bells};
 use crate::floor::Guest;
 use crate::opening::Sizes;
 use crossbeam_utils::sync::{Parker, Unparker};
-use delivery_token::{Job, Noted, WorkerLog};
+use delivery_token::{Job, WorkerLog};
 use envelope::Directory;
+use house_history::{Answer, Front, Letter, MailboxParts, Naming};
 use lane_work::Closing;
+use locked_mailbox::LockedMailbox;
 use mailbox::Mailbox;
 use shard_queue::{Closed, Entry, ReplyClosed};
 use std::alloc::{AllocError, Global};
@@ -19,7 +22,7 @@ use workers_sync::{SessionBell, Sleeper};
 
 /// Room for what the threads leave, of what may be let go.
 #[derive(Drop)]
-pub(crate) struct Papers {
+pub(crate) struct Papers<B: Naming> {
     /// For each producer, what it said: of a worker the replies to each connection, of a session one
     /// text.
     pub(crate) replies: Vec<Vec<Vec<u8>>>,
@@ -28,35 +31,37 @@ pub(crate) struct Papers {
     /// For each consumer, the entries that it took.
     pub(crate) taken: Vec<Vec<Entry<Job>>>,
     /// For each lane, what was taken of it.
-    pub(crate) lanes: Vec<Closed<Job>>,
+    pub(crate) lanes: Vec<Closed<Letter<B>>>,
     /// For each reply channel, the same.
-    pub(crate) channels: Vec<ReplyClosed<Noted>>,
+    pub(crate) channels: Vec<ReplyClosed<Answer<B>>>,
 }
 
 /// What the floor is made of beside the queues.
 #[derive(Drop)]
-pub(crate) struct Interior {
+pub(crate) struct Interior<B: Naming> {
     /// The house's name in replies.
     pub(crate) host: Vec<u8>,
     /// The mailboxes of its directory, empty.
-    pub(crate) mailboxes: Vec<Mutex<Mailbox>>,
+    pub(crate) mailboxes: Vec<Mutex<LockedMailbox<B>>>,
     /// What rings each consumer.
     pub(crate) consumers: Vec<Unparker>,
     /// For each mailbox, what rings the sessions of its user.
     pub(crate) sessions: Vec<Vec<SessionBell>>,
     /// For each worker, the shards that it closes.
     pub(crate) closings: Vec<Vec<Closing>>,
+    /// How the house's history began.
+    pub(crate) front: Front<B>,
 }
 
 /// All of a house that may be let go.
 #[derive(Drop)]
-pub(crate) struct Fittings {
-    pub(crate) interior: Interior,
+pub(crate) struct Fittings<B: Naming> {
+    pub(crate) interior: Interior<B>,
     /// Each consumer's own end of its bell.
     pub(crate) parkers: Vec<Parker>,
     /// Each session's own end of its bell.
     pub(crate) sleepers: Vec<Sleeper>,
-    pub(crate) papers: Papers,
+    pub(crate) papers: Papers<B>,
 }
 
 // The empty mailbox of this number.
@@ -66,6 +71,7 @@ fn make_mailbox(alloc: Global, number: u8, sizes: Sizes<'_>) -> Result<Mailbox, 
         × (m.uidvalidity ≡ sizes.entry.uidvalidity) × (m.first_uid ≡ sizes.entry.first_uid)) }
     ensures keeps { IfOk result (λ m. (m.limit ≡ sizes.entry.limits.messages)
         × (m.history ≡ sizes.entry.history)) }
+    ensures empty { IfOk result (λ m. Stands m [] × (m.accepted ≡ [])) }
 {
     let Sizes {
         uidvalidity,
@@ -77,25 +83,34 @@ fn make_mailbox(alloc: Global, number: u8, sizes: Sizes<'_>) -> Result<Mailbox, 
     Mailbox::new(alloc, number, uidvalidity, first_uid, limits, history)
 }
 
-// So many empty mailboxes, each behind a lock.
-fn make_mailboxes(
+// So many empty mailboxes, each behind a lock, with its part of the house's history.
+fn make_mailboxes<B: Naming>(
     alloc: Global,
     count: usize,
     sizes: Sizes<'_>,
-) -> Result<Vec<Mutex<Mailbox>>, AllocError>
+    mut parts: MailboxParts<B>,
+    front: &Front<B>,
+) -> Result<Vec<Mutex<LockedMailbox<B>>>, AllocError>
     requires few { count ≤ 64 }
+    requires parts { parts ≡ 0 }
     requires ring { 0 < sizes.limits.ring }
     ensures count { IfOk result (λ v. vec_len v ≡ count) }
 {
     let mut mailboxes = Vec::with_capacity(alloc, count)?;
     for number in 0..count {
-        mailboxes.push_reserved(Mutex::new(make_mailbox(alloc, number as u8, sizes)?));
+        let mailbox = make_mailbox(alloc, number as u8, sizes)?;
+        let Some(part) = parts.take() else {
+            unreachable!()
+        };
+        let seats = usize::from(sizes.producers);
+        let locked = LockedMailbox::new(alloc, mailbox, part, front.again(), seats)?;
+        mailboxes.push_reserved(Mutex::new(locked));
     }
     Ok(mailboxes)
 }
 
 // Room for what so many producers and consumers leave.
-fn make_papers(alloc: Global, producers: u8, shards: u8) -> Result<Papers, AllocError>
+fn make_papers<B: Naming>(alloc: Global, producers: u8, shards: u8) -> Result<Papers<B>, AllocError>
     ensures { IfOk result (λ p. ArePapers producers shards p) }
 {
     let (producers, shards) = (usize::from(producers), usize::from(shards));
@@ -119,20 +134,23 @@ fn copied(alloc: Global, closings: &[Vec<Closing>]) -> Result<Vec<Vec<Closing>>,
     Ok(copies)
 }
 
-/// All of a house that may be let go, for a house with this directory and of these sizes. An error
-/// where memory is refused.
-pub(crate) fn make_fittings(
+/// All of a house that may be let go, for a house with this directory and of these sizes, whose history begins
+/// so. An error where memory is refused.
+pub(crate) fn make_fittings<B: Naming>(
     alloc: Global,
     directory: &Directory,
     sizes: Sizes<'_>,
     guests: &[Guest],
-) -> Result<Fittings, AllocError>
+    parts: MailboxParts<B>,
+    front: &Front<B>,
+) -> Result<Fittings<B>, AllocError>
     requires ring { 0 < sizes.limits.ring }
+    requires parts { parts ≡ 0 }
     ensures fittings { IfOk result (λ f. AreFittings directory.now sizes.entry f) }
     ensures sleepers { IfOk result (λ f. vec_len f.sleepers ≡ length guests.now) }
 {
     let host = Vec::from_slice(alloc, sizes.host)?;
-    let mailboxes = make_mailboxes(alloc, directory.mailboxes(), sizes)?;
+    let mailboxes = make_mailboxes(alloc, directory.mailboxes(), sizes, parts, front)?;
     let Bells {
         parkers,
         consumers,
@@ -147,6 +165,7 @@ pub(crate) fn make_fittings(
         consumers,
         sessions,
         closings,
+        front: front.again(),
     };
     Ok(Fittings {
         interior,

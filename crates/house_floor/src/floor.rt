@@ -1,7 +1,7 @@
 //! What the threads share, and what is dealt to each of them. How it is made stands in `opening`.
 
 use crossbeam_utils::sync::Unparker;
-use delivery_token::{Job, Noted};
+use house_history::{Answer, Letter, Naming};
 use lane_work::{Consumed, Depot, Desk, Office, Stall, Worked};
 use settings::Step;
 use shard_queue::{Ended, SenderEnded};
@@ -9,11 +9,11 @@ use std::alloc::Global;
 
 /// What all threads share. It owns what it holds: a closure that captures a reference to a struct with
 /// borrows in it loses what is proved of its result.
-pub struct Floor {
+pub struct Floor<B: Naming> {
     /// What the producers share.
-    pub office: Office,
+    pub office: Office<B>,
     /// What the consumers share.
-    pub depot: Depot,
+    pub depot: Depot<B>,
     /// The bell of each shard's consumer, which the producers ring.
     pub bells: Vec<Unparker>,
     /// So many turns a session has at most where it awaits changes.
@@ -33,32 +33,32 @@ pub struct Guest {
 }
 
 /// A producer's desk, and room for what is left of its permits.
-pub struct Post {
+pub struct Post<B: Naming> {
     /// What the producer holds.
-    pub desk: Desk,
+    pub desk: Desk<B>,
     /// Room for what is left of its permit on each lane.
-    pub room: Vec<Ended<Job>>,
+    pub room: Vec<Ended<Letter<B>>>,
 }
 
 /// A consumer's stall, and room for what is left of its senders.
-pub struct Stand {
+pub struct Stand<B: Naming> {
     /// What the consumer holds.
-    pub stall: Stall,
+    pub stall: Stall<B>,
     /// Room for what is left of its permit on each reply channel.
-    pub room: Vec<SenderEnded<Noted>>,
+    pub room: Vec<SenderEnded<Answer<B>>>,
 }
 
 /// A stand for each shard and a post for each producer, first the workers' and then the sessions', and
 /// empty lists with room for what comes of them: nothing grows once a thread runs.
-pub struct Crew {
+pub struct Crew<B: Naming> {
     /// The stand of each shard, at its number.
-    pub stands: Vec<Stand>,
+    pub stands: Vec<Stand<B>>,
     /// The post of each producer, at its number.
-    pub posts: Vec<Post>,
+    pub posts: Vec<Post<B>>,
     /// For what each consumer leaves.
-    pub consumed: Vec<Consumed>,
+    pub consumed: Vec<Consumed<B>>,
     /// For what each producer leaves.
-    pub worked: Vec<Worked>,
+    pub worked: Vec<Worked<B>>,
     /// For posts that are never handed to a thread.
-    pub unmanned: Vec<Post>,
+    pub unmanned: Vec<Post<B>>,
 }

@@ -4,30 +4,31 @@ ghost use Rattle.std.specs.Prelude.{◌≡◌, ◌<◌, All, length, vec_len};
 ghost use Rattle.shard_queue.specs.Reply.{room_of, senders_of};
 ghost use Rattle.shard_queue.specs.Permits.{capacity_of, producers_of};
 ghost use Rattle.house_floor.specs.Crew.{IsCrew};
-ghost use Rattle.house_floor.specs.inner.Making.{AreCrewLists, AreFittings, AreStock, AreUndealt, IsHall};
+ghost use Rattle.house_floor.specs.inner.Making.{AreCrewLists, AreFittings, AreStock, AreUndealt, IsHall, IsWholeSeating};
 ghost use Rattle.house_floor.specs.Opening.{AreBaskets, IsFloor, reply_room};
 
 use crate::dealing::{Undealt, deal_out};
 use crate::fittings::{Fittings, Interior, Papers};
 use crate::floor::{Crew, Floor};
 use crate::opening::{Baskets, Opened, Sizes};
+use crate::seating::Seating;
 use crate::stock::{CrewLists, EndLists, Lists, Stock};
 use crossbeam_utils::sync::Parker;
-use delivery_token::{Job, Noted};
 use envelope::Directory;
+use house_history::{Answer, Letter, Naming};
 use lane_work::{Channels, Depot, Hands, Lanes, Office, PermitRooms, Rooms};
 use shard_queue::{Ended, ReplyChannel, SenderEnded, ShardQueue};
 use std::alloc::Global;
 
 // The floor of a house with this directory and of these sizes.
-fn lay_floor(
+fn lay_floor<B: Naming>(
     alloc: Global,
     directory: Directory,
     sizes: Sizes<'_>,
-    interior: Interior,
-    lanes: Vec<ShardQueue<Job>>,
-    channels: Vec<ReplyChannel<Noted>>,
-) -> Floor
+    interior: Interior<B>,
+    lanes: Vec<ShardQueue<Letter<B>>>,
+    channels: Vec<ReplyChannel<Answer<B>>>,
+) -> Floor<B>
     requires host { length sizes.host.now < 256 }
     requires interior { IsHall directory sizes interior }
     requires lanes { (vec_len lanes ≡ directory.shards)
@@ -51,6 +52,7 @@ fn lay_floor(
         mailboxes: interior.mailboxes,
         channels,
         sessions: interior.sessions,
+        front: interior.front,
     };
     Floor {
         office,
@@ -62,7 +64,13 @@ fn lay_floor(
 }
 
 // What is dealt to so many producers and consumers, and room for what comes of it.
-fn man(floor: &Floor, producers: u8, shards: u8, undealt: Undealt, lists: CrewLists) -> Crew
+fn man<B: Naming>(
+    floor: &Floor<B>,
+    producers: u8,
+    shards: u8,
+    undealt: Undealt<B>,
+    lists: CrewLists<B>,
+) -> Crew<B>
     requires lanes { (length floor.now.office.lanes.items ≡ shards)
         × All (λ q. producers_of q ≡ producers) floor.now.office.lanes.items }
     requires channels { (length floor.now.depot.channels.items ≡ producers)
@@ -113,22 +121,28 @@ fn parted<S, E>(rooms: PermitRooms<S, E>) -> (Hands<S>, Vec<Vec<E>>, Leavings<E>
 }
 
 // The queues, what is to be dealt of their permits, and room for what is left of these.
-struct Sorted {
-    lanes: Vec<ShardQueue<Job>>,
-    channels: Vec<ReplyChannel<Noted>>,
-    undealt: Undealt,
-    of_producers: Leavings<Ended<Job>>,
-    of_consumers: Leavings<SenderEnded<Noted>>,
+struct Sorted<B: Naming> {
+    lanes: Vec<ShardQueue<Letter<B>>>,
+    channels: Vec<ReplyChannel<Answer<B>>>,
+    undealt: Undealt<B>,
+    of_producers: Leavings<Ended<Letter<B>>>,
+    of_consumers: Leavings<SenderEnded<Answer<B>>>,
 }
 
 // Sorts what was made.
-fn sort_out(rooms: Rooms, lanes: Lanes, channels: Channels, parkers: Vec<Parker>) -> Sorted
+fn sort_out<B: Naming>(
+    rooms: Rooms<B>,
+    lanes: Lanes<B>,
+    channels: Channels<B>,
+    parkers: Vec<Parker>,
+    seating: Seating<B>,
+) -> Sorted<B>
     ensures lanes { (result.lanes ≡ lanes.queues) × (result.undealt.lane_permits ≡ lanes.permits)
         × (result.undealt.consumers ≡ lanes.consumers) }
     ensures channels { (result.channels ≡ channels.channels)
         × (result.undealt.channel_permits ≡ channels.permits)
         × (result.undealt.receivers ≡ channels.receivers) }
-    ensures parkers { result.undealt.parkers ≡ parkers }
+    ensures parkers { (result.undealt.parkers ≡ parkers) × (result.undealt.seating ≡ seating) }
     ensures rooms { (result.undealt.hands ≡ rooms.producers.permits)
         × (result.undealt.rooms ≡ rooms.producers.ended.each)
         × (result.undealt.sender_hands ≡ rooms.consumers.permits)
@@ -160,6 +174,7 @@ fn sort_out(rooms: Rooms, lanes: Lanes, channels: Channels, parkers: Vec<Parker>
         channel_permits,
         consumers,
         parkers,
+        seating,
         hands,
         rooms,
         sender_hands,
@@ -175,12 +190,12 @@ fn sort_out(rooms: Rooms, lanes: Lanes, channels: Channels, parkers: Vec<Parker>
 }
 
 // Room for what the threads leave.
-fn baskets_of(
-    producers: Leavings<Ended<Job>>,
-    consumers: Leavings<SenderEnded<Noted>>,
-    ends: EndLists,
-    papers: Papers,
-) -> Baskets
+fn baskets_of<B: Naming>(
+    producers: Leavings<Ended<Letter<B>>>,
+    consumers: Leavings<SenderEnded<Answer<B>>>,
+    ends: EndLists<B>,
+    papers: Papers<B>,
+) -> Baskets<B>
     ensures producers { (result.hands ≡ producers.hands) × (result.lists ≡ producers.lists) }
     ensures consumers { (result.sender_hands ≡ consumers.hands)
         × (result.sender_lists ≡ consumers.lists) }
@@ -217,16 +232,18 @@ fn baskets_of(
 }
 
 /// A house of all that was made for it. It takes no memory.
-pub(crate) fn put_together(
+pub(crate) fn put_together<B: Naming>(
     alloc: Global,
     directory: Directory,
     sizes: Sizes<'_>,
-    fittings: Fittings,
-    stock: Stock,
-) -> Opened
+    fittings: Fittings<B>,
+    stock: Stock<B>,
+    seating: Seating<B>,
+) -> Opened<B>
     requires host { length sizes.host.now < 256 }
     requires fittings { AreFittings directory sizes fittings }
     requires stock { AreStock sizes.producers directory.shards sizes.depth stock }
+    requires seating { IsWholeSeating seating }
     ensures floor { IsFloor directory sizes.entry result.floor }
     ensures sessions { length result.floor.depot.sessions.items ≡ length directory.homes }
     ensures crew { IsCrew result.floor sizes.entry.producers result.crew }
@@ -247,7 +264,7 @@ pub(crate) fn put_together(
         undealt,
         of_producers,
         of_consumers,
-    } = sort_out(rooms, lanes, channels, fittings.parkers);
+    } = sort_out(rooms, lanes, channels, fittings.parkers, seating);
     let floor = lay_floor(alloc, directory, sizes, fittings.interior, lanes, channels);
     let crew = man(&floor, producers, shards, undealt, crew);
     let baskets = baskets_of(of_producers, of_consumers, ends, fittings.papers);

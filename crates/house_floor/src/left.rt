@@ -4,6 +4,7 @@ ghost use Rattle.std.specs.Prelude.{◌≡◌};
 ghost use Rattle.house_floor.specs.Left.{most_of};
 
 use crate::floor::{Post, Stand};
+use house_history::Naming;
 use lane_work::{Consumed, Worked};
 
 /// How the threads were started.
@@ -19,12 +20,12 @@ pub enum Started {
 
 /// What the threads left, and what was never handed to one: consumers' stands, and producers' posts,
 /// which may have ended their permits on some lanes.
-pub struct Ran {
+pub struct Ran<B: Naming> {
     /// What the workers left, and behind them the sessions.
-    pub worked: Vec<Worked>,
-    pub consumed: Vec<Consumed>,
-    pub stands: Vec<Stand>,
-    pub posts: Vec<Post>,
+    pub worked: Vec<Worked<B>>,
+    pub consumed: Vec<Consumed<B>>,
+    pub stands: Vec<Stand<B>>,
+    pub posts: Vec<Post<B>>,
     pub started: Started,
 }
 

@@ -10,6 +10,7 @@ mod floor;
 mod joining;
 mod left;
 mod opening;
+mod seating;
 mod stock;
 mod users;
 

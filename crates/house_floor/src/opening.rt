@@ -10,9 +10,11 @@ ghost use Rattle.house_floor.specs.Users.{user_numbered};
 use crate::fittings::make_fittings;
 use crate::floor::{Crew, Floor, Guest};
 use crate::joining::put_together;
+use crate::seating::Seating;
 use crate::stock::{Spares, make_stock};
-use delivery_token::{Job, Noted, WorkerLog};
+use delivery_token::{Job, WorkerLog};
 use envelope::Directory;
+use house_history::{Answer, Letter, Naming};
 use lane_work::Closing;
 use mailbox::{History, Limits};
 use shard_queue::{Closed, ConsumerPermit, Ended, Entry, ReceiverPermit, ReplyClosed, SenderEnded};
@@ -48,19 +50,19 @@ pub struct Sizes<'a> {
 pub const MOST_PRODUCERS: usize = 255;
 
 /// Room for what the threads leave.
-pub struct Baskets {
+pub struct Baskets<B: Naming> {
     /// For each producer, what is left of its permits on the lanes.
-    pub hands: Vec<Vec<Ended<Job>>>,
+    pub hands: Vec<Vec<Ended<Letter<B>>>>,
     /// For each lane, the same.
-    pub lists: Vec<Vec<Ended<Job>>>,
+    pub lists: Vec<Vec<Ended<Letter<B>>>>,
     /// For each consumer, what is left of its permits on the reply channels.
-    pub sender_hands: Vec<Vec<SenderEnded<Noted>>>,
+    pub sender_hands: Vec<Vec<SenderEnded<Answer<B>>>>,
     /// For each channel, the same.
-    pub sender_lists: Vec<Vec<SenderEnded<Noted>>>,
+    pub sender_lists: Vec<Vec<SenderEnded<Answer<B>>>>,
     /// Each lane's consumer's end.
-    pub consumers: Vec<ConsumerPermit<Job>>,
+    pub consumers: Vec<ConsumerPermit<Letter<B>>>,
     /// Each producer's end of its reply channel.
-    pub receivers: Vec<ReceiverPermit<Noted>>,
+    pub receivers: Vec<ReceiverPermit<Answer<B>>>,
     /// For each producer, what it said: of a worker the replies to each connection, of a session one
     /// text.
     pub replies: Vec<Vec<Vec<u8>>>,
@@ -69,35 +71,38 @@ pub struct Baskets {
     /// For each consumer, the entries that it took.
     pub taken: Vec<Vec<Entry<Job>>>,
     /// For each lane, what was taken of it.
-    pub lanes: Vec<Closed<Job>>,
+    pub lanes: Vec<Closed<Letter<B>>>,
     /// For each reply channel, the same.
-    pub channels: Vec<ReplyClosed<Noted>>,
+    pub channels: Vec<ReplyClosed<Answer<B>>>,
     /// For all permits, where the run comes to nothing.
-    pub spares: Spares,
+    pub spares: Spares<B>,
 }
 
 /// A house that is ready to run.
-pub struct Opened {
+pub struct Opened<B: Naming> {
     /// What all its threads share.
-    pub floor: Floor,
+    pub floor: Floor<B>,
     /// What is dealt to each of them.
-    pub crew: Crew,
+    pub crew: Crew<B>,
     /// Room for what they leave.
-    pub baskets: Baskets,
+    pub baskets: Baskets<B>,
     /// The sessions' own ends of their bells, on which nobody waits yet.
     pub sleepers: Vec<Sleeper>,
 }
 
-/// Makes all that a run needs, in a house with this directory and of these sizes. The bells of a
-/// mailbox are those of its user's sessions.
+/// Makes all that a run needs, in a house with this directory and of these sizes, whose history was just opened: each mailbox has its
+/// part of it, and each producer a seat. The bells of a mailbox are those of its user's sessions.
 ///
 /// Errors: `AllocError` where memory is refused; nothing is left then.
-pub fn open(
+pub fn open<B: Naming>(
     alloc: Global,
+    history: house_history::Opened,
     directory: Directory,
     sizes: Sizes<'_>,
     guests: &[Guest],
-) -> Result<Opened, AllocError>
+) -> Result<Opened<B>, AllocError>
+    // The history is the one that goes by this name.
+    requires history { history ≡ B.book }
     requires depth { 0 < sizes.depth }
     requires host { length sizes.host.now < 256 }
     requires ring { 0 < sizes.limits.ring }
@@ -119,7 +124,13 @@ pub fn open(
         AreBaskets sizes.entry.producers directory.shards o.baskets) }
     ensures sleepers { IfOk result (λ o. vec_len o.sleepers ≡ length guests.now) }
 {
-    let fittings = make_fittings(alloc, &directory, sizes, guests)?;
+    let (front, parts, seats, tickets) = history.named::<B>();
+    let fittings = make_fittings(alloc, &directory, sizes, guests, parts, &front)?;
     let stock = make_stock(alloc, sizes.producers, directory.shards(), sizes.depth)?;
-    Ok(put_together(alloc, directory, sizes, fittings, stock))
+    let seating = Seating {
+        seats,
+        tickets,
+        front,
+    };
+    Ok(put_together(alloc, directory, sizes, fittings, stock, seating))
 }

@@ -7,7 +7,8 @@ ghost use Rattle.house_floor.specs.inner.Making.{AreEmptyLists, AreLists, AreSto
 ghost use Rattle.house_floor.specs.Opening.{AreNoSpares, AreSpares};
 
 use crate::floor::{Post, Stand};
-use delivery_token::{Job, Noted, REPLY_ROOM};
+use delivery_token::REPLY_ROOM;
+use house_history::{Answer, Letter, Naming};
 use lane_work::{
     Channels, Consumed, Lanes, Rooms, Worked, abandon_lanes, make_channels, make_lanes, make_rooms,
     spend_rooms,
@@ -18,44 +19,44 @@ use shard_queue::{
 use std::alloc::{AllocError, Global};
 
 /// Empty lists for what the threads are given, and for what comes of them.
-pub(crate) struct CrewLists {
+pub(crate) struct CrewLists<B: Naming> {
     /// For a stand for each consumer.
-    pub(crate) stands: Vec<Stand>,
+    pub(crate) stands: Vec<Stand<B>>,
     /// For a post for each producer.
-    pub(crate) posts: Vec<Post>,
+    pub(crate) posts: Vec<Post<B>>,
     /// For what each consumer leaves.
-    pub(crate) consumed: Vec<Consumed>,
+    pub(crate) consumed: Vec<Consumed<B>>,
     /// For what each producer leaves.
-    pub(crate) worked: Vec<Worked>,
+    pub(crate) worked: Vec<Worked<B>>,
     /// For posts that are never handed to a thread.
-    pub(crate) unmanned: Vec<Post>,
+    pub(crate) unmanned: Vec<Post<B>>,
 }
 
 /// Empty lists for the ends of the queues.
-pub(crate) struct EndLists {
+pub(crate) struct EndLists<B: Naming> {
     /// For each consumer's end of its lane.
-    pub(crate) consumers: Vec<ConsumerPermit<Job>>,
+    pub(crate) consumers: Vec<ConsumerPermit<Letter<B>>>,
     /// For each producer's end of its reply channel.
-    pub(crate) receivers: Vec<ReceiverPermit<Noted>>,
-    pub(crate) spares: Spares,
+    pub(crate) receivers: Vec<ReceiverPermit<Answer<B>>>,
+    pub(crate) spares: Spares<B>,
 }
 
 /// Room for all permits of a house at once, and for what is left of them: a run that comes to nothing
 /// gives them back in whatever state they are.
-pub struct Spares {
+pub struct Spares<B: Naming> {
     /// For the producers' permits on all lanes.
-    pub permits: Vec<ProducerPermit<Job>>,
+    pub permits: Vec<ProducerPermit<Letter<B>>>,
     /// For what is left of them.
-    pub ended: Vec<Ended<Job>>,
+    pub ended: Vec<Ended<Letter<B>>>,
     /// For the consumers' permits on all reply channels.
-    pub senders: Vec<SenderPermit<Noted>>,
+    pub senders: Vec<SenderPermit<Answer<B>>>,
     /// For what is left of them.
-    pub senders_ended: Vec<SenderEnded<Noted>>,
+    pub senders_ended: Vec<SenderEnded<Answer<B>>>,
 }
 
-impl Spares {
+impl<B: Naming> Spares<B> {
     // No room. It takes no memory.
-    fn new(alloc: Global) -> Spares
+    fn new(alloc: Global) -> Spares<B>
         ensures { AreNoSpares result }
     {
         Spares {
@@ -97,14 +98,14 @@ impl Spares {
 }
 
 /// All of them.
-pub(crate) struct Lists {
-    pub(crate) crew: CrewLists,
-    pub(crate) ends: EndLists,
+pub(crate) struct Lists<B: Naming> {
+    pub(crate) crew: CrewLists<B>,
+    pub(crate) ends: EndLists<B>,
 }
 
-impl Lists {
+impl<B: Naming> Lists<B> {
     // Lists with no room. It takes no memory.
-    fn new(alloc: Global) -> Lists
+    fn new(alloc: Global) -> Lists<B>
         ensures { AreEmptyLists result }
     {
         let crew = CrewLists {
@@ -170,7 +171,7 @@ impl Lists {
 
 // The lists for so many producers and consumers. An error where memory is refused; nothing is left
 // then.
-fn make_lists(alloc: Global, producers: u8, shards: u8) -> Result<Lists, AllocError>
+fn make_lists<B: Naming>(alloc: Global, producers: u8, shards: u8) -> Result<Lists<B>, AllocError>
     ensures { IfOk result (λ lists. AreLists producers shards lists) }
 {
     let mut lists = Lists::new(alloc);
@@ -184,21 +185,21 @@ fn make_lists(alloc: Global, producers: u8, shards: u8) -> Result<Lists, AllocEr
 }
 
 /// All of a house that can't be let go, before anything is dealt.
-pub(crate) struct Stock {
-    pub(crate) rooms: Rooms,
-    pub(crate) lists: Lists,
-    pub(crate) lanes: Lanes,
-    pub(crate) channels: Channels,
+pub(crate) struct Stock<B: Naming> {
+    pub(crate) rooms: Rooms<B>,
+    pub(crate) lists: Lists<B>,
+    pub(crate) lanes: Lanes<B>,
+    pub(crate) channels: Channels<B>,
 }
 
 /// All that can't be let go of a house with so many producers and shards, whose lanes have room for
 /// `depth` entries. An error where memory is refused; nothing is left then.
-pub(crate) fn make_stock(
+pub(crate) fn make_stock<B: Naming>(
     alloc: Global,
     producers: u8,
     shards: u8,
     depth: usize,
-) -> Result<Stock, AllocError>
+) -> Result<Stock<B>, AllocError>
     requires { 0 < depth }
     ensures { IfOk result (λ stock. AreStock producers shards depth stock) }
 {

@@ -26,15 +26,15 @@ use Rattle.reckoning.specs.Produced.{SessionAccount}
 use Rattle.house_threads.specs.inner.Crew.{HasLived}
 
 -- books of the same desk, by its own number and serial
-same_books : (office now : Office) (desk : Desk) (seat serial : ℕ) (notes : List Noted) (carried : List Carried) → now ≡ office → desk.number ≡ seat → serial ≡ 0
+same_books : {B : Type 0} (office now : Office B) (desk : Desk B) (seat serial : ℕ) (notes : List Noted) (carried : List Carried) → now ≡ office → desk.number ≡ seat → serial ≡ 0
     → HasCarried now desk serial (notes_tell notes) carried
     → AreBooksOf office.directory (rooms_of office.lanes.items) seat (map (judged_of seat 0) carried) (notes_tell notes) (received desk.receiver) (map put_by desk.permits.items)
 same_books office now desk seat serial notes carried there own first books =
-    subst (λ (o : Office). AreBooksOf o.directory (rooms_of o.lanes.items) seat (map (judged_of seat 0) carried) (notes_tell notes) (received desk.receiver) (map put_by desk.permits.items)) there
+    subst (λ (o : Office _). AreBooksOf o.directory (rooms_of o.lanes.items) seat (map (judged_of seat 0) carried) (notes_tell notes) (received desk.receiver) (map put_by desk.permits.items)) there
     (subst (λ (n : ℕ). AreBooksOf now.directory (rooms_of now.lanes.items) n (map (judged_of n 0) carried) (notes_tell notes) (received desk.receiver) (map put_by desk.permits.items)) own
     (subst (λ (s : ℕ). AreBooksOf now.directory (rooms_of now.lanes.items) desk.number (map (judged_of desk.number s) carried) (notes_tell notes) (received desk.receiver) (map put_by desk.permits.items)) first books))
 
-pub session_account : (floor : Floor) (now : Office) (desk : Desk) (seat serial : ℕ) (guest : Guest) (user : List ℕ) (selection : LockedStore) (carried : List Carried) (text : List ℕ) (replies : List (List ℕ)) (notes kept : List Noted)
+pub session_account : {B : Type 0} (floor : Floor B) (now : Office B) (desk : Desk B) (seat serial : ℕ) (guest : Guest) (user : List ℕ) (selection : LockedStore) (carried : List Carried) (text : List ℕ) (replies : List (List ℕ)) (notes kept : List Noted)
     (hears : List (Entry Noted)) (after : List (List (Entry Job)))
     → now ≡ floor.office → desk.number ≡ seat → serial ≡ 0 → kept ≡ notes
     → user_numbered guest.user floor.office.directory.homes ≡ Some user → selection ≡ record { mailboxes = length floor.depot.mailboxes.items; entered = None }

@@ -1,5 +1,5 @@
 -- A life that was led with what lies at one's own position.
-use Rattle.std.proofs.Common.{◌≡◌, ◌<◌, ◌∙◌, ℕ, arith, sym, ap, subst, List, [], All, Option, None, Some, IfSome, Vec, map, length, slice_get, slice_index_or}
+use Rattle.std.proofs.Common.{◌≡◌, ◌≤◌, ◌<◌, ◌+◌, ◌∷◌, ◌∙◌, ℕ, zero, suc, arith, sym, ap, subst, List, [], All, Option, None, Some, IfSome, Vec, map, length, slice_get, slice_index_or}
 use Rattle.std.specs.Global.{Global}
 use Rattle.delivery_token.specs.declared.Job.{Job}
 use Rattle.delivery_token.specs.declared.log.Noted.{Noted}
@@ -21,11 +21,12 @@ use Rattle.house_floor.specs.declared.floor.Guest.{Guest}
 use Rattle.lane_work.specs.Consuming.{IsConsumed}
 use Rattle.house_floor.specs.declared.floor.Floor.{Floor}
 use Rattle.house_floor.specs.Left.{IsServiceOf, Plans}
-use Rattle.reckoning.specs.Produced.{IsProduceOf}
+use Rattle.house_threads.specs.inner.Crew.{IsAttended}
+use Rattle.reckoning.specs.Produced.{IsProduceOf, SessionAccount}
 use Rattle.house_floor.proofs.Finding.{found_at}
 
 -- what a worker at its position left
-pub work_of : (floor : Floor) (plans : Plans) (guests : List Guest) (i n number : ℕ) (c : ReplyChannel Noted) (p : Vec (Vec ℕ Global) Global) (bytes : List (Vec ℕ Global)) (w : Worked)
+pub work_of : {B : Type 0} (floor : Floor B) (plans : Plans) (guests : List Guest) (i n number : ℕ) (c : ReplyChannel Noted) (p : Vec (Vec ℕ Global) Global) (bytes : List (Vec ℕ Global)) (w : Worked B)
     → i ≡ n → n < length plans → number ≡ n → bytes ≡ (slice_index_or plans i p).items
     → IsWorked floor.office (slice_index_or floor.depot.channels.items i c) number (map (λ b. b.items) bytes) w → (w.fate ≡ Whole → verdicts_in (received w.receiver) ≡ copies_in (map said w.ended.items))
     → IsProduceOf floor plans guests n w
@@ -42,8 +43,31 @@ work_of floor plans guests i n number c p bytes w same under of are worked only 
       session = λ k guest behind at whole. absurd (omega (arith, under, behind));
     }
 
+-- nothing stands beyond a list's end
+beyond : {A : Type 0} (xs : List A) (n : ℕ) (x : A) → length xs ≤ n → slice_get xs n ≡ Some x → ⊥
+beyond {A} [] n x least at = (let e : ◌≡◌ {A = Option A} None (Some x) = at in absurd cc)
+beyond (y ∷ ys) zero x least at = absurd (omega (arith, least))
+beyond (y ∷ ys) (suc n) x least at = beyond ys n x (omega (arith, least)) at
+
+-- what a session at its position left, behind the workers
+pub attended_of : {B : Type 0} (floor : Floor B) (plans : Plans) (guests : List Guest) (i n s seat : ℕ) (c : ReplyChannel Noted) (g : Guest) (w : Worked B)
+    → i ≡ n → length plans ≤ n → s + length plans ≡ n → seat ≡ n → g ≡ slice_index_or guests s g
+    → IsAttended floor (slice_index_or floor.depot.channels.items i c) seat g w → IsProduceOf floor plans guests n w
+attended_of floor plans guests i n s seat c g w same behind counts of is attended =
+    let own = subst (λ (x : ℕ). IsAttended floor (slice_index_or floor.depot.channels.items i c) x g w) of attended in
+    record {
+      ended = own.0;
+      receiver = λ channel at. subst (λ (x : ReplyChannel Noted). IsReceiver x w.receiver) (found_at floor.depot.channels.items i n c channel same at) own.1;
+      seat = own.2;
+      only = own.3;
+      worker = λ plan at whole. absurd (beyond plans n plan behind at);
+      session = λ k guest here at whole.
+          subst (λ (x : Guest). SessionAccount (premises_of floor.office) (length floor.depot.mailboxes.items) floor.turns n x (map (λ b. b.items) w.replies.items) w.log.notes (received w.receiver) (map said w.ended.items))
+          (is ∙ found_at guests s k g guest (omega (arith, counts, here)) at) (own.4 whole);
+    }
+
 -- what is left of a producer that stood down
-pub stood_down : (floor : Floor) (plans : Plans) (guests : List Guest) (n number : ℕ) (receiver : ReceiverPermit Noted) (w r : Worked)
+pub stood_down : {B : Type 0} (floor : Floor B) (plans : Plans) (guests : List Guest) (n number : ℕ) (receiver : ReceiverPermit Noted) (w r : Worked B)
     → number ≡ n → r ≡ w → AreEnded floor.office.lanes.items number w.ended.items → w.receiver ≡ receiver → w.log.seat ≡ number → w.fate ≡ NotBegun
     → ((channel : ReplyChannel Noted) → slice_get floor.depot.channels.items n ≡ Some channel → IsReceiver channel receiver)
     → IsProduceOf floor plans guests n r
@@ -58,7 +82,7 @@ stood_down floor plans guests n number receiver w r of is ended same seat fate h
       session = λ k guest behind at whole. absurd (not_whole whole);
     })
 
-pub service_of : (floor : Floor) (i n shard : ℕ) (q : ShardQueue Job) (before : List (List (Entry Noted))) (c r : Consumed)
+pub service_of : {B : Type 0} (floor : Floor B) (i n shard : ℕ) (q : ShardQueue Job) (before : List (List (Entry Noted))) (c r : Consumed B)
     → i ≡ n → shard ≡ n → r ≡ c → All (λ e. e ≡ []) before → IsConsumed (slice_index_or floor.office.lanes.items i q) floor.depot shard before c → IsServiceOf floor n r
 service_of floor i n shard q before c r same of is fresh consumed = record {
   each = λ lane at. (

@@ -12,6 +12,7 @@ ghost use Rattle.house_floor.specs.Left.{IsPostLeft};
 
 use delivery_token::WorkerLog;
 use house_floor::{Post, Stand};
+use house_history::Naming;
 use lane_work::{
     Consumed, Depot, Desk, Fate, Office, Stall, Summons, Worked, end_all, end_permit, end_senders,
 };
@@ -22,14 +23,14 @@ use workers_sync::{Gate, Pace};
 /// A producer that has no thread: it ends its permit on each lane, and hears nothing. To wait for the ends
 /// of its channel would be to wait for ever: they come when each producer's permits have ended, and this
 /// thread ends those of the producers behind it.
-pub(crate) fn stand_down<R: Wait, G: Gate, S: Summons>(
+pub(crate) fn stand_down<B: Naming, R: Wait, G: Gate, S: Summons>(
     rt: &R,
     alloc: Global,
     pace: &mut Pace<'_, G>,
-    office: &Office,
+    office: &Office<B>,
     summons: &S,
-    post: Post,
-) -> Worked
+    post: Post<B>,
+) -> Worked<B>
     requires permits { ArePermits office.now.lanes.items post.desk.number post.desk.permits.items }
     requires room { (post.room.items ≡ [])
         × (length office.now.lanes.items ≤ vec_capacity post.room) }
@@ -44,6 +45,7 @@ pub(crate) fn stand_down<R: Wait, G: Gate, S: Summons>(
         permits,
         receiver,
         ends: _,
+        dispatch,
     } = desk;
     let log = WorkerLog::new(alloc, number);
     let ended = end_all(rt, pace, office, summons, number, permits, room);
@@ -52,18 +54,19 @@ pub(crate) fn stand_down<R: Wait, G: Gate, S: Summons>(
         receiver,
         replies: Vec::new(alloc),
         log,
+        dispatch,
         fate: Fate::NotBegun,
     }
 }
 
 /// A consumer that has no thread: it takes nothing, and ends its sender on each channel.
-pub(crate) fn step_aside<R: Wait, G: Gate>(
+pub(crate) fn step_aside<B: Naming, R: Wait, G: Gate>(
     rt: &R,
     alloc: Global,
     pace: &mut Pace<'_, G>,
-    depot: &Depot,
-    stand: Stand,
-) -> Consumed
+    depot: &Depot<B>,
+    stand: Stand<B>,
+) -> Consumed<B>
     requires senders { AreSenders depot.now.channels.items stand.stall.shard
         stand.stall.senders.items }
     requires room { (stand.room.items ≡ [])
@@ -91,14 +94,14 @@ pub(crate) fn step_aside<R: Wait, G: Gate>(
 
 /// A producer that isn't to begin: it ends its permits on the first lanes, whose consumers run, and keeps
 /// the others.
-pub(crate) fn end_first<R: Wait, G: Gate, S: Summons>(
+pub(crate) fn end_first<B: Naming, R: Wait, G: Gate, S: Summons>(
     rt: &R,
     pace: &mut Pace<'_, G>,
-    office: &Office,
+    office: &Office<B>,
     summons: &S,
-    post: Post,
+    post: Post<B>,
     manned: usize,
-) -> Post
+) -> Post<B>
     requires permits { ArePermits office.now.lanes.items post.desk.number post.desk.permits.items }
     requires room { (post.room.items ≡ [])
         × (length office.now.lanes.items ≤ vec_capacity post.room) }
@@ -111,6 +114,7 @@ pub(crate) fn end_first<R: Wait, G: Gate, S: Summons>(
         mut permits,
         receiver,
         ends,
+        dispatch,
     } = desk;
     for lane in 0..manned {
         let permit = permits.remove(0);
@@ -123,6 +127,7 @@ pub(crate) fn end_first<R: Wait, G: Gate, S: Summons>(
             permits,
             receiver,
             ends,
+            dispatch,
         },
         room,
     }

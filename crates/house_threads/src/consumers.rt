@@ -9,6 +9,7 @@ ghost use Rattle.house_threads.specs.inner.Crew.{IsKept};
 use crate::aside::step_aside;
 use crate::parcels::{Manned, mark, packed};
 use house_floor::{Floor, Stand};
+use house_history::Naming;
 use lane_work::{Consumed, consume};
 use std::mem::ManuallyDrop;
 use std::sync::Wait;
@@ -18,15 +19,15 @@ use std::thread::{Promise, Threads};
 use workers_sync::{Actor, Gate, Pace};
 
 /// What the thread of this shard's consumer is to return: what a consumer's life there leaves.
-#[derive(Clone, Copy)]
-pub struct Serves<'a> {
+#[derive_where(Clone, Copy)]
+pub struct Serves<'a, B: Naming> {
     /// What all threads share.
-    pub floor: &'a Floor,
+    pub floor: &'a Floor<B>,
     /// The number of its shard, from 0.
     pub shard: u8,
 }
 
-impl<'a> Promise<ManuallyDrop<Consumed>> for Serves<'a> {
+impl<'a, B: Naming> Promise<ManuallyDrop<Consumed<B>>> for Serves<'a, B> {
     ghost use Rattle.std.specs.Mem.{manually_drop_value};
     ghost use Rattle.house_floor.specs.Left.{IsServiceOf};
 
@@ -35,20 +36,20 @@ impl<'a> Promise<ManuallyDrop<Consumed>> for Serves<'a> {
 
 /// A consumer's thread, or what came of its consumer where there is none.
 #[derive(Drop)]
-pub(crate) enum Kept<'a> {
-    There(thread::PromisedHandle<ManuallyDrop<Consumed>, Serves<'a>>),
-    Here(ManuallyDrop<Consumed>),
+pub(crate) enum Kept<'a, B: Naming> {
+    There(thread::PromisedHandle<ManuallyDrop<Consumed<B>>, Serves<'a, B>>),
+    Here(ManuallyDrop<Consumed<B>>),
 }
 
 // A consumer's life, in a thread of its own; where no thread is to be had it steps aside.
-fn consume_there<R: Wait, G: Gate>(
+fn consume_there<B: Naming, R: Wait, G: Gate>(
     rt: &R,
-    floor: &Floor,
+    floor: &Floor<B>,
     gate: &G,
     shard: u8,
-    stand: ManuallyDrop<Stand>,
+    stand: ManuallyDrop<Stand<B>>,
     manned: &Manned,
-) -> ManuallyDrop<Consumed>
+) -> ManuallyDrop<Consumed<B>>
     requires shard { shard < length floor.now.office.lanes.items }
     requires stand { IsStand floor.now shard (manually_drop_value stand) }
     ensures { IsServiceOf floor.now shard (manually_drop_value result) }
@@ -75,15 +76,15 @@ fn consume_there<R: Wait, G: Gate>(
 
 // Starts a consumer's thread. Where none can be made, no consumer from here on begins, and its senders
 // are ended here.
-fn start_consumer<'s, E, R: Threads + Wait + Sync, G: Gate + Sync>(
+fn start_consumer<'s, E, B: Naming + Send + Sync, R: Threads + Wait + Sync, G: Gate + Sync>(
     scope: &thread::Scope<'s, E>,
     rt: &'s R,
-    floor: &'s Floor,
+    floor: &'s Floor<B>,
     gate: &'s G,
     shard: u8,
-    stand: Stand,
+    stand: Stand<B>,
     manned: &'s Manned,
-) -> Kept<'s>
+) -> Kept<'s, B>
     requires shard { shard < length floor.now.office.lanes.items }
     requires stand { IsStand floor.now shard stand }
     ensures { IsKept floor.now shard result }
@@ -113,15 +114,21 @@ fn first_without(first: usize, position: usize, is_there: bool) -> usize
 
 /// Starts a thread for each consumer, in their order, and says how many have one before the first that
 /// has none.
-pub(crate) fn start_consumers<'s, E, R: Threads + Wait + Sync, G: Gate + Sync>(
+pub(crate) fn start_consumers<
+    's,
+    E,
+    B: Naming + Send + Sync,
+    R: Threads + Wait + Sync,
+    G: Gate + Sync,
+>(
     scope: &thread::Scope<'s, E>,
     rt: &'s R,
-    floor: &'s Floor,
+    floor: &'s Floor<B>,
     gate: &'s G,
-    mut stands: Vec<Stand>,
-    mut kept: Vec<Kept<'s>>,
+    mut stands: Vec<Stand<B>>,
+    mut kept: Vec<Kept<'s, B>>,
     manned: &'s Manned,
-) -> (Vec<Kept<'s>>, usize)
+) -> (Vec<Kept<'s, B>>, usize)
     requires few { length floor.now.office.lanes.items < 256 }
     requires stands { AllAt (IsStand floor.now) 0 stands.items
         × (vec_len stands ≡ length floor.now.office.lanes.items) }
@@ -142,7 +149,7 @@ pub(crate) fn start_consumers<'s, E, R: Threads + Wait + Sync, G: Gate + Sync>(
     (kept, first)
 }
 
-fn join_consumer<R: Threads>(rt: &R, floor: &Floor, kept: Kept<'_>) -> Consumed
+fn join_consumer<B: Naming, R: Threads>(rt: &R, floor: &Floor<B>, kept: Kept<'_, B>) -> Consumed<B>
     ensures { (n : ℕ) → IsKept floor.now n kept.entry → IsServiceOf floor.now n result }
 {
     match kept {
@@ -152,12 +159,12 @@ fn join_consumer<R: Threads>(rt: &R, floor: &Floor, kept: Kept<'_>) -> Consumed
 }
 
 /// Waits for each consumer's end.
-pub(crate) fn join_consumers<R: Threads>(
+pub(crate) fn join_consumers<B: Naming, R: Threads>(
     rt: &R,
-    floor: &Floor,
-    kept: Vec<Kept<'_>>,
-    mut consumed: Vec<Consumed>,
-) -> Vec<Consumed>
+    floor: &Floor<B>,
+    kept: Vec<Kept<'_, B>>,
+    mut consumed: Vec<Consumed<B>>,
+) -> Vec<Consumed<B>>
     requires kept { AllAt (IsKept floor.now) 0 kept.items }
     requires room { (consumed.items ≡ []) × (vec_len kept ≤ vec_capacity consumed) }
     ensures consumed { AllAt (IsServiceOf floor.now) 0 result.items }

@@ -11,6 +11,7 @@ use crate::aside::stand_down;
 use crate::parcels::{Manned, mark, packed};
 use crate::sessions::attend;
 use house_floor::{Floor, Guest, Post};
+use house_history::Naming;
 use lane_work::{Context, Worked, work};
 use std::mem::ManuallyDrop;
 use std::sync::Wait;
@@ -21,10 +22,10 @@ use workers_sync::{Actor, Gate, Pace};
 
 /// What the thread of this producer is to return: what a worker's life with its connections leaves, or, behind the workers, what a
 /// session's life with its steps does.
-#[derive(Clone, Copy)]
-pub struct Produces<'a> {
+#[derive_where(Clone, Copy)]
+pub struct Produces<'a, B: Naming> {
     /// What all threads share.
-    pub floor: &'a Floor,
+    pub floor: &'a Floor<B>,
     /// For each worker, for each of its connections, the bytes that come.
     pub plans: &'a [Vec<Vec<u8>>],
     /// The sessions, whose numbers follow the workers'.
@@ -33,7 +34,7 @@ pub struct Produces<'a> {
     pub number: u8,
 }
 
-impl<'a> Promise<ManuallyDrop<Worked>> for Produces<'a> {
+impl<'a, B: Naming> Promise<ManuallyDrop<Worked<B>>> for Produces<'a, B> {
     ghost use Rattle.std.specs.Mem.{manually_drop_value};
     ghost use Rattle.reckoning.specs.Produced.{IsProduceOf};
 
@@ -42,9 +43,9 @@ impl<'a> Promise<ManuallyDrop<Worked>> for Produces<'a> {
 
 /// A producer's thread, or what came of it where there is none.
 #[derive(Drop)]
-pub(crate) enum Hired<'a> {
-    There(thread::PromisedHandle<ManuallyDrop<Worked>, Produces<'a>>),
-    Here(ManuallyDrop<Worked>),
+pub(crate) enum Hired<'a, B: Naming> {
+    There(thread::PromisedHandle<ManuallyDrop<Worked<B>>, Produces<'a, B>>),
+    Here(ManuallyDrop<Worked<B>>),
 }
 
 /// Who a producer is at the gate, behind so many workers.
@@ -58,15 +59,15 @@ pub(crate) fn actor_of(workers: usize, number: u8) -> Actor {
 }
 
 // A worker's life.
-fn work_at<R: Wait, G: Gate>(
+fn work_at<B: Naming, R: Wait, G: Gate>(
     rt: &R,
-    floor: &Floor,
+    floor: &Floor<B>,
     gate: &G,
     plans: &[Vec<Vec<u8>>],
     guests: &[Guest],
     number: u8,
-    post: Post,
-) -> Worked
+    post: Post<B>,
+) -> Worked<B>
     requires house { IsHouse floor.now (length plans.now + length guests.now) }
     requires number { number < length plans.now }
     requires post { IsPost floor.now number post }
@@ -86,15 +87,15 @@ fn work_at<R: Wait, G: Gate>(
 }
 
 // A session's life.
-fn attend_at<R: Wait, G: Gate>(
+fn attend_at<B: Naming, R: Wait, G: Gate>(
     rt: &R,
-    floor: &Floor,
+    floor: &Floor<B>,
     gate: &G,
     plans: &[Vec<Vec<u8>>],
     guests: &[Guest],
     number: u8,
-    post: Post,
-) -> Worked
+    post: Post<B>,
+) -> Worked<B>
     requires house { IsHouse floor.now (length plans.now + length guests.now) }
     requires guests { AreGuests floor.now guests.now }
     requires behind { length plans.now ≤ number }
@@ -116,16 +117,16 @@ fn attend_at<R: Wait, G: Gate>(
 }
 
 // A producer's life, in a thread of its own; where no thread is to be had it stands down.
-fn produce_there<R: Wait, G: Gate>(
+fn produce_there<B: Naming, R: Wait, G: Gate>(
     rt: &R,
-    floor: &Floor,
+    floor: &Floor<B>,
     gate: &G,
     plans: &[Vec<Vec<u8>>],
     guests: &[Guest],
     number: u8,
-    post: ManuallyDrop<Post>,
+    post: ManuallyDrop<Post<B>>,
     manned: &Manned,
-) -> ManuallyDrop<Worked>
+) -> ManuallyDrop<Worked<B>>
     requires house { IsHouse floor.now (length plans.now + length guests.now) }
     requires guests { AreGuests floor.now guests.now }
     requires number { number < length plans.now + length guests.now }
@@ -147,17 +148,17 @@ fn produce_there<R: Wait, G: Gate>(
 
 // Starts a producer's thread. Where none can be made, no producer from here on begins, and its permits are
 // ended here.
-fn start_producer<'s, E, R: Threads + Wait + Sync, G: Gate + Sync>(
+fn start_producer<'s, E, B: Naming + Send + Sync, R: Threads + Wait + Sync, G: Gate + Sync>(
     scope: &thread::Scope<'s, E>,
     rt: &'s R,
-    floor: &'s Floor,
+    floor: &'s Floor<B>,
     gate: &'s G,
     plans: &'s [Vec<Vec<u8>>],
     guests: &'s [Guest],
     number: u8,
-    post: Post,
+    post: Post<B>,
     manned: &'s Manned,
-) -> Hired<'s>
+) -> Hired<'s, B>
     requires house { IsHouse floor.now (length plans.now + length guests.now) }
     requires guests { AreGuests floor.now guests.now }
     requires number { number < length plans.now + length guests.now }
@@ -183,17 +184,23 @@ fn start_producer<'s, E, R: Threads + Wait + Sync, G: Gate + Sync>(
 }
 
 /// Starts a thread for each producer, in their order, and says whether all could be made.
-pub(crate) fn start_producers<'s, E, R: Threads + Wait + Sync, G: Gate + Sync>(
+pub(crate) fn start_producers<
+    's,
+    E,
+    B: Naming + Send + Sync,
+    R: Threads + Wait + Sync,
+    G: Gate + Sync,
+>(
     scope: &thread::Scope<'s, E>,
     rt: &'s R,
-    floor: &'s Floor,
+    floor: &'s Floor<B>,
     gate: &'s G,
     plans: &'s [Vec<Vec<u8>>],
     guests: &'s [Guest],
-    mut posts: Vec<Post>,
-    mut hired: Vec<Hired<'s>>,
+    mut posts: Vec<Post<B>>,
+    mut hired: Vec<Hired<'s, B>>,
     manned: &'s Manned,
-) -> (Vec<Hired<'s>>, bool)
+) -> (Vec<Hired<'s, B>>, bool)
     requires house { IsHouse floor.now (length plans.now + length guests.now) }
     requires guests { AreGuests floor.now guests.now }
     requires posts { AllAt (IsPost floor.now) 0 posts.items
@@ -215,13 +222,13 @@ pub(crate) fn start_producers<'s, E, R: Threads + Wait + Sync, G: Gate + Sync>(
     (hired, all)
 }
 
-fn join_producer<R: Threads>(
+fn join_producer<B: Naming, R: Threads>(
     rt: &R,
-    floor: &Floor,
+    floor: &Floor<B>,
     plans: &[Vec<Vec<u8>>],
     guests: &[Guest],
-    hired: Hired<'_>,
-) -> Worked
+    hired: Hired<'_, B>,
+) -> Worked<B>
     ensures { (n : ℕ) → IsHired floor.now plans.now guests.now n hired.entry
         → IsProduceOf floor.now plans.now guests.now n result }
 {
@@ -232,14 +239,14 @@ fn join_producer<R: Threads>(
 }
 
 /// Waits for each producer's end.
-pub(crate) fn join_producers<R: Threads>(
+pub(crate) fn join_producers<B: Naming, R: Threads>(
     rt: &R,
-    floor: &Floor,
+    floor: &Floor<B>,
     plans: &[Vec<Vec<u8>>],
     guests: &[Guest],
-    hired: Vec<Hired<'_>>,
-    mut worked: Vec<Worked>,
-) -> Vec<Worked>
+    hired: Vec<Hired<'_, B>>,
+    mut worked: Vec<Worked<B>>,
+) -> Vec<Worked<B>>
     requires hired { AllAt (IsHired floor.now plans.now guests.now) 0 hired.items }
     requires room { (worked.items ≡ []) × (vec_len hired ≤ vec_capacity worked) }
     ensures worked { AllAt (IsProduceOf floor.now plans.now guests.now) 0 result.items }

@@ -3,7 +3,7 @@
 
 ghost use Rattle.std.specs.Prelude.{ℕ, ◌≡◌, ◌≤◌, ◌<◌, ◌+◌, [], All, IfOk, length, vec_len, vec_capacity};
 ghost use Rattle.std.specs.Mem.{manually_drop_value};
-ghost use Rattle.std.specs.Thread.{IsSync};
+ghost use Rattle.std.specs.Thread.{IsSend, IsSync};
 ghost use Rattle.house_floor.specs.Crew.{AllAt, AreGuests, IsCrew, IsHouse, IsPost};
 ghost use Rattle.house_floor.specs.declared.floor.Floor.{Floor};
 ghost use Rattle.house_floor.specs.Left.{IsPostLeft, IsServiceOf, IsSpendable, LeavesAll};
@@ -14,6 +14,7 @@ use crate::consumers::{Kept, join_consumers, start_consumers};
 use crate::parcels::{Manned, packed};
 use crate::producers::{Hired, actor_of, join_producers, start_producers};
 use house_floor::{Crew, Floor, Guest, Post, Ran, Stand, Started};
+use house_history::Naming;
 use lane_work::{Consumed, Worked};
 use std::alloc::{AllocError, Global};
 use std::mem::ManuallyDrop;
@@ -24,15 +25,15 @@ use std::thread::Threads;
 use workers_sync::{Gate, Pace};
 
 // No producer is to begin: ends their permits on the lanes whose consumers run.
-fn end_posts<R: Wait, G: Gate>(
+fn end_posts<B: Naming, R: Wait, G: Gate>(
     rt: &R,
-    floor: &Floor,
+    floor: &Floor<B>,
     gate: &G,
     workers: usize,
-    mut posts: Vec<Post>,
-    mut unmanned: Vec<Post>,
+    mut posts: Vec<Post<B>>,
+    mut unmanned: Vec<Post<B>>,
     manned: usize,
-) -> Vec<Post>
+) -> Vec<Post<B>>
     requires posts { AllAt (IsPost floor.now) 0 posts.items }
     requires room { (unmanned.items ≡ []) × (vec_len posts ≤ vec_capacity unmanned) }
     requires manned { manned ≤ length floor.now.office.lanes.items }
@@ -49,16 +50,16 @@ fn end_posts<R: Wait, G: Gate>(
 }
 
 // Room for the handles of all threads, so that none is lost for want of it once a thread runs.
-struct Handles<'a> {
-    kept: Vec<Kept<'a>>,
-    hired: Vec<Hired<'a>>,
+struct Handles<'a, B: Naming> {
+    kept: Vec<Kept<'a, B>>,
+    hired: Vec<Hired<'a, B>>,
 }
 
-fn handles_for<'a>(
+fn handles_for<'a, B: Naming>(
     alloc: Global,
     consumers: usize,
     producers: usize,
-) -> Result<Handles<'a>, AllocError>
+) -> Result<Handles<'a, B>, AllocError>
     ensures kept { IfOk result (λ h. (h.kept.items ≡ []) × (consumers ≤ vec_capacity h.kept)) }
     ensures hired { IfOk result (λ h. (h.hired.items ≡ []) × (producers ≤ vec_capacity h.hired)) }
 {
@@ -69,11 +70,11 @@ fn handles_for<'a>(
 }
 
 // No thread is started, for want of memory: all is left as it was dealt.
-fn none_started(crew: Crew) -> Ran
+fn none_started<B: Naming>(crew: Crew<B>) -> Ran<B>
     requires none { (crew.worked.items ≡ []) × (crew.consumed.items ≡ [])
         × (crew.unmanned.items ≡ []) }
     ensures none { (result.worked.items ≡ []) × (result.consumed.items ≡ []) }
-    ensures left { (floor : Floor) (producers : ℕ) → length floor.depot.channels.items ≡ producers
+    ensures left { (floor : Floor B) (producers : ℕ) → length floor.depot.channels.items ≡ producers
         → IsCrew floor producers crew →
         IsSpendable floor producers result }
     ensures started { result.started ≡ Started.NoMemory }
@@ -97,16 +98,16 @@ fn none_started(crew: Crew) -> Ran
 
 // All that is done in the scope. Where a consumer has no thread no worker begins, and the workers' permits
 // are ended on the lanes whose consumers run.
-fn in_scope<'s, E, R: Threads + Wait + Sync, G: Gate + Sync>(
+fn in_scope<'s, E, B: Naming + Send + Sync, R: Threads + Wait + Sync, G: Gate + Sync>(
     scope: &thread::Scope<'s, E>,
     rt: &'s R,
-    floor: &'s Floor,
+    floor: &'s Floor<B>,
     gate: &'s G,
     plans: &'s [Vec<Vec<u8>>],
     guests: &'s [Guest],
-    crew: ManuallyDrop<Crew>,
+    crew: ManuallyDrop<Crew<B>>,
     manned: &'s Manned,
-) -> Ran
+) -> Ran<B>
     requires house { IsHouse floor.now (length plans.now + length guests.now) }
     requires guests { AreGuests floor.now guests.now }
     requires crew { IsCrew floor.now (length plans.now
@@ -164,14 +165,14 @@ fn in_scope<'s, E, R: Threads + Wait + Sync, G: Gate + Sync>(
 /// Where a thread can't be made `started` is `Spawn`: no producer begins behind a consumer that has none,
 /// none behind a producer that has none, and what is left is to be abandoned. `NoMemory` comes before
 /// anything is started.
-pub fn run_threads<R: Threads + Wait + Sync, G: Gate + Sync>(
+pub fn run_threads<B: Naming + Send + Sync, R: Threads + Wait + Sync, G: Gate + Sync>(
     rt: &R,
-    floor: &Floor,
+    floor: &Floor<B>,
     gate: &G,
     plans: &[Vec<Vec<u8>>],
     guests: &[Guest],
-    crew: Crew,
-) -> Ran
+    crew: Crew<B>,
+) -> Ran<B>
     requires house { IsHouse floor.now (length plans.now + length guests.now) }
     requires guests { AreGuests floor.now guests.now }
     requires crew { IsCrew floor.now (length plans.now + length guests.now) crew }
@@ -189,8 +190,8 @@ pub fn run_threads<R: Threads + Wait + Sync, G: Gate + Sync>(
     thread::scope(
         thread::scope_env(),
         rt,
-        |scope| -> Ran
-            requires { IsSync R.row × IsSync G.row
+        |scope| -> Ran<B>
+            requires { IsSend B.row × IsSync B.row × IsSync R.row × IsSync G.row
                 × IsHouse floor.now (length plans.now + length guests.now) ×
                 AreGuests floor.now guests.now
                 × IsCrew floor.now (length plans.now

@@ -12,8 +12,9 @@ ghost use Rattle.lane_work.specs.Couriers.{HasCarried, IsReady, IsSameDesk};
 ghost use Rattle.house_threads.specs.inner.Crew.{HasLived, IsAttended};
 
 use crossbeam_utils::sync::Unparker;
-use delivery_token::{Noted, WorkerLog};
+use delivery_token::WorkerLog;
 use house_floor::{Floor, Guest, Post, inbox_numbered, most_of};
+use house_history::{Answer, Naming};
 use imap_session::folders_of;
 use lane_work::{Context, Fate, LaneCourier, Producer, Worked, finish};
 use session_thread::{LockedStore, live};
@@ -23,12 +24,12 @@ use workers_sync::{Gate, Lost};
 
 // The session of the user with this name makes its steps. What it said is laid into `replies`, which is empty, unless memory is
 // refused before it begins.
-fn live_through<R: Wait, G: Gate>(
-    floor: &Floor,
+fn live_through<B: Naming, R: Wait, G: Gate>(
+    floor: &Floor<B>,
     user: &[u8],
     guest: &Guest,
-    locked: &mut LockedStore<'_, R, G>,
-    courier: &mut LaneCourier<'_, R, Vec<Unparker>, WorkerLog>,
+    locked: &mut LockedStore<'_, B, R, G>,
+    courier: &mut LaneCourier<'_, B, R, Vec<Unparker>, WorkerLog>,
     replies: &mut Vec<Vec<u8>>,
 ) -> Fate
     requires ready { IsReady courier.old.context.office.now courier.old.context.channel.now
@@ -87,15 +88,15 @@ fn unless_torn(fate: Fate, is_torn: bool) -> Fate
 /// shard's end came on its reply channel. So it is too where it stops early, by `Fate`.
 ///
 /// `session` is its number among the sessions, from 0, and `channel` is that of its post.
-pub(crate) fn attend<R: Wait, G: Gate>(
+pub(crate) fn attend<B: Naming, R: Wait, G: Gate>(
     rt: &R,
-    floor: &Floor,
+    floor: &Floor<B>,
     gate: &G,
-    channel: &ReplyChannel<Noted>,
+    channel: &ReplyChannel<Answer<B>>,
     guest: &Guest,
     session: u8,
-    post: Post,
-) -> Worked
+    post: Post<B>,
+) -> Worked<B>
     requires house { (producers : ℕ) × IsHouse floor.now producers }
     requires post { IsPost floor.now post.desk.number post }
     requires channel { IsReceiver channel.now post.desk.receiver }
@@ -111,7 +112,14 @@ pub(crate) fn attend<R: Wait, G: Gate>(
     let Post { desk, room } = post;
     let mailboxes = &floor.depot.mailboxes;
     let bells = &floor.depot.sessions[usize::from(inbox)];
-    let mut locked = LockedStore::new(rt, gate, session, mailboxes, bells);
+    let mut locked = LockedStore::new(
+        rt,
+        gate,
+        session,
+        mailboxes,
+        floor.depot.front.again(),
+        bells,
+    );
     let context = Context {
         rt,
         alloc: floor.alloc,

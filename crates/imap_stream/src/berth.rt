@@ -7,6 +7,7 @@ ghost use Rattle.imap_stream.specs.Visits.{is_over};
 ghost use Rattle.imap_stream.specs.inner.Visits.{Looks};
 
 use crate::visit::Visit;
+use house_history::Naming;
 use imap_session::After;
 use line_io::Sink;
 use std::alloc::Global;
@@ -29,7 +30,7 @@ pub trait Hush {
 
 // The visit has a look, unless it is over. Answers whether that ended it: its reader may wait then for
 // bytes that nobody would answer.
-fn ends_by_a_look<R: Wait, G: Gate, W: Sink>(visit: &mut Visit<'_, R, G, W>) -> bool
+fn ends_by_a_look<B: Naming, R: Wait, G: Gate, W: Sink>(visit: &mut Visit<'_, B, R, G, W>) -> bool
     ensures over { is_over visit.old ≡ true → (result ≡ false) × (visit.new ≡ visit.old) }
     ensures ends { is_over visit.old ≡ false → result ≡ is_over visit.new }
     ensures looks { is_over visit.old ≡ false → Looks visit.old visit.new }
@@ -45,18 +46,18 @@ fn ends_by_a_look<R: Wait, G: Gate, W: Sink>(visit: &mut Visit<'_, R, G, W>) -> 
 /// Where one client at a time is served. Its visit stands under a lock, which is held while it is heard
 /// and while what it said is sent, and not while its bytes are awaited.
 #[derive(Drop)]
-pub struct Berth<'a, R: Wait, G: Gate, W: Sink> {
-    visit: Mutex<Option<Visit<'a, R, G, W>>>,
+pub struct Berth<'a, B: Naming, R: Wait, G: Gate, W: Sink> {
+    visit: Mutex<Option<Visit<'a, B, R, G, W>>>,
     // Whether the session idles, for those who log changes. It is set before the session's first turn.
     idles: Arc<AtomicBool>,
     // On which a watch rests: it stays 0, and nobody wakes who waits there.
     quiet: AtomicU64,
 }
 
-impl<'a, R: Wait, G: Gate, W: Sink + Drop> Berth<'a, R, G, W> {
+impl<'a, B: Naming, R: Wait, G: Gate, W: Sink + Drop> Berth<'a, B, R, G, W> {
     /// A berth with no client. `idles` is the mark of its bell, which wakes the berth's watch while it
     /// is set.
-    pub fn new(idles: Arc<AtomicBool>) -> Berth<'a, R, G, W> {
+    pub fn new(idles: Arc<AtomicBool>) -> Berth<'a, B, R, G, W> {
         Berth {
             visit: Mutex::new(None),
             idles,
@@ -76,12 +77,12 @@ impl<'a, R: Wait, G: Gate, W: Sink + Drop> Berth<'a, R, G, W> {
         &self,
         rt: &R,
         alloc: Global,
-        visit: Visit<'a, R, G, W>,
+        visit: Visit<'a, B, R, G, W>,
         courier: &mut C,
         input: &mut I,
         buffer: &mut [u8],
         stop: &AtomicBool,
-    ) -> Result<(), Visit<'a, R, G, W>>
+    ) -> Result<(), Visit<'a, B, R, G, W>>
         // The courier may carry a message.
         requires ready { C.ready courier.old }
 
@@ -119,7 +120,7 @@ impl<'a, R: Wait, G: Gate, W: Sink + Drop> Berth<'a, R, G, W> {
     }
 
     // Gives the visit back where the berth has a client.
-    fn admit(&self, rt: &R, visit: Visit<'a, R, G, W>) -> Result<(), Visit<'a, R, G, W>>
+    fn admit(&self, rt: &R, visit: Visit<'a, B, R, G, W>) -> Result<(), Visit<'a, B, R, G, W>>
         ensures { IfErr result (λ back. back ≡ visit.entry) }
     {
         let mut held = self.visit.lock(rt);

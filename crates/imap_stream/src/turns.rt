@@ -8,6 +8,7 @@ ghost use Rattle.workers_sync.specs.Carried.{Carried};
 ghost use Rattle.session_thread.specs.Life.{moment};
 ghost use Rattle.imap_stream.specs.Visits.{Hears, HearsInPart, ShowsAll, ShowsInPart};
 
+use house_history::Naming;
 use imap_session::ImapConnection;
 use session_thread::{LockedStore, answer, idle_turn};
 use std::alloc::{AllocError, Global};
@@ -18,10 +19,10 @@ use workers_sync::{Courier, Gate, Lost};
 /// The session has turns while it idles, until one shows nothing.
 ///
 /// Errors: `AllocError` where memory was refused for a turn; those before stand.
-pub(crate) fn show_all<R: Wait, G: Gate>(
+pub(crate) fn show_all<B: Naming, R: Wait, G: Gate>(
     rt: &R,
     connection: &mut ImapConnection,
-    store: &mut LockedStore<'_, R, G>,
+    store: &mut LockedStore<'_, B, R, G>,
     out: &mut Vec<u8>,
 ) -> Result<(), AllocError>
     ensures ok { OnOk result ((d : Dialogue) → StandsFor connection.old d
@@ -50,11 +51,11 @@ pub(crate) fn show_all<R: Wait, G: Gate>(
 ///
 /// Errors: `NoMemory` where memory was refused, within the piece or within the turns, or to the courier;
 /// `Torn` where the courier met something else than the verdict. What was done by then stands.
-pub(crate) fn answer_and_show<R: Wait, G: Gate, C: Courier>(
+pub(crate) fn answer_and_show<B: Naming, R: Wait, G: Gate, C: Courier>(
     rt: &R,
     alloc: Global,
     connection: &mut ImapConnection,
-    store: &mut LockedStore<'_, R, G>,
+    store: &mut LockedStore<'_, B, R, G>,
     courier: &mut C,
     piece: &[u8],
     idles: &AtomicBool,

@@ -13,6 +13,7 @@ ghost use Rattle.imap_session.specs.Exchange.{nothing_sent};
 ghost use Rattle.imap_stream.specs.Visits.{Hears, HearsInPart, IsGreeted, SendsAll, SendsFirst, ShowsAll, ShowsInPart, Tells, Visit, awaited, farewell, is_over, takes_bytes};
 
 use crate::turns::{answer_and_show, show_all};
+use house_history::Naming;
 use imap_session::{After, Folder, ImapConnection, Store};
 use line_io::{Sink, send};
 use session_thread::{LockedStore, depart, takes_more};
@@ -131,17 +132,17 @@ fn fault_of(why: Lost) -> VisitFault
 
 /// One client's session, and where its answers go.
 #[derive(Drop)]
-pub struct Visit<'a, R: Wait, G: Gate, W: Sink> {
+pub struct Visit<'a, B: Naming, R: Wait, G: Gate, W: Sink> {
     rt: &'a R,
     connection: ImapConnection,
-    store: LockedStore<'a, R, G>,
+    store: LockedStore<'a, B, R, G>,
     // What is written before it is sent.
     out: Vec<u8>,
     output: W,
     is_closed: bool,
 }
 
-impl<'a, R: Wait, G: Gate, W: Sink> Model for Visit<'a, R, G, W> {
+impl<'a, B: Naming, R: Wait, G: Gate, W: Sink> Model for Visit<'a, B, R, G, W> {
     ghost use Rattle.std.specs.Prelude.{◌≡◌, [], false};
     ghost use Rattle.std.specs.Vec.{vec_capacity};
     ghost use Rattle.imap_stream.specs.Visits.{Visit};
@@ -160,7 +161,7 @@ impl<'a, R: Wait, G: Gate, W: Sink> Model for Visit<'a, R, G, W> {
     ghost invariant = { λ v. (v.out.items ≡ []) × (v.is_closed ≡ false → W.failed v.output ≡ false) };
 }
 
-impl<'a, R: Wait, G: Gate, W: Sink> Visit<'a, R, G, W> {
+impl<'a, B: Naming, R: Wait, G: Gate, W: Sink> Visit<'a, B, R, G, W> {
     /// Opens the visit of a client, and greets it (RFC 9051, 7.1.4): the greeting was sent. `store` is
     /// its session's, which is in no mailbox, `folders` are its user's mailboxes, its answers go to
     /// `output`, and it may append messages of at most `most` bytes, or none.
@@ -170,11 +171,11 @@ impl<'a, R: Wait, G: Gate, W: Sink> Visit<'a, R, G, W> {
     pub fn open(
         rt: &'a R,
         alloc: Global,
-        store: LockedStore<'a, R, G>,
+        store: LockedStore<'a, B, R, G>,
         folders: Vec<Folder>,
         most: Option<u32>,
         mut output: W,
-    ) -> Result<Visit<'a, R, G, W>, (W, VisitFault)>
+    ) -> Result<Visit<'a, B, R, G, W>, (W, VisitFault)>
         requires live { W.failed output ≡ false }
         requires outside { store.entered ≡ None }
 

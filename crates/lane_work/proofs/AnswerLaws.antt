@@ -1,8 +1,9 @@
 -- What a consumer says on its channels.
-use Rattle.std.proofs.Common.{◌≡◌, ◌≢◌, ◌⊎◌, inl, inr, ℕ, zero, suc, ◌<◌, ◌++◌, ◌∙◌, ap, refl, sym, subst, List, [], ◌∷◌, length, map, slice_index_or, slice_set, append_assoc, append-nil, true, false, Bool, ◌||◌, eqb, arith}
+use Rattle.std.proofs.Common.{◌≡◌, ◌≢◌, ◌⊎◌, inl, inr, ℕ, zero, suc, ◌<◌, ◌++◌, ◌∙◌, ap, refl, sym, subst, List, [], ◌∷◌, length, map, slice_index_or, slice_set, append_assoc, append-nil, true, false, Bool, Option, Some, None, IfSome, MatchOption, ◌||◌, eqb, arith}
 use Rattle.std.specs.List.{list_any}
 use Rattle.std.proofs.lemmas.Bool.Decides.{eqb_tells}
 use Rattle.std.proofs.lemmas.List.{get_or-set_same, get_or-set_other, length-map, map-set}
+use Rattle.delivery_token.specs.declared.CopyKey.{CopyKey}
 use Rattle.delivery_token.specs.declared.Job.{Job}
 use Rattle.delivery_token.specs.declared.Verdict.{Verdict}
 use Rattle.delivery_token.specs.declared.log.Noted.{Noted}
@@ -30,6 +31,18 @@ sent_on_at : (ss : List (SenderPermit Noted)) (i : ℕ) (d : SenderPermit Noted)
 sent_on_at [] i d under = absurd (omega arith)
 sent_on_at (s ∷ ss) zero d under = refl
 sent_on_at (s ∷ ss) (suc i) d under = sent_on_at ss i d (omega arith)
+
+-- what is noted of a copy, by its parts
+pub noted_of : (noted : Noted) (job : Job) → noted.key ≡ job.key → noted.mailbox ≡ job.mailbox → noted ≡ record { key = job.key; mailbox = job.mailbox; verdict = noted.verdict }
+noted_of noted job ke me =
+    ap (λ (key : CopyKey). let x : Noted = record { key = key; mailbox = noted.mailbox; verdict = noted.verdict } in x) ke
+    ∙ ap (λ mailbox. let x : Noted = record { key = job.key; mailbox = mailbox; verdict = noted.verdict } in x) me
+
+-- a copy was kept, where it could be
+pub kept_copy : (entry : Option (Entry Job)) (one : Entry Job) (kept all : Bool) (before after : List (Entry Job)) → IfSome entry (λ e. (kept ≡ true) × (e ≡ one))
+    → MatchOption entry (all ≡ false) (λ e. all ≡ true → after ≡ before ++ e ∷ []) → all ≡ true → (kept ≡ true) × (after ≡ before ++ one ∷ [])
+kept_copy None one kept all before after is never whole = absurd (let a : all ≡ false = never in cc)
+kept_copy (Some e) one kept all before after is some whole = (is.0, some whole ∙ ap (λ x. before ++ x ∷ []) is.1)
 
 -- a producer was told the verdict on its copy
 pub serves_at : (mailboxes channels shard i : ℕ) (ss : List (SenderPermit Noted)) (old new : SenderPermit Noted) (job : Job) (verdict : Verdict)

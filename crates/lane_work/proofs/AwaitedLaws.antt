@@ -77,7 +77,7 @@ ended_counts seat before after ended = ap copies_in ended ∙ each before where
       omega (arith, h, e, a, b)
 
 -- new permits have put nothing
-pub new_counts : (ss : List LanePermit) → All IsNew ss → copies_in (map put_by ss) ≡ 0
+pub new_counts : (ss : List (LanePermit Job)) → All IsNew ss → copies_in (map put_by ss) ≡ 0
 new_counts [] all = refl
 new_counts (s ∷ ss) all =
     let h = new_counts ss (All-tail IsNew s ss all) in

@@ -17,6 +17,7 @@ use Rattle.lmtp_machine.specs.declared.reply.Reply.TheVariants.{LineTooLong, Sha
 use Rattle.lmtp_machine.specs.Message.{outcome, plain, sender_text}
 use Rattle.lmtp_machine.specs.Dialogue.{Phase, Start, Ready, Transaction, Data, Waiting, Ended, Standing, Setting, Submission, Event, Opened, Line, Starved, Answered, Shut, Turn, turn, dialogue, last_number, cleared, is_dot, on_event, on_mail, on_recipient, on_rcpt, on_data, on_command, on_reading, on_command_line, on_outcome, at_end, on_data_line, on_line, on_starved, on_verdicts, fault_reply}
 use Rattle.lmtp_machine.specs.Conversation.{Conversation, Leads}
+use Rattle.delivery_token.specs.declared.Job.{Job}
 use Rattle.lane_work.specs.declared.desk.LanePermit.{LanePermit}
 use Rattle.lane_work.specs.Permits.{AreShutWhereOver, overs}
 use Rattle.lane_work.specs.inner.Permits.{AreOpenTo}
@@ -200,7 +201,7 @@ judged_open setting d (submits {bytes = bytes} {said = said} {judged = judged} {
     (message_open setting d bytes said judged c taken t after message talk leads only)
 
 -- so no permit is over that its copies are for
-pub open_to : (house own : Directory) (ss : List LanePermit) (mailboxes : List ℕ) → own ≡ marked own.shut house → AreShutWhereOver own ss → All (IsOpen own) mailboxes → AreOpenTo house mailboxes ss
+pub open_to : (house own : Directory) (ss : List (LanePermit Job)) (mailboxes : List ℕ) → own ≡ marked own.shut house → AreShutWhereOver own ss → All (IsOpen own) mailboxes → AreOpenTo house mailboxes ss
 open_to house own ss [] same over h = All-nil (λ mailbox. slice_index_or (overs ss) (shard_of house mailbox) false ≡ false)
 open_to house own ss (m ∷ ms) same over h =
     All-cons (λ mailbox. slice_index_or (overs ss) (shard_of house mailbox) false ≡ false) m ms

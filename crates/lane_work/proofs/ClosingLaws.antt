@@ -7,6 +7,7 @@ use Rattle.envelope.specs.Directory.{Directory, is_shut, marked}
 use Rattle.lane_work.specs.declared.desk.Closing.{Closing}
 use Rattle.lane_work.specs.Account.{IsMarkedBy, is_closed_by}
 use Rattle.lane_work.specs.inner.Closing.{IsMarkedBefore, Marks, is_closed_at, is_closed_before}
+use Rattle.delivery_token.specs.declared.Job.{Job}
 use Rattle.lane_work.specs.declared.desk.LanePermit.{LanePermit}
 use Rattle.lane_work.specs.Permits.{AreShutWhereOver}
 use Rattle.lane_work.proofs.RoundLaws.{over_within}
@@ -94,7 +95,7 @@ all_marked i cs k first now e h = subst (λ l. Marks i l first now) (take_all cs
 
 -- ---- permits over such a directory
 
-pub still_shut : (i : ℕ) (cs : List Closing) (old new : Directory) (ss : List LanePermit) (lanes : ℕ) → length ss ≡ lanes → lanes ≡ old.shards → Marks i cs old new → AreShutWhereOver old ss → AreShutWhereOver new ss
+pub still_shut : (i : ℕ) (cs : List Closing) (old new : Directory) (ss : List (LanePermit Job)) (lanes : ℕ) → length ss ≡ lanes → lanes ≡ old.shards → Marks i cs old new → AreShutWhereOver old ss → AreShutWhereOver new ss
 still_shut i cs old new ss lanes as_many shards marks were lane over =
     let w = over_within ss lane over in
     marks.2 lane (omega (arith, w, as_many, shards)) ∙ ap (λ b. b || list_any (is_closed_at i lane) cs) (were lane over)

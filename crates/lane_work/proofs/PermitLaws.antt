@@ -20,20 +20,20 @@ use Rattle.lane_work.specs.Permits.{AreEnded, ArePermits, AreSenders, AreSenders
 use Rattle.envelope.specs.Directory.{Directory}
 use Rattle.lane_work.specs.Copies.{FilledAlone, IsAtOnce, Room, room_at, room_of, rooms_of}
 
-pub permits_length : (qs : List (ShardQueue Job)) (p : ℕ) (ss : List LanePermit) → ArePermits qs p ss → length ss ≡ length qs
+pub permits_length : (qs : List (ShardQueue Job)) (p : ℕ) (ss : List (LanePermit Job)) → ArePermits qs p ss → length ss ≡ length qs
 permits_length [] p [] h = refl
 permits_length [] p (s ∷ ss) h = absurd h
 permits_length (q ∷ qs) p [] h = absurd h
 permits_length (q ∷ qs) p (s ∷ ss) h = ap suc (permits_length qs p ss h.1)
 
-pub permit_at : (qs : List (ShardQueue Job)) (p : ℕ) (ss : List LanePermit) → ArePermits qs p ss → (i : ℕ) → i < length qs → (q : ShardQueue Job) (s : LanePermit)
+pub permit_at : (qs : List (ShardQueue Job)) (p : ℕ) (ss : List (LanePermit Job)) → ArePermits qs p ss → (i : ℕ) → i < length qs → (q : ShardQueue Job) (s : LanePermit Job)
     → IsPermit (slice_index_or qs i q) (slice_index_or ss i s) × (permit_number (slice_index_or ss i s) ≡ p)
 permit_at [] p ss h i under q s = absurd (omega arith)
 permit_at (x ∷ qs) p [] h i under q s = absurd h
 permit_at (x ∷ qs) p (y ∷ ss) h zero under q s = h.0
 permit_at (x ∷ qs) p (y ∷ ss) h (suc i) under q s = permit_at qs p ss h.1 i (omega arith) q s
 
-pub permits_set : (qs : List (ShardQueue Job)) (p : ℕ) (ss : List LanePermit) → ArePermits qs p ss → (i : ℕ) (q : ShardQueue Job) (s : LanePermit)
+pub permits_set : (qs : List (ShardQueue Job)) (p : ℕ) (ss : List (LanePermit Job)) → ArePermits qs p ss → (i : ℕ) (q : ShardQueue Job) (s : LanePermit Job)
     → IsPermit (slice_index_or qs i q) s → permit_number s ≡ p → ArePermits qs p (slice_set ss i s)
 permits_set [] p [] h i q s is number = h
 permits_set [] p (y ∷ ss) h i q s is number = absurd h
@@ -41,39 +41,39 @@ permits_set (x ∷ qs) p [] h i q s is number = absurd h
 permits_set (x ∷ qs) p (y ∷ ss) h zero q s is number = ((is, number), h.1)
 permits_set (x ∷ qs) p (y ∷ ss) h (suc i) q s is number = (h.0, permits_set qs p ss h.1 i q s is number)
 
-pub sent_at : (ss : List LanePermit) (i : ℕ) (d : LanePermit) → i < length ss → slice_index_or (map put_by ss) i [] ≡ put_by (slice_index_or ss i d)
+pub sent_at : (ss : List (LanePermit Job)) (i : ℕ) (d : LanePermit Job) → i < length ss → slice_index_or (map put_by ss) i [] ≡ put_by (slice_index_or ss i d)
 sent_at [] i d under = absurd (omega arith)
 sent_at (s ∷ ss) zero d under = refl
 sent_at (s ∷ ss) (suc i) d under = sent_at ss i d (omega arith)
 
-pub sent_set : (ss : List LanePermit) (i : ℕ) (s : LanePermit) → map put_by (slice_set ss i s) ≡ slice_set (map put_by ss) i (put_by s)
+pub sent_set : (ss : List (LanePermit Job)) (i : ℕ) (s : LanePermit Job) → map put_by (slice_set ss i s) ≡ slice_set (map put_by ss) i (put_by s)
 sent_set ss i s = map-set put_by ss i s
 
 -- ---- permits that are over
 
-pub overs_length : (ss ts : List LanePermit) → overs ss ≡ overs ts → length ss ≡ length ts
+pub overs_length : (ss ts : List (LanePermit Job)) → overs ss ≡ overs ts → length ss ≡ length ts
 overs_length ss ts same = sym (length-map ss is_over) ∙ ap length same ∙ length-map ts is_over
 
-pub over_at : (ss : List LanePermit) (i : ℕ) (s : LanePermit) (d : Bool) → i < length ss → s ≡ slice_index_or ss i s → slice_index_or (overs ss) i d ≡ is_over s
+pub over_at : (ss : List (LanePermit Job)) (i : ℕ) (s : LanePermit Job) (d : Bool) → i < length ss → s ≡ slice_index_or ss i s → slice_index_or (overs ss) i d ≡ is_over s
 over_at [] i s d under is = absurd (omega arith)
 over_at (x ∷ ss) zero s d under is = ap is_over (sym is)
 over_at (x ∷ ss) (suc i) s d under is = over_at ss i s d (omega arith) is
 
-pub overs_kept : (ss : List LanePermit) (i : ℕ) (old new : LanePermit) → old ≡ slice_index_or ss i old → is_over new ≡ is_over old → overs (slice_set ss i new) ≡ overs ss
+pub overs_kept : (ss : List (LanePermit Job)) (i : ℕ) (old new : LanePermit Job) → old ≡ slice_index_or ss i old → is_over new ≡ is_over old → overs (slice_set ss i new) ≡ overs ss
 overs_kept [] i old new is same = refl
 overs_kept (x ∷ ss) zero old new is same = ap (λ b. b ∷ overs ss) (same ∙ ap is_over is)
 overs_kept (x ∷ ss) (suc i) old new is same = ap (λ l. is_over x ∷ l) (overs_kept ss i old new is same)
 
-pub live_at : (ss : List LanePermit) (i : ℕ) → AreLive ss → slice_index_or (overs ss) i false ≡ false
+pub live_at : (ss : List (LanePermit Job)) (i : ℕ) → AreLive ss → slice_index_or (overs ss) i false ≡ false
 live_at [] i h = refl
 live_at (x ∷ ss) zero h = All-head (λ permit. is_over permit ≡ false) x ss h
 live_at (x ∷ ss) (suc i) h = live_at ss i (All-tail (λ permit. is_over permit ≡ false) x ss h)
 
-pub not_live : (ss ts : List LanePermit) (i : ℕ) → ss ≡ ts → AreLive ts → slice_index_or (overs ss) i false ≡ true → ⊥
+pub not_live : (ss ts : List (LanePermit Job)) (i : ℕ) → ss ≡ ts → AreLive ts → slice_index_or (overs ss) i false ≡ true → ⊥
 not_live ss ts i same live over = let e : true ≡ false = sym over ∙ ap (λ l. slice_index_or (overs l) i false) same ∙ live_at ts i live in cc
 
 -- the same ones are over
-pub live_still : (ss ts : List LanePermit) → overs ts ≡ overs ss → AreLive ss → AreLive ts
+pub live_still : (ss ts : List (LanePermit Job)) → overs ts ≡ overs ss → AreLive ss → AreLive ts
 live_still ss [] same h = All-nil (λ permit. is_over permit ≡ false)
 live_still [] (t ∷ ts) same h = absurd (let e : is_over t ∷ overs ts ≡ [] = same in cc)
 live_still (s ∷ ss) (t ∷ ts) same h =
@@ -81,11 +81,11 @@ live_still (s ∷ ss) (t ∷ ts) same h =
     let more : overs ts ≡ overs ss = let e : is_over t ∷ overs ts ≡ is_over s ∷ overs ss = same in cc in
     All-cons (λ permit. is_over permit ≡ false) t ts (one ∙ All-head (λ permit. is_over permit ≡ false) s ss h) (live_still ss ts more (All-tail (λ permit. is_over permit ≡ false) s ss h))
 
-pub new_live : (ss : List LanePermit) → All IsNew ss → AreLive ss
+pub new_live : (ss : List (LanePermit Job)) → All IsNew ss → AreLive ss
 new_live [] h = All-nil (λ permit. is_over permit ≡ false)
 new_live (s ∷ ss) h = All-cons (λ permit. is_over permit ≡ false) s ss (All-head IsNew s ss h).1 (new_live ss (All-tail IsNew s ss h))
 
-pub not_over : (directory : Directory) (ss : List LanePermit) → AreLive ss → AreShutWhereOver directory ss
+pub not_over : (directory : Directory) (ss : List (LanePermit Job)) → AreLive ss → AreShutWhereOver directory ss
 not_over directory ss live lane over = absurd (let e : true ≡ false = sym over ∙ live_at ss lane live in cc)
 
 pub set_same : {A : Type 0} (xs : List A) (i : ℕ) (d : A) → slice_set xs i (slice_index_or xs i d) ≡ xs
@@ -99,7 +99,7 @@ room_here (x ∷ qs) zero q under = refl
 room_here (x ∷ qs) (suc i) q under = room_here qs i q (omega arith)
 
 -- what a put at one permit makes of all lists
-pub puts_at : (ss : List LanePermit) (i : ℕ) (p : ℕ) (d old new : LanePermit) (job : Job) (verdict : Option Verdict) (room same : Room) → same ≡ room
+pub puts_at : (ss : List (LanePermit Job)) (i : ℕ) (p : ℕ) (d old new : LanePermit Job) (job : Job) (verdict : Option Verdict) (room same : Room) → same ≡ room
     → i < length ss → old ≡ slice_index_or ss i d → permit_number old ≡ p
     → MatchOption verdict (put_by new ≡ put_by old ++ Item (permit_number old) job ∷ []) (λ v. (put_by new ≡ put_by old) × IsAtOnce (FilledAlone room (permit_number old) (put_by old)) v)
     → MatchOption verdict (map put_by (slice_set ss i new) ≡ slice_set (map put_by ss) i (slice_index_or (map put_by ss) i [] ++ Item p job ∷ []))
@@ -115,11 +115,11 @@ puts_at ss i p d old new job (Some v) room same rooms under is number put =
     )
 
 -- the same, where the lane is named by its position
-pub permit_here : (qs : List (ShardQueue Job)) (p : ℕ) (ss : List LanePermit) → ArePermits qs p ss → (i : ℕ) → i < length qs → (q : ShardQueue Job) (s : LanePermit)
+pub permit_here : (qs : List (ShardQueue Job)) (p : ℕ) (ss : List (LanePermit Job)) → ArePermits qs p ss → (i : ℕ) → i < length qs → (q : ShardQueue Job) (s : LanePermit Job)
     → s ≡ slice_index_or ss i s → IsPermit (slice_index_or qs i q) s × (permit_number s ≡ p)
 permit_here qs p ss h i under q s se =
     let both = permit_at qs p ss h i under q s in
-    (subst (λ (x : LanePermit). IsPermit (slice_index_or qs i q) x) (sym se) both.0, ap permit_number se ∙ both.1)
+    (subst (λ (x : LanePermit Job). IsPermit (slice_index_or qs i q) x) (sym se) both.0, ap permit_number se ∙ both.1)
 
 -- ---- senders in a row
 
@@ -153,12 +153,12 @@ sender_here qs p ss h i under q s se =
 -- ---- permits that are ended one after another
 
 -- the first of those that are left
-pub first_permit : (qs : List (ShardQueue Job)) (i : ℕ) (p : ℕ) (ss : List LanePermit) → i < length qs → ArePermits (drop i qs) p ss → (q : ShardQueue Job) (s : LanePermit) → s ≡ slice_index_or ss 0 s
+pub first_permit : (qs : List (ShardQueue Job)) (i : ℕ) (p : ℕ) (ss : List (LanePermit Job)) → i < length qs → ArePermits (drop i qs) p ss → (q : ShardQueue Job) (s : LanePermit Job) → s ≡ slice_index_or ss 0 s
     → IsPermit (slice_index_or qs i q) s × (permit_number s ≡ p) × (ss ≡ s ∷ drop 1 ss) × ArePermits (drop (i + 1) qs) p (drop 1 ss)
 first_permit [] i p ss under h q s is = absurd (omega arith)
 first_permit (x ∷ qs) zero p [] under h q s is = absurd h
 first_permit (x ∷ qs) zero p (y ∷ ss) under h q s is =
-    (subst (λ (k : LanePermit). IsPermit x k) (sym is) h.0.0, ap permit_number is ∙ h.0.1, ap (λ k. k ∷ ss) (sym is), h.1)
+    (subst (λ (k : LanePermit Job). IsPermit x k) (sym is) h.0.0, ap permit_number is ∙ h.0.1, ap (λ k. k ∷ ss) (sym is), h.1)
 first_permit (x ∷ qs) (suc i) p ss under h q s is =
     let r = first_permit qs i p ss (omega arith) h q s is in
     let e : suc i + 1 ≡ suc (i + 1) = omega arith in
@@ -174,7 +174,7 @@ ended_next (x ∷ qs) (suc i) p (y ∷ es) e under h q is number =
     let k : suc i + 1 ≡ suc (i + 1) = omega arith in
     subst (λ n. AreEnded (take n (x ∷ qs)) p (y ∷ es ++ e ∷ [])) (sym k) (h.0, ended_next qs i p es e (omega arith) h.1 q is number)
 
-pub said_next : (p : ℕ) (es more : List (Ended Job)) (ss less : List LanePermit) (e : Ended Job) (s : LanePermit) (all : List (List (Entry Job)))
+pub said_next : (p : ℕ) (es more : List (Ended Job)) (ss less : List (LanePermit Job)) (e : Ended Job) (s : LanePermit Job) (all : List (List (Entry Job)))
     → more ≡ es ++ e ∷ [] → ss ≡ s ∷ drop 1 ss → less ≡ drop 1 ss → permit_number s ≡ p → said e ≡ put_by s ++ End (permit_number s) ∷ []
     → map said es ++ map (λ entries. entries ++ End p ∷ []) (map put_by ss) ≡ map (λ entries. entries ++ End p ∷ []) all
     → map said more ++ map (λ entries. entries ++ End p ∷ []) (map put_by less) ≡ map (λ entries. entries ++ End p ∷ []) all

@@ -44,12 +44,12 @@ index_last [] x (suc k) d e = absurd (omega arith)
 index_last (y ∷ xs) x zero d e = absurd (omega arith)
 index_last (y ∷ xs) x (suc k) d e = index_last xs x k d (omega arith)
 
-over_read : (ss : List LanePermit) (i : ℕ) (d : LanePermit) → i < length ss → slice_index_or (overs ss) i false ≡ is_over (slice_index_or ss i d)
+over_read : (ss : List (LanePermit Job)) (i : ℕ) (d : LanePermit Job) → i < length ss → slice_index_or (overs ss) i false ≡ is_over (slice_index_or ss i d)
 over_read [] i d under = absurd (omega arith)
 over_read (x ∷ ss) zero d under = refl
 over_read (x ∷ ss) (suc i) d under = over_read ss i d (omega arith)
 
-permits_push : (qs : List (ShardQueue Job)) (i : ℕ) (p : ℕ) (ss : List LanePermit) (s : LanePermit) → i < length qs → ArePermits (take i qs) p ss → (q : ShardQueue Job) → IsPermit (slice_index_or qs i q) s → permit_number s ≡ p
+permits_push : (qs : List (ShardQueue Job)) (i : ℕ) (p : ℕ) (ss : List (LanePermit Job)) (s : LanePermit Job) → i < length qs → ArePermits (take i qs) p ss → (q : ShardQueue Job) → IsPermit (slice_index_or qs i q) s → permit_number s ≡ p
     → ArePermits (take (i + 1) qs) p (ss ++ s ∷ [])
 permits_push [] i p ss s under h q is number = absurd (omega arith)
 permits_push (x ∷ qs) zero p [] s under h q is number = ((is, number), tt)
@@ -60,15 +60,15 @@ permits_push (x ∷ qs) (suc i) p (y ∷ ss) s under h q is number =
     subst (λ n. ArePermits (take n (x ∷ qs)) p (y ∷ ss ++ s ∷ [])) (sym k) (h.0, permits_push qs i p ss s (omega arith) h.1 q is number)
 
 -- The first so many have gone round: they stand behind the others, and are over where they were and where the shard is shut.
-pub record Round (directory : Directory) (lanes : List (ShardQueue Job)) (p : ℕ) (old : List LanePermit) (gone : ℕ) (now : List LanePermit) : Type 0 where
-  pub front : List LanePermit
+pub record Round (directory : Directory) (lanes : List (ShardQueue Job)) (p : ℕ) (old : List (LanePermit Job)) (gone : ℕ) (now : List (LanePermit Job)) : Type 0 where
+  pub front : List (LanePermit Job)
   pub stand : now ≡ drop gone old ++ front
   pub as_many : length front ≡ gone
   pub permits : ArePermits (take gone lanes) p front
   pub put : map put_by front ≡ map put_by (take gone old)
   pub over : (lane : ℕ) → lane < gone → slice_index_or (overs front) lane false ≡ (is_shut directory lane || slice_index_or (overs old) lane false)
 
-pub round_first : (directory : Directory) (lanes : List (ShardQueue Job)) (p : ℕ) (old : List LanePermit) → Round directory lanes p old 0 old
+pub round_first : (directory : Directory) (lanes : List (ShardQueue Job)) (p : ℕ) (old : List (LanePermit Job)) → Round directory lanes p old 0 old
 round_first directory lanes p old = record {
   front = [];
   stand = sym (append-nil old);
@@ -81,7 +81,7 @@ round_first directory lanes p old = record {
   none [] = tt
   none (q ∷ qs) = tt
 
-pub some_left : (directory : Directory) (lanes : List (ShardQueue Job)) (p : ℕ) (old : List LanePermit) (gone : ℕ) (now : List LanePermit) → ArePermits lanes p old → gone < length lanes → Round directory lanes p old gone now → 0 < length now
+pub some_left : (directory : Directory) (lanes : List (ShardQueue Job)) (p : ℕ) (old : List (LanePermit Job)) (gone : ℕ) (now : List (LanePermit Job)) → ArePermits lanes p old → gone < length lanes → Round directory lanes p old gone now → 0 < length now
 some_left directory lanes p old gone [] permits under round =
     let n = permits_length lanes p old permits in
     let l = ap length round.stand ∙ length-append (drop gone old) round.front in
@@ -90,7 +90,7 @@ some_left directory lanes p old gone [] permits under round =
 some_left directory lanes p old gone (s ∷ now) permits under round = omega arith
 
 -- the one that is taken is the next of the old ones
-pub round_taken : (directory : Directory) (lanes : List (ShardQueue Job)) (p : ℕ) (old : List LanePermit) (gone : ℕ) (now : List LanePermit) (s : LanePermit) → ArePermits lanes p old → gone < length lanes
+pub round_taken : (directory : Directory) (lanes : List (ShardQueue Job)) (p : ℕ) (old : List (LanePermit Job)) (gone : ℕ) (now : List (LanePermit Job)) (s : LanePermit Job) → ArePermits lanes p old → gone < length lanes
     → (round : Round directory lanes p old gone now) → s ≡ slice_index_or now 0 s → (q : ShardQueue Job) → q ≡ slice_index_or lanes gone q
     → IsPermit q s × (permit_number s ≡ p) × (s ≡ slice_index_or old gone s) × (drop 1 now ≡ drop (gone + 1) old ++ round.front)
 round_taken directory lanes p old gone now s permits under round is q at_lane =
@@ -105,7 +105,7 @@ round_taken directory lanes p old gone now s permits under round is q at_lane =
     )
 
 -- and put back
-pub round_next : (directory : Directory) (lanes : List (ShardQueue Job)) (p : ℕ) (old : List LanePermit) (gone : ℕ) (now rest more : List LanePermit) (s left : LanePermit) (shut : Bool) → ArePermits lanes p old → gone < length lanes
+pub round_next : (directory : Directory) (lanes : List (ShardQueue Job)) (p : ℕ) (old : List (LanePermit Job)) (gone : ℕ) (now rest more : List (LanePermit Job)) (s left : LanePermit Job) (shut : Bool) → ArePermits lanes p old → gone < length lanes
     → (round : Round directory lanes p old gone now) → s ≡ slice_index_or old gone s → rest ≡ drop (gone + 1) old ++ round.front → more ≡ rest ++ left ∷ []
     → (q : ShardQueue Job) → q ≡ slice_index_or lanes gone q → IsPermit q left → permit_number left ≡ p → put_by left ≡ put_by s
     → shut ≡ is_shut directory gone → is_over left ≡ (shut || is_over s) → Round directory lanes p old (gone + 1) more
@@ -143,7 +143,7 @@ round_next directory lanes p old gone now rest more s left shut permits under ro
         below : (x : ℕ) → x < gone + 1 → x ≢ gone → x < gone
         below x w not = omega (arith, w, not)
 
-pub over_within : (ss : List LanePermit) (lane : ℕ) → slice_index_or (overs ss) lane false ≡ true → lane < length ss
+pub over_within : (ss : List (LanePermit Job)) (lane : ℕ) → slice_index_or (overs ss) lane false ≡ true → lane < length ss
 over_within [] lane e = absurd (let x : false ≡ true = e in cc)
 over_within (s ∷ ss) zero e = omega arith
 over_within (s ∷ ss) (suc lane) e = let h = over_within ss lane e in omega (arith, h)
@@ -153,7 +153,7 @@ is_true true b e f = refl
 is_true false b e f = f e
 
 -- all have gone round
-pub round_last : (directory : Directory) (lanes : List (ShardQueue Job)) (p : ℕ) (old : List LanePermit) (gone : ℕ) (now : List LanePermit) → ArePermits lanes p old → AreShutWhereOver directory old → gone ≡ length lanes
+pub round_last : (directory : Directory) (lanes : List (ShardQueue Job)) (p : ℕ) (old : List (LanePermit Job)) (gone : ℕ) (now : List (LanePermit Job)) → ArePermits lanes p old → AreShutWhereOver directory old → gone ≡ length lanes
     → Round directory lanes p old gone now
     → ArePermits lanes p now × AreShutWhereOver directory now × (map put_by now ≡ map put_by old)
     × ((lane : ℕ) → lane < length lanes → is_shut directory lane ≡ true → slice_index_or (overs now) lane false ≡ true)

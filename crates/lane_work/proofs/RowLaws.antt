@@ -61,23 +61,23 @@ one_left f (q ∷ qs) p (r ∷ rs) h all (suc i) under d =
     ((let u = o.0 in omega (arith, u)), o.1)
 
 -- the first permit of a row was dealt
-abbrev pub Dealt : {V : Type 0} → (V → List (ProducerPermit Job)) → V → V → LanePermit → Type 0
+abbrev pub Dealt : {V : Type 0} → (V → List (ProducerPermit Job)) → V → V → LanePermit Job → Type 0
 Dealt f old new dealt = (permit : ProducerPermit Job) × (dealt ≡ Live permit) × (f old ≡ permit ∷ f new)
 
 -- the row that comes next has one
-pub row_there : {V : Type 0} (f : V → List (ProducerPermit Job)) (qs : List (ShardQueue Job)) (p : ℕ) (olds news : List V) (ss : List LanePermit) (i : ℕ)
+pub row_there : {V : Type 0} (f : V → List (ProducerPermit Job)) (qs : List (ShardQueue Job)) (p : ℕ) (olds news : List V) (ss : List (LanePermit Job)) (i : ℕ)
     → StepTo (Dealt f) i olds news ss → Rows qs p (map f olds) → All (λ q. p < producers_of q) qs → i < length qs → (x : V) → x ≡ slice_index_or news i x → 0 < length (f x)
 row_there f qs p olds news ss i h k all under x xe =
     subst (λ z. 0 < length (f z)) (sym (xe ∙ ahead (Dealt f) i olds news ss h x)) (one_left f qs p olds k all i under x).1
 
 -- the first of a row is dealt
-pub row_dealt : {V : Type 0} (f : V → List (ProducerPermit Job)) (i : ℕ) (olds news : List V) (ss : List LanePermit) → StepTo (Dealt f) i olds news ss → i < length news
+pub row_dealt : {V : Type 0} (f : V → List (ProducerPermit Job)) (i : ℕ) (olds news : List V) (ss : List (LanePermit Job)) → StepTo (Dealt f) i olds news ss → i < length news
     → (x y : V) (s : ProducerPermit Job) → x ≡ slice_index_or news i x → 0 < length (f x) → s ≡ slice_index_or (f x) 0 s → f y ≡ drop 1 (f x)
     → StepTo (Dealt f) (i + 1) olds (slice_set news i y) (ss ++ Live s ∷ [])
 row_dealt f i olds news ss h under x y s xe some se ye =
     one_step (Dealt f) i olds news ss h x y (Live s) under (s, refl, ap f (sym xe) ∙ front (f x) s some se ∙ ap (λ l. s ∷ l) (sym ye))
 
-pub dealt : {V : Type 0} (f : V → List (ProducerPermit Job)) (qs : List (ShardQueue Job)) (p : ℕ) (olds news : List V) (ss : List LanePermit)
+pub dealt : {V : Type 0} (f : V → List (ProducerPermit Job)) (qs : List (ShardQueue Job)) (p : ℕ) (olds news : List V) (ss : List (LanePermit Job))
     → StepTo (Dealt f) (length qs) olds news ss → Rows qs p (map f olds)
     → ArePermits qs p ss × All IsNew ss × Rows qs (suc p) (map f news)
 dealt f [] p [] [] [] h k = (tt, All-nil IsNew, tt)
@@ -90,11 +90,11 @@ dealt f (q ∷ qs) p (o ∷ os) (n ∷ ns) [] h k = absurd h
 dealt f (q ∷ qs) p (o ∷ os) (n ∷ ns) (x ∷ ss) ((s, is, e), more) k =
     let one : AreLeft q p (s ∷ f n) = subst (AreLeft q p) e k.0 in
     let rest = dealt f qs p os ns ss more k.1 in
-    let here : IsPermit q x × (permit_number x ≡ p) = subst (λ (y : LanePermit). IsPermit q y × (permit_number y ≡ p)) (sym is) (one.1.0, one.1.1) in
+    let here : IsPermit q x × (permit_number x ≡ p) = subst (λ (y : LanePermit Job). IsPermit q y × (permit_number y ≡ p)) (sym is) (one.1.0, one.1.1) in
     let new : IsNew x = subst IsNew (sym is) (one.1.2, refl) in
     ((here, rest.0), All-cons IsNew x ss new rest.1, (one.2, rest.2))
 
-pub hands_next : (qs : List (ShardQueue Job)) (k n : ℕ) (hs : List (List LanePermit)) (h : List LanePermit) → AreHands qs k hs → n ≡ k + length hs → ArePermits qs n h → All IsNew h
+pub hands_next : (qs : List (ShardQueue Job)) (k n : ℕ) (hs : List (List (LanePermit Job))) (h : List (LanePermit Job)) → AreHands qs k hs → n ≡ k + length hs → ArePermits qs n h → All IsNew h
     → AreHands qs k (hs ++ h ∷ [])
 hands_next qs k n [] h are e is none =
     let same : n ≡ k = omega (arith, e) in
@@ -195,7 +195,7 @@ in_length (e ∷ es) (r ∷ rs) h = ap suc (in_length es rs h.1)
 -- ---- actors that are taken one by one, and what they leave
 
 -- the first hand of those that are left
-pub first_hand : (qs : List (ShardQueue Job)) (k : ℕ) (hands rest : List (List LanePermit)) (h : List LanePermit) → hands ≡ h ∷ rest → AreHands qs k hands
+pub first_hand : (qs : List (ShardQueue Job)) (k : ℕ) (hands rest : List (List (LanePermit Job))) (h : List (LanePermit Job)) → hands ≡ h ∷ rest → AreHands qs k hands
     → (ArePermits qs k h × All IsNew h) × AreHands qs (suc k) rest
 first_hand qs k hands rest h e are = subst (AreHands qs k) e are
 

@@ -36,9 +36,9 @@ served_next house p connections replies bytes reply serial keeps more heard hear
     }
 
 -- before the first connection
-pub books_begin : (d : Directory) (rooms : List Room) (p : ℕ) (notes : List Noted) (heard : List (Entry Noted)) (ss : List LanePermit) → notes ≡ [] → All IsNew ss → AreBooks d rooms p [] (notes_tell notes) heard (map put_by ss)
+pub books_begin : (d : Directory) (rooms : List Room) (p : ℕ) (notes : List Noted) (heard : List (Entry Noted)) (ss : List (LanePermit Job)) → notes ≡ [] → All IsNew ss → AreBooks d rooms p [] (notes_tell notes) heard (map put_by ss)
 books_begin d rooms p notes heard ss is each = record { noted = is; lanes = λ lane under. ([], none, nothing_sent ss each lane) } where
-  nothing_sent : (xs : List LanePermit) → All IsNew xs → (lane : ℕ) → slice_index_or (map put_by xs) lane [] ≡ []
+  nothing_sent : (xs : List (LanePermit Job)) → All IsNew xs → (lane : ℕ) → slice_index_or (map put_by xs) lane [] ≡ []
   nothing_sent [] h lane = refl
   nothing_sent (x ∷ xs) h zero = (All-head IsNew x xs h).0
   nothing_sent (x ∷ xs) h (suc lane) = nothing_sent xs (All-tail IsNew x xs h) lane

@@ -1,40 +1,19 @@
 -- What a consumer does with the copies that it takes: each is delivered under a lock, and its producer is told.
-use Rattle.std.specs.Prelude.{◌≡◌, ◌≢◌, ◌⊎◌, ℕ, ◌<◌, ◌≤◌, List, [], ◌∷◌, ◌++◌, map, slice_index_or, slice_set, Option, Some, None, Result, Bool, false, not, nat_lt, ◌&&◌}
+use Rattle.std.specs.Prelude.{◌≡◌, ◌⊎◌, ℕ, ◌<◌, ◌≤◌, List, [], ◌∷◌, ◌++◌, map, slice_index_or, slice_set, Bool, false, not, nat_lt, ◌&&◌}
 use Rattle.delivery_token.specs.declared.Job.{Job}
-use Rattle.delivery_token.specs.declared.Refusal.{Refusal}
 use Rattle.delivery_token.specs.declared.Refusal.TheVariants.{NoMemory}
 use Rattle.delivery_token.specs.declared.Verdict.{Verdict}
 use Rattle.delivery_token.specs.declared.Verdict.TheVariants.{Refused}
 use Rattle.delivery_token.specs.declared.log.Noted.{Noted}
-use Rattle.mailbox.specs.Answers.{verdict_of}
-use Rattle.mailbox.specs.Mailbox.{Mailbox}
-use Rattle.mailbox.specs.declared.mailbox.Receipt.{Receipt}
-use Rattle.workers_sync.specs.Holds.{DoesDeliver, UnderLock}
+use Rattle.locked_mailbox.specs.Locking.{Answers, InOneHold}
 use Rattle.shard_queue.specs.declared.lane.Entry.{Entry}
 use Rattle.shard_queue.specs.declared.lane.Entry.TheVariants.{Item, End}
 
--- What was done with a copy under a lock, by the answer: the mailbox that was found was the copy's, the copy was delivered there, and nothing else was
--- done; or another mailbox was found, and nothing was done.
-abbrev pub IsDelivered : Job → Option (Result Receipt Refusal) → Mailbox → Mailbox → Type 0
-IsDelivered job (Some delivered) found left = (found.number ≡ job.mailbox) × DoesDeliver found job delivered left
-IsDelivered job None found left = (found.number ≢ job.mailbox) × (left ≡ found)
-
--- What came of a copy, in a house of so many mailboxes: its delivery's answer. There is none where its mailbox isn't there, or another one was found
--- under its lock.
-abbrev pub IsJudged : ℕ → Job → Option (Result Receipt Refusal) → Type 0
-IsJudged mailboxes job (Some delivered) = (job.mailbox < mailboxes) × UnderLock (IsDelivered job (Some delivered))
-IsJudged mailboxes job None = (mailboxes ≤ job.mailbox) ⊎ UnderLock (IsDelivered job None)
-
--- the verdict on a copy of which this came: that of its delivery, or it is refused
-abbrev pub verdict_on : Option (Result Receipt Refusal) → Verdict
-verdict_on (Some delivered) = verdict_of delivered
-verdict_on None = Refused NoMemory
-
--- The verdict on a copy, in a house of so many mailboxes.
-pub record IsVerdict (mailboxes : ℕ) (job : Job) (verdict : Verdict) : Type 0 where
-  pub came : Option (Result Receipt Refusal)
-  pub judged : IsJudged mailboxes job came
-  pub tells : verdict ≡ verdict_on came
+-- The verdict on a copy, in a house of so many mailboxes: what was answered in one hold of its mailbox's lock, in which nothing else was done. Which copies
+-- are delivered, and which are refused, `Answers` says. Where its mailbox isn't there it is refused.
+pub data IsVerdict (mailboxes : ℕ) (job : Job) (verdict : Verdict) : Type 0 where
+  held : job.mailbox < mailboxes → InOneHold (Answers job verdict) → IsVerdict mailboxes job verdict
+  nowhere : mailboxes ≤ job.mailbox → verdict ≡ Refused NoMemory → IsVerdict mailboxes job verdict
 
 -- whether it is a copy of a house with so many mailboxes and channels: its producer has a channel, and its mailbox is there
 abbrev pub is_ours : (mailboxes channels producer : ℕ) → Job → Bool

@@ -24,7 +24,7 @@ module _ {A : Type 0} where
 
 -- Its permits are of its lane and of each channel. Where it kept every entry, they are those that it took, in order; it is torn where one of them was nobody's copy. On each channel it said, behind what it had
 -- sent before, one verdict on each copy that it took of that producer, in order, each by a delivery of that copy under a lock, or refused where no mailbox of its number was found; and then its end.
-pub record IsConsumed (lane : ShardQueue Job) (depot : Depot) (shard : ℕ) (before : List (List (Entry Noted))) (c : Consumed) : Type 0 where
+pub record IsConsumed {B : Type 0} (lane : ShardQueue Job) (depot : Depot B) (shard : ℕ) (before : List (List (Entry Noted))) (c : Consumed B) : Type 0 where
   pub permit : IsConsumer lane c.permit
   pub senders : AreSendersEnded depot.channels.items shard c.senders.items
   pub kept : c.kept ≡ true → c.taken.items ≡ got c.permit

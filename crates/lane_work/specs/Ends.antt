@@ -13,5 +13,5 @@ module _ {A : Type 0} where
   ends_in (End p ∷ entries) = suc (ends_in entries)
 
 -- Between these two moments a worker counted no end that it didn't hear.
-abbrev pub CountsEnds : Desk → Desk → Type 0
+abbrev pub CountsEnds : {B : Type 0} → Desk B → Desk B → Type 0
 CountsEnds old new = new.ends + ends_in (received old.receiver) ≤ old.ends + ends_in (received new.receiver)

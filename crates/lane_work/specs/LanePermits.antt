@@ -22,7 +22,7 @@ Rows (q ∷ qs) p [] = ⊥
 Rows (q ∷ qs) p (r ∷ rs) = AreLeft q p r × Rows qs p rs
 
 -- each hand has the permits of one producer on all lanes, from producer p on, which have put nothing
-abbrev pub AreHands : List (ShardQueue Job) → ℕ → List (List LanePermit) → Type 0
+abbrev pub AreHands : List (ShardQueue Job) → ℕ → List (List (LanePermit Job)) → Type 0
 AreHands qs p [] = Unit {0}
 AreHands qs p (h ∷ hs) = (ArePermits qs p h × All IsNew h) × AreHands qs (suc p) hs
 

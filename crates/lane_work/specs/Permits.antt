@@ -17,52 +17,52 @@ use Rattle.lane_work.specs.declared.desk.LanePermit.TheVariants.{Live, Over}
 
 -- ---- one permit
 
-abbrev pub permit_number : LanePermit → ℕ
+abbrev pub permit_number : LanePermit Job → ℕ
 permit_number (Live permit) = number_of permit
 permit_number (Over ended) = ended_number ended
 
 -- it has ended
-abbrev pub is_over : LanePermit → Bool
+abbrev pub is_over : LanePermit Job → Bool
 is_over (Live permit) = false
 is_over (Over ended) = true
 
 -- what it has put on its lane, its end left out
-abbrev pub put_by : LanePermit → List (Entry Job)
+abbrev pub put_by : LanePermit Job → List (Entry Job)
 put_by (Live permit) = sent permit
 put_by (Over ended) = take (length (said ended) - 1) (said ended)
 
 -- It is a permit on this lane. One that is over has said its end, and that last.
-abbrev pub IsPermit : ShardQueue Job → LanePermit → Type 0
+abbrev pub IsPermit : ShardQueue Job → LanePermit Job → Type 0
 IsPermit lane (Live permit) = IsProducer lane permit
 IsPermit lane (Over ended) = IsEnded lane ended × (said ended ≡ put_by (Over ended) ++ End (ended_number ended) ∷ [])
 
 -- it has put nothing yet, and may
-abbrev pub IsNew : LanePermit → Type 0
+abbrev pub IsNew : LanePermit Job → Type 0
 IsNew permit = (put_by permit ≡ []) × (is_over permit ≡ false)
 
 -- ---- permits in a row
 
 -- the i-th permit is producer p's on the i-th lane
-abbrev pub ArePermits : List (ShardQueue Job) → ℕ → List LanePermit → Type 0
+abbrev pub ArePermits : List (ShardQueue Job) → ℕ → List (LanePermit Job) → Type 0
 ArePermits [] p [] = Unit {0}
 ArePermits [] p (s ∷ ss) = ⊥
 ArePermits (q ∷ qs) p [] = ⊥
 ArePermits (q ∷ qs) p (s ∷ ss) = (IsPermit q s × (permit_number s ≡ p)) × ArePermits qs p ss
 
 -- which of them are over, lane by lane
-abbrev pub overs : List LanePermit → List Bool
+abbrev pub overs : List (LanePermit Job) → List Bool
 overs permits = map is_over permits
 
 -- none is over
-abbrev pub AreLive : List LanePermit → Type 0
+abbrev pub AreLive : List (LanePermit Job) → Type 0
 AreLive permits = All (λ permit. is_over permit ≡ false) permits
 
 -- those that are over are on shards that are shut
-abbrev pub AreShutWhereOver : Directory → List LanePermit → Type 0
+abbrev pub AreShutWhereOver : Directory → List (LanePermit Job) → Type 0
 AreShutWhereOver directory permits = (lane : ℕ) → slice_index_or (overs permits) lane false ≡ true → is_shut directory lane ≡ true
 
 -- producer p's permits, one on each lane, and none is over where the shard isn't shut
-abbrev pub AreInForce : Directory → List (ShardQueue Job) → ℕ → List LanePermit → Type 0
+abbrev pub AreInForce : Directory → List (ShardQueue Job) → ℕ → List (LanePermit Job) → Type 0
 AreInForce directory lanes p permits = ArePermits lanes p permits × AreShutWhereOver directory permits
 
 -- the same of what is left of them after their ends

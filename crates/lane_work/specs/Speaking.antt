@@ -17,7 +17,7 @@ use Rattle.lane_work.specs.Talk.{Judged, HasTaken}
 use Rattle.lane_work.specs.Account.{AreBooks, Premises}
 use Rattle.lane_work.specs.Copies.{Room, rooms_of}
 
-abbrev pub premises_of : Office → Premises
+abbrev pub premises_of : {B : Type 0} → Office B → Premises
 premises_of office = record {
   directory = office.directory;
   rooms = rooms_of office.lanes.items;

@@ -12,7 +12,7 @@ use Rattle.lane_work.specs.Permits.{AreEnded}
 use Rattle.lane_work.specs.Speaking.{premises_of}
 
 -- Its ended permits are its own on each lane, its receiver is of its channel, and where it went through its connections, this is its account of them.
-abbrev pub IsWorked : Office → ReplyChannel Noted → ℕ → List (List ℕ) → Worked → Type 0
+abbrev pub IsWorked : {B : Type 0} → Office B → ReplyChannel Noted → ℕ → List (List ℕ) → Worked B → Type 0
 IsWorked office channel seat connections w =
     AreEnded office.lanes.items seat w.ended.items × IsReceiver channel w.receiver × (w.log.seat ≡ seat)
     × (w.fate ≡ Whole → Account (premises_of office) seat connections (map (λ b. b.items) w.replies.items) w.log.notes (received w.receiver) (map said w.ended.items))

@@ -2,105 +2,99 @@
 //! held for that alone, and its producer is told. Which copy is taken next does not belong here.
 
 ghost use Rattle.std.specs.Prelude.{◌≡◌, ◌++◌, ◌∷◌, [], length, map};
-ghost use Rattle.mailbox.specs.Answers.{verdict_of};
+ghost use Rattle.delivery_token.specs.declared.Refusal.TheVariants as refusals;
+ghost use Rattle.delivery_token.specs.declared.Verdict.TheVariants as verdicts;
+ghost use Rattle.shard_queue.specs.declared.lane.Entry.TheVariants as entries;
 ghost use Rattle.shard_queue.specs.Reply.{IsSender, sender_number, sent_on};
 ghost use Rattle.lane_work.specs.Permits.{AreSenders};
-ghost use Rattle.lane_work.specs.Answering.{IsDelivered, IsJudged, Serves, is_ours, telling, verdict_on};
-ghost use Rattle.workers_sync.specs.Holds.{UnderLock};
+ghost use Rattle.lane_work.specs.Answering.{IsVerdict, Serves, is_ours};
+ghost use Rattle.locked_mailbox.specs.Locking.{Answers, InOneHold};
 
 use crate::bells::ring_sessions;
 use crate::consumer::Depot;
-use delivery_token::{Job, Noted, Refusal};
-use mailbox::{Mailbox, Receipt, verdict_of};
-use shard_queue::{ReplyChannel, SenderPermit};
+use delivery_token::{Noted, Refusal, Verdict};
+use house_history::{Answer, Letter, Naming};
+use locked_mailbox::{LockedMailbox, under};
+use shard_queue::{Full, ReplyChannel, SenderPermit};
 use std::sync::{Mutex, Wait};
 use std::thread;
-use workers_sync::{Gate, Pace, deliver, under};
+use workers_sync::{Gate, Pace};
 
-// Delivers a copy to the mailbox that is held: one event. None, and nothing is done, where that is another's.
-fn deliver_to(mailbox: &mut Mailbox, job: &Job) -> Option<Result<Receipt, Refusal>>
-    ensures { IsDelivered job.now result mailbox.old mailbox.new }
-{
-    if mailbox.number() != job.mailbox {
-        return None;
-    }
-    Some(deliver(mailbox, job))
-}
-
-// The same, under its mailbox's lock: one hold.
-fn deliver_under<R: Wait>(
+// Delivers a copy to the mailbox that is found under a lock: one hold.
+fn deliver_under<B: Naming, R: Wait>(
     rt: &R,
-    lock: &Mutex<Mailbox>,
-    job: &Job,
-) -> Option<Result<Receipt, Refusal>>
-    ensures { UnderLock (IsDelivered job.now result) }
+    lock: &Mutex<LockedMailbox<B>>,
+    letter: Letter<B>,
+) -> Answer<B>
+    ensures copy { (result.key ≡ letter.key) × (result.mailbox ≡ letter.mailbox) }
+    ensures answers { InOneHold (Answers letter result.verdict) }
 {
     under(
         rt,
         lock,
-        |mailbox: &mut Mailbox| -> Option<Result<Receipt, Refusal>>
-            ensures { IsDelivered job.entry.now result mailbox.old mailbox.new }
-        { deliver_to(mailbox, job) },
+        move |locked: &mut LockedMailbox<B>| -> Answer<B>
+            ensures copy { (result.key ≡ letter.key) × (result.mailbox ≡ letter.mailbox) }
+            ensures answers { Answers letter result.verdict locked.old locked.new }
+        { locked.deliver(letter) },
     )
 }
 
-// What came of a copy. None where its mailbox isn't there, or another one was found under its lock.
-fn judge<R: Wait>(
-    rt: &R,
-    mailboxes: &[Mutex<Mailbox>],
-    job: &Job,
-) -> Option<Result<Receipt, Refusal>>
-    ensures { IsJudged (length mailboxes.now) job.now result }
+// What is noted of a copy whose mailbox isn't there: it is refused.
+fn refused<B: Naming>(depot: &Depot<B>, letter: Letter<B>) -> Answer<B>
+    ensures { result ≡ record {
+      key = letter.key;
+      mailbox = letter.mailbox;
+      verdict = verdicts.Refused refusals.NoMemory;
+    } }
 {
-    let lock = mailboxes.get(usize::from(job.mailbox))?;
-    deliver_under(rt, lock, job)
+    let job = letter.job();
+    let noted = Noted {
+        key: job.key,
+        mailbox: job.mailbox,
+        verdict: Verdict::Refused(Refusal::NoMemory),
+    };
+    Answer::untold(noted, depot.front.again())
 }
 
-// What its producer is answered: where its mailbox wasn't found, the copy is refused.
-fn answer_of(judged: Option<Result<Receipt, Refusal>>) -> Result<Receipt, Refusal>
-    ensures { verdict_of result ≡ verdict_on judged }
+// What is noted of a copy: what its mailbox answers, where that is there.
+fn judge<B: Naming, R: Wait>(rt: &R, depot: &Depot<B>, letter: Letter<B>) -> Answer<B>
+    ensures copy { (result.key ≡ letter.key) × (result.mailbox ≡ letter.mailbox) }
+    ensures verdict { IsVerdict (length depot.now.mailboxes.items) letter result.verdict }
 {
-    match judged {
-        Some(delivered) => delivered,
-        None => Err(Refusal::NoMemory),
+    match depot.mailboxes.get(usize::from(letter.job().mailbox)) {
+        Some(lock) => deliver_under(rt, lock, letter),
+        None => refused(depot, letter),
     }
 }
 
 // Wakes the sessions that have something to see.
-fn tell_sessions(depot: &Depot, mailbox: u8, delivered: &Result<Receipt, Refusal>) {
-    if delivered.is_ok() {
-        ring_sessions(&depot.sessions, mailbox);
+fn tell_sessions<B: Naming>(depot: &Depot<B>, noted: &Noted) {
+    if let Verdict::Stored { uid: _ } = noted.verdict {
+        ring_sessions(&depot.sessions, noted.mailbox);
     }
 }
 
-// Answers what came of a copy on a channel, which spends the receipt; where the channel is full, it tries
-// again until there is room.
-fn answer<R: Wait, G: Gate>(
+// Tells what is noted of a copy on a channel; where the channel is full, it tries again until there is room.
+fn tell<B: Naming, R: Wait, G: Gate>(
     rt: &R,
     pace: &mut Pace<'_, G>,
-    channel: &ReplyChannel<Noted>,
-    permit: &mut SenderPermit<Noted>,
-    job: &Job,
-    delivered: Result<Receipt, Refusal>,
+    channel: &ReplyChannel<Answer<B>>,
+    permit: &mut SenderPermit<Answer<B>>,
+    mut answer: Answer<B>,
 )
     requires { IsSender channel.now permit.old }
     ensures permit { IsSender channel.now permit.new
         × (sender_number permit.new ≡ sender_number permit.old) }
     ensures sent { sent_on permit.new
-        ≡ sent_on permit.old ++ telling (sender_number permit.old) job.now (verdict_of delivered)
-        ∷ [] }
+        ≡ sent_on permit.old ++ entries.Item (sender_number permit.old) answer ∷ [] }
 {
-    let noted = Noted {
-        key: job.key,
-        mailbox: job.mailbox,
-        verdict: verdict_of(delivered),
-    };
     for _ in rt.forever() {
         pace.pass();
-        match channel.send_as(rt, permit, noted) {
+        match channel.send_as(rt, permit, answer) {
             Ok(()) => return,
-            Err(_) => thread::yield_now(),
+            Err(Full(back)) => answer = back,
         }
+        thread::yield_now();
     }
     unreachable!()
 }
@@ -108,15 +102,15 @@ fn answer<R: Wait, G: Gate>(
 /// What becomes of one copy: it is delivered, and its producer is told. Whether it was a copy of this
 /// house: of a producer that has a channel, and for a mailbox that is there. One of a producer without a
 /// channel isn't delivered. One whose mailbox isn't there, or isn't the one that is found under its lock,
-/// is refused as NoMemory.
-pub fn serve_copy<R: Wait, G: Gate>(
+/// or that doesn't stand above all that this mailbox had of its seat, is refused as NoMemory.
+pub fn serve_copy<B: Naming, R: Wait, G: Gate>(
     rt: &R,
     pace: &mut Pace<'_, G>,
-    depot: &Depot,
+    depot: &Depot<B>,
     shard: u8,
-    senders: &mut Vec<SenderPermit<Noted>>,
+    senders: &mut Vec<SenderPermit<Answer<B>>>,
     producer: u8,
-    job: &Job,
+    letter: Letter<B>,
 ) -> bool
     // There is a sender's permit on each channel, of this shard's number.
     requires senders { AreSenders depot.now.channels.items shard senders.old.items }
@@ -124,11 +118,11 @@ pub fn serve_copy<R: Wait, G: Gate>(
 
     // `true` is said of just the copies whose producer has a channel and whose mailbox is there.
     ensures known { result ≡ is_ours (length depot.now.mailboxes.items)
-        (length depot.now.channels.items) producer job.now }
+        (length depot.now.channels.items) producer letter }
 
     // Its producer was told one verdict on it (a refusal, where its mailbox wasn't found), and nobody else anything; without a channel nobody was.
     ensures served { Serves (length depot.now.mailboxes.items) (length depot.now.channels.items)
-        shard producer job.now
+        shard producer letter
         (map sent_on senders.old.items) (map sent_on senders.new.items) }
 {
     let position = usize::from(producer);
@@ -136,16 +130,15 @@ pub fn serve_copy<R: Wait, G: Gate>(
         return false;
     }
     pace.pass();
-    let judged = judge(rt, &depot.mailboxes, job);
-    let delivered = answer_of(judged);
-    tell_sessions(depot, job.mailbox, &delivered);
-    answer(
+    let is_there = usize::from(letter.job().mailbox) < depot.mailboxes.len();
+    let answer = judge(rt, depot, letter);
+    tell_sessions(depot, &answer.noted());
+    tell(
         rt,
         pace,
         &depot.channels[position],
         &mut senders[position],
-        job,
-        delivered,
+        answer,
     );
-    usize::from(job.mailbox) < depot.mailboxes.len()
+    is_there
 }

@@ -21,16 +21,17 @@ use crate::producer::Context;
 use crate::putting::put_copy;
 use change_ring::Flags;
 use delivery_token::{CopyKey, Text, Verdict};
+use house_history::Naming;
 use std::sync::Wait;
 use workers_sync::{Courier, Gate, Lost, Pace};
 
 /// Carries the messages of one seat's sessions: each goes into the lane of its mailbox's shard, for which
 /// is summoned, and the verdict on it is awaited and noted.
-pub struct LaneCourier<'a, R: Wait, S: Summons, N: Notebook> {
+pub struct LaneCourier<'a, B: Naming, R: Wait, S: Summons, N: Notebook> {
     /// What it works with; the channel is the seat's.
-    pub context: Context<'a, R, S>,
-    /// What it holds for the seat: its number, its permits and its end of the channel.
-    pub desk: Desk,
+    pub context: Context<'a, B, R, S>,
+    /// What it holds for the seat: its number, its permits, its end of the channel, and what it sends with.
+    pub desk: Desk<B>,
     /// Which session of its seat it carries for, from 0.
     pub serial: u64,
     /// What it notes of the verdicts.
@@ -40,10 +41,10 @@ pub struct LaneCourier<'a, R: Wait, S: Summons, N: Notebook> {
 }
 
 // Puts a copy, and hears the verdict on it.
-fn judge<R: Wait, G: Gate, S: Summons>(
-    context: &Context<'_, R, S>,
+fn judge<B: Naming, R: Wait, G: Gate, S: Summons>(
+    context: &Context<'_, B, R, S>,
     pace: &mut Pace<'_, G>,
-    desk: &mut Desk,
+    desk: &mut Desk<B>,
     key: CopyKey,
     mailbox: u8,
     text: &Text,
@@ -76,7 +77,7 @@ fn judge<R: Wait, G: Gate, S: Summons>(
     }
 }
 
-impl<'a, R: Wait, S: Summons, N: Notebook> Courier for LaneCourier<'a, R, S, N> {
+impl<'a, B: Naming, R: Wait, S: Summons, N: Notebook> Courier for LaneCourier<'a, B, R, S, N> {
     // It has the seat's own permit on each lane, none of them over, and the receiver of its channel.
     ghost ready = { λ c. IsReady c.context.office.now c.context.channel.now c.desk };
 

@@ -10,24 +10,24 @@ ghost use Rattle.lane_work.specs.ChannelClosings.{AreChannelsClosed, AreChannels
 ghost use Rattle.lane_work.specs.Rooms.{AreRooms};
 
 use crate::rooms::spend_lists;
-use delivery_token::Noted;
+use house_history::{Answer, Naming};
 use shard_queue::{
     ReceiverPermit, ReplyChannel, ReplyClosed, ReplyNotAll, SenderEnded, SenderPermit,
 };
 use std::alloc::{AllocError, Global};
 
 /// The reply channels of a house, with all their permits.
-pub struct Channels {
+pub struct Channels<B: Naming> {
     /// The channel of each producer.
-    pub channels: Vec<ReplyChannel<Noted>>,
+    pub channels: Vec<ReplyChannel<Answer<B>>>,
     /// For each channel the permits of its senders, in the order of their numbers.
-    pub permits: Vec<Vec<SenderPermit<Noted>>>,
+    pub permits: Vec<Vec<SenderPermit<Answer<B>>>>,
     /// For each channel its receiver's permit.
-    pub receivers: Vec<ReceiverPermit<Noted>>,
+    pub receivers: Vec<ReceiverPermit<Answer<B>>>,
 }
 
 // No channels, with room for so many.
-fn no_channels(alloc: Global, count: usize) -> Result<Channels, AllocError>
+fn no_channels<B: Naming>(alloc: Global, count: usize) -> Result<Channels<B>, AllocError>
     ensures { IfOk result (λ r. (r.channels.items ≡ []) × (r.permits.items ≡ [])
         × (r.receivers.items ≡ [])
         × (count ≤ vec_capacity r.channels) × (count ≤ vec_capacity r.permits)
@@ -58,12 +58,12 @@ fn no_channels(alloc: Global, count: usize) -> Result<Channels, AllocError>
 
 /// An empty channel for each of `producers` producers, with room for `depth` entries, and the permits of
 /// `senders` senders, 0 to 255 each. An error where memory is refused; nothing is left then.
-pub fn make_channels(
+pub fn make_channels<B: Naming>(
     alloc: Global,
     producers: u8,
     depth: usize,
     senders: u8,
-) -> Result<Channels, AllocError>
+) -> Result<Channels<B>, AllocError>
     requires { 0 < depth }
     ensures count { IfOk result (λ r. vec_len r.channels ≡ producers) }
     ensures channels { IfOk result (λ r.
@@ -93,7 +93,7 @@ pub fn make_channels(
 }
 
 /// Spends channels that are not to be used, with the permits that are there. It takes no memory.
-pub fn abandon_channels(alloc: Global, channels: Channels)
+pub fn abandon_channels<B: Naming>(alloc: Global, channels: Channels<B>)
     requires { (vec_len channels.permits ≡ vec_len channels.channels)
         × (vec_len channels.receivers ≡ vec_len channels.channels) }
 {
@@ -113,12 +113,12 @@ pub fn abandon_channels(alloc: Global, channels: Channels)
 
 /// Sender `number` takes its permit on each channel, the first that is left there, into `hand`, which is
 /// empty and has room for all.
-pub fn deal_senders(
-    channels: &[ReplyChannel<Noted>],
-    permits: &mut Vec<Vec<SenderPermit<Noted>>>,
+pub fn deal_senders<B: Naming>(
+    channels: &[ReplyChannel<Answer<B>>],
+    permits: &mut Vec<Vec<SenderPermit<Answer<B>>>>,
     number: u8,
-    mut hand: Vec<SenderPermit<Noted>>,
-) -> Vec<SenderPermit<Noted>>
+    mut hand: Vec<SenderPermit<Answer<B>>>,
+) -> Vec<SenderPermit<Answer<B>>>
     // On each channel the permits from sender `number`'s on are left, in their order, and sent nothing; that one's is among them.
     requires left { SenderRows channels.now number (map (λ v. v.items) permits.old.items) }
     requires more { All (λ q. number < senders_of q) channels.now }
@@ -138,13 +138,13 @@ pub fn deal_senders(
 /// Each of the senders takes its permit on each channel, after which none is left: the i-th hand is that
 /// of sender i. `rooms` has an empty list for each, with room for all channels, and `hands`, which is
 /// empty, has room for all hands.
-pub fn deal_all_senders(
-    channels: &[ReplyChannel<Noted>],
-    mut permits: Vec<Vec<SenderPermit<Noted>>>,
+pub fn deal_all_senders<B: Naming>(
+    channels: &[ReplyChannel<Answer<B>>],
+    mut permits: Vec<Vec<SenderPermit<Answer<B>>>>,
     senders: u8,
-    mut rooms: Vec<Vec<SenderPermit<Noted>>>,
-    mut hands: Vec<Vec<SenderPermit<Noted>>>,
-) -> Vec<Vec<SenderPermit<Noted>>>
+    mut rooms: Vec<Vec<SenderPermit<Answer<B>>>>,
+    mut hands: Vec<Vec<SenderPermit<Answer<B>>>>,
+) -> Vec<Vec<SenderPermit<Answer<B>>>>
     // On each channel the permits of all senders are left, in their order, and sent nothing.
     requires left { SenderRows channels.now 0 (map (λ v. v.items) permits.items) }
     requires senders { All (λ q. senders_of q ≡ senders) channels.now }
@@ -166,7 +166,10 @@ pub fn deal_all_senders(
 
 /// What is left of one sender's permits, one on each channel, goes to the lists by channel, each of
 /// which has room for one more. What stood in the lists stays there.
-pub fn collect_senders(lists: &mut Vec<Vec<SenderEnded<Noted>>>, mut ended: Vec<SenderEnded<Noted>>)
+pub fn collect_senders<B: Naming>(
+    lists: &mut Vec<Vec<SenderEnded<Answer<B>>>>,
+    mut ended: Vec<SenderEnded<Answer<B>>>,
+)
     // There is one for each list, and each list has room for one more.
     requires each { vec_len ended ≡ vec_len lists.old }
     requires room { All (λ v. vec_len v < vec_capacity v) lists.old.items }
@@ -190,9 +193,9 @@ pub fn collect_senders(lists: &mut Vec<Vec<SenderEnded<Noted>>>, mut ended: Vec<
 
 /// What is left of all senders' permits goes to the lists by channel, each of which has room for all.
 /// Each hand has one sender's, one on each channel. What stood in the lists stays there.
-pub fn collect_all_senders(
-    lists: &mut Vec<Vec<SenderEnded<Noted>>>,
-    mut hands: Vec<Vec<SenderEnded<Noted>>>,
+pub fn collect_all_senders<B: Naming>(
+    lists: &mut Vec<Vec<SenderEnded<Answer<B>>>>,
+    mut hands: Vec<Vec<SenderEnded<Answer<B>>>>,
 )
     // Each hand has one for each list, and each list has room for all hands'.
     requires each { All (λ v. vec_len v ≡ vec_len lists.old) hands.items }
@@ -218,13 +221,13 @@ pub fn collect_all_senders(
 /// Closes each channel with the ended permits of its senders and with its receiver's. None only where
 /// some channel is torn: one of its senders' ended permits is missing, or that one's end wasn't
 /// received. It spends all that it was given then too. `closed`, which is empty, has room for all.
-pub fn close_channels(
+pub fn close_channels<B: Naming>(
     alloc: Global,
-    mut channels: Vec<ReplyChannel<Noted>>,
-    mut ended: Vec<Vec<SenderEnded<Noted>>>,
-    mut receivers: Vec<ReceiverPermit<Noted>>,
-    mut closed: Vec<ReplyClosed<Noted>>,
-) -> Option<Vec<ReplyClosed<Noted>>>
+    mut channels: Vec<ReplyChannel<Answer<B>>>,
+    mut ended: Vec<Vec<SenderEnded<Answer<B>>>>,
+    mut receivers: Vec<ReceiverPermit<Answer<B>>>,
+    mut closed: Vec<ReplyClosed<Answer<B>>>,
+) -> Option<Vec<ReplyClosed<Answer<B>>>>
     // The i-th list has ended permits of the i-th channel, and the i-th receiver's permit is of that channel.
     requires ended { SenderEndedRows channels.items (map (λ v. v.items) ended.items) }
     requires receivers { AreReceivers channels.items receivers.items }

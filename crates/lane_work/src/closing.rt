@@ -10,14 +10,14 @@ use crate::bells::Summons;
 use crate::desk::{Closing, Desk, LanePermit, Office};
 use crate::ending::end_one;
 use crate::producer::Context;
-use delivery_token::Job;
 use envelope::Directory;
+use house_history::{Letter, Naming};
 use shard_queue::ShardQueue;
 use std::sync::Wait;
 use workers_sync::{Gate, Pace};
 
 // What the worker of this number closes.
-fn closings_of(office: &Office, number: u8) -> &[Closing]
+fn closings_of<B: Naming>(office: &Office<B>, number: u8) -> &[Closing]
     ensures { result.now ≡ closings_at office.now number }
 {
     match office.closings.get(usize::from(number)) {
@@ -51,15 +51,15 @@ fn mark_due(closings: &[Closing], connection: usize, directory: &mut Directory)
 }
 
 // A permit as it is left: where the shard is shut it is over, and whoever is to take its end is summoned.
-fn left_at<R: Wait, G: Gate, S: Summons>(
+fn left_at<B: Naming, R: Wait, G: Gate, S: Summons>(
     rt: &R,
     pace: &mut Pace<'_, G>,
-    lane: &ShardQueue<Job>,
+    lane: &ShardQueue<Letter<B>>,
     summons: &S,
     shard: usize,
-    permit: LanePermit,
+    permit: LanePermit<Letter<B>>,
     shut: bool,
-) -> LanePermit
+) -> LanePermit<Letter<B>>
     requires { IsPermit lane.now permit }
     ensures permit { IsPermit lane.now result × (permit_number result ≡ permit_number permit) }
     ensures put { put_by result ≡ put_by permit }
@@ -80,10 +80,10 @@ fn left_at<R: Wait, G: Gate, S: Summons>(
 
 // Ends the permits that aren't over on shards that are shut. Each permit is taken from the front and put
 // back behind the others, so that they stand as before when all have gone round.
-fn end_where_shut<R: Wait, G: Gate, S: Summons>(
-    context: &Context<'_, R, S>,
+fn end_where_shut<B: Naming, R: Wait, G: Gate, S: Summons>(
+    context: &Context<'_, B, R, S>,
     pace: &mut Pace<'_, G>,
-    desk: &mut Desk,
+    desk: &mut Desk<B>,
     directory: &Directory,
 )
     requires { AreInForce directory.now context.now.office.now.lanes.items desk.old.number
@@ -107,10 +107,10 @@ fn end_where_shut<R: Wait, G: Gate, S: Summons>(
 /// Closes the shards that the desk's worker is to close before this connection: they are marked in its
 /// own directory, and its permits there are over. Where a lane is full it tries again until there is room
 /// for the end.
-pub(crate) fn close_due<R: Wait, G: Gate, S: Summons>(
-    context: &Context<'_, R, S>,
+pub(crate) fn close_due<B: Naming, R: Wait, G: Gate, S: Summons>(
+    context: &Context<'_, B, R, S>,
     pace: &mut Pace<'_, G>,
-    desk: &mut Desk,
+    desk: &mut Desk<B>,
     directory: &mut Directory,
     connection: usize,
 )

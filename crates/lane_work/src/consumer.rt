@@ -1,8 +1,9 @@
 //! A consumer's life: each copy of its lane is taken, delivered and answered, until the end of every
 //! producer came; then its own permits are ended. What becomes of one copy stands in `answering`.
 
-ghost use Rattle.std.specs.Prelude.{◌≡◌, ◌≤◌, ◌++◌, ◌∷◌, [], true, length, map, vec_capacity};
+ghost use Rattle.std.specs.Prelude.{◌≡◌, ◌≤◌, ◌++◌, ◌∷◌, [], IfSome, MatchOption, true, false, length, map, vec_capacity};
 ghost use Rattle.std.specs.List.{list_any};
+ghost use Rattle.shard_queue.specs.declared.lane.Entry.TheVariants as entries;
 ghost use Rattle.shard_queue.specs.Permits.{IsConsumer, got};
 ghost use Rattle.shard_queue.specs.Reply.{sent_on};
 ghost use Rattle.lane_work.specs.Permits.{AreSenders};
@@ -15,8 +16,9 @@ use crate::answering::serve_copy;
 use crate::bells::wait_for;
 use crate::ending::end_senders;
 use crossbeam_utils::sync::Parker;
-use delivery_token::{Job, Noted};
-use mailbox::Mailbox;
+use delivery_token::Job;
+use house_history::{Answer, Front, Letter, Naming};
+use locked_mailbox::LockedMailbox;
 use shard_queue::{
     ConsumerPermit, Entry, ReplyChannel, SenderEnded, SenderPermit, ShardQueue, Taken,
 };
@@ -24,34 +26,36 @@ use std::sync::{Mutex, Wait};
 use workers_sync::{Gate, Pace, SessionBell};
 
 /// What all consumers share.
-pub struct Depot {
+pub struct Depot<B: Naming> {
     /// The mailboxes, by their numbers.
-    pub mailboxes: Vec<Mutex<Mailbox>>,
+    pub mailboxes: Vec<Mutex<LockedMailbox<B>>>,
     /// The producers' reply channels, by their numbers.
-    pub channels: Vec<ReplyChannel<Noted>>,
+    pub channels: Vec<ReplyChannel<Answer<B>>>,
     /// The bells of the sessions that may look at a mailbox, by its number: they are rung after a
     /// delivery to it. Where a mailbox has none nothing is rung.
     pub sessions: Vec<Vec<SessionBell>>,
+    /// How the history of these mailboxes began, as an answer has it that says nothing of a copy.
+    pub front: Front<B>,
 }
 
 /// What one consumer holds.
-pub struct Stall {
+pub struct Stall<B: Naming> {
     /// The number of its shard, which is that of its senders.
     pub shard: u8,
     /// Its end of its lane.
-    pub permit: ConsumerPermit<Job>,
+    pub permit: ConsumerPermit<Letter<B>>,
     /// Its permit on each reply channel.
-    pub senders: Vec<SenderPermit<Noted>>,
+    pub senders: Vec<SenderPermit<Answer<B>>>,
     /// The bell that wakes it: whoever puts on its lane, or ends there, rings it.
     pub bell: Parker,
 }
 
 /// What a consumer leaves.
-pub struct Consumed {
+pub struct Consumed<B: Naming> {
     /// Its end of its lane.
-    pub permit: ConsumerPermit<Job>,
+    pub permit: ConsumerPermit<Letter<B>>,
     /// What is left of its permit on each reply channel.
-    pub senders: Vec<SenderEnded<Noted>>,
+    pub senders: Vec<SenderEnded<Answer<B>>>,
     /// The entries that it took, copies and ends, in order, up to the first that there was no memory for.
     pub taken: Vec<Entry<Job>>,
     /// Whether these are all that it took.
@@ -66,6 +70,36 @@ pub struct Consumed {
 struct Tally {
     kept: bool,
     torn: bool,
+}
+
+// An entry that is to be kept of a copy, before that is given away. None where no more are kept, or its text can't be shared.
+fn entry_of(kept: bool, producer: u8, job: &Job) -> Option<Entry<Job>>
+    ensures { IfSome result (λ entry. (kept ≡ true) × (entry ≡ entries.Item producer job.now)) }
+{
+    if !kept {
+        return None;
+    }
+    let Ok(text) = job.text.copy() else {
+        return None;
+    };
+    let copy = Job {
+        key: job.key,
+        mailbox: job.mailbox,
+        text,
+        flags: job.flags,
+    };
+    Some(Entry::Item(producer, copy))
+}
+
+// Adds what is to be kept of a copy, where there is memory.
+fn keep_copy(taken: &mut Vec<Entry<Job>>, entry: Option<Entry<Job>>) -> bool
+    ensures { MatchOption entry (result ≡ false)
+        (λ e. result ≡ true → taken.new.items ≡ taken.old.items ++ e ∷ []) }
+{
+    match entry {
+        Some(entry) => keep(taken, true, entry),
+        None => false,
+    }
 }
 
 // Adds an entry, where all before it were kept and there is memory.
@@ -83,12 +117,12 @@ fn keep(taken: &mut Vec<Entry<Job>>, kept: bool, entry: Entry<Job>) -> bool
 
 // Takes until the end of each of so many producers came: each copy is delivered and answered. What was
 // taken is kept as long as there is memory.
-fn serve_all<R: Wait, G: Gate>(
+fn serve_all<B: Naming, R: Wait, G: Gate>(
     rt: &R,
     pace: &mut Pace<'_, G>,
-    depot: &Depot,
-    lane: &ShardQueue<Job>,
-    stall: &mut Stall,
+    depot: &Depot<B>,
+    lane: &ShardQueue<Letter<B>>,
+    stall: &mut Stall<B>,
     taken: &mut Vec<Entry<Job>>,
     producers: usize,
 ) -> Tally
@@ -121,11 +155,12 @@ fn serve_all<R: Wait, G: Gate>(
         }
         pace.pass();
         match lane.take_as(rt, &mut stall.permit) {
-            Taken::Item(p, job) => {
+            Taken::Item(p, letter) => {
                 pauses = 0;
-                let known = serve_copy(rt, pace, depot, shard, &mut stall.senders, p, &job);
+                let entry = entry_of(tally.kept, p, letter.job());
+                let known = serve_copy(rt, pace, depot, shard, &mut stall.senders, p, letter);
                 tally.torn |= !known;
-                tally.kept = keep(taken, tally.kept, Entry::Item(p, job));
+                tally.kept = keep_copy(taken, entry);
             }
             Taken::End(p) => {
                 pauses = 0;
@@ -140,21 +175,21 @@ fn serve_all<R: Wait, G: Gate>(
 
 /// A consumer's whole life: it takes until the end of each of so many producers came, and then ends its
 /// permit on each reply channel. Each copy is delivered under its mailbox's lock and answered on its
-/// producer's channel. Each entry is kept; where the list of those that are kept can't grow, it goes on
-/// without keeping.
+/// producer's channel. Each entry is kept; where the list of those that are kept can't grow, or a copy's text
+/// can't be shared, it goes on without keeping.
 ///
 /// `ended` is empty and has room for all channels, and `taken` is empty. It sleeps where nothing waits, so whoever
 /// puts on the lane, or ends there, has to ring its bell.
-pub fn consume<R: Wait, G: Gate>(
+pub fn consume<B: Naming, R: Wait, G: Gate>(
     rt: &R,
     pace: &mut Pace<'_, G>,
-    depot: &Depot,
-    lane: &ShardQueue<Job>,
-    mut stall: Stall,
-    ended: Vec<SenderEnded<Noted>>,
+    depot: &Depot<B>,
+    lane: &ShardQueue<Letter<B>>,
+    mut stall: Stall<B>,
+    ended: Vec<SenderEnded<Answer<B>>>,
     mut taken: Vec<Entry<Job>>,
     producers: usize,
-) -> Consumed
+) -> Consumed<B>
     // The stall has its lane's consumer's permit, which took nothing yet, and on each channel a sender's of its shard's number.
     requires permit { IsConsumer lane.now stall.permit × (got stall.permit ≡ []) }
     requires senders { AreSenders depot.now.channels.items stall.shard stall.senders.items }

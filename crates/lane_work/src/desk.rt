@@ -1,12 +1,13 @@
 //! What a worker holds, and what all workers share. What they do with it stands in the modules
 //! beside this one.
 
-use delivery_token::{Job, Noted};
+use crate::dispatch::Dispatch;
 use envelope::Directory;
+use house_history::{Answer, Letter, Naming};
 use shard_queue::{Ended, ProducerPermit, ReceiverPermit, ShardQueue};
 
 /// What all workers share.
-pub struct Office {
+pub struct Office<B: Naming> {
     /// Which mailbox a path names, and which shard keeps it.
     pub directory: Directory,
     /// The house's name in the replies, of 255 bytes at most.
@@ -14,7 +15,7 @@ pub struct Office {
     /// The most bytes of a message's data.
     pub max_message: usize,
     /// The lane of each shard, as many as the directory has shards.
-    pub lanes: Vec<ShardQueue<Job>>,
+    pub lanes: Vec<ShardQueue<Letter<B>>>,
     /// For each worker, by its number, the shards that it closes. A worker that isn't there closes none.
     pub closings: Vec<Vec<Closing>>,
 }
@@ -31,21 +32,23 @@ pub struct Closing {
 }
 
 /// A producer's permit on one lane.
-pub enum LanePermit {
+pub enum LanePermit<T> {
     /// It may put copies there.
-    Live(ProducerPermit<Job>),
+    Live(ProducerPermit<T>),
     /// It has ended, and puts nothing there any more.
-    Over(Ended<Job>),
+    Over(Ended<T>),
 }
 
 /// What one worker holds.
-pub struct Desk {
+pub struct Desk<B: Naming> {
     /// The worker's number, which is that of its permits and of the keys of its copies.
     pub number: u8,
     /// Its permit on each lane.
-    pub permits: Vec<LanePermit>,
+    pub permits: Vec<LanePermit<Letter<B>>>,
     /// Its end of its reply channel.
-    pub receiver: ReceiverPermit<Noted>,
+    pub receiver: ReceiverPermit<Answer<B>>,
     /// How many shards' ends it has heard there.
     pub ends: usize,
+    /// What it sends its copies with.
+    pub dispatch: Dispatch<B>,
 }

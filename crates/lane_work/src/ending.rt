@@ -1,7 +1,7 @@
 //! A worker's permits and a consumer's senders are ended, and a worker hears the ends of its reply
 //! channel. What stood on them before does not matter here.
 
-ghost use Rattle.std.specs.Prelude.{true, ◌≡◌, ◌↔◌, ◌≤◌, ◌+◌, ◌-◌, ◌++◌, ◌∷◌, [], length, map, vec_capacity};
+ghost use Rattle.std.specs.Prelude.{true, false, ◌≡◌, ◌↔◌, ◌≤◌, ◌+◌, ◌-◌, ◌++◌, ◌∷◌, [], length, map, vec_capacity};
 ghost use Rattle.shard_queue.specs.declared.lane.Entry.TheVariants as entries;
 ghost use Rattle.shard_queue.specs.Permits.{IsProducer, IsEnded, sent, said, number_of, ended_number};
 ghost use Rattle.shard_queue.specs.Reply.{IsReceiver, IsSender, IsSenderEnded, received, sender_number, sender_ended_number, sent_on, said_on};
@@ -13,7 +13,7 @@ ghost use Rattle.lane_work.specs.Ends.{ends_in};
 
 use crate::bells::Summons;
 use crate::desk::{LanePermit, Office};
-use delivery_token::{Job, Noted};
+use house_history::{Answer, Letter, Naming};
 use shard_queue::{
     Ended, Entry, ProducerPermit, ReceiverPermit, ReplyChannel, SenderEnded, SenderPermit,
     ShardQueue,
@@ -24,12 +24,12 @@ use workers_sync::{Gate, Pace};
 
 /// Ends a producer's permit: its end goes behind all that it has put. Where the lane is full it tries
 /// again until there is room.
-pub fn end_one<R: Wait, G: Gate>(
+pub fn end_one<B: Naming, R: Wait, G: Gate>(
     rt: &R,
     pace: &mut Pace<'_, G>,
-    lane: &ShardQueue<Job>,
-    mut permit: ProducerPermit<Job>,
-) -> Ended<Job>
+    lane: &ShardQueue<Letter<B>>,
+    mut permit: ProducerPermit<Letter<B>>,
+) -> Ended<Letter<B>>
     requires { IsProducer lane.now permit }
     ensures { IsEnded lane.now result × (ended_number result ≡ number_of permit)
         × (said result ≡ sent permit ++ entries.End (number_of permit) ∷ []) }
@@ -46,12 +46,12 @@ pub fn end_one<R: Wait, G: Gate>(
 }
 
 /// The same of a permit that may be over: then it stays as it is.
-pub fn end_permit<R: Wait, G: Gate>(
+pub fn end_permit<B: Naming, R: Wait, G: Gate>(
     rt: &R,
     pace: &mut Pace<'_, G>,
-    lane: &ShardQueue<Job>,
-    permit: LanePermit,
-) -> Ended<Job>
+    lane: &ShardQueue<Letter<B>>,
+    permit: LanePermit<Letter<B>>,
+) -> Ended<Letter<B>>
     requires { IsPermit lane.now permit }
     ensures { IsEnded lane.now result × (ended_number result ≡ permit_number permit) ×
         (said result ≡ put_by permit ++ entries.End (permit_number permit) ∷ []) }
@@ -64,15 +64,15 @@ pub fn end_permit<R: Wait, G: Gate>(
 
 /// Ends a worker's permit on each lane, from the first on, and summons whoever is to take it there. One
 /// that is over stays as it is. `ended`, which is empty, has room for all.
-pub fn end_all<R: Wait, G: Gate, S: Summons>(
+pub fn end_all<B: Naming, R: Wait, G: Gate, S: Summons>(
     rt: &R,
     pace: &mut Pace<'_, G>,
-    office: &Office,
+    office: &Office<B>,
     summons: &S,
     number: u8,
-    mut permits: Vec<LanePermit>,
-    mut ended: Vec<Ended<Job>>,
-) -> Vec<Ended<Job>>
+    mut permits: Vec<LanePermit<Letter<B>>>,
+    mut ended: Vec<Ended<Letter<B>>>,
+) -> Vec<Ended<Letter<B>>>
     // There is a permit of this producer on each lane, over or not.
     requires permits { ArePermits office.now.lanes.items number permits.items }
     requires room { (ended.items ≡ []) × (length office.now.lanes.items ≤ vec_capacity ended) }
@@ -90,13 +90,24 @@ pub fn end_all<R: Wait, G: Gate, S: Summons>(
     ended
 }
 
+// Whether an end came. What else came is let go.
+fn is_end<B: Naming>(entry: Entry<Answer<B>>) -> bool
+    ensures end { result ≡ true → ends_in (entry ∷ []) ≡ 1 }
+    ensures other { result ≡ false → ends_in (entry ∷ []) ≡ 0 }
+{
+    match entry {
+        Entry::Item(_, _) => false,
+        Entry::End(_) => true,
+    }
+}
+
 /// Receives until the ends of so many shards came, of which `heard` came before. Answers whether nothing
 /// else came.
-pub fn hear_ends<R: Wait, G: Gate>(
+pub fn hear_ends<B: Naming, R: Wait, G: Gate>(
     rt: &R,
     pace: &mut Pace<'_, G>,
-    channel: &ReplyChannel<Noted>,
-    receiver: &mut ReceiverPermit<Noted>,
+    channel: &ReplyChannel<Answer<B>>,
+    receiver: &mut ReceiverPermit<Answer<B>>,
     mut heard: usize,
     shards: usize,
 ) -> bool
@@ -124,9 +135,10 @@ pub fn hear_ends<R: Wait, G: Gate>(
             return quiet;
         }
         pace.pass();
-        match channel.recv_as(rt, receiver) {
-            Entry::Item(_, _) => quiet = false,
-            Entry::End(_) => heard += 1,
+        if is_end(channel.recv_as(rt, receiver)) {
+            heard += 1;
+        } else {
+            quiet = false;
         }
     }
     unreachable!()
@@ -134,12 +146,12 @@ pub fn hear_ends<R: Wait, G: Gate>(
 
 /// Ends a sender's permit: its end goes behind all that it has sent. Where the channel is full it tries
 /// again until there is room.
-pub fn end_sender<R: Wait, G: Gate>(
+pub fn end_sender<B: Naming, R: Wait, G: Gate>(
     rt: &R,
     pace: &mut Pace<'_, G>,
-    channel: &ReplyChannel<Noted>,
-    mut permit: SenderPermit<Noted>,
-) -> SenderEnded<Noted>
+    channel: &ReplyChannel<Answer<B>>,
+    mut permit: SenderPermit<Answer<B>>,
+) -> SenderEnded<Answer<B>>
     requires { IsSender channel.now permit }
     ensures { IsSenderEnded channel.now result
         × (sender_ended_number result ≡ sender_number permit) ×
@@ -158,14 +170,14 @@ pub fn end_sender<R: Wait, G: Gate>(
 
 /// Ends a consumer's permit on each reply channel, from the first on. `ended`, which is empty, has room
 /// for all.
-pub fn end_senders<R: Wait, G: Gate>(
+pub fn end_senders<B: Naming, R: Wait, G: Gate>(
     rt: &R,
     pace: &mut Pace<'_, G>,
-    channels: &[ReplyChannel<Noted>],
+    channels: &[ReplyChannel<Answer<B>>],
     shard: u8,
-    mut senders: Vec<SenderPermit<Noted>>,
-    mut ended: Vec<SenderEnded<Noted>>,
-) -> Vec<SenderEnded<Noted>>
+    mut senders: Vec<SenderPermit<Answer<B>>>,
+    mut ended: Vec<SenderEnded<Answer<B>>>,
+) -> Vec<SenderEnded<Answer<B>>>
     // There is a sender's permit on each channel, of this shard's number.
     requires senders { AreSenders channels.now shard senders.items }
     requires room { (ended.items ≡ []) × (length channels.now ≤ vec_capacity ended) }

@@ -19,6 +19,7 @@ use crate::bells::Summons;
 use crate::desk::{Desk, LanePermit};
 use crate::producer::Context;
 use delivery_token::{CopyKey, Verdict, Verdicts};
+use house_history::{Letter, Naming};
 use lmtp_machine::Submission;
 use shard_queue::Entry;
 use std::sync::Wait;
@@ -29,7 +30,7 @@ use workers_sync::{Gate, Pace};
 pub(crate) struct Torn;
 
 // Whether the permit on this shard's lane is over, so that the shard's end may come.
-fn is_over_at(permits: &[LanePermit], shard: u8) -> bool
+fn is_over_at<B: Naming>(permits: &[LanePermit<Letter<B>>], shard: u8) -> bool
     ensures { result ≡ slice_index_or (overs permits.now) shard false }
 {
     match permits.get(usize::from(shard)) {
@@ -40,10 +41,10 @@ fn is_over_at(permits: &[LanePermit], shard: u8) -> bool
 
 /// Hears verdicts until each of the message's is known; Torn where what comes isn't awaited. The end of
 /// a shard on whose lane the permit is over is counted, and no more.
-pub(crate) fn hear_all<R: Wait, G: Gate, S: Summons>(
-    context: &Context<'_, R, S>,
+pub(crate) fn hear_all<B: Naming, R: Wait, G: Gate, S: Summons>(
+    context: &Context<'_, B, R, S>,
     pace: &mut Pace<'_, G>,
-    desk: &mut Desk,
+    desk: &mut Desk<B>,
     message: &Submission,
     verdicts: &mut Verdicts,
 ) -> Result<(), Torn>
@@ -79,8 +80,9 @@ pub(crate) fn hear_all<R: Wait, G: Gate, S: Summons>(
         }
         pace.pass();
         match context.channel.recv_as(context.rt, &mut desk.receiver) {
-            Entry::Item(_, noted) => {
-                if !verdicts.hear_awaited(keys, mailboxes, &noted) {
+            Entry::Item(_, answer) => {
+                desk.dispatch.learn(&answer);
+                if !verdicts.hear_awaited(keys, mailboxes, &answer.noted()) {
                     return Err(Torn);
                 }
             }
@@ -96,10 +98,10 @@ pub(crate) fn hear_all<R: Wait, G: Gate, S: Summons>(
 }
 
 /// Hears the verdict on the only copy that is under way; Torn where something else comes.
-pub(crate) fn hear_one<R: Wait, G: Gate, S: Summons>(
-    context: &Context<'_, R, S>,
+pub(crate) fn hear_one<B: Naming, R: Wait, G: Gate, S: Summons>(
+    context: &Context<'_, B, R, S>,
     pace: &mut Pace<'_, G>,
-    desk: &mut Desk,
+    desk: &mut Desk<B>,
     key: CopyKey,
     mailbox: u8,
 ) -> Result<Verdict, Torn>
@@ -123,7 +125,9 @@ pub(crate) fn hear_one<R: Wait, G: Gate, S: Summons>(
 {
     pace.pass();
     match context.channel.recv_as(context.rt, &mut desk.receiver) {
-        Entry::Item(_, noted) => {
+        Entry::Item(_, answer) => {
+            desk.dispatch.learn(&answer);
+            let noted = answer.noted();
             if noted.key != key {
                 return Err(Torn);
             }

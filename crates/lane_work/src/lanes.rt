@@ -10,22 +10,22 @@ ghost use Rattle.lane_work.specs.Rooms.{AreRooms};
 
 use crate::desk::LanePermit;
 use crate::rooms::spend_lists;
-use delivery_token::Job;
+use house_history::{Letter, Naming};
 use shard_queue::{Closed, ConsumerPermit, Ended, NotAll, ProducerPermit, ShardQueue};
 use std::alloc::{AllocError, Global};
 
 /// The lanes of a house, with all their permits.
-pub struct Lanes {
+pub struct Lanes<B: Naming> {
     /// The lane of each shard.
-    pub queues: Vec<ShardQueue<Job>>,
+    pub queues: Vec<ShardQueue<Letter<B>>>,
     /// For each lane the permits of its producers, in the order of their numbers.
-    pub permits: Vec<Vec<ProducerPermit<Job>>>,
+    pub permits: Vec<Vec<ProducerPermit<Letter<B>>>>,
     /// For each lane its consumer's permit.
-    pub consumers: Vec<ConsumerPermit<Job>>,
+    pub consumers: Vec<ConsumerPermit<Letter<B>>>,
 }
 
 // No lanes, with room for so many.
-fn no_lanes(alloc: Global, count: usize) -> Result<Lanes, AllocError>
+fn no_lanes<B: Naming>(alloc: Global, count: usize) -> Result<Lanes<B>, AllocError>
     ensures { IfOk result (λ r. (r.queues.items ≡ []) × (r.permits.items ≡ [])
         × (r.consumers.items ≡ [])
         × (count ≤ vec_capacity r.queues) × (count ≤ vec_capacity r.permits)
@@ -56,12 +56,12 @@ fn no_lanes(alloc: Global, count: usize) -> Result<Lanes, AllocError>
 
 /// An empty lane for each of `shards` shards, with room for `depth` entries, and the permits of
 /// `producers` producers, 0 to 255 each. An error where memory is refused; nothing is left then.
-pub fn make_lanes(
+pub fn make_lanes<B: Naming>(
     alloc: Global,
     shards: u8,
     depth: usize,
     producers: u8,
-) -> Result<Lanes, AllocError>
+) -> Result<Lanes<B>, AllocError>
     requires { 0 < depth }
     ensures count { IfOk result (λ r. vec_len r.queues ≡ shards) }
     ensures queues { IfOk result (λ r.
@@ -91,7 +91,7 @@ pub fn make_lanes(
 }
 
 /// Spends lanes that are not to be used, with the permits that are there. It takes no memory.
-pub fn abandon_lanes(alloc: Global, lanes: Lanes)
+pub fn abandon_lanes<B: Naming>(alloc: Global, lanes: Lanes<B>)
     requires { (vec_len lanes.permits ≡ vec_len lanes.queues)
         × (vec_len lanes.consumers ≡ vec_len lanes.queues) }
 {
@@ -111,12 +111,12 @@ pub fn abandon_lanes(alloc: Global, lanes: Lanes)
 
 /// Producer `number` takes its permit on each lane, the first that is left there, into `hand`, which is
 /// empty and has room for all.
-pub fn deal(
-    lanes: &[ShardQueue<Job>],
-    permits: &mut Vec<Vec<ProducerPermit<Job>>>,
+pub fn deal<B: Naming>(
+    lanes: &[ShardQueue<Letter<B>>],
+    permits: &mut Vec<Vec<ProducerPermit<Letter<B>>>>,
     number: u8,
-    mut hand: Vec<LanePermit>,
-) -> Vec<LanePermit>
+    mut hand: Vec<LanePermit<Letter<B>>>,
+) -> Vec<LanePermit<Letter<B>>>
     // On each lane the permits from producer `number`'s on are left, in their order, and put nothing; that one's is among them.
     requires left { Rows lanes.now number (map (λ v. v.items) permits.old.items) }
     requires more { All (λ q. number < producers_of q) lanes.now }
@@ -135,13 +135,13 @@ pub fn deal(
 /// Each of the producers takes its permit on each lane, after which none is left: the i-th hand is that
 /// of producer i. `rooms` has an empty list for each, with room for all lanes, and `hands`, which is
 /// empty, has room for all hands.
-pub fn deal_all(
-    lanes: &[ShardQueue<Job>],
-    mut permits: Vec<Vec<ProducerPermit<Job>>>,
+pub fn deal_all<B: Naming>(
+    lanes: &[ShardQueue<Letter<B>>],
+    mut permits: Vec<Vec<ProducerPermit<Letter<B>>>>,
     producers: u8,
-    mut rooms: Vec<Vec<LanePermit>>,
-    mut hands: Vec<Vec<LanePermit>>,
-) -> Vec<Vec<LanePermit>>
+    mut rooms: Vec<Vec<LanePermit<Letter<B>>>>,
+    mut hands: Vec<Vec<LanePermit<Letter<B>>>>,
+) -> Vec<Vec<LanePermit<Letter<B>>>>
     // On each lane the permits of all producers are left, in their order, and put nothing.
     requires left { Rows lanes.now 0 (map (λ v. v.items) permits.items) }
     requires producers { All (λ q. producers_of q ≡ producers) lanes.now }
@@ -163,7 +163,7 @@ pub fn deal_all(
 
 /// What is left of one producer's permits, one on each lane, goes to the lists by lane, each of which
 /// has room for one more. What stood in the lists stays there.
-pub fn collect(lists: &mut Vec<Vec<Ended<Job>>>, mut ended: Vec<Ended<Job>>)
+pub fn collect<B: Naming>(lists: &mut Vec<Vec<Ended<Letter<B>>>>, mut ended: Vec<Ended<Letter<B>>>)
     // There is one for each list, and each list has room for one more.
     requires each { vec_len ended ≡ vec_len lists.old }
     requires room { All (λ v. vec_len v < vec_capacity v) lists.old.items }
@@ -186,7 +186,10 @@ pub fn collect(lists: &mut Vec<Vec<Ended<Job>>>, mut ended: Vec<Ended<Job>>)
 
 /// What is left of all producers' permits goes to the lists by lane, each of which has room for all.
 /// Each hand has one producer's, one on each lane. What stood in the lists stays there.
-pub fn collect_all(lists: &mut Vec<Vec<Ended<Job>>>, mut hands: Vec<Vec<Ended<Job>>>)
+pub fn collect_all<B: Naming>(
+    lists: &mut Vec<Vec<Ended<Letter<B>>>>,
+    mut hands: Vec<Vec<Ended<Letter<B>>>>,
+)
     // Each hand has one for each list, and each list has room for all hands'.
     requires each { All (λ v. vec_len v ≡ vec_len lists.old) hands.items }
     requires room { All (λ v. vec_len v + vec_len hands ≤ vec_capacity v) lists.old.items }
@@ -209,13 +212,13 @@ pub fn collect_all(lists: &mut Vec<Vec<Ended<Job>>>, mut hands: Vec<Vec<Ended<Jo
 /// Closes each lane with the ended permits of its producers and with its consumer's. None only where
 /// some lane is torn: one of its producers' ended permits is missing, or that one's end wasn't taken.
 /// It spends all that it was given then too. `closed`, which is empty, has room for all.
-pub fn close_lanes(
+pub fn close_lanes<B: Naming>(
     alloc: Global,
-    mut lanes: Vec<ShardQueue<Job>>,
-    mut ended: Vec<Vec<Ended<Job>>>,
-    mut consumers: Vec<ConsumerPermit<Job>>,
-    mut closed: Vec<Closed<Job>>,
-) -> Option<Vec<Closed<Job>>>
+    mut lanes: Vec<ShardQueue<Letter<B>>>,
+    mut ended: Vec<Vec<Ended<Letter<B>>>>,
+    mut consumers: Vec<ConsumerPermit<Letter<B>>>,
+    mut closed: Vec<Closed<Letter<B>>>,
+) -> Option<Vec<Closed<Letter<B>>>>
     // The i-th list has ended permits of the i-th lane, and the i-th consumer's permit is of that lane.
     requires ended { EndedRows lanes.items (map (λ v. v.items) ended.items) }
     requires consumers { AreConsumers lanes.items consumers.items }

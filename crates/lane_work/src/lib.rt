@@ -11,6 +11,7 @@ mod channels;
 mod closing;
 mod consumer;
 mod desk;
+mod dispatch;
 mod ending;
 mod hearing;
 mod lanes;
@@ -36,6 +37,7 @@ pub use channels::{
 };
 pub use consumer::{Consumed, Depot, Stall, consume};
 pub use desk::{Closing, Desk, LanePermit, Office};
+pub use dispatch::Dispatch;
 pub use ending::{end_all, end_one, end_permit, end_sender, end_senders, hear_ends};
 pub use lanes::{
     Lanes, abandon_lanes, close_lanes, collect, collect_all, deal, deal_all, make_lanes,

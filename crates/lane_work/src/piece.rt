@@ -15,6 +15,7 @@ use crate::bells::Summons;
 use crate::notebook::Notebook;
 use crate::producer::{Context, Producer};
 use crate::worker::{Stop, turn};
+use house_history::Naming;
 use lmtp_machine::{LmtpMachine, What};
 use std::sync::Wait;
 use std::sync::atomic::{AtomicBool, Ordering};
@@ -30,9 +31,9 @@ pub(crate) enum Next {
 }
 
 // Takes a piece turn by turn. `stop` is looked at before the first turn, and behind each that submitted a message.
-pub(crate) fn take_piece<R: Wait, G: Gate, S: Summons, N: Notebook>(
-    context: &Context<'_, R, S>,
-    producer: &mut Producer<'_, G, N>,
+pub(crate) fn take_piece<B: Naming, R: Wait, G: Gate, S: Summons, N: Notebook>(
+    context: &Context<'_, B, R, S>,
+    producer: &mut Producer<'_, B, G, N>,
     machine: &mut LmtpMachine,
     piece: &[u8],
     stop: &AtomicBool,

@@ -4,7 +4,7 @@
 use crate::bells::Summons;
 use crate::desk::{Desk, Office};
 use crate::notebook::Notebook;
-use delivery_token::Noted;
+use house_history::{Answer, Naming};
 use shard_queue::ReplyChannel;
 use std::alloc::Global;
 use std::sync::Wait;
@@ -12,25 +12,25 @@ use workers_sync::{Gate, Pace};
 
 /// What a producer works with, and leaves as it is.
 #[derive(Drop)]
-pub struct Context<'a, R: Wait, S: Summons> {
+pub struct Context<'a, B: Naming, R: Wait, S: Summons> {
     /// What it waits by, where a lane or a lock is taken.
     pub rt: &'a R,
     /// Where its memory comes from.
     pub alloc: Global,
     /// What it shares with all who put copies: the lanes, and which shard keeps a mailbox.
-    pub office: &'a Office,
+    pub office: &'a Office<B>,
     /// Whom it summons for a copy that it put.
     pub summons: &'a S,
     /// Its reply channel, on which its verdicts come.
-    pub channel: &'a ReplyChannel<Noted>,
+    pub channel: &'a ReplyChannel<Answer<B>>,
 }
 
 /// What a producer has of its own.
-pub struct Producer<'a, G: Gate, N: Notebook> {
+pub struct Producer<'a, B: Naming, G: Gate, N: Notebook> {
     /// At what it makes its events.
     pub pace: Pace<'a, G>,
-    /// Its number, its permits and its end of the reply channel.
-    pub desk: Desk,
+    /// Its number, its permits, its end of the reply channel, and what it sends with.
+    pub desk: Desk<B>,
     /// What it notes of the verdicts on its copies.
     pub book: N,
 }

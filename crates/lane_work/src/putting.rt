@@ -20,133 +20,28 @@ ghost use Rattle.lane_work.specs.inner.Summoning.{is_last_at};
 
 use crate::bells::Summons;
 use crate::desk::{Desk, LanePermit, Office};
+use crate::dispatch::Dispatch;
 use crate::producer::Context;
 use change_ring::{Flags, NO_FLAGS};
 use delivery_token::{CopyKey, Job, Refusal, Text, Verdict, Verdicts};
 use envelope::Directory;
+use house_history::{Letter, Naming};
 use lmtp_machine::Submission;
 use shard_queue::{Full, ProducerPermit, ShardQueue};
 use std::sync::Wait;
 use workers_sync::{Gate, Pace};
 
-// Puts a copy on a lane: None where it is under way, else what is known of it at once.
-fn put_on<R: Wait>(
-    rt: &R,
-    lane: &ShardQueue<Job>,
-    permit: &mut ProducerPermit<Job>,
+// A copy that is to be put, as its message lends it.
+#[derive(Drop)]
+struct Lent<'a> {
     key: CopyKey,
     mailbox: u8,
-    text: &Text,
+    text: &'a Text,
     flags: Flags,
-) -> Option<Verdict>
-    requires { IsProducer lane.now permit.old }
-    ensures permit { IsProducer lane.now permit.new
-        × (number_of permit.new ≡ number_of permit.old) }
-    ensures put { MatchOption result
-        (sent permit.new ≡ sent permit.old ++ entries.Item (number_of permit.old)
-        (record { key = key; mailbox = mailbox; text = text.now; flags = flags }) ∷ [])
-        (λ v. (sent permit.new ≡ sent permit.old)
-        × IsAtOnce (FilledAlone (room_of lane.now) (number_of permit.old) (sent permit.old)) v) }
-{
-    let Ok(text) = text.copy() else {
-        return Some(Verdict::Refused(Refusal::NoMemory));
-    };
-    let job = Job {
-        key,
-        mailbox,
-        text,
-        flags,
-    };
-    match lane.put_as(rt, permit, job) {
-        Ok(()) => None,
-        Err(Full(_)) => Some(Verdict::Refused(Refusal::Full)),
-    }
-}
-
-// The same with a permit that may be over: there nothing is put, and the copy is refused at once.
-fn put_at<R: Wait>(
-    rt: &R,
-    lane: &ShardQueue<Job>,
-    permit: &mut LanePermit,
-    key: CopyKey,
-    mailbox: u8,
-    text: &Text,
-    flags: Flags,
-) -> Option<Verdict>
-    requires { IsPermit lane.now permit.old }
-    ensures permit { IsPermit lane.now permit.new
-        × (permit_number permit.new ≡ permit_number permit.old)
-        × (is_over permit.new ≡ is_over permit.old) }
-    ensures put { is_over permit.old ≡ false → MatchOption result
-        (put_by permit.new ≡ put_by permit.old ++ entries.Item (permit_number permit.old)
-        (record { key = key; mailbox = mailbox; text = text.now; flags = flags }) ∷ [])
-        (λ v. (put_by permit.new ≡ put_by permit.old)
-        × IsAtOnce (FilledAlone (room_of lane.now) (permit_number permit.old) (put_by permit.old))
-        v) }
-    ensures over { is_over permit.old ≡ true
-        → (result ≡ Some (verdicts.Refused refusals.Shut)) × (permit.new ≡ permit.old) }
-{
-    match permit {
-        LanePermit::Live(live) => put_on(rt, lane, live, key, mailbox, text, flags),
-        LanePermit::Over(_) => Some(Verdict::Refused(Refusal::Shut)),
-    }
-}
-
-// The same, at the lane of the copy's mailbox.
-fn try_copy<R: Wait>(
-    rt: &R,
-    office: &Office,
-    desk: &mut Desk,
-    key: CopyKey,
-    mailbox: u8,
-    text: &Text,
-    flags: Flags,
-) -> Option<Verdict>
-    requires permits { ArePermits office.now.lanes.items desk.old.number desk.old.permits.items }
-    requires lanes { office.now.directory.shards ≡ length office.now.lanes.items }
-    ensures permits { ArePermits office.now.lanes.items desk.old.number desk.new.permits.items }
-    ensures same { SameButPermits desk.old desk.new }
-    ensures within { shard_of office.now.directory mailbox < length office.now.lanes.items }
-
-    // Where the mailbox's permit isn't over: just the copy was put, on its lane; or it is refused, for want of room or memory, and nothing put.
-    ensures put { slice_index_or (overs desk.old.permits.items)
-        (shard_of office.now.directory mailbox) false ≡ false → MatchOption result
-        (map put_by desk.new.permits.items
-        ≡ slice_set (map put_by desk.old.permits.items) (shard_of office.now.directory mailbox)
-        (slice_index_or (map put_by desk.old.permits.items) (shard_of office.now.directory mailbox)
-        []
-        ++ entries.Item desk.old.number (record {
-          key = key;
-          mailbox = mailbox;
-          text = text.now;
-          flags = flags;
-        }) ∷ []))
-        (λ v. (map put_by desk.new.permits.items ≡ map put_by desk.old.permits.items)
-        × IsAtOnce (FilledAlone (room_at (rooms_of office.now.lanes.items)
-        (shard_of office.now.directory mailbox)) desk.old.number
-        (slice_index_or (map put_by desk.old.permits.items) (shard_of office.now.directory mailbox)
-        [])) v) }
-
-    // Where it is over, the copy is refused as `Shut`, and nothing is put.
-    ensures over { slice_index_or (overs desk.old.permits.items)
-        (shard_of office.now.directory mailbox) false ≡ true
-        → (result ≡ Some (verdicts.Refused refusals.Shut))
-        × (map put_by desk.new.permits.items ≡ map put_by desk.old.permits.items) }
-{
-    let shard = office.directory.shard_of(mailbox);
-    put_at(
-        rt,
-        &office.lanes[shard],
-        &mut desk.permits[shard],
-        key,
-        mailbox,
-        text,
-        flags,
-    )
 }
 
 // Summons whoever takes this mailbox's copies.
-fn summon_for<R: Wait, S: Summons>(context: &Context<'_, R, S>, mailbox: u8) {
+fn summon_for<B: Naming, R: Wait, S: Summons>(context: &Context<'_, B, R, S>, mailbox: u8) {
     let shard = context.office.directory.shard_of(mailbox);
     context.summons.summon(context.rt, shard);
 }
@@ -154,11 +49,112 @@ fn summon_for<R: Wait, S: Summons>(context: &Context<'_, R, S>, mailbox: u8) {
 // So often a copy is tried before it is refused for want of room: others may fill a short lane as soon as it was emptied.
 const TRIES: u32 = 16;
 
-// The same; where there is no room the consumer is summoned, and the copy is tried again.
-fn put_or_make_room<R: Wait, G: Gate, S: Summons>(
-    context: &Context<'_, R, S>,
+// Puts a letter on a lane; where there is no room its consumer is summoned, and it is tried again. None where it is under way, else it
+// comes back.
+fn put_letter<B: Naming, R: Wait, S: Summons>(
+    context: &Context<'_, B, R, S>,
+    lane: &ShardQueue<Letter<B>>,
+    permit: &mut ProducerPermit<Letter<B>>,
+    mut letter: Letter<B>,
+) -> Option<Letter<B>>
+    requires { IsProducer lane.now permit.old }
+    ensures permit { IsProducer lane.now permit.new
+        × (number_of permit.new ≡ number_of permit.old) }
+    ensures put { MatchOption result
+        (sent permit.new ≡ sent permit.old ++ entries.Item (number_of permit.old) letter ∷ [])
+        (λ _. (sent permit.new ≡ sent permit.old)
+        × FilledAlone (room_of lane.now) (number_of permit.old) (sent permit.old)) }
+{
+    for _ in 1..TRIES {
+        match lane.put_as(context.rt, permit, letter) {
+            Ok(()) => return None,
+            Err(Full(back)) => letter = back,
+        }
+        summon_for(context, letter.job().mailbox);
+    }
+    match lane.put_as(context.rt, permit, letter) {
+        Ok(()) => None,
+        Err(Full(back)) => Some(back),
+    }
+}
+
+// Says that a copy is sent, and puts it on a lane: None where it is under way, else what is known of it at once. One that finds no room is
+// taken back.
+fn put_on<B: Naming, R: Wait, S: Summons>(
+    context: &Context<'_, B, R, S>,
+    lane: &ShardQueue<Letter<B>>,
+    permit: &mut ProducerPermit<Letter<B>>,
+    dispatch: &mut Dispatch<B>,
+    copy: Lent<'_>,
+) -> Option<Verdict>
+    requires { IsProducer lane.now permit.old }
+    ensures permit { IsProducer lane.now permit.new
+        × (number_of permit.new ≡ number_of permit.old) }
+    ensures put { MatchOption result
+        (sent permit.new ≡ sent permit.old ++ entries.Item (number_of permit.old) (record {
+          key = copy.entry.key;
+          mailbox = copy.entry.mailbox;
+          text = copy.entry.text.now;
+          flags = copy.entry.flags;
+        }) ∷ [])
+        (λ v. (sent permit.new ≡ sent permit.old)
+        × IsAtOnce (FilledAlone (room_of lane.now) (number_of permit.old) (sent permit.old)) v) }
+{
+    let Ok(text) = copy.text.copy() else {
+        return Some(Verdict::Refused(Refusal::NoMemory));
+    };
+    let job = Job {
+        key: copy.key,
+        mailbox: copy.mailbox,
+        text,
+        flags: copy.flags,
+    };
+    let Ok(letter) = dispatch.send(job) else {
+        return Some(Verdict::Refused(Refusal::NoMemory));
+    };
+    let Some(back) = put_letter(context, lane, permit, letter) else {
+        return None;
+    };
+    dispatch.take_back(back);
+    Some(Verdict::Refused(Refusal::Full))
+}
+
+// The same with a permit that may be over: there nothing is put, and the copy is refused at once.
+fn put_at<B: Naming, R: Wait, S: Summons>(
+    context: &Context<'_, B, R, S>,
+    lane: &ShardQueue<Letter<B>>,
+    permit: &mut LanePermit<Letter<B>>,
+    dispatch: &mut Dispatch<B>,
+    copy: Lent<'_>,
+) -> Option<Verdict>
+    requires { IsPermit lane.now permit.old }
+    ensures permit { IsPermit lane.now permit.new
+        × (permit_number permit.new ≡ permit_number permit.old)
+        × (is_over permit.new ≡ is_over permit.old) }
+    ensures put { is_over permit.old ≡ false → MatchOption result
+        (put_by permit.new ≡ put_by permit.old ++ entries.Item (permit_number permit.old) (record {
+          key = copy.entry.key;
+          mailbox = copy.entry.mailbox;
+          text = copy.entry.text.now;
+          flags = copy.entry.flags;
+        }) ∷ [])
+        (λ v. (put_by permit.new ≡ put_by permit.old)
+        × IsAtOnce (FilledAlone (room_of lane.now) (permit_number permit.old) (put_by permit.old))
+        v) }
+    ensures over { is_over permit.old ≡ true
+        → (result ≡ Some (verdicts.Refused refusals.Shut)) × (permit.new ≡ permit.old) }
+{
+    match permit {
+        LanePermit::Live(live) => put_on(context, lane, live, dispatch, copy),
+        LanePermit::Over(_) => Some(Verdict::Refused(Refusal::Shut)),
+    }
+}
+
+// The same, at the lane of the copy's mailbox: where there is no room the consumer is summoned, and the copy is tried again.
+fn put_or_make_room<B: Naming, R: Wait, G: Gate, S: Summons>(
+    context: &Context<'_, B, R, S>,
     pace: &mut Pace<'_, G>,
-    desk: &mut Desk,
+    desk: &mut Desk<B>,
     key: CopyKey,
     mailbox: u8,
     text: &Text,
@@ -201,22 +197,26 @@ fn put_or_make_room<R: Wait, G: Gate, S: Summons>(
         × (map put_by desk.new.permits.items ≡ map put_by desk.old.permits.items) }
 {
     pace.pass();
-    for _ in 1..TRIES {
-        match try_copy(context.rt, context.office, desk, key, mailbox, text, flags) {
-            Some(Verdict::Refused(Refusal::Full)) => {
-                summon_for(context, mailbox);
-            }
-            known => return known,
-        }
-    }
-    try_copy(context.rt, context.office, desk, key, mailbox, text, flags)
+    let shard = context.office.directory.shard_of(mailbox);
+    put_at(
+        context,
+        &context.office.lanes[shard],
+        &mut desk.permits[shard],
+        &mut desk.dispatch,
+        Lent {
+            key,
+            mailbox,
+            text,
+            flags,
+        },
+    )
 }
 
 /// The same, and the consumer is summoned for it.
-pub(crate) fn put_copy<R: Wait, G: Gate, S: Summons>(
-    context: &Context<'_, R, S>,
+pub(crate) fn put_copy<B: Naming, R: Wait, G: Gate, S: Summons>(
+    context: &Context<'_, B, R, S>,
     pace: &mut Pace<'_, G>,
-    desk: &mut Desk,
+    desk: &mut Desk<B>,
     key: CopyKey,
     mailbox: u8,
     text: &Text,
@@ -307,8 +307,8 @@ fn is_due(directory: &Directory, is_full: bool, mailboxes: &[u8], position: usiz
 }
 
 // Summons whoever takes the copy at this position, where that is due. Of each shard it is counted how many copies wait on its lane.
-fn summon_where_due<R: Wait, S: Summons>(
-    context: &Context<'_, R, S>,
+fn summon_where_due<B: Naming, R: Wait, S: Summons>(
+    context: &Context<'_, B, R, S>,
     waiting: &mut [usize],
     mailboxes: &[u8],
     position: usize,
@@ -324,10 +324,10 @@ fn summon_where_due<R: Wait, S: Summons>(
 
 /// Puts each copy of a message, in the order of its recipients; one for a lane on which the permit is over is refused as Shut. In `verdicts`, which
 /// has room for as many as there are, is then of each what was known of it at once, or None where it is under way.
-pub(crate) fn put_all<R: Wait, G: Gate, S: Summons>(
-    context: &Context<'_, R, S>,
+pub(crate) fn put_all<B: Naming, R: Wait, G: Gate, S: Summons>(
+    context: &Context<'_, B, R, S>,
     pace: &mut Pace<'_, G>,
-    desk: &mut Desk,
+    desk: &mut Desk<B>,
     message: &Submission,
     verdicts: &mut Verdicts,
 )

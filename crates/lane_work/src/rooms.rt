@@ -6,7 +6,7 @@ ghost use Rattle.std.specs.Prelude.{◌≡◌, [], All, IfOk};
 ghost use Rattle.lane_work.specs.Rooms.{AreEmptyHands, AreEmptyPermitRooms, AreHandRooms, ArePermitRooms, AreRooms};
 
 use crate::desk::LanePermit;
-use delivery_token::{Job, Noted};
+use house_history::{Answer, Letter, Naming};
 use shard_queue::{Ended, SenderEnded, SenderPermit};
 use std::alloc::{AllocError, Global};
 
@@ -127,17 +127,21 @@ pub fn spend_permit_rooms<S, E>(rooms: PermitRooms<S, E>)
 }
 
 /// Room for all permits of a house.
-pub struct Rooms {
+pub struct Rooms<B: Naming> {
     /// For the producers' permits on the lanes.
-    pub producers: PermitRooms<LanePermit, Ended<Job>>,
+    pub producers: PermitRooms<LanePermit<Letter<B>>, Ended<Letter<B>>>,
     /// For the consumers' permits on the producers' reply channels.
-    pub consumers: PermitRooms<SenderPermit<Noted>, SenderEnded<Noted>>,
+    pub consumers: PermitRooms<SenderPermit<Answer<B>>, SenderEnded<Answer<B>>>,
 }
 
 /// Room for all permits of a house with so many producers, who have a reply channel each, and so many
 /// shards, which have a lane and a consumer each. An error where memory is refused; nothing is left
 /// then.
-pub fn make_rooms(alloc: Global, producers: u8, shards: u8) -> Result<Rooms, AllocError>
+pub fn make_rooms<B: Naming>(
+    alloc: Global,
+    producers: u8,
+    shards: u8,
+) -> Result<Rooms<B>, AllocError>
     ensures producers { IfOk result (λ rooms. ArePermitRooms producers shards rooms.producers) }
     ensures consumers { IfOk result (λ rooms. ArePermitRooms shards producers rooms.consumers) }
 {
@@ -156,7 +160,7 @@ pub fn make_rooms(alloc: Global, producers: u8, shards: u8) -> Result<Rooms, All
 }
 
 /// Spends room that is not to be used.
-pub fn spend_rooms(rooms: Rooms)
+pub fn spend_rooms<B: Naming>(rooms: Rooms<B>)
     requires { AreEmptyPermitRooms rooms.producers × AreEmptyPermitRooms rooms.consumers }
 {
     let Rooms {

@@ -25,6 +25,7 @@ use crate::producer::{Context, Producer};
 use crate::reading::read_piece;
 use crate::shutting::{give_up, shut_down};
 use crate::worker::Stop;
+use house_history::Naming;
 use line_io::{Sink, send};
 use lmtp_machine::{Limits, LmtpMachine};
 use std::alloc::{AllocError, Global};
@@ -34,9 +35,9 @@ use std::sync::atomic::{AtomicBool, Ordering};
 use workers_sync::Gate;
 
 // A new connection of this worker, and its greeting in `out`, which is empty.
-fn open(
+fn open<B: Naming>(
     alloc: Global,
-    office: &Office,
+    office: &Office<B>,
     seat: u8,
     serial: u64,
     out: &mut Vec<u8>,
@@ -60,9 +61,9 @@ fn open(
 }
 
 // Sends what was said, reads, and takes what came, over and over.
-fn go_on<R: Wait, G: Gate, S: Summons, N: Notebook, I: Read, O: Sink>(
-    context: &Context<'_, R, S>,
-    producer: &mut Producer<'_, G, N>,
+fn go_on<B: Naming, R: Wait, G: Gate, S: Summons, N: Notebook, I: Read, O: Sink>(
+    context: &Context<'_, B, R, S>,
+    producer: &mut Producer<'_, B, G, N>,
     machine: &mut LmtpMachine,
     input: &mut I,
     output: &mut O,
@@ -148,9 +149,9 @@ fn go_on<R: Wait, G: Gate, S: Summons, N: Notebook, I: Read, O: Sink>(
 /// the sink fails; each message that was submitted by then has its verdicts. `NoMemory` where memory is
 /// refused; what was said by then was offered to the sink, and no copy was put that has no verdict. `Torn`
 /// where something came that was not awaited, a verdict or a shard's end; copies may be under way then.
-pub fn converse<R: Wait, G: Gate, S: Summons, N: Notebook, I: Read, O: Sink>(
-    context: &Context<'_, R, S>,
-    producer: &mut Producer<'_, G, N>,
+pub fn converse<B: Naming, R: Wait, G: Gate, S: Summons, N: Notebook, I: Read, O: Sink>(
+    context: &Context<'_, B, R, S>,
+    producer: &mut Producer<'_, B, G, N>,
     serial: u64,
     input: &mut I,
     output: &mut O,

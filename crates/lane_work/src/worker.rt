@@ -25,13 +25,15 @@ ghost use Rattle.lane_work.specs.Copies.{rooms_of};
 use crate::bells::Summons;
 use crate::closing::close_due;
 use crate::desk::Desk;
+use crate::dispatch::Dispatch;
 use crate::ending::{end_all, hear_ends};
 use crate::hearing::hear_all;
 use crate::notebook::Notebook;
 use crate::producer::{Context, Producer};
 use crate::putting::put_all;
-use delivery_token::{Job, Noted, Verdict, Verdicts, WorkerLog};
+use delivery_token::{Verdict, Verdicts, WorkerLog};
 use envelope::Directory;
+use house_history::{Answer, Letter, Naming};
 use lmtp_machine::{ANSWER_ROOM, Fed, Limits, LmtpMachine, Submission, What};
 use shard_queue::{Ended, ReceiverPermit};
 use std::alloc::AllocError;
@@ -72,9 +74,9 @@ pub enum Fate {
 }
 
 // Puts the copies of a message, hears the verdict on each, and notes them. All memory that this takes is asked for before the first copy is put.
-fn put_and_hear<R: Wait, G: Gate, S: Summons, N: Notebook>(
-    context: &Context<'_, R, S>,
-    producer: &mut Producer<'_, G, N>,
+fn put_and_hear<B: Naming, R: Wait, G: Gate, S: Summons, N: Notebook>(
+    context: &Context<'_, B, R, S>,
+    producer: &mut Producer<'_, B, G, N>,
     message: &Submission,
 ) -> Result<Vec<Verdict>, Stop>
     requires permits { ArePermits context.now.office.now.lanes.items producer.old.desk.number
@@ -139,9 +141,9 @@ fn put_and_hear<R: Wait, G: Gate, S: Summons, N: Notebook>(
 /// Errors: `NoMemory` where memory was refused; then no copy was put and nothing was heard. `Torn` where
 /// something came that wasn't awaited, a verdict or a shard's end; copies may be under way then. After
 /// either, bytes may have been taken and replies written, and what stood in `out` stands there still.
-pub fn turn<R: Wait, G: Gate, S: Summons, N: Notebook>(
-    context: &Context<'_, R, S>,
-    producer: &mut Producer<'_, G, N>,
+pub fn turn<B: Naming, R: Wait, G: Gate, S: Summons, N: Notebook>(
+    context: &Context<'_, B, R, S>,
+    producer: &mut Producer<'_, B, G, N>,
     directory: &Directory,
     machine: &mut LmtpMachine,
     piece: &[u8],
@@ -235,9 +237,9 @@ pub fn turn<R: Wait, G: Gate, S: Summons, N: Notebook>(
 }
 
 // Goes on turn by turn, until all bytes are taken or the connection has ended.
-fn speak<R: Wait, G: Gate, S: Summons>(
-    context: &Context<'_, R, S>,
-    producer: &mut Producer<'_, G, WorkerLog>,
+fn speak<B: Naming, R: Wait, G: Gate, S: Summons>(
+    context: &Context<'_, B, R, S>,
+    producer: &mut Producer<'_, B, G, WorkerLog>,
     directory: &Directory,
     machine: &mut LmtpMachine,
     bytes: &[u8],
@@ -287,9 +289,9 @@ fn speak<R: Wait, G: Gate, S: Summons>(
 }
 
 // One connection: the replies to these bytes.
-fn converse<R: Wait, G: Gate, S: Summons>(
-    context: &Context<'_, R, S>,
-    producer: &mut Producer<'_, G, WorkerLog>,
+fn converse<B: Naming, R: Wait, G: Gate, S: Summons>(
+    context: &Context<'_, B, R, S>,
+    producer: &mut Producer<'_, B, G, WorkerLog>,
     directory: &Directory,
     serial: u64,
     bytes: &[u8],
@@ -334,23 +336,25 @@ fn converse<R: Wait, G: Gate, S: Summons>(
 }
 
 /// What a producer leaves: a worker, or a session.
-pub struct Worked {
+pub struct Worked<B: Naming> {
     /// What is left of its permit on each lane.
-    pub ended: Vec<Ended<Job>>,
+    pub ended: Vec<Ended<Letter<B>>>,
     /// Its end of its reply channel.
-    pub receiver: ReceiverPermit<Noted>,
+    pub receiver: ReceiverPermit<Answer<B>>,
     /// The replies to each of its connections, up to the one in which it stopped; of a session what it said.
     pub replies: Vec<Vec<u8>>,
     /// The verdicts on its copies.
     pub log: WorkerLog,
+    /// What it sent its copies with.
+    pub dispatch: Dispatch<B>,
     /// How it came to its end.
     pub fate: Fate,
 }
 
 // The connections, one after another.
-fn go_through<R: Wait, G: Gate, S: Summons>(
-    context: &Context<'_, R, S>,
-    producer: &mut Producer<'_, G, WorkerLog>,
+fn go_through<B: Naming, R: Wait, G: Gate, S: Summons>(
+    context: &Context<'_, B, R, S>,
+    producer: &mut Producer<'_, B, G, WorkerLog>,
     replies: &mut Vec<Vec<u8>>,
     connections: &[Vec<u8>],
 ) -> Fate
@@ -415,13 +419,13 @@ fn go_through<R: Wait, G: Gate, S: Summons>(
 /// still ends its permits and hears all ends.
 ///
 /// `room`, which is empty, has room for what is left of each permit.
-pub fn work<R: Wait, G: Gate, S: Summons>(
-    context: &Context<'_, R, S>,
+pub fn work<B: Naming, R: Wait, G: Gate, S: Summons>(
+    context: &Context<'_, B, R, S>,
     pace: Pace<'_, G>,
-    desk: Desk,
-    room: Vec<Ended<Job>>,
+    desk: Desk<B>,
+    room: Vec<Ended<Letter<B>>>,
     connections: &[Vec<u8>],
-) -> Worked
+) -> Worked<B>
     // The desk has its own permit on each lane, none of them over, and put nothing yet; its receiver is of `channel`.
     requires permits { ArePermits context.now.office.now.lanes.items desk.number desk.permits.items
         × All IsNew desk.permits.items }
@@ -464,13 +468,13 @@ pub fn work<R: Wait, G: Gate, S: Summons>(
 /// it came there; where all had gone well and something else than an end comes now, it is torn.
 ///
 /// `room`, which is empty, has room for what is left of each permit.
-pub fn finish<R: Wait, G: Gate, S: Summons>(
-    context: &Context<'_, R, S>,
-    producer: Producer<'_, G, WorkerLog>,
-    room: Vec<Ended<Job>>,
+pub fn finish<B: Naming, R: Wait, G: Gate, S: Summons>(
+    context: &Context<'_, B, R, S>,
+    producer: Producer<'_, B, G, WorkerLog>,
+    room: Vec<Ended<Letter<B>>>,
     replies: Vec<Vec<u8>>,
     fate: Fate,
-) -> Worked
+) -> Worked<B>
     // The desk has its own permit on each lane, over or not; its receiver is of `channel`.
     requires permits { ArePermits context.now.office.now.lanes.items producer.desk.number
         producer.desk.permits.items }
@@ -492,8 +496,9 @@ pub fn finish<R: Wait, G: Gate, S: Summons>(
         producer.entry.desk.receiver)
         ≤ producer.entry.desk.ends + ends_in (received result.receiver) }
 
-    // Log and replies are those that were given.
+    // Log and replies are those that were given, and what it sent with is the desk's.
     ensures kept { (result.log ≡ producer.entry.book) × (result.replies ≡ replies) }
+    ensures dispatch { result.dispatch ≡ producer.entry.desk.dispatch }
 
     // It is `Whole` only where it was given as `Whole`, and nothing but ends was heard since.
     ensures whole { result.fate ≡ Fate.Whole → fate ≡ Fate.Whole }
@@ -515,6 +520,7 @@ pub fn finish<R: Wait, G: Gate, S: Summons>(
         permits,
         mut receiver,
         ends,
+        dispatch,
     } = desk;
     let ended = end_all(
         context.rt,
@@ -538,6 +544,7 @@ pub fn finish<R: Wait, G: Gate, S: Summons>(
         receiver,
         replies,
         log,
+        dispatch,
         fate: fate_after(fate, quiet),
     }
 }

@@ -29,7 +29,7 @@ use Rattle.running_house.specs.Agree.{Agrees, accepted_of, answers, copies_taken
 use Rattle.running_house.specs.Plan.{after_settings, connections_of, plan_fault, premises_for, producers_in}
 use Rattle.running_house.specs.Tells.{AccountsAreOfLines, TakenIsAProducers}
 use Rattle.running_house.specs.declared.plan.Plan.{Plan}
-use Rattle.running_house.specs.declared.plan.Report.{Report}
+use Rattle.running_house.specs.Report.{Report}
 use Rattle.running_house.proofs.TellLaws.{less_or_not, so_many}
 use Rattle.laws_relay.specs.AccountLaws.{AccountsConclude, AccountsKeepClosed, DoUidsRise, TakenIsItsOwn}
 use Rattle.laws_relay.specs.Reports.{ReportsConclude}

@@ -6,7 +6,7 @@ use Rattle.settings.specs.Settings.{IsInRange}
 use Rattle.running_house.specs.Agree.{Agrees, accepted_of, replies_of, texts_of}
 use Rattle.running_house.specs.Plan.{connections_of, plan_fault, premises_for}
 use Rattle.running_house.specs.declared.plan.Plan.{Plan}
-use Rattle.running_house.specs.declared.plan.Report.{Report}
+use Rattle.running_house.specs.Report.{Report}
 use Rattle.laws_relay.specs.Concluding.{RelaysConclude}
 use Rattle.laws_relay.specs.AccountLaws.{ClosedHaveNothing}
 

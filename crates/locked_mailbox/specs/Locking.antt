@@ -71,6 +71,11 @@ pub data Answers (job : Job) (verdict : Verdict) (found left : LockedMailbox) : 
   judges : IsNext found job → Judges job verdict found left → Answers job verdict found left
   declines : (IsNext found job → ⊥) → verdict ≡ Refused NoMemory → left ≡ found → Answers job verdict found left
 
+-- A lock was taken: this was found, this was done to it, it was left like that, and the lock was let go. Of what one hold leaves and the next one finds
+-- nothing is said.
+abbrev pub InOneHold : {V : Type 0} → (V → V → Type 0) → Type 0
+InOneHold {V} P = (found : V) × (left : V) × P found left
+
 -- ---- what clients do
 
 -- what is said of a call: its event where it was Ok, and nothing where it was refused

@@ -3,6 +3,8 @@
 #![tactic(auto)]
 
 mod calls;
+mod door;
 mod locked;
 
+pub use door::{under, under_with};
 pub use locked::LockedMailbox;

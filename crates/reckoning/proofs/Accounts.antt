@@ -77,58 +77,58 @@ whole_of fates.Torn is = absurd (cc)
 -- ---- accounts
 
 -- What each worker's connections came to, where these were its replies and its log.
-abbrev pub HasAccount : (floor : Floor) (plans : Plans) (replies : List (List (List ℕ))) (notes : List (List Noted)) (answers : List (List (Entry Noted))) (histories : List (List (Entry Job))) → ℕ → Type 0
+abbrev pub HasAccount : {B : Type 0} (floor : Floor B) (plans : Plans) (replies : List (List (List ℕ))) (notes : List (List Noted)) (answers : List (List (Entry Noted))) (histories : List (List (Entry Job))) → ℕ → Type 0
 HasAccount floor plans replies notes answers histories p =
     Account (premises_of floor.office) p (slice_index_or (map (λ (w : Vec (Vec ℕ Global) Global). map (λ b. b.items) w.items) plans) p []) (slice_index_or replies p []) (slice_index_or notes p [])
     (slice_index_or answers p []) (map (of p) histories)
 
 -- What the steps of the session with seat p came to.
-abbrev pub HasSessionAccount : (floor : Floor) (guest : Guest) (replies : List (List (List ℕ))) (notes : List (List Noted)) (answers : List (List (Entry Noted))) (histories : List (List (Entry Job))) → ℕ → Type 0
+abbrev pub HasSessionAccount : {B : Type 0} (floor : Floor B) (guest : Guest) (replies : List (List (List ℕ))) (notes : List (List Noted)) (answers : List (List (Entry Noted))) (histories : List (List (Entry Job))) → ℕ → Type 0
 HasSessionAccount floor guest replies notes answers histories p =
     SessionAccount (premises_of floor.office) (length floor.depot.mailboxes.items) floor.turns p guest (slice_index_or replies p []) (slice_index_or notes p [])
     (slice_index_or answers p []) (map (of p) histories)
 
-twice : (vs : List Worked) → map received (map (λ (v : Worked). v.receiver) vs) ≡ map (λ (v : Worked). received v.receiver) vs
+twice : {B : Type 0} (vs : List (Worked B)) → map received (map (λ (v : Worked B). v.receiver) vs) ≡ map (λ (v : Worked B). received v.receiver) vs
 twice [] = refl
 twice (v ∷ vs) = ap (λ xs. received v.receiver ∷ xs) (twice vs)
 
 -- whatever holds of what one producer left holds of it where it lies among what all left
-module _ (ws : List Worked) (p : ℕ) (w : Worked) (at : slice_get ws p ≡ Some w) (answers : List (List (Entry Noted))) (are : answers ≡ map (λ (v : Worked). received v.receiver) ws)
+module _ {B : Type 0} (ws : List (Worked B)) (p : ℕ) (w : Worked B) (at : slice_get ws p ≡ Some w) (answers : List (List (Entry Noted))) (are : answers ≡ map (λ (v : Worked B). received v.receiver) ws)
     (P : List (List ℕ) → List Noted → List (Entry Noted) → Type 0) where
   pub among : P (map (λ b. b.items) w.replies.items) w.log.notes (received w.receiver)
-      → P (slice_index_or (map (λ (v : Worked). map (λ b. b.items) v.replies.items) ws) p []) (slice_index_or (map (λ (v : Worked). v.log.notes) ws) p []) (slice_index_or answers p [])
+      → P (slice_index_or (map (λ (v : Worked B). map (λ b. b.items) v.replies.items) ws) p []) (slice_index_or (map (λ (v : Worked B). v.log.notes) ws) p []) (slice_index_or answers p [])
   among here =
-      let b = sym (mapped_at (λ (v : Worked). map (λ b. b.items) v.replies.items) ws p w [] at) in
-      let c = sym (mapped_at (λ (v : Worked). v.log.notes) ws p w [] at) in
-      let d = sym (ap (λ xs. slice_index_or xs p []) are ∙ mapped_at (λ (v : Worked). received v.receiver) ws p w [] at) in
-      subst (λ x. P x (slice_index_or (map (λ (v : Worked). v.log.notes) ws) p []) (slice_index_or answers p [])) b
+      let b = sym (mapped_at (λ (v : Worked B). map (λ b. b.items) v.replies.items) ws p w [] at) in
+      let c = sym (mapped_at (λ (v : Worked B). v.log.notes) ws p w [] at) in
+      let d = sym (ap (λ xs. slice_index_or xs p []) are ∙ mapped_at (λ (v : Worked B). received v.receiver) ws p w [] at) in
+      subst (λ x. P x (slice_index_or (map (λ (v : Worked B). v.log.notes) ws) p []) (slice_index_or answers p [])) b
       (subst (λ x. P (map (λ b. b.items) w.replies.items) x (slice_index_or answers p [])) c
       (subst (λ x. P (map (λ b. b.items) w.replies.items) w.log.notes x) d here))
 
-module _ (floor : Floor) (plans : Plans) (guests : List Guest) (ws : List Worked) (all : AllAt (IsProduceOf floor plans guests) 0 ws) (count : length ws ≡ length plans + length guests)
+module _ {B : Type 0} (floor : Floor B) (plans : Plans) (guests : List Guest) (ws : List (Worked B)) (all : AllAt (IsProduceOf floor plans guests) 0 ws) (count : length ws ≡ length plans + length guests)
     (fine : All (λ w. fault_of_fate w.fate ≡ None) ws) (permits : List (ConsumerPermit Job)) (closed : List (Closed Job)) (are : AreClosedWith floor.office.lanes.items (map (λ w. w.ended.items) ws) permits closed)
     (hands : List (List (SenderEnded Noted))) (replied : List (ReplyClosed Noted)) (heard : AreChannelsClosedWith floor.depot.channels.items hands (map (λ w. w.receiver) ws) replied) where
   -- what producer p left, that it came to its end, and that what it said is what was taken
   left_by : (p : ℕ) → p < length plans + length guests
-      → (w : Worked) × (slice_get ws p ≡ Some w) × IsProduceOf floor plans guests p w × (w.fate ≡ fates.Whole) × (map said w.ended.items ≡ map (of p) (map history closed))
+      → (w : Worked B) × (slice_get ws p ≡ Some w) × IsProduceOf floor plans guests p w × (w.fate ≡ fates.Whole) × (map said w.ended.items ≡ map (of p) (map history closed))
   left_by p under =
       let w = some_at ws p (omega (arith, under, count)) in
       let here = at_position (IsProduceOf floor plans guests) 0 p ws w.0 all w.1 in
       let e : 0 + p ≡ p = omega arith in
       let work : IsProduceOf floor plans guests p w.0 = subst (λ i. IsProduceOf floor plans guests i w.0) e here in
-      let within = in_at (λ (v : Worked). v.ended.items) ws are.0 p w.0 are.1 w.1 in (
+      let within = in_at (λ (v : Worked B). v.ended.items) ws are.0 p w.0 are.1 w.1 in (
         w.0,
         w.1,
         work,
-        whole_of w.0.fate (all_at (λ (v : Worked). fault_of_fate v.fate ≡ None) ws p w.0 fine w.1),
+        whole_of w.0.fate (all_at (λ (v : Worked B). fault_of_fate v.fate ≡ None) ws p w.0 fine w.1),
         said_is_taken floor.office.lanes.items p w.0.ended.items (map history closed) work.ended (lanes.are_heard are.2 w.0.ended.items within),
       )
 
-  answers_are : map reply_history replied ≡ map (λ (v : Worked). received v.receiver) ws
+  answers_are : map reply_history replied ≡ map (λ (v : Worked B). received v.receiver) ws
   answers_are = channels.histories_taken heard.2 ∙ twice ws
 
   pub account_of : (p : ℕ) → p < length plans
-      → HasAccount floor plans (map (λ (w : Worked). map (λ b. b.items) w.replies.items) ws) (map (λ (w : Worked). w.log.notes) ws) (map reply_history replied) (map history closed) p
+      → HasAccount floor plans (map (λ (w : Worked B). map (λ b. b.items) w.replies.items) ws) (map (λ (w : Worked B). w.log.notes) ws) (map reply_history replied) (map history closed) p
   account_of p under =
       let l = left_by p (omega (arith, under)) in
       let plan = some_at plans p under in
@@ -140,7 +140,7 @@ module _ (floor : Floor) (plans : Plans) (guests : List Guest) (ws : List Worked
       (l.2.worker plan.0 plan.1 l.3)))
 
   pub session_account_of : (k : ℕ) (guest : Guest) → slice_get guests k ≡ Some guest → k < length guests
-      → HasSessionAccount floor guest (map (λ (w : Worked). map (λ b. b.items) w.replies.items) ws) (map (λ (w : Worked). w.log.notes) ws) (map reply_history replied) (map history closed) (length plans + k)
+      → HasSessionAccount floor guest (map (λ (w : Worked B). map (λ b. b.items) w.replies.items) ws) (map (λ (w : Worked B). w.log.notes) ws) (map reply_history replied) (map history closed) (length plans + k)
   session_account_of k guest at under =
       let p = length plans + k in
       let l = left_by p (omega (arith, under)) in
@@ -153,30 +153,30 @@ module _ (floor : Floor) (plans : Plans) (guests : List Guest) (ws : List Worked
   pub only_of : (p : ℕ) → p < length plans + length guests → verdicts_in (slice_index_or (map reply_history replied) p []) ≡ copies_in (map (of p) (map history closed))
   only_of p under =
       let l = left_by p under in
-      ap verdicts_in (ap (λ xs. slice_index_or xs p []) answers_are ∙ mapped_at (λ (v : Worked). received v.receiver) ws p l.0 [] l.1) ∙ l.2.only l.3 ∙ ap copies_in l.4
+      ap verdicts_in (ap (λ xs. slice_index_or xs p []) answers_are ∙ mapped_at (λ (v : Worked B). received v.receiver) ws p l.0 [] l.1) ∙ l.2.only l.3 ∙ ap copies_in l.4
 
 -- ---- what was taken
 
-pub kept_of : (cs : List Consumed) → All (λ c. fault_of_consumer c ≡ None) cs → All (λ c. c.kept ≡ true) cs
-kept_of [] all = All-nil (λ (c : Consumed). c.kept ≡ true)
+pub kept_of : {B : Type 0} (cs : List (Consumed B)) → All (λ c. fault_of_consumer c ≡ None) cs → All (λ c. c.kept ≡ true) cs
+kept_of [] all = All-nil (λ (c : Consumed _). c.kept ≡ true)
 kept_of (c ∷ cs) all =
-    All-cons (λ (d : Consumed). d.kept ≡ true) c cs (by_cases c.kept refl) (kept_of cs (All-tail (λ (d : Consumed). fault_of_consumer d ≡ None) c cs all))
+    All-cons (λ (d : Consumed _). d.kept ≡ true) c cs (by_cases c.kept refl) (kept_of cs (All-tail (λ (d : Consumed _). fault_of_consumer d ≡ None) c cs all))
   where
     by_cases : (b : Bool) → c.kept ≡ b → c.kept ≡ true
     by_cases true is = is
     by_cases false is =
-        let none = All-head (λ (d : Consumed). fault_of_consumer d ≡ None) c cs all in
+        let none = All-head (λ (d : Consumed _). fault_of_consumer d ≡ None) c cs all in
         absurd (cc)
 
 -- what the consumers kept is what was taken
-pub all_taken : (floor : Floor) (cs : List Consumed) (closed : List (Closed Job)) (hands : List (List (Ended Job)))
+pub all_taken : {B : Type 0} (floor : Floor B) (cs : List (Consumed B)) (closed : List (Closed Job)) (hands : List (List (Ended Job)))
     → AllAt (IsServiceOf floor) 0 cs → length cs ≡ length floor.office.lanes.items → All (λ c. fault_of_consumer c ≡ None) cs
     → AreClosedWith floor.office.lanes.items hands (map (λ c. c.permit) cs) closed
     → map (λ c. c.taken.items) cs ≡ map history closed
 all_taken floor cs closed hands all count services are =
     taken_of floor 0 cs all (omega (arith, count)) (kept_of cs services) ∙ sym (lanes.histories_taken are.2 ∙ twice cs)
   where
-    twice : (ds : List Consumed) → map got (map (λ (c : Consumed). c.permit) ds) ≡ map (λ (c : Consumed). got c.permit) ds
+    twice : {C : Type 0} (ds : List (Consumed C)) → map got (map (λ (c : Consumed C). c.permit) ds) ≡ map (λ (c : Consumed C). got c.permit) ds
     twice [] = refl
     twice (d ∷ ds) = ap (λ xs. got d.permit ∷ xs) (twice ds)
 
@@ -200,12 +200,12 @@ of_at s [] p = refl
 of_at s (x ∷ xs) zero = refl
 of_at s (x ∷ xs) (suc p) = of_at s xs p
 
-got_twice : (cs : List Consumed) → map got (map (λ (c : Consumed). c.permit) cs) ≡ map (λ (c : Consumed). got c.permit) cs
+got_twice : {B : Type 0} (cs : List (Consumed B)) → map got (map (λ (c : Consumed B). c.permit) cs) ≡ map (λ (c : Consumed B). got c.permit) cs
 got_twice [] = refl
 got_twice (c ∷ cs) = ap (λ xs. got c.permit ∷ xs) (got_twice cs)
 
 -- what each consumer told each producer, of what it had taken, and then its end
-pub answers_of : (floor : Floor) (cs : List Consumed) (closed : List (Closed Job)) (hands : List (List (Ended Job))) (replied : List (ReplyClosed Noted)) (receivers : List (ReceiverPermit Noted))
+pub answers_of : {B : Type 0} (floor : Floor B) (cs : List (Consumed B)) (closed : List (Closed Job)) (hands : List (List (Ended Job))) (replied : List (ReplyClosed Noted)) (receivers : List (ReceiverPermit Noted))
     → AllAt (IsServiceOf floor) 0 cs → length cs ≡ length floor.office.lanes.items
     → AreClosedWith floor.office.lanes.items hands (map (λ c. c.permit) cs) closed
     → AreChannelsClosedWith floor.depot.channels.items (map (λ c. c.senders.items) cs) receivers replied
@@ -220,8 +220,8 @@ answers_of floor cs closed hands replied receivers all count are heard s p lane 
     let left = service.each q.0 q.1 in
     let said = left.2.said p channel in
     let taken : slice_index_or (map history closed) s [] ≡ got c.0.permit =
-    ap (λ xs. slice_index_or xs s []) (lanes.histories_taken are.2 ∙ got_twice cs) ∙ mapped_at (λ (d : Consumed). got d.permit) cs s c.0 [] c.1 in
-    let own = channels.said_on_is_history heard.2 s c.0.senders.items left.2.senders (senders_at (λ (d : Consumed). d.senders.items) cs heard.0 s c.0 heard.1 c.1) in (
+    ap (λ xs. slice_index_or xs s []) (lanes.histories_taken are.2 ∙ got_twice cs) ∙ mapped_at (λ (d : Consumed _). got d.permit) cs s c.0 [] c.1 in
+    let own = channels.said_on_is_history heard.2 s c.0.senders.items left.2.senders (senders_at (λ (d : Consumed _). d.senders.items) cs heard.0 s c.0 heard.1 c.1) in (
       said.0,
       subst (λ entries. WereAnswered (length floor.depot.mailboxes.items) s p entries said.0) (sym taken) said.1,
       of_at s (map reply_history replied) p ∙ ap (λ xs. slice_index_or xs p []) (sym own) ∙ said.2 ∙ ap (λ b. (b ++ said.0) ++ End s ∷ []) (none_at left.0 p left.1),

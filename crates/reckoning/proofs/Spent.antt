@@ -1,7 +1,7 @@
 -- There is room for all permits of a run that came to nothing.
-use Rattle.std.proofs.Common.{◌≡◌, ◌≤◌, ◌+◌, ◌*◌, ℕ, List, [], All, Vec, length, ap, sum_by, vec_len, vec_capacity, add-mul, mul-le-mul_right, arith}
+use Rattle.std.proofs.Common.{◌≡◌, ◌≤◌, ◌+◌, ◌*◌, ℕ, zero, suc, List, [], ◌∷◌, All, take, Vec, length, ap, sum_by, vec_len, vec_capacity, add-mul, mul-le-mul_right, arith}
 use Rattle.std.specs.Global.{Global}
-use Rattle.std.proofs.lemmas.List.Elements.{All-weaker}
+use Rattle.std.proofs.lemmas.List.Elements.{All-cons, All-head, All-nil, All-tail, All-weaker}
 use Rattle.std.proofs.lemmas.List.Sums.{sum_by-le}
 use Rattle.house_floor.specs.declared.floor.Post.{Post}
 use Rattle.house_floor.specs.declared.floor.Stand.{Stand}
@@ -39,12 +39,18 @@ fits_behind f g each count xs ys old new empty room grown all others same =
     let none : length old.items ≡ 0 = ap length empty in
     omega (arith, in_both f g each count xs ys all others same, none, old.ok.0, room, grown.0, grown.1)
 
-pub permits_of_posts : (lanes : ℕ) (posts : List Post) → All (IsPostLeft lanes) posts → All (λ (p : Post). vec_len p.desk.permits ≤ lanes) posts
-permits_of_posts lanes posts left = All-weaker (IsPostLeft lanes) (λ (p : Post). vec_len p.desk.permits ≤ lanes) (λ p h. omega (arith, h)) posts left
+pub permits_of_posts : {B : Type 0} (lanes : ℕ) (posts : List (Post B)) → All (IsPostLeft lanes) posts → All (λ (p : Post B). vec_len p.desk.permits ≤ lanes) posts
+permits_of_posts lanes posts left = All-weaker (IsPostLeft lanes) (λ (p : Post _). vec_len p.desk.permits ≤ lanes) (λ p h. omega (arith, h)) posts left
 
-pub senders_of_stands : (producers : ℕ) (stands : List Stand) → All (IsStandLeft producers) stands → All (λ (s : Stand). vec_len s.stall.senders ≤ producers) stands
-senders_of_stands producers stands left = All-weaker (IsStandLeft producers) (λ (s : Stand). vec_len s.stall.senders ≤ producers) (λ s h. h.0) stands left
+pub senders_of_stands : {B : Type 0} (producers : ℕ) (stands : List (Stand B)) → All (IsStandLeft producers) stands → All (λ (s : Stand B). vec_len s.stall.senders ≤ producers) stands
+senders_of_stands producers stands left = All-weaker (IsStandLeft producers) (λ (s : Stand _). vec_len s.stall.senders ≤ producers) (λ s h. h.0) stands left
 
 -- what is just so much is no more
 pub no_more : {X : Type 0} (f : X → ℕ) (n : ℕ) (xs : List X) → All (λ x. f x ≡ n) xs → All (λ x. f x ≤ n) xs
 no_more f n xs all = All-weaker (λ x. f x ≡ n) (λ x. f x ≤ n) (λ x h. omega (arith, h)) xs all
+
+-- what holds of each of a list's elements holds of each of its first ones
+pub all_taken : {A : Type 0} (P : A → Type 0) (n : ℕ) (xs : List A) → All P xs → All P (take n xs)
+all_taken P zero xs all = All-nil P
+all_taken P (suc n) [] all = All-nil P
+all_taken P (suc n) (x ∷ xs) all = All-cons P x (take n xs) (All-head P x xs all) (all_taken P n xs (All-tail P x xs all))

@@ -18,11 +18,11 @@ use Rattle.reckoning.specs.declared.balancing.Gathered.{Gathered}
 -- ---- faults
 
 -- the gravest that a producer or a consumer had
-abbrev pub worst_of : List Worked → List Consumed → Option Fault
+abbrev pub worst_of : {B : Type 0} → List (Worked B) → List (Consumed B) → Option Fault
 worst_of producers consumers = graver (gravest None (map (λ w. fault_of_fate w.fate) producers)) (gravest None (map fault_of_consumer consumers))
 
 -- what the threads left, taken apart, with room for what comes of the queues
-pub record IsGathered (producers : List Worked) (consumers : List Consumed) (g : Gathered) : Type 0 where
+pub record IsGathered {B : Type 0} (producers : List (Worked B)) (consumers : List (Consumed B)) (g : Gathered B) : Type 0 where
   pub of_workers : AreWorkers producers g.workers
   pub of_consumers : AreConsumers consumers g.consumers
   pub lists : AreRooms (length consumers) (length producers) g.lists
@@ -32,7 +32,7 @@ pub record IsGathered (producers : List Worked) (consumers : List Consumed) (g :
   pub worst : g.worst ≡ worst_of producers consumers
 
 -- What came of each queue, with what all threads left of their permits; the rest of what they left, in their order; and the gravest fault.
-pub record IsClosing (lanes : List (ShardQueue Job)) (channels : List (ReplyChannel Noted)) (producers : List Worked) (consumers : List Consumed) (c : Closings) : Type 0 where
+pub record IsClosing {B : Type 0} (lanes : List (ShardQueue Job)) (channels : List (ReplyChannel Noted)) (producers : List (Worked B)) (consumers : List (Consumed B)) (c : Closings B) : Type 0 where
   pub of_lanes : MatchOption c.lanes (AreTornWith lanes (map (λ w. w.ended.items) producers) (map (λ d. d.permit) consumers))
       (λ closed. AreClosedWith lanes (map (λ w. w.ended.items) producers) (map (λ d. d.permit) consumers) closed.items)
   pub of_channels : MatchOption c.channels (AreChannelsTornWith channels (map (λ d. d.senders.items) consumers) (map (λ w. w.receiver) producers))
@@ -45,7 +45,7 @@ pub record IsClosing (lanes : List (ShardQueue Job)) (channels : List (ReplyChan
 -- ---- the books
 
 -- No thread had a fault. Each queue was closed, with what all threads left of their permits; the rest of what they left is in the books, in their order.
-pub record IsBalanced (lanes : List (ShardQueue Job)) (channels : List (ReplyChannel Noted)) (producers : List Worked) (consumers : List Consumed) (books : Books) : Type 0 where
+pub record IsBalanced {B : Type 0} (lanes : List (ShardQueue Job)) (channels : List (ReplyChannel Noted)) (producers : List (Worked B)) (consumers : List (Consumed B)) (books : Books B) : Type 0 where
   pub fates : All (λ w. fault_of_fate w.fate ≡ None) producers
   pub services : All (λ c. fault_of_consumer c ≡ None) consumers
   pub replies : books.replies.items ≡ map (λ w. w.replies) producers
@@ -55,7 +55,7 @@ pub record IsBalanced (lanes : List (ShardQueue Job)) (channels : List (ReplyCha
   pub channels_closed : AreChannelsClosedWith channels (map (λ c. c.senders.items) consumers) (map (λ w. w.receiver) producers) books.closed.channels.items
 
 -- There was this fault, the gravest; or there was none, and some queue couldn't be closed.
-abbrev pub IsWhyNot : List (ShardQueue Job) → List (ReplyChannel Noted) → List Worked → List Consumed → Fault → Type 0
+abbrev pub IsWhyNot : {B : Type 0} → List (ShardQueue Job) → List (ReplyChannel Noted) → List (Worked B) → List (Consumed B) → Fault → Type 0
 IsWhyNot lanes channels producers consumers fault =
     (worst_of producers consumers ≡ Some fault)
     ⊎ ((worst_of producers consumers ≡ None) × (fault ≡ Torn)

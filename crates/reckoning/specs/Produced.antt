@@ -43,7 +43,7 @@ pub record SessionAccount (house : Premises) (mailboxes turns seat : ℕ) (guest
 -- What producer n left: its ended permits are its own on each lane, its receiver is of its channel, and the log is its own. Where a worker went through all its
 -- connections, that is its account of them; where a session, behind the workers, made all its steps, that is its account of these. Either then heard as many
 -- verdicts as it put copies: each was awaited, and nothing else came but ends.
-pub record IsProduceOf (floor : Floor) (plans : Plans) (guests : List Guest) (n : ℕ) (w : Worked) : Type 0 where
+pub record IsProduceOf {B : Type 0} (floor : Floor B) (plans : Plans) (guests : List Guest) (n : ℕ) (w : Worked B) : Type 0 where
   pub ended : AreEnded floor.office.lanes.items n w.ended.items
   pub receiver : (channel : ReplyChannel Noted) → slice_get floor.depot.channels.items n ≡ Some channel → IsReceiver channel w.receiver
   pub seat : w.log.seat ≡ n

@@ -7,8 +7,8 @@ ghost use Rattle.house_floor.specs.Left.{IsSpendable};
 ghost use Rattle.reckoning.specs.inner.Spending.{HasGrown, HasGrownAtMost};
 
 use crate::remains::{Remains, remains_of};
-use delivery_token::{Job, Noted};
 use house_floor::{Baskets, Floor, Post, Ran, Spares, Stand};
+use house_history::{Answer, Letter, Naming};
 use lane_work::{Consumed, Desk, LanePermit, Stall, Worked, spend_lists};
 use shard_queue::{
     ConsumerPermit, Ended, ProducerPermit, ReceiverPermit, ReplyChannel, SenderEnded, SenderPermit,
@@ -28,10 +28,10 @@ fn pour<T>(mut from: Vec<T>, into: &mut Vec<T>)
 }
 
 // Sorts a producer's permits: those that may put still, and what is left of those that are over.
-fn sort(
-    mut from: Vec<LanePermit>,
-    permits: &mut Vec<ProducerPermit<Job>>,
-    ended: &mut Vec<Ended<Job>>,
+fn sort<B: Naming>(
+    mut from: Vec<LanePermit<Letter<B>>>,
+    permits: &mut Vec<ProducerPermit<Letter<B>>>,
+    ended: &mut Vec<Ended<Letter<B>>>,
 )
     requires permits { vec_len permits.old + vec_len from ≤ vec_capacity permits.old }
     requires ended { vec_len ended.old + vec_len from ≤ vec_capacity ended.old }
@@ -48,11 +48,11 @@ fn sort(
 }
 
 // Takes apart a post that never had a thread.
-fn clear_post(
-    post: Post,
-    receivers: &mut Vec<ReceiverPermit<Noted>>,
-    permits: &mut Vec<ProducerPermit<Job>>,
-    ended: &mut Vec<Ended<Job>>,
+fn clear_post<B: Naming>(
+    post: Post<B>,
+    receivers: &mut Vec<ReceiverPermit<Answer<B>>>,
+    permits: &mut Vec<ProducerPermit<Letter<B>>>,
+    ended: &mut Vec<Ended<Letter<B>>>,
 )
     requires receivers { vec_len receivers.old < vec_capacity receivers.old }
     requires permits { vec_len permits.old + vec_len post.desk.permits ≤ vec_capacity permits.old }
@@ -69,6 +69,7 @@ fn clear_post(
         permits: own,
         receiver,
         ends: _,
+        dispatch: _,
     } = desk;
     receivers.push_reserved(receiver);
     sort(own, permits, ended);
@@ -76,11 +77,11 @@ fn clear_post(
 }
 
 // The same of all of them.
-fn clear_posts(
-    mut posts: Vec<Post>,
-    receivers: &mut Vec<ReceiverPermit<Noted>>,
-    permits: &mut Vec<ProducerPermit<Job>>,
-    ended: &mut Vec<Ended<Job>>,
+fn clear_posts<B: Naming>(
+    mut posts: Vec<Post<B>>,
+    receivers: &mut Vec<ReceiverPermit<Answer<B>>>,
+    permits: &mut Vec<ProducerPermit<Letter<B>>>,
+    ended: &mut Vec<Ended<Letter<B>>>,
 )
     requires receivers { vec_len receivers.old + vec_len posts ≤ vec_capacity receivers.old }
     requires permits { vec_len permits.old + sum_by (λ p. vec_len p.desk.permits) posts.items
@@ -99,10 +100,10 @@ fn clear_posts(
 }
 
 // Takes apart what a producer left.
-fn clear_worker(
-    worked: Worked,
-    receivers: &mut Vec<ReceiverPermit<Noted>>,
-    ended: &mut Vec<Ended<Job>>,
+fn clear_worker<B: Naming>(
+    worked: Worked<B>,
+    receivers: &mut Vec<ReceiverPermit<Answer<B>>>,
+    ended: &mut Vec<Ended<Letter<B>>>,
 )
     requires receivers { vec_len receivers.old < vec_capacity receivers.old }
     requires ended { vec_len ended.old + vec_len worked.ended ≤ vec_capacity ended.old }
@@ -114,6 +115,7 @@ fn clear_worker(
         receiver,
         replies: _,
         log: _,
+        dispatch: _,
         fate: _,
     } = worked;
     receivers.push_reserved(receiver);
@@ -121,10 +123,10 @@ fn clear_worker(
 }
 
 // The same of all of them.
-fn clear_workers(
-    mut worked: Vec<Worked>,
-    receivers: &mut Vec<ReceiverPermit<Noted>>,
-    ended: &mut Vec<Ended<Job>>,
+fn clear_workers<B: Naming>(
+    mut worked: Vec<Worked<B>>,
+    receivers: &mut Vec<ReceiverPermit<Answer<B>>>,
+    ended: &mut Vec<Ended<Letter<B>>>,
 )
     requires receivers { vec_len receivers.old + vec_len worked ≤ vec_capacity receivers.old }
     requires ended { vec_len ended.old + sum_by (λ w. vec_len w.ended) worked.items
@@ -138,10 +140,10 @@ fn clear_workers(
 }
 
 // Takes apart a stand that never had a thread.
-fn clear_stand(
-    stand: Stand,
-    permits: &mut Vec<ConsumerPermit<Job>>,
-    senders: &mut Vec<SenderPermit<Noted>>,
+fn clear_stand<B: Naming>(
+    stand: Stand<B>,
+    permits: &mut Vec<ConsumerPermit<Letter<B>>>,
+    senders: &mut Vec<SenderPermit<Answer<B>>>,
 )
     requires permits { vec_len permits.old < vec_capacity permits.old }
     requires senders { vec_len senders.old + vec_len stand.stall.senders
@@ -163,10 +165,10 @@ fn clear_stand(
 }
 
 // The same of all of them.
-fn clear_stands(
-    mut stands: Vec<Stand>,
-    permits: &mut Vec<ConsumerPermit<Job>>,
-    senders: &mut Vec<SenderPermit<Noted>>,
+fn clear_stands<B: Naming>(
+    mut stands: Vec<Stand<B>>,
+    permits: &mut Vec<ConsumerPermit<Letter<B>>>,
+    senders: &mut Vec<SenderPermit<Answer<B>>>,
 )
     requires permits { vec_len permits.old + vec_len stands ≤ vec_capacity permits.old }
     requires senders { vec_len senders.old + sum_by (λ s. vec_len s.stall.senders) stands.items
@@ -181,10 +183,10 @@ fn clear_stands(
 }
 
 // Takes apart what a consumer left.
-fn clear_consumer(
-    consumed: Consumed,
-    permits: &mut Vec<ConsumerPermit<Job>>,
-    ended: &mut Vec<SenderEnded<Noted>>,
+fn clear_consumer<B: Naming>(
+    consumed: Consumed<B>,
+    permits: &mut Vec<ConsumerPermit<Letter<B>>>,
+    ended: &mut Vec<SenderEnded<Answer<B>>>,
 )
     requires permits { vec_len permits.old < vec_capacity permits.old }
     requires ended { vec_len ended.old + vec_len consumed.senders ≤ vec_capacity ended.old }
@@ -203,10 +205,10 @@ fn clear_consumer(
 }
 
 // The same of all of them.
-fn clear_consumers(
-    mut consumed: Vec<Consumed>,
-    permits: &mut Vec<ConsumerPermit<Job>>,
-    ended: &mut Vec<SenderEnded<Noted>>,
+fn clear_consumers<B: Naming>(
+    mut consumed: Vec<Consumed<B>>,
+    permits: &mut Vec<ConsumerPermit<Letter<B>>>,
+    ended: &mut Vec<SenderEnded<Answer<B>>>,
 )
     requires permits { vec_len permits.old + vec_len consumed ≤ vec_capacity permits.old }
     requires ended { vec_len ended.old + sum_by (λ c. vec_len c.senders) consumed.items
@@ -221,12 +223,12 @@ fn clear_consumers(
 
 // Spends all lanes, with one consumer's end for each and with all permits that are there. A lane that is
 // abandoned asks no permit whose it is, so the first takes them all.
-fn abandon_lanes(
+fn abandon_lanes<B: Naming>(
     alloc: Global,
-    mut lanes: Vec<ShardQueue<Job>>,
-    mut consumers: Vec<ConsumerPermit<Job>>,
-    permits: Vec<ProducerPermit<Job>>,
-    ended: Vec<Ended<Job>>,
+    mut lanes: Vec<ShardQueue<Letter<B>>>,
+    mut consumers: Vec<ConsumerPermit<Letter<B>>>,
+    permits: Vec<ProducerPermit<Letter<B>>>,
+    ended: Vec<Ended<Letter<B>>>,
 )
     requires some { 0 < vec_len lanes }
     requires consumers { vec_len consumers ≡ vec_len lanes }
@@ -241,12 +243,12 @@ fn abandon_lanes(
 }
 
 // The same of all channels.
-fn abandon_channels(
+fn abandon_channels<B: Naming>(
     alloc: Global,
-    mut channels: Vec<ReplyChannel<Noted>>,
-    mut receivers: Vec<ReceiverPermit<Noted>>,
-    permits: Vec<SenderPermit<Noted>>,
-    ended: Vec<SenderEnded<Noted>>,
+    mut channels: Vec<ReplyChannel<Answer<B>>>,
+    mut receivers: Vec<ReceiverPermit<Answer<B>>>,
+    permits: Vec<SenderPermit<Answer<B>>>,
+    ended: Vec<SenderEnded<Answer<B>>>,
 )
     requires some { 0 < vec_len channels }
     requires receivers { vec_len receivers ≡ vec_len channels }
@@ -261,14 +263,14 @@ fn abandon_channels(
 }
 
 // Room for the permits of all queues.
-struct Ends {
-    consumers: Vec<ConsumerPermit<Job>>,
-    receivers: Vec<ReceiverPermit<Noted>>,
-    spares: Spares,
+struct Ends<B: Naming> {
+    consumers: Vec<ConsumerPermit<Letter<B>>>,
+    receivers: Vec<ReceiverPermit<Answer<B>>>,
+    spares: Spares<B>,
 }
 
 // The room that is needed here; the other baskets are empty, and are spent.
-fn ends_of(baskets: Baskets) -> Ends
+fn ends_of<B: Naming>(baskets: Baskets<B>) -> Ends<B>
     requires hands { (baskets.hands.items ≡ []) × (baskets.sender_hands.items ≡ []) }
     requires lists { All (λ v. v.items ≡ []) baskets.lists.items
         × All (λ v. v.items ≡ []) baskets.sender_lists.items }
@@ -303,7 +305,7 @@ fn ends_of(baskets: Baskets) -> Ends
 
 /// Spends all that is left of a run that came to nothing, whichever of its actors have had a thread.
 /// What waits in a queue is dropped. It takes no memory.
-pub fn abandon(alloc: Global, floor: Floor, ran: Ran, baskets: Baskets)
+pub fn abandon<B: Naming>(alloc: Global, floor: Floor<B>, ran: Ran<B>, baskets: Baskets<B>)
     requires lanes { 0 < length floor.office.lanes.items }
     requires channels { 0 < length floor.depot.channels.items }
 

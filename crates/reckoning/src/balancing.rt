@@ -9,24 +9,25 @@ ghost use Rattle.reckoning.specs.Balancing.{IsClosing, IsGathered, IsBalanced, I
 
 use crate::close::{close_all_channels, close_all_lanes};
 use crate::gather::{Fault, FromConsumers, FromWorkers, gather_consumers, gather_workers, graver};
-use delivery_token::{Job, Noted, WorkerLog};
+use delivery_token::{Job, WorkerLog};
 use house_floor::Baskets;
+use house_history::{Answer, Letter, Naming};
 use lane_work::{Consumed, Worked};
 use shard_queue::{Closed, Ended, Entry, ReplyChannel, ReplyClosed, SenderEnded, ShardQueue};
 use std::alloc::Global;
 
 /// What was taken of each queue, to its end.
 #[derive(Drop)]
-pub struct Closes {
+pub struct Closes<B: Naming> {
     /// Of each shard's lane.
-    pub lanes: Vec<Closed<Job>>,
+    pub lanes: Vec<Closed<Letter<B>>>,
     /// Of each producer's reply channel.
-    pub channels: Vec<ReplyClosed<Noted>>,
+    pub channels: Vec<ReplyClosed<Answer<B>>>,
 }
 
 /// What the threads of a run left, by their numbers, and what passed between them.
 #[derive(Drop)]
-pub struct Books {
+pub struct Books<B: Naming> {
     /// For each producer, what it said: of a worker the replies to each connection, of a session one
     /// text.
     pub replies: Vec<Vec<Vec<u8>>>,
@@ -35,27 +36,31 @@ pub struct Books {
     /// For each consumer, the entries that it took, in order.
     pub taken: Vec<Vec<Entry<Job>>>,
     /// What was taken of each queue.
-    pub closed: Closes,
+    pub closed: Closes<B>,
 }
 
 /// What the threads left, taken apart, and room for what comes of the queues.
-pub struct Gathered {
+pub struct Gathered<B: Naming> {
     /// What the producers left, by their numbers.
-    pub workers: FromWorkers,
+    pub workers: FromWorkers<B>,
     /// What the consumers left, by their shards.
-    pub consumers: FromConsumers,
+    pub consumers: FromConsumers<B>,
     /// For what is left of all producers' permits on each lane.
-    pub lists: Vec<Vec<Ended<Job>>>,
+    pub lists: Vec<Vec<Ended<Letter<B>>>>,
     /// For what is left of all consumers' permits on each channel.
-    pub sender_lists: Vec<Vec<SenderEnded<Noted>>>,
+    pub sender_lists: Vec<Vec<SenderEnded<Answer<B>>>>,
     /// For what is taken of each queue.
-    pub closed: Closes,
+    pub closed: Closes<B>,
     /// The gravest fault of a producer or a consumer.
     pub worst: Option<Fault>,
 }
 
 /// Takes apart what all threads left, for each queue to be closed.
-pub fn gather_all(worked: Vec<Worked>, consumed: Vec<Consumed>, baskets: Baskets) -> Gathered
+pub fn gather_all<B: Naming>(
+    worked: Vec<Worked<B>>,
+    consumed: Vec<Consumed<B>>,
+    baskets: Baskets<B>,
+) -> Gathered<B>
     requires baskets { AreBaskets (vec_len worked) (vec_len consumed) baskets }
     ensures { IsGathered worked.items consumed.items result }
 {
@@ -100,11 +105,11 @@ pub fn gather_all(worked: Vec<Worked>, consumed: Vec<Consumed>, baskets: Baskets
 
 /// What came of all queues, and the rest of what the threads left, by their numbers.
 #[derive(Drop)]
-pub struct Closings {
+pub struct Closings<B: Naming> {
     /// What was taken of each shard's lane; None only where some lane is torn.
-    pub lanes: Option<Vec<Closed<Job>>>,
+    pub lanes: Option<Vec<Closed<Letter<B>>>>,
     /// What was taken of each producer's reply channel; None only where some channel is torn.
-    pub channels: Option<Vec<ReplyClosed<Noted>>>,
+    pub channels: Option<Vec<ReplyClosed<Answer<B>>>>,
     /// For each producer, what it said.
     pub replies: Vec<Vec<Vec<u8>>>,
     /// For each producer, the verdicts on its copies.
@@ -118,14 +123,14 @@ pub struct Closings {
 /// Closes each lane and each reply channel with what the producers and consumers left, one of each for
 /// each of their own, and hands over the rest of what they left. All queues are spent, also where some
 /// couldn't be closed.
-pub fn close_queues(
+pub fn close_queues<B: Naming>(
     alloc: Global,
-    lanes: Vec<ShardQueue<Job>>,
-    channels: Vec<ReplyChannel<Noted>>,
-    worked: Vec<Worked>,
-    consumed: Vec<Consumed>,
-    baskets: Baskets,
-) -> Closings
+    lanes: Vec<ShardQueue<Letter<B>>>,
+    channels: Vec<ReplyChannel<Answer<B>>>,
+    worked: Vec<Worked<B>>,
+    consumed: Vec<Consumed<B>>,
+    baskets: Baskets<B>,
+) -> Closings<B>
     // There is a producer for each channel, and a consumer for each lane.
     requires counts { (vec_len worked ≡ vec_len channels) × (vec_len consumed ≡ vec_len lanes) }
 
@@ -185,14 +190,14 @@ pub fn close_queues(
 ///
 /// Errors: the gravest of the faults that the threads had, `Spawn` before `NoMemory` before `Torn`;
 /// where there is none, `Torn` if some queue couldn't be closed. All that was given is spent then.
-pub fn balance(
+pub fn balance<B: Naming>(
     alloc: Global,
-    lanes: Vec<ShardQueue<Job>>,
-    channels: Vec<ReplyChannel<Noted>>,
-    worked: Vec<Worked>,
-    consumed: Vec<Consumed>,
-    baskets: Baskets,
-) -> Result<Books, Fault>
+    lanes: Vec<ShardQueue<Letter<B>>>,
+    channels: Vec<ReplyChannel<Answer<B>>>,
+    worked: Vec<Worked<B>>,
+    consumed: Vec<Consumed<B>>,
+    baskets: Baskets<B>,
+) -> Result<Books<B>, Fault>
     // There is a producer for each channel, and a consumer for each lane.
     requires counts { (vec_len worked ≡ vec_len channels) × (vec_len consumed ≡ vec_len lanes) }
 

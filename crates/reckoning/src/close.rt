@@ -7,7 +7,7 @@ ghost use Rattle.lane_work.specs.LanePermits.{AreConsumers, AreEndedHands};
 ghost use Rattle.lane_work.specs.ChannelPermits.{AreReceivers, AreSenderEndedHands};
 ghost use Rattle.reckoning.specs.Closing.{AreChannelsClosedWith, AreChannelsTornWith, AreClosedWith, AreTornWith};
 
-use delivery_token::{Job, Noted};
+use house_history::{Answer, Letter, Naming};
 use lane_work::{close_channels, close_lanes, collect_all, collect_all_senders};
 use shard_queue::{
     Closed, ConsumerPermit, Ended, ReceiverPermit, ReplyChannel, ReplyClosed, SenderEnded,
@@ -18,14 +18,14 @@ use std::alloc::Global;
 /// Closes each lane with what is left of all producers' permits, a hand for each producer, and with its
 /// consumer's. None only where some lane is torn. `lists` has an empty list for each lane with room for
 /// all producers, `closed` has room for all lanes.
-pub fn close_all_lanes(
+pub fn close_all_lanes<B: Naming>(
     alloc: Global,
-    lanes: Vec<ShardQueue<Job>>,
-    hands: Vec<Vec<Ended<Job>>>,
-    consumers: Vec<ConsumerPermit<Job>>,
-    mut lists: Vec<Vec<Ended<Job>>>,
-    closed: Vec<Closed<Job>>,
-) -> Option<Vec<Closed<Job>>>
+    lanes: Vec<ShardQueue<Letter<B>>>,
+    hands: Vec<Vec<Ended<Letter<B>>>>,
+    consumers: Vec<ConsumerPermit<Letter<B>>>,
+    mut lists: Vec<Vec<Ended<Letter<B>>>>,
+    closed: Vec<Closed<Letter<B>>>,
+) -> Option<Vec<Closed<Letter<B>>>>
     // Hand p has producer p's ended permits, one on each lane, and the i-th consumer's permit is the i-th lane's.
     requires hands { AreEndedHands lanes.items 0 (map (λ h. h.items) hands.items) }
     requires consumers { AreConsumers lanes.items consumers.items }
@@ -47,14 +47,14 @@ pub fn close_all_lanes(
 /// Closes each reply channel with what is left of all consumers' permits, a hand for each consumer, and
 /// with its producer's. None only where some channel is torn. `lists` has an empty list for each
 /// channel with room for all consumers, `closed` has room for all channels.
-pub fn close_all_channels(
+pub fn close_all_channels<B: Naming>(
     alloc: Global,
-    channels: Vec<ReplyChannel<Noted>>,
-    hands: Vec<Vec<SenderEnded<Noted>>>,
-    receivers: Vec<ReceiverPermit<Noted>>,
-    mut lists: Vec<Vec<SenderEnded<Noted>>>,
-    closed: Vec<ReplyClosed<Noted>>,
-) -> Option<Vec<ReplyClosed<Noted>>>
+    channels: Vec<ReplyChannel<Answer<B>>>,
+    hands: Vec<Vec<SenderEnded<Answer<B>>>>,
+    receivers: Vec<ReceiverPermit<Answer<B>>>,
+    mut lists: Vec<Vec<SenderEnded<Answer<B>>>>,
+    closed: Vec<ReplyClosed<Answer<B>>>,
+) -> Option<Vec<ReplyClosed<Answer<B>>>>
     // Hand s has consumer s's ended senders, one on each channel, and the i-th receiver is the i-th channel's.
     requires hands { AreSenderEndedHands channels.items 0 (map (λ h. h.items) hands.items) }
     requires receivers { AreReceivers channels.items receivers.items }

@@ -4,7 +4,8 @@
 ghost use Rattle.std.specs.Prelude.{◌≡◌, ◌<◌, ◌++◌, ◌∷◌, [], None, map, vec_len, vec_capacity};
 ghost use Rattle.reckoning.specs.Gathered.{AreConsumers, AreWorkers, IsRoomForConsumers, IsRoomForWorkers, fault_of_consumer, fault_of_fate, graver, gravest};
 
-use delivery_token::{Job, Noted, WorkerLog};
+use delivery_token::{Job, WorkerLog};
+use house_history::{Answer, Letter, Naming};
 use lane_work::{Consumed, Fate, Worked};
 use shard_queue::{ConsumerPermit, Ended, Entry, ReceiverPermit, SenderEnded};
 
@@ -20,11 +21,11 @@ pub enum Fault {
 }
 
 /// What the producers left, by their numbers.
-pub struct FromWorkers {
+pub struct FromWorkers<B: Naming> {
     /// Of each, what is left of its permit on each lane.
-    pub hands: Vec<Vec<Ended<Job>>>,
+    pub hands: Vec<Vec<Ended<Letter<B>>>>,
     /// Of each, its end of its reply channel.
-    pub receivers: Vec<ReceiverPermit<Noted>>,
+    pub receivers: Vec<ReceiverPermit<Answer<B>>>,
     /// Of each, what it said: of a worker the replies to each connection, of a session one text.
     pub replies: Vec<Vec<Vec<u8>>>,
     /// Of each, the verdicts on its copies.
@@ -32,11 +33,11 @@ pub struct FromWorkers {
 }
 
 /// What the consumers left, by their shards.
-pub struct FromConsumers {
+pub struct FromConsumers<B: Naming> {
     /// Of each, its end of its lane.
-    pub permits: Vec<ConsumerPermit<Job>>,
+    pub permits: Vec<ConsumerPermit<Letter<B>>>,
     /// Of each, what is left of its permit on each reply channel.
-    pub hands: Vec<Vec<SenderEnded<Noted>>>,
+    pub hands: Vec<Vec<SenderEnded<Answer<B>>>>,
     /// Of each, the entries that it took, in order.
     pub taken: Vec<Vec<Entry<Job>>>,
 }
@@ -71,7 +72,7 @@ pub(crate) fn graver(one: Option<Fault>, other: Option<Fault>) -> Option<Fault>
 }
 
 // Lays a producer's parts behind those of the producers before it.
-fn lay_worker(worked: Worked, into: &mut FromWorkers) -> Fate
+fn lay_worker<B: Naming>(worked: Worked<B>, into: &mut FromWorkers<B>) -> Fate
     requires hands { vec_len into.old.hands < vec_capacity into.old.hands }
     requires receivers { vec_len into.old.receivers < vec_capacity into.old.receivers }
     requires replies { vec_len into.old.replies < vec_capacity into.old.replies }
@@ -92,6 +93,7 @@ fn lay_worker(worked: Worked, into: &mut FromWorkers) -> Fate
         receiver,
         replies,
         log,
+        dispatch: _,
         fate,
     } = worked;
     into.hands.push_reserved(ended);
@@ -103,7 +105,10 @@ fn lay_worker(worked: Worked, into: &mut FromWorkers) -> Fate
 
 /// Takes apart what the producers left; `into` is empty and has room for all. Answers the gravest fault
 /// of a producer, if one has any.
-pub fn gather_workers(mut worked: Vec<Worked>, into: &mut FromWorkers) -> Option<Fault>
+pub fn gather_workers<B: Naming>(
+    mut worked: Vec<Worked<B>>,
+    into: &mut FromWorkers<B>,
+) -> Option<Fault>
     requires room { IsRoomForWorkers (vec_len worked) into.old }
 
     // `into` has the producers' parts in their order, and the gravest fault is answered, if one had any.
@@ -120,7 +125,7 @@ pub fn gather_workers(mut worked: Vec<Worked>, into: &mut FromWorkers) -> Option
 }
 
 // Lays a consumer's parts behind those of the consumers before it, and answers its fault.
-fn lay_consumer(consumed: Consumed, into: &mut FromConsumers) -> Option<Fault>
+fn lay_consumer<B: Naming>(consumed: Consumed<B>, into: &mut FromConsumers<B>) -> Option<Fault>
     requires permits { vec_len into.old.permits < vec_capacity into.old.permits }
     requires hands { vec_len into.old.hands < vec_capacity into.old.hands }
     requires taken { vec_len into.old.taken < vec_capacity into.old.taken }
@@ -150,7 +155,10 @@ fn lay_consumer(consumed: Consumed, into: &mut FromConsumers) -> Option<Fault>
 
 /// Takes apart what the consumers left; `into` is empty and has room for all. Answers the gravest fault
 /// of a consumer, if one has any.
-pub fn gather_consumers(mut consumed: Vec<Consumed>, into: &mut FromConsumers) -> Option<Fault>
+pub fn gather_consumers<B: Naming>(
+    mut consumed: Vec<Consumed<B>>,
+    into: &mut FromConsumers<B>,
+) -> Option<Fault>
     requires room { IsRoomForConsumers (vec_len consumed) into.old }
 
     // `into` has the consumers' parts in their order, and the gravest fault is answered, if one had any.

@@ -2,28 +2,28 @@
 
 ghost use Rattle.std.specs.Prelude.{◌≡◌};
 
-use delivery_token::{Job, Noted};
 use envelope::Directory;
 use house_floor::Floor;
+use house_history::{Answer, Letter, Naming};
 use lane_work::{Depot, Office};
-use mailbox::Mailbox;
+use locked_mailbox::LockedMailbox;
 use shard_queue::{ReplyChannel, ShardQueue};
 use std::sync::Mutex;
 
 /// What is left of a house's floor when nothing runs there any more.
-pub struct Remains {
+pub struct Remains<B: Naming> {
     /// Which mailbox a path names, and which shard keeps it.
     pub directory: Directory,
     /// The lane of each shard.
-    pub lanes: Vec<ShardQueue<Job>>,
+    pub lanes: Vec<ShardQueue<Letter<B>>>,
     /// The reply channel of each producer.
-    pub channels: Vec<ReplyChannel<Noted>>,
+    pub channels: Vec<ReplyChannel<Answer<B>>>,
     /// The mailboxes, by their numbers.
-    pub mailboxes: Vec<Mutex<Mailbox>>,
+    pub mailboxes: Vec<Mutex<LockedMailbox<B>>>,
 }
 
 /// Takes a floor apart; bells and names are let go.
-pub fn remains_of(floor: Floor) -> Remains
+pub fn remains_of<B: Naming>(floor: Floor<B>) -> Remains<B>
     ensures directory { result.directory ≡ floor.office.directory }
     ensures lanes { result.lanes ≡ floor.office.lanes }
     ensures channels { result.channels ≡ floor.depot.channels }
@@ -47,6 +47,7 @@ pub fn remains_of(floor: Floor) -> Remains
         mailboxes,
         channels,
         sessions: _,
+        front: _,
     } = depot;
     Remains {
         directory,

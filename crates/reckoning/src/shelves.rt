@@ -5,7 +5,9 @@ ghost use Rattle.std.specs.Prelude.{◌≡◌, ◌+◌, All, IfOk, OnOk, vec_len
 ghost use Rattle.reckoning.specs.Shelves.{AreNumbered, AreToldOnce};
 
 use delivery_token::{CopyKey, Text};
-use mailbox::{Mailbox, every_mailbox_keeps};
+use house_history::Naming;
+use locked_mailbox::LockedMailbox;
+use mailbox::every_mailbox_keeps;
 use std::alloc::{AllocError, Global};
 use std::sync::Mutex;
 
@@ -19,7 +21,11 @@ pub struct Shelves {
 }
 
 // Puts what one mailbox accepted and what is there behind those of the mailboxes before it.
-fn add_to(alloc: Global, behind: Mutex<Mailbox>, shelves: &mut Shelves) -> Result<(), AllocError>
+fn add_to<B: Naming>(
+    alloc: Global,
+    behind: Mutex<LockedMailbox<B>>,
+    shelves: &mut Shelves,
+) -> Result<(), AllocError>
     requires numbered { All (λ v. AreNumbered v.items) shelves.old.accepted.items }
     requires once { All (λ v. AreToldOnce v.items) shelves.old.texts.items }
     ensures counts { OnOk result ((vec_len shelves.new.accepted
@@ -28,7 +34,7 @@ fn add_to(alloc: Global, behind: Mutex<Mailbox>, shelves: &mut Shelves) -> Resul
     ensures numbered { OnOk result (All (λ v. AreNumbered v.items) shelves.new.accepted.items) }
     ensures once { OnOk result (All (λ v. AreToldOnce v.items) shelves.new.texts.items) }
 {
-    let mailbox = behind.into_inner();
+    let mailbox = behind.into_inner().into_mailbox();
     every_mailbox_keeps(&mailbox);
     let kept = Vec::from_slice(alloc, mailbox.accepted())?;
     shelves.accepted.push(kept)?;
@@ -38,7 +44,10 @@ fn add_to(alloc: Global, behind: Mutex<Mailbox>, shelves: &mut Shelves) -> Resul
 }
 
 /// What each mailbox accepted, and what is there. The only error is that memory is refused.
-pub fn take_out(alloc: Global, mailboxes: Vec<Mutex<Mailbox>>) -> Result<Shelves, AllocError>
+pub fn take_out<B: Naming>(
+    alloc: Global,
+    mailboxes: Vec<Mutex<LockedMailbox<B>>>,
+) -> Result<Shelves, AllocError>
     // There is a list of each for each mailbox.
     ensures counts { IfOk result (λ s. (vec_len s.accepted ≡ vec_len mailboxes)
         × (vec_len s.texts ≡ vec_len mailboxes)) }

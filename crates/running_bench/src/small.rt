@@ -1,16 +1,18 @@
 //! A small plan, run, and its report printed: two workers bring a message each to users in two shards, and a session of one of them
 //! comes and goes. No time is taken here.
 
-ghost use Rattle.std.specs.Prelude.{◌<◌, IfOk, length};
+ghost use Rattle.std.specs.Prelude.{◌≡◌, ◌<◌, IfOk, length};
 ghost use Rattle.settings.specs.Settings.{IsInRange};
 
 use crate::threads::Open;
 use delivery_token::{CopyKey, Text};
 use house_floor::Guest;
+use house_history::{Naming, Opened};
 use running_house::{Plan, Report, run_house};
 use settings::{Config, Step};
 use std::alloc::{AllocError, Global};
 use std::io::{self, Error, ErrorKind};
+use std::marker::Brand;
 use std::sync::Wait;
 use std::thread::Threads;
 
@@ -64,7 +66,7 @@ pub fn small_plan(alloc: Global) -> Result<Plan, AllocError>
 }
 
 // What each worker's connections were replied.
-fn print_workers<T: AllocGlobal + Print>(rt: &T, report: &Report) -> io::Result<()> {
+fn print_workers<B: Naming, T: AllocGlobal + Print>(rt: &T, report: &Report<B>) -> io::Result<()> {
     for worker in 0..report.replies.len() {
         for reply in &report.replies[worker] {
             println!(rt; "worker {worker}: {} bytes of replies", reply.len())?;
@@ -106,7 +108,10 @@ fn print_texts<T: AllocGlobal + Print>(
 }
 
 // The mailboxes, one after another.
-fn print_mailboxes<T: AllocGlobal + Print>(rt: &T, report: &Report) -> io::Result<()> {
+fn print_mailboxes<B: Naming, T: AllocGlobal + Print>(
+    rt: &T,
+    report: &Report<B>,
+) -> io::Result<()> {
     for mailbox in 0..report.accepted.len() {
         print_accepted(rt, mailbox, report.accepted[mailbox].as_slice())?;
     }
@@ -117,7 +122,7 @@ fn print_mailboxes<T: AllocGlobal + Print>(rt: &T, report: &Report) -> io::Resul
 }
 
 // The whole report.
-fn print_report<T: AllocGlobal + Print>(rt: &T, report: &Report) -> io::Result<()> {
+fn print_report<B: Naming, T: AllocGlobal + Print>(rt: &T, report: &Report<B>) -> io::Result<()> {
     print_workers(rt, report)?;
     print_mailboxes(rt, report)?;
     for session in 0..report.sessions.len() {
@@ -133,6 +138,25 @@ fn print_report<T: AllocGlobal + Print>(rt: &T, report: &Report) -> io::Result<(
     )
 }
 
+// Runs a plan in a house whose history was just opened, and prints its report.
+fn run_named<B: Naming + Send + Sync, T: AllocGlobal + Print + Eprint + Threads + Wait + Sync>(
+    rt: &T,
+    history: Opened,
+    plan: &Plan,
+) -> io::Result<()>
+    requires history { history ≡ B.book }
+    requires range { IsInRange plan.now.config }
+    requires some { 0 < length plan.now.workers.items }
+{
+    match run_house::<B, T, Open>(rt, rt.alloc(), history, plan, &Open {}) {
+        Ok(report) => print_report(rt, &report),
+        Err(fault) => {
+            eprintln!(rt; "no report: {fault}")?;
+            Err(Error::from(ErrorKind::Other))
+        }
+    }
+}
+
 /// Runs a plan, and prints its report.
 ///
 /// Errors: `Other` where the run has no report, which is then said on standard error; else those of printing.
@@ -143,11 +167,5 @@ pub fn run_and_print<T: AllocGlobal + Print + Eprint + Threads + Wait + Sync>(
     requires range { IsInRange plan.now.config }
     requires some { 0 < length plan.now.workers.items }
 {
-    match run_house(rt, rt.alloc(), plan, &Open {}) {
-        Ok(report) => print_report(rt, &report),
-        Err(fault) => {
-            eprintln!(rt; "no report: {fault}")?;
-            Err(Error::from(ErrorKind::Other))
-        }
-    }
+    run_named::<Brand, T>(rt, Opened::new(), plan)
 }

@@ -1,12 +1,14 @@
 //! The mail in the running house: each worker has its part of it, in connections one after another.
 
-ghost use Rattle.std.specs.Prelude.{◌<◌, IfOk, length};
+ghost use Rattle.std.specs.Prelude.{◌≡◌, ◌<◌, IfOk, length};
 ghost use Rattle.settings.specs.Settings.{IsFrom, IsInRange};
 
 use crate::mail::{config_of, opening, push_message};
+use house_history::{Naming, Opened};
 use running_house::{Plan, Report, WorkFault, run_house};
 use std::alloc::{AllocError, Global};
 use std::io::{self, Error, ErrorKind};
+use std::marker::Brand;
 use std::sync::Wait;
 use std::thread::Threads;
 use workers_sync::{Actor, Gate};
@@ -82,10 +84,28 @@ fn count_in<T>(lists: &[Vec<T>]) -> usize {
 }
 
 // How many copies were accepted, and how many texts stand, in all mailboxes.
-fn found_in(report: &Report) -> Found {
+fn found_in<B: Naming>(report: &Report<B>) -> Found {
     Found {
         accepted: count_in(&report.accepted),
         texts: count_in(&report.texts),
+    }
+}
+
+// What such a plan comes to, in a house whose history was just opened.
+fn delivered<B: Naming + Send + Sync, R: Threads + Wait + Sync>(
+    rt: &R,
+    alloc: Global,
+    history: Opened,
+    plan: &Plan,
+) -> io::Result<Found>
+    requires history { history ≡ B.book }
+    requires range { IsInRange plan.now.config }
+    requires some { 0 < length plan.now.workers.items }
+{
+    match run_house::<B, R, Open>(rt, alloc, history, plan, &Open {}) {
+        Ok(report) => Ok(found_in(&report)),
+        Err(WorkFault::NoMemory) => Err(Error::from(ErrorKind::OutOfMemory)),
+        Err(_) => Err(Error::from(ErrorKind::Other)),
     }
 }
 
@@ -100,9 +120,5 @@ pub fn deliver_by_threads<R: Threads + Wait + Sync>(
     requires range { IsInRange plan.now.config }
     requires some { 0 < length plan.now.workers.items }
 {
-    match run_house(rt, alloc, plan, &Open {}) {
-        Ok(report) => Ok(found_in(&report)),
-        Err(WorkFault::NoMemory) => Err(Error::from(ErrorKind::OutOfMemory)),
-        Err(_) => Err(Error::from(ErrorKind::Other)),
-    }
+    delivered::<Brand, R>(rt, alloc, Opened::new(), plan)
 }

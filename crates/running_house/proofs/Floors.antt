@@ -31,7 +31,7 @@ same_rooms depth producers (q ∷ qs) all =
     ap₂ (λ (room : Room) (rooms : List Room). room ∷ rooms)
     (ap (λ n. let r : Room = record { producers = n; capacity = capacity_of q } in r) here.1 ∙ ap (λ n. let r : Room = record { producers = producers; capacity = n } in r) here.0) rest
 
-pub floor_for : (plan : Plan) (directory : Directory) (sizes : Sizes) (floor : Floor) → directory ≡ directory_for plan.config → AreSizesFor plan sizes → IsFloor directory sizes floor → IsFloorFor plan floor
+pub floor_for : {B : Type 0} (plan : Plan) (directory : Directory) (sizes : Sizes) (floor : Floor B) → directory ≡ directory_for plan.config → AreSizesFor plan sizes → IsFloor directory sizes floor → IsFloorFor plan floor
 floor_for plan directory sizes floor same are is =
     let as_large = All-weaker (λ (q : ShardQueue Job). (capacity_of q ≡ sizes.depth) × (producers_of q ≡ sizes.producers)) (λ q. (capacity_of q ≡ plan.config.depth) × (producers_of q ≡ producers_in plan))
     (λ q h. (h.0 ∙ are.depth, h.1 ∙ are.producers)) floor.office.lanes.items is.lanes in
@@ -57,5 +57,5 @@ floor_for plan directory sizes floor same are is =
     }
 
 -- it has as many producers as there are of these
-pub house_of : (plan : Plan) (floor : Floor) → IsFloorFor plan floor → (plans : Plans) (guests : List Guest) → plans ≡ plan.workers.items → guests ≡ plan.sessions.items → IsHouse floor (length plans + length guests)
+pub house_of : {B : Type 0} (plan : Plan) (floor : Floor B) → IsFloorFor plan floor → (plans : Plans) (guests : List Guest) → plans ≡ plan.workers.items → guests ≡ plan.sessions.items → IsHouse floor (length plans + length guests)
 house_of plan floor is plans guests same as_well = subst (λ n. IsHouse floor (n + length guests)) (sym (ap length same)) (subst (λ n. IsHouse floor (length plan.workers.items + n)) (sym (ap length as_well)) is.house)

@@ -41,7 +41,7 @@ use Rattle.running_house.specs.inner.Agree.{AreTexts, IsFloorFor, IsNumbered}
 use Rattle.running_house.specs.Plan.{connections_of, premises_for, producers_in}
 use Rattle.running_house.specs.Refusals.{MayCome}
 use Rattle.running_house.specs.declared.plan.Plan.{Plan}
-use Rattle.running_house.specs.declared.plan.Report.{Report}
+use Rattle.running_house.specs.Report.{Report}
 use Rattle.running_house.proofs.Ordered.{in_lane_order, numbered_from, told_once}
 use Rattle.running_house.proofs.Moves.{behind, below, first_at, get_mapped, map_twice, mapped_take, moved, text_at}
 
@@ -60,35 +60,35 @@ all_noted {A} notes P [] p all = All-nil P
 all_noted {A} notes P (log ∷ logs) zero all = All-head (λ (l : A). All P (notes l)) log logs all
 all_noted {A} notes P (log ∷ logs) (suc p) all = all_noted notes P logs p (All-tail (λ (l : A). All P (notes l)) log logs all)
 
-module _ (plan : Plan) (floor : Floor) (is : IsFloorFor plan floor) (ws : List Worked) (cs : List Consumed)
+module _ {B : Type 0} (plan : Plan) (floor : Floor B) (is : IsFloorFor plan floor) (ws : List (Worked B)) (cs : List (Consumed B))
     (worked : AllAt (IsProduceOf floor plan.workers.items plan.sessions.items) 0 ws) (services : AllAt (IsServiceOf floor) 0 cs)
     (producers : length ws ≡ producers_in plan) (shards : length cs ≡ length floor.office.lanes.items)
-    (books : Books) (balanced : IsBalanced floor.office.lanes.items floor.depot.channels.items ws cs books)
-    (r : Report) (replies_are : r.replies.items ≡ take (length plan.workers.items) books.replies.items) (logs_are : r.logs ≡ books.logs) (closed_is : r.closed ≡ books.closed)
+    (books : Books B) (balanced : IsBalanced floor.office.lanes.items floor.depot.channels.items ws cs books)
+    (r : Report) (replies_are : r.replies.items ≡ take (length plan.workers.items) books.replies.items) (logs_are : r.logs ≡ books.logs) (lanes_are : r.closed.lanes ≡ books.closed.lanes) (channels_are : r.closed.channels ≡ books.closed.channels)
     (texts : AreTexts (drop (length plan.workers.items) books.replies.items) r.sessions.items) (count : length r.sessions.items ≡ length plan.sessions.items) where
   pub connections_count : length (connections_of plan) ≡ length plan.workers.items
   connections_count = length-map plan.workers.items (λ w. map (λ b. b.items) w.items)
 
   abbrev all_replies : List (List (List ℕ))
-  all_replies = map (λ (w : Worked). map (λ b. b.items) w.replies.items) ws
+  all_replies = map (λ (w : Worked B). map (λ b. b.items) w.replies.items) ws
 
   replies_laid : map (λ (w : Vec (Vec ℕ Global) Global). map (λ b. b.items) w.items) books.replies.items ≡ all_replies
   replies_laid = ap (λ vs. map (λ (w : Vec (Vec ℕ Global) Global). map (λ b. b.items) w.items) vs) balanced.replies
-      ∙ map_twice (λ (w : Vec (Vec ℕ Global) Global). map (λ b. b.items) w.items) (λ (w : Worked). w.replies) ws
+      ∙ map_twice (λ (w : Vec (Vec ℕ Global) Global). map (λ b. b.items) w.items) (λ (w : Worked B). w.replies) ws
 
   pub replies_same : report.replies_of r ≡ take (length plan.workers.items) all_replies
   replies_same = ap (λ vs. map (λ (w : Vec (Vec ℕ Global) Global). map (λ b. b.items) w.items) vs) replies_are
       ∙ mapped_take (λ (w : Vec (Vec ℕ Global) Global). map (λ b. b.items) w.items) (length plan.workers.items) books.replies.items
       ∙ ap (λ vs. take (length plan.workers.items) vs) replies_laid
 
-  pub notes_same : map (λ (w : Worked). w.log.notes) ws ≡ report.notes_of r
-  notes_same = sym (ap (λ v. map (λ l. l.notes) v.items) logs_are ∙ ap (λ ls. map (λ l. l.notes) ls) balanced.logs ∙ map_twice (λ l. l.notes) (λ (w : Worked). w.log) ws)
+  pub notes_same : map (λ (w : Worked B). w.log.notes) ws ≡ report.notes_of r
+  notes_same = sym (ap (λ v. map (λ l. l.notes) v.items) logs_are ∙ ap (λ ls. map (λ l. l.notes) ls) balanced.logs ∙ map_twice (λ l. l.notes) (λ (w : Worked B). w.log) ws)
 
   pub answers_same : map reply_history books.closed.channels.items ≡ report.answers r
-  answers_same = sym (ap (λ c. map reply_history c.channels.items) closed_is)
+  answers_same = sym (ap (λ c. map reply_history c.items) channels_are)
 
   pub histories_same : map history books.closed.lanes.items ≡ report.histories r
-  histories_same = sym (ap (λ c. map history c.lanes.items) closed_is)
+  histories_same = sym (ap (λ c. map history c.items) lanes_are)
 
   pub accounts : (p : ℕ) → p < length (connections_of plan)
       → Account (premises_for plan) p (slice_index_or (connections_of plan) p []) (slice_index_or (report.replies_of r) p []) (slice_index_or (report.notes_of r) p [])
@@ -107,14 +107,14 @@ module _ (plan : Plan) (floor : Floor) (is : IsFloorFor plan floor) (ws : List W
       (slice_index_or (report.notes_of r) (length plan.workers.items + n) []) (slice_index_or (report.answers r) (length plan.workers.items + n) []) (map (of (length plan.workers.items + n)) (report.histories r))
   sessions n guest at =
       let p = length plan.workers.items + n in
-      let notes = slice_index_or (map (λ (w : Worked). w.log.notes) ws) p [] in
+      let notes = slice_index_or (map (λ (w : Worked B). w.log.notes) ws) p [] in
       let heard = slice_index_or (map reply_history books.closed.channels.items) p [] in
       let taken = map (of p) (map history books.closed.lanes.items) in
       let under = below plan.sessions.items n guest at in
       let account = session_account_of floor plan.workers.items plan.sessions.items ws worked producers balanced.fates _ books.closed.lanes.items balanced.lanes_closed _ books.closed.channels.items balanced.channels_closed n guest at under in
       let w = some_at ws p (omega (arith, under, producers)) in
-      let laid = ap (λ vs. slice_get vs p) balanced.replies ∙ get_mapped (λ (v : Worked). v.replies) ws p w.0 w.1 in
-      let one = sym (mapped_at (λ (v : Worked). map (λ b. b.items) v.replies.items) ws p w.0 [] w.1) ∙ account.alone in
+      let laid = ap (λ vs. slice_get vs p) balanced.replies ∙ get_mapped (λ (v : Worked B). v.replies) ws p w.0 w.1 in
+      let one = sym (mapped_at (λ (v : Worked B). map (λ b. b.items) v.replies.items) ws p w.0 [] w.1) ∙ account.alone in
       let text = text_at (drop (length plan.workers.items) books.replies.items) r.sessions.items n w.0.replies account.text texts (behind books.replies.items (length plan.workers.items) n w.0.replies laid) one in
       let said : slice_index_or all_replies p [] ≡ slice_index_or (report.said_of r) n [] ∷ [] = account.alone ∙ ap (λ (t : List ℕ). t ∷ []) (sym text) in
       moved (λ house replies notes answers histories. SessionAccount house (length (premises_for plan).directory.homes) plan.turns p guest replies notes answers histories) p
@@ -124,19 +124,19 @@ module _ (plan : Plan) (floor : Floor) (is : IsFloorFor plan floor) (ws : List W
       (subst (λ x. SessionAccount (premises_of floor.office) x floor.turns p guest (slice_index_or all_replies p []) notes heard taken) is.mailboxes account))
 
   pub taken_same : map (λ t. t.items) books.taken.items ≡ report.histories r
-  taken_same = ap (λ vs. map (λ v. v.items) vs) balanced.taken ∙ map_twice (λ v. v.items) (λ (c : Consumed). c.taken) cs
+  taken_same = ap (λ vs. map (λ v. v.items) vs) balanced.taken ∙ map_twice (λ v. v.items) (λ (c : Consumed B). c.taken) cs
       ∙ all_taken floor cs books.closed.lanes.items _ services shards balanced.services balanced.lanes_closed ∙ histories_same
 
   pub copies_same : map (λ t. items_of t.items) books.taken.items ≡ report.copies_taken r
   copies_same = sym (map_twice items_of (λ t. t.items) books.taken.items) ∙ ap (λ hs. map items_of hs) taken_same
 
   pub seats_are : map (λ l. l.seat) r.logs.items ≡ numbers 0 (producers_in plan)
-  seats_are = ap (λ v. map (λ l. l.seat) v.items) logs_are ∙ ap (λ ls. map (λ l. l.seat) ls) balanced.logs ∙ map_twice (λ l. l.seat) (λ (w : Worked). w.log) ws
+  seats_are = ap (λ v. map (λ l. l.seat) v.items) logs_are ∙ ap (λ ls. map (λ l. l.seat) ls) balanced.logs ∙ map_twice (λ l. l.seat) (λ (w : Worked B). w.log) ws
       ∙ seats_of floor plan.workers.items plan.sessions.items 0 ws worked ∙ ap (λ n. numbers 0 n) producers
 
   replies_count : length (report.replies_of r) ≡ length (connections_of plan)
   replies_count =
-      let l = length-map ws (λ (w : Worked). map (λ b. b.items) w.replies.items) in
+      let l = length-map ws (λ (w : Worked B). map (λ b. b.items) w.replies.items) in
       ap length replies_same ∙ length-take-le (length plan.workers.items) all_replies (omega (arith, l, producers)) ∙ sym connections_count
 
   shards_are : plan.config.shards ≡ length floor.office.lanes.items
@@ -170,7 +170,7 @@ module _ (plan : Plan) (floor : Floor) (is : IsFloorFor plan floor) (ws : List W
       (in_lane_order m (slice_index_or (report.texts_of r) m []) (slice_index_or (report.accepted_of r) m []) (slice_index_or (map (λ t. items_of t.items) books.taken.items) (shard_of (premises_for plan).directory m) []) here.met)
 
   logs_count : length r.logs.items ≡ producers_in plan
-  logs_count = ap (λ v. length v.items) logs_are ∙ ap length balanced.logs ∙ length-map ws (λ (w : Worked). w.log) ∙ producers
+  logs_count = ap (λ v. length v.items) logs_are ∙ ap length balanced.logs ∙ length-map ws (λ (w : Worked B). w.log) ∙ producers
 
   pub refusals : All (λ log. All (MayCome plan.config floor.office.directory (report.accepted_of r) (map (λ t. t.items) books.taken.items)) log.notes) r.logs.items
       → (p : ℕ) → p < producers_in plan
@@ -202,9 +202,9 @@ module _ (plan : Plan) (floor : Floor) (is : IsFloorFor plan floor) (ws : List W
     replies = replies_count;
     said = count;
     shards = sym (ap length histories_same) ∙ length-map books.closed.lanes.items history ∙ lanes.closed_length balanced.lanes_closed.2 ∙ sym is.house.shards ∙ ap (λ h. h.directory.shards) is.premises;
-    lanes = subst (λ c. All (λ d. IsEmptied (producers_in plan) (history d)) c.lanes.items) (sym closed_is)
+    lanes = subst (λ c. All (λ d. IsEmptied (producers_in plan) (history d)) c.items) (sym lanes_are)
         (all_emptied history (producers_in plan) plan.config.depth books.closed.lanes.items (lanes.all_whole balanced.lanes_closed.2 (producers_in plan) plan.config.depth is.lanes));
-    producers = ap (λ c. length c.channels.items) closed_is ∙ channels.closed_length balanced.channels_closed.2 ∙ is.house.channels;
-    channels = subst (λ c. All (λ d. IsEmptied plan.config.shards (reply_history d)) c.channels.items) (sym closed_is)
+    producers = ap (λ c. length c.items) channels_are ∙ channels.closed_length balanced.channels_closed.2 ∙ is.house.channels;
+    channels = subst (λ c. All (λ d. IsEmptied plan.config.shards (reply_history d)) c.items) (sym channels_are)
         (all_emptied reply_history plan.config.shards reply_room books.closed.channels.items (channels.all_whole balanced.channels_closed.2 plan.config.shards reply_room is.channels));
   }

@@ -27,7 +27,7 @@ use Rattle.running_house.specs.Agree.{Agrees, accepted_of, answers, histories, n
 use Rattle.running_house.specs.Plan.{connections_of, premises_for, producers_in}
 use Rattle.running_house.specs.Tells.{AccountOf, IsStored}
 use Rattle.running_house.specs.declared.plan.Plan.{Plan}
-use Rattle.running_house.specs.declared.plan.Report.{Report}
+use Rattle.running_house.specs.Report.{Report}
 
 -- ---- lists
 

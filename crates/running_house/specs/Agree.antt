@@ -23,7 +23,7 @@ use Rattle.running_house.specs.Order.{AreInLaneOrder}
 use Rattle.running_house.specs.Plan.{connections_of, premises_for, producers_in}
 use Rattle.running_house.specs.Refusals.{MayCome}
 use Rattle.running_house.specs.declared.plan.Plan.{Plan}
-use Rattle.running_house.specs.declared.plan.Report.{Report}
+use Rattle.running_house.specs.Report.{Report}
 
 -- ---- what the report holds, by numbers
 

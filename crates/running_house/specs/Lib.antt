@@ -7,6 +7,7 @@ pub mod Lists
 pub mod Walk
 pub mod ListOrder
 pub mod Plan
+pub mod Report
 pub mod Order
 pub mod Refusals
 pub mod Alone

@@ -10,7 +10,7 @@ use Rattle.running_house.specs.Accounting.{AccountOfLines}
 use Rattle.running_house.specs.Agree.{Agrees, accepted_of, answers, histories, notes_of, replies_of}
 use Rattle.running_house.specs.Plan.{connections_of, premises_for, producers_in}
 use Rattle.running_house.specs.declared.plan.Plan.{Plan}
-use Rattle.running_house.specs.declared.plan.Report.{Report}
+use Rattle.running_house.specs.Report.{Report}
 
 -- worker p's account: its connections by the whole lines of their whole strings, what its log has of their messages, and what was taken of it from each lane
 abbrev pub AccountOf : Plan → Report → ℕ → Type 0

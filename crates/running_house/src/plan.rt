@@ -9,10 +9,12 @@ ghost use Rattle.running_house.specs.Plan.{IsFaultOf, after_settings, are_too_ma
 use delivery_token::{CopyKey, Text, WorkerLog};
 use envelope::Directory;
 use house_floor::{Guest, MOST_PRODUCERS, is_nobody};
+use house_history::Naming;
 use lane_work::Closing;
 use reckoning::{Closes, Fault};
 use settings::{Config, ConfigFault, directory_of};
 use std::alloc::{AllocError, Global};
+use std::marker::Model;
 use thiserror::Error;
 
 /// The most workers of a running house.
@@ -38,7 +40,7 @@ pub struct Plan {
 
 /// What a run left.
 #[derive(Drop)]
-pub struct Report {
+pub struct Report<B: Naming> {
     /// For each worker, for each of its connections, what was replied.
     pub replies: Vec<Vec<Vec<u8>>>,
     /// For each worker, and behind them for each session, the verdicts on its copies, in the order in
@@ -51,7 +53,22 @@ pub struct Report {
     /// For each session, what it said.
     pub sessions: Vec<Vec<u8>>,
     /// What was taken of each queue.
-    pub closed: Closes,
+    pub closed: Closes<B>,
+}
+
+impl<B: Naming> Model for Report<B> {
+    ghost use Rattle.running_house.specs.Report.{Report};
+
+    ghost Value = { Report };
+
+    ghost view = { λ r. record {
+      replies = r.replies;
+      logs = r.logs;
+      accepted = r.accepted;
+      texts = r.texts;
+      sessions = r.sessions;
+      closed = record { lanes = r.closed.lanes; channels = r.closed.channels };
+    } };
 }
 
 /// Why there is no report. Of several causes the first in this order is told, but that want of memory may be told in place of any.

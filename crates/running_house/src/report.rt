@@ -22,7 +22,8 @@ use crate::plan::{Plan, Report, WorkFault};
 use crate::refusals::{Evidence, all_may_come};
 use envelope::Directory;
 use house_floor::{Baskets, Floor, Ran};
-use mailbox::Mailbox;
+use house_history::Naming;
+use locked_mailbox::LockedMailbox;
 use reckoning::{Books, Fault, Remains, Shelves, balance, remains_of, take_out};
 use settings::Config;
 use std::alloc::{AllocError, Global};
@@ -60,15 +61,15 @@ fn part_sessions(
 }
 
 // Compares what the threads said with what the mailboxes hold, and puts the report together.
-fn compare(
+fn compare<B: Naming>(
     alloc: Global,
     directory: &Directory,
     whole: bool,
     config: &Config,
-    books: Books,
+    books: Books<B>,
     shelves: Shelves,
     sessions: Vec<Vec<u8>>,
-) -> Result<Report, WorkFault>
+) -> Result<Report<B>, WorkFault>
     requires shards { directory.now.shards ≤ vec_len books.taken }
     requires numbered { All (λ v. AreNumbered v.items) shelves.accepted.items }
     requires once { All (λ v. AreToldOnce v.items) shelves.texts.items }
@@ -85,7 +86,8 @@ fn compare(
         All (λ log. All (MayCome config.now directory.now (accepted_of r)
         (map (λ t. t.items) books.taken.items)) log.notes) r.logs.items) }
     ensures same { IfOk result (λ r. (r.replies ≡ books.replies) × (r.logs ≡ books.logs)
-        × (r.sessions ≡ sessions) × (r.closed ≡ books.closed)) }
+        × (r.sessions ≡ sessions) × (r.closed.lanes ≡ books.closed.lanes)
+        × (r.closed.channels ≡ books.closed.channels)) }
     ensures fault { IfErr result (λ fault. (fault ≡ WorkFault.NoMemory)
         ⊎ (fault ≡ WorkFault.Torn)) }
 {
@@ -132,13 +134,13 @@ fn compare(
 }
 
 // The report of what the books say and the mailboxes hold.
-fn report_on(
+fn report_on<B: Naming>(
     alloc: Global,
     plan: &Plan,
     directory: &Directory,
-    mailboxes: Vec<Mutex<Mailbox>>,
-    mut books: Books,
-) -> Result<Report, WorkFault>
+    mailboxes: Vec<Mutex<LockedMailbox<B>>>,
+    mut books: Books<B>,
+) -> Result<Report<B>, WorkFault>
     requires shards { directory.now.shards ≤ vec_len books.taken }
     requires workers { length plan.now.workers.items ≤ vec_len books.replies }
     ensures lists { IfOk result (λ r.
@@ -154,7 +156,7 @@ fn report_on(
     ensures parts { IfOk result (λ r.
         (r.replies.items ≡ take (length plan.now.workers.items) books.replies.items)
         × (r.logs ≡ books.logs) ×
-        (r.closed ≡ books.closed)
+        (r.closed.lanes ≡ books.closed.lanes) × (r.closed.channels ≡ books.closed.channels)
         × AreTexts (drop (length plan.now.workers.items) books.replies.items) r.sessions.items ×
         (length plan.now.workers.items + vec_len r.sessions ≡ vec_len books.replies)) }
     ensures fault { IfErr result (λ fault. (known : Fault) × (fault ≡ of_reckoning known)) }
@@ -176,13 +178,13 @@ fn report_on(
 ///
 /// Errors: `NoMemory` where an actor wanted memory, or where it is refused here; `Torn`
 /// where what they left doesn't agree.
-pub(crate) fn report_of(
+pub(crate) fn report_of<B: Naming>(
     alloc: Global,
     plan: &Plan,
-    floor: Floor,
-    ran: Ran,
-    baskets: Baskets,
-) -> Result<Report, WorkFault>
+    floor: Floor<B>,
+    ran: Ran<B>,
+    baskets: Baskets<B>,
+) -> Result<Report<B>, WorkFault>
     requires floor { IsFloorFor plan.now floor }
     requires consumed { AllAt (IsServiceOf floor) 0 ran.consumed.items }
     requires worked { AllAt (IsProduceOf floor plan.now.workers.items plan.now.sessions.items) 0

@@ -9,6 +9,7 @@ ghost use Rattle.running_house.specs.Plan.{IsFault, most_producers, plan_fault, 
 use crate::plan::{Plan, Report, WorkFault, directory_for};
 use crate::report::report_of;
 use house_floor::{Opened, Sizes, Started, open};
+use house_history::Naming;
 use house_threads::run_threads;
 use mailbox::{History, Limits};
 use reckoning::abandon;
@@ -42,7 +43,7 @@ fn sizes_of(plan: &Plan) -> Sizes<'_>
     }
 }
 
-/// Runs a plan in a house of its own, with a thread for each shard's consumer, each worker and each
+/// Runs a plan in a house of its own, whose history was just opened, with a thread for each shard's consumer, each worker and each
 /// session, in this order, and joins them all. Each actor asks the gate before each of its events.
 /// A worker that closes a shard takes no more mail for its mailboxes, and says so; the others go on.
 /// The shard's consumer has ended when each producer has closed it or come to its end.
@@ -57,12 +58,16 @@ fn sizes_of(plan: &Plan) -> Sizes<'_>
 /// where a thread can't be made: no actor behind it begins. `NoMemory` where memory is refused, to an
 /// actor too: it stops, and the others go on. `Torn` where a worker heard a verdict that it didn't
 /// await, or a session did, an end is missing, or what the threads left doesn't agree.
-pub fn run_house<R: Threads + Wait + Sync, G: Gate + Sync>(
+pub fn run_house<B: Naming + Send + Sync, R: Threads + Wait + Sync, G: Gate + Sync>(
     rt: &R,
     alloc: Global,
+    history: house_history::Opened,
     plan: &Plan,
     gate: &G,
-) -> Result<Report, WorkFault>
+) -> Result<Report<B>, WorkFault>
+    // The history is the one that goes by this name.
+    requires history { history ≡ B.book }
+
     // The settings are within their ranges, and there is a worker.
     requires range { IsInRange plan.now.config }
     requires some { 0 < length plan.now.workers.items }
@@ -81,7 +86,7 @@ pub fn run_house<R: Threads + Wait + Sync, G: Gate + Sync>(
         crew,
         baskets,
         sleepers: _,
-    } = open(alloc, directory, sizes, plan.sessions.as_slice())?;
+    } = open(alloc, history, directory, sizes, plan.sessions.as_slice())?;
     let (workers, sessions) = (plan.workers.as_slice(), plan.sessions.as_slice());
     let ran = run_threads(rt, &floor, gate, workers, sessions, crew);
     match ran.started {

@@ -67,22 +67,22 @@ pub all_take : {A : Type 0} (f : A → Bool) (xs : List A) → All (λ x. f x �
 all_take {A} f [] all = All-nil (λ (mark : Bool). mark ≡ false)
 all_take {A} f (x ∷ xs) all = (All-head (λ (y : A). f y ≡ true) x xs all, all_take f xs (All-tail (λ (y : A). f y ≡ true) x xs all))
 
-takes_mail : (workers n : ℕ) (served : List Served) (s : Served) → FirstTakeMail workers (map (λ s. s.mail) served) → n < workers → slice_get served n ≡ Some s → s.mail ≡ true
+takes_mail : {B : Type 0} (workers n : ℕ) (served : List (Served B)) (s : Served B) → FirstTakeMail workers (map (λ s. s.mail) served) → n < workers → slice_get served n ≡ Some s → s.mail ≡ true
 takes_mail zero n served s first under at = absurd (omega (arith, under))
 takes_mail (suc workers) n [] s first under at = absurd first
-takes_mail (suc workers) zero (x ∷ served) s first under at = (let same : x ≡ s = cc in ap (λ (y : Served). y.mail) (sym same) ∙ first.0)
+takes_mail (suc workers) zero (x ∷ served) s first under at = (let same : x ≡ s = cc in ap (λ (y : Served _). y.mail) (sym same) ∙ first.0)
 takes_mail (suc workers) (suc n) (x ∷ served) s first under at = takes_mail workers n served s first.1 (omega (arith, under)) at
 
-takes_none : (workers n : ℕ) (served : List Served) (s : Served) → FirstTakeMail workers (map (λ s. s.mail) served) → workers ≤ n → slice_get served n ≡ Some s → s.mail ≡ false
+takes_none : {B : Type 0} (workers n : ℕ) (served : List (Served B)) (s : Served B) → FirstTakeMail workers (map (λ s. s.mail) served) → workers ≤ n → slice_get served n ≡ Some s → s.mail ≡ false
 takes_none zero n [] s first past at = absurd (cc)
 takes_none zero zero (x ∷ served) s first past at =
-    (let same : x ≡ s = cc in ap (λ (y : Served). y.mail) (sym same) ∙ All-head (λ (m : Bool). m ≡ false) x.mail (map (λ s. s.mail) served) first)
+    (let same : x ≡ s = cc in ap (λ (y : Served _). y.mail) (sym same) ∙ All-head (λ (m : Bool). m ≡ false) x.mail (map (λ s. s.mail) served) first)
 takes_none zero (suc n) (x ∷ served) s first past at = takes_none zero n served s (All-tail (λ (m : Bool). m ≡ false) x.mail (map (λ s. s.mail) served) first) (omega arith) at
 takes_none (suc workers) n [] s first past at = absurd first
 takes_none (suc workers) zero (x ∷ served) s first past at = absurd (omega (arith, past))
 takes_none (suc workers) (suc n) (x ∷ served) s first past at = takes_none workers n served s first.1 (omega (arith, past)) at
 
-there : (workers n : ℕ) (served : List Served) → FirstTakeMail workers (map (λ s. s.mail) served) → n < workers → n < length served
+there : {B : Type 0} (workers n : ℕ) (served : List (Served B)) → FirstTakeMail workers (map (λ s. s.mail) served) → n < workers → n < length served
 there zero n served first under = absurd (omega (arith, under))
 there (suc workers) n [] first under = absurd first
 there (suc workers) zero (x ∷ served) first under = omega arith
@@ -90,7 +90,7 @@ there (suc workers) (suc n) (x ∷ served) first under = (let h = there workers 
 
 -- ---- at a position
 
-untorn : (served : List Served) (n : ℕ) (s : Served) → list_any (λ s. s.torn) served ≡ false → slice_get served n ≡ Some s → s.torn ≡ false
+untorn : {B : Type 0} (served : List (Served B)) (n : ℕ) (s : Served B) → list_any (λ s. s.torn) served ≡ false → slice_get served n ≡ Some s → s.torn ≡ false
 untorn [] n s none at = absurd (cc)
 untorn (x ∷ served) n s none at = by_case x.torn refl none (λ rest k there. untorn served k s rest there) n at where
   both : (b others : Bool) → (b || others) ≡ false → (b ≡ false) × (others ≡ false)
@@ -99,14 +99,14 @@ untorn (x ∷ served) n s none at = by_case x.torn refl none (λ rest k there. u
 
   by_case : (b : Bool) → x.torn ≡ b → (b || list_any (λ s. s.torn) served) ≡ false → (list_any (λ s. s.torn) served ≡ false → (k : ℕ) → slice_get served k ≡ Some s → s.torn ≡ false)
       → (n : ℕ) → slice_get (x ∷ served) n ≡ Some s → s.torn ≡ false
-  by_case b is none others zero at = (let same : x ≡ s = cc in ap (λ (y : Served). y.torn) (sym same) ∙ is ∙ (both b (list_any (λ s. s.torn) served) none).0)
+  by_case b is none others zero at = (let same : x ≡ s = cc in ap (λ (y : Served _). y.torn) (sym same) ∙ is ∙ (both b (list_any (λ s. s.torn) served) none).0)
   by_case b is none others (suc n) at = others (both b (list_any (λ s. s.torn) served) none).1 n at
 
-heard_at : (served : List Served) (all : List (List (Entry Noted))) (n : ℕ) (s : Served) → GoOn (map (λ s. received s.receiver) served) all → slice_get served n ≡ Some s
+heard_at : {B : Type 0} (served : List (Served B)) (all : List (List (Entry Noted))) (n : ℕ) (s : Served B) → GoOn (map (λ s. received s.receiver) served) all → slice_get served n ≡ Some s
     → IsStartOf (received s.receiver) (slice_index_or all n [])
 heard_at [] all n s go at = absurd (cc)
 heard_at (x ∷ served) [] n s go at = absurd go
-heard_at (x ∷ served) (list ∷ all) zero s go at = (let same : x ≡ s = cc in subst (λ (y : Served). IsStartOf (received y.receiver) list) same go.0)
+heard_at (x ∷ served) (list ∷ all) zero s go at = (let same : x ≡ s = cc in subst (λ (y : Served _). IsStartOf (received y.receiver) list) same go.0)
 heard_at (x ∷ served) (list ∷ all) (suc n) s go at = heard_at served all n s go.1 at
 
 -- ---- what a worker's connections came to
@@ -161,21 +161,21 @@ heard_out (channel_closings.next q row permit c is others) = (no_room _ _ (reply
 
 -- ---- all of it
 
-services_of : (floor : Floor) (n : ℕ) (cs : List Consumed) → AllAt (IsService floor.office.lanes.items floor.depot) n cs → AllAt (IsServiceOf floor) n cs
+services_of : {B : Type 0} (floor : Floor B) (n : ℕ) (cs : List (Consumed B)) → AllAt (IsService floor.office.lanes.items floor.depot) n cs → AllAt (IsServiceOf floor) n cs
 services_of floor n [] all = tt
 services_of floor n (c ∷ cs) all =
     (record { each = λ lane at. ([], All-nil (λ (e : List (Entry Noted)). e ≡ []), all.0.each lane at) }, services_of floor (suc n) cs all.1)
 
-module _ (floor : Floor) (workers : ℕ) (served : List Served) (d : Dismissed) (closes : Closes) (all : AllAt (IsServed floor) 0 served)
+module _ {B : Type 0} (floor : Floor B) (workers : ℕ) (served : List (Served B)) (d : Dismissed B) (closes : Closes B) (all : AllAt (IsServed floor) 0 served)
     (each : length served ≡ length floor.depot.channels.items) (first : FirstTakeMail workers (map (λ s. s.mail) served)) (count : length d.consumed.items ≡ length floor.office.lanes.items)
     (services : d.in_order ≡ true → AllAt (IsService floor.office.lanes.items floor.depot) 0 d.consumed.items) (was : WasClosed floor served d closes) where
   -- what producer n left, and that what it said is what was taken
-  left_by : (n : ℕ) → n < length served → (s : Served) × (slice_get served n ≡ Some s) × IsServed floor n s × (map said s.ended.items ≡ map (of n) (histories closes))
+  left_by : (n : ℕ) → n < length served → (s : Served B) × (slice_get served n ≡ Some s) × IsServed floor n s × (map said s.ended.items ≡ map (of n) (histories closes))
   left_by n under =
       let s = some_at served n under in
       let e : 0 + n ≡ n = omega arith in
       let is : IsServed floor n s.0 = subst (λ (i : ℕ). IsServed floor i s.0) e (at_position (IsServed floor) 0 n served s.0 all s.1) in
-      let within = in_at (λ (x : Served). x.ended.items) served was.lanes.0 n s.0 was.lanes.1 s.1 in
+      let within = in_at (λ (x : Served B). x.ended.items) served was.lanes.0 n s.0 was.lanes.1 s.1 in
       (s.0, s.1, is, said_is_taken floor.office.lanes.items n s.0.ended.items (histories closes) is.ended (are_heard was.lanes.2 s.0.ended.items within))
 
   clients_of : (n : ℕ) → workers ≤ n → n < length served → HasServedClients (premises_of floor.office) n (slice_index_or (answers closes) n []) (map (of n) (histories closes))

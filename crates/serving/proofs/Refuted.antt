@@ -15,7 +15,7 @@ no_lanes [] some emptied = omega (arith, some)
 no_lanes (lane ∷ lanes) some emptied = emptied
 
 -- it has lanes, and nothing was taken of any
-nothing_taken : (floor : Floor) (workers : ℕ) (closes : Closes) → 0 < length floor.office.lanes.items → closes.lanes.items ≡ [] → CameTo floor workers closes → ⊥
+nothing_taken : {B : Type 0} (floor : Floor B) (workers : ℕ) (closes : Closes B) → 0 < length floor.office.lanes.items → closes.lanes.items ≡ [] → CameTo floor workers closes → ⊥
 nothing_taken floor workers closes some none came =
     no_lanes floor.office.lanes.items some (subst (λ (cs : List (Closed Job)). WereEmptied floor.office.lanes.items cs) none came.lanes)
 
@@ -24,6 +24,6 @@ no_channels [] some heard = omega (arith, some)
 no_channels (channel ∷ channels) some heard = heard
 
 -- it has producers, and nothing came to any
-nothing_heard : (floor : Floor) (workers : ℕ) (closes : Closes) → 0 < length floor.depot.channels.items → closes.channels.items ≡ [] → CameTo floor workers closes → ⊥
+nothing_heard : {B : Type 0} (floor : Floor B) (workers : ℕ) (closes : Closes B) → 0 < length floor.depot.channels.items → closes.channels.items ≡ [] → CameTo floor workers closes → ⊥
 nothing_heard floor workers closes some none came =
     no_channels floor.depot.channels.items some (subst (λ (cs : List (ReplyClosed Noted)). WereHeardOut floor.depot.channels.items cs) none came.channels)

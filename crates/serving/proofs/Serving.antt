@@ -11,10 +11,10 @@ false_true : (b : Bool) → b ≡ false → b ≡ true → ⊥
 false_true b e f = cc
 
 -- what holds of each way in which a house may end holds of how it ended
-pub by_end : (all said : Bool) (closes : Option Closes) (r : Result Closes ServeFault) (P : Result Closes ServeFault → Type 0) → (all ≡ false → r ≡ Err faults.Spawn)
+pub by_end : {B : Type 0} (all said : Bool) (closes : Option (Closes B)) (r : Result (Closes B) ServeFault) (P : Result (Closes B) ServeFault → Type 0) → (all ≡ false → r ≡ Err faults.Spawn)
     → (all ≡ true → said ≡ false → r ≡ Err faults.Device) → (all ≡ true → said ≡ true → closes ≡ None → r ≡ Err faults.Torn)
-    → ((taken : Closes) → all ≡ true → said ≡ true → closes ≡ Some taken → r ≡ Ok taken) → (all ≡ false → P (Err faults.Spawn)) → P (Err faults.Device) → P (Err faults.Torn)
-    → ((taken : Closes) → said ≡ true → closes ≡ Some taken → P (Ok taken)) → P r
+    → ((taken : Closes B) → all ≡ true → said ≡ true → closes ≡ Some taken → r ≡ Ok taken) → (all ≡ false → P (Err faults.Spawn)) → P (Err faults.Device) → P (Err faults.Torn)
+    → ((taken : Closes B) → said ≡ true → closes ≡ Some taken → P (Ok taken)) → P r
 by_end false said closes r P spawn device torn done unstarted unsaid ill well = subst P (sym (spawn refl)) (unstarted refl)
 by_end true false closes r P spawn device torn done unstarted unsaid ill well = subst P (sym (device refl refl)) unsaid
 by_end true true None r P spawn device torn done unstarted unsaid ill well = subst P (sym (torn refl refl refl)) ill

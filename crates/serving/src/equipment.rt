@@ -6,6 +6,7 @@ use crate::sessions::ClientBerth;
 use crate::visiting::{Sign, signs_of};
 use clerks::{Hall, Staff};
 use house_floor::Floor;
+use house_history::Naming;
 use server_report::Presence;
 use serving_workers::{Buffers, Hired, Served};
 use std::alloc::{AllocError, Global};
@@ -118,26 +119,26 @@ pub(crate) fn equip(alloc: Global, workers: usize, berths: usize) -> Result<Equi
 
 /// A berth with no client, for its two threads.
 #[derive(Drop)]
-pub(crate) struct SharedBerth<'a, R: Wait> {
-    pub(crate) reader: Arc<ClientBerth<'a, R>>,
-    pub(crate) watch: Arc<ClientBerth<'a, R>>,
+pub(crate) struct SharedBerth<'a, B: Naming, R: Wait> {
+    pub(crate) reader: Arc<ClientBerth<'a, B, R>>,
+    pub(crate) watch: Arc<ClientBerth<'a, B, R>>,
 }
 
 // A berth with no client, whose watch sleeps on this bell.
-fn shared_berth<'a, R: Wait>(
+fn shared_berth<'a, B: Naming, R: Wait>(
     alloc: Global,
     bell: &Sleeper,
-) -> Result<SharedBerth<'a, R>, AllocError> {
+) -> Result<SharedBerth<'a, B, R>, AllocError> {
     let reader = Arc::new(alloc, ClientBerth::new(bell.idling()?))?;
     let watch = reader.clone()?;
     Ok(SharedBerth { reader, watch })
 }
 
 // A berth with no client for each of these bells.
-fn shared_berths<'a, R: Wait>(
+fn shared_berths<'a, B: Naming, R: Wait>(
     alloc: Global,
     bells: &[Sleeper],
-) -> Result<Vec<SharedBerth<'a, R>>, AllocError>
+) -> Result<Vec<SharedBerth<'a, B, R>>, AllocError>
     ensures { IfOk result (λ berths. vec_len berths ≡ length bells.now) }
 {
     let mut all = Vec::with_capacity(alloc, bells.len())?;
@@ -149,17 +150,17 @@ fn shared_berths<'a, R: Wait>(
 
 /// Room for the producers' threads, and the berths.
 #[derive(Drop)]
-pub(crate) struct Crowd<'a, R: Wait> {
-    pub(crate) hired: Vec<Hired<'a>>,
-    pub(crate) berths: Vec<SharedBerth<'a, R>>,
+pub(crate) struct Crowd<'a, B: Naming, R: Wait> {
+    pub(crate) hired: Vec<Hired<'a, B>>,
+    pub(crate) berths: Vec<SharedBerth<'a, B, R>>,
 }
 
 /// Room for so many producers' threads, and a berth for each of these bells. An error where memory is refused.
-pub(crate) fn crowd_for<'a, R: Wait>(
+pub(crate) fn crowd_for<'a, B: Naming, R: Wait>(
     alloc: Global,
     producers: usize,
     bells: &[Sleeper],
-) -> Result<Crowd<'a, R>, AllocError>
+) -> Result<Crowd<'a, B, R>, AllocError>
     ensures hired { IfOk result (λ c. (c.hired.items ≡ []) × (producers ≤ vec_capacity c.hired)) }
     ensures berths { IfOk result (λ c. vec_len c.berths ≡ length bells.now) }
 {
@@ -169,22 +170,22 @@ pub(crate) fn crowd_for<'a, R: Wait>(
 }
 
 /// All that is made before the first thread.
-pub(crate) struct Rooms<H: Hall> {
+pub(crate) struct Rooms<B: Naming, H: Hall> {
     pub(crate) grips: Grips,
     pub(crate) equipment: Equipment,
-    pub(crate) served: Vec<Served>,
-    pub(crate) staff: Staff<H>,
+    pub(crate) served: Vec<Served<B>>,
+    pub(crate) staff: Staff<B, H>,
     pub(crate) signs: Vec<Sign>,
     pub(crate) presences: Vec<Presence>,
 }
 
 /// What so many workers and berths of a house want before the first thread; the berths have these bells. An error where memory is refused.
-pub(crate) fn make_rooms<H: Hall>(
-    floor: &Floor,
+pub(crate) fn make_rooms<B: Naming, H: Hall>(
+    floor: &Floor<B>,
     workers: usize,
     berths: usize,
     bells: &[Sleeper],
-) -> Result<Rooms<H>, AllocError>
+) -> Result<Rooms<B, H>, AllocError>
     requires few { workers + berths < 256 }
     ensures buffers { IfOk result (λ r.
         All (λ b. 0 < length b.input.items) r.equipment.buffers.items

@@ -6,13 +6,13 @@ use crate::site::Site;
 use crate::visiting::Sign;
 use clerks::Hall;
 use envelope::Directory;
-use mailbox::Mailbox;
+use house_history::Naming;
+use locked_mailbox::LockedMailbox;
 use server_report::{
     Connection, Counts, MailboxFigures, MailboxRow, Names, Presence, Session, Snapshot,
 };
 use std::alloc::{AllocError, Global};
 use std::sync::{Mutex, Wait};
-use workers_sync::count;
 
 /// What was gathered.
 #[derive(Drop)]
@@ -59,7 +59,10 @@ fn connection_at(names: Names<'_>, presences: &[Presence], seat: usize) -> Optio
 }
 
 // The connections that the workers have at hand, in the order of the workers.
-fn connections_of<H: Hall>(alloc: Global, site: &Site<H>) -> Result<Vec<Connection>, AllocError> {
+fn connections_of<B: Naming, H: Hall>(
+    alloc: Global,
+    site: &Site<B, H>,
+) -> Result<Vec<Connection>, AllocError> {
     let names = site.workplace.names();
     let presences = site.workplace.presences.as_slice();
     let mut open = Vec::new(alloc);
@@ -83,9 +86,9 @@ fn session_of<'s>(names: Names<'s>, user: &'s [u8], berth: u8, sign: &Sign) -> O
 }
 
 // The session that the berth of this number has at hand, if there is one.
-fn session_at<'s, H: Hall>(
+fn session_at<'s, B: Naming, H: Hall>(
     names: Names<'s>,
-    site: &'s Site<H>,
+    site: &'s Site<B, H>,
     berth: usize,
 ) -> Option<Session<'s>> {
     let Ok(number) = u8::try_from(berth) else {
@@ -98,9 +101,9 @@ fn session_at<'s, H: Hall>(
 }
 
 // The sessions that the berths have at hand, in the order of the berths.
-fn sessions_of<'s, H: Hall>(
+fn sessions_of<'s, B: Naming, H: Hall>(
     alloc: Global,
-    site: &'s Site<H>,
+    site: &'s Site<B, H>,
 ) -> Result<Vec<Session<'s>>, AllocError> {
     let names = site.workplace.names();
     let mut open = Vec::new(alloc);
@@ -113,9 +116,9 @@ fn sessions_of<'s, H: Hall>(
 }
 
 // What a STATUS tells of a mailbox, by a look under its lock.
-fn figures_of<R: Wait>(rt: &R, mailbox: &Mutex<Mailbox>) -> MailboxFigures {
+fn figures_of<B: Naming, R: Wait>(rt: &R, mailbox: &Mutex<LockedMailbox<B>>) -> MailboxFigures {
     let held = mailbox.lock(rt);
-    let status = count(&held);
+    let status = held.count();
     MailboxFigures {
         messages: status.messages,
         unseen: status.unseen,
@@ -125,11 +128,11 @@ fn figures_of<R: Wait>(rt: &R, mailbox: &Mutex<Mailbox>) -> MailboxFigures {
 }
 
 // Each mailbox of the directory, in its order.
-fn rows_of<'s, R: Wait>(
+fn rows_of<'s, B: Naming, R: Wait>(
     rt: &R,
     alloc: Global,
     directory: &'s Directory,
-    mailboxes: &[Mutex<Mailbox>],
+    mailboxes: &[Mutex<LockedMailbox<B>>],
 ) -> Result<Vec<MailboxRow<'s>>, AllocError> {
     let mut rows = Vec::new(alloc);
     for number in 0..directory.mailboxes() {
@@ -147,9 +150,9 @@ fn rows_of<'s, R: Wait>(
 /// What this server is doing now. Its parts are of different moments, as each is looked at.
 ///
 /// Errors: `AllocError` where memory is refused.
-pub(crate) fn gather<'s, H: Hall, R: Wait>(
+pub(crate) fn gather<'s, B: Naming, H: Hall, R: Wait>(
     rt: &R,
-    site: &'s Site<H>,
+    site: &'s Site<B, H>,
 ) -> Result<Gathered<'s>, AllocError> {
     let floor = &site.workplace.floor;
     let alloc = floor.alloc;

@@ -7,6 +7,7 @@ ghost use Rattle.serving.specs.inner.Faults.{IsOfSocket};
 use crate::fault::{ServeFault, device_or_memory};
 use crate::site::Site;
 use clerks::Hall;
+use house_history::Naming;
 use server_report::{Keeps, Log, Scribe};
 use std::alloc::Global;
 use std::io::Write;
@@ -77,10 +78,11 @@ pub(crate) struct Writing<F> {
 pub(crate) fn start_writing<
     's,
     E,
+    B: Naming + Send + Sync,
     H: Hall + Send,
     R: Threads + Wait + Sync,
     F: Write + Drop + Send + 's,
->(scope: &thread::Scope<'s, E>, rt: &'s R, site: &'s Site<H>, writing: Writing<F>) -> bool {
+>(scope: &thread::Scope<'s, E>, rt: &'s R, site: &'s Site<B, H>, writing: Writing<F>) -> bool {
     let Writing { scribe, errors } = writing;
     let Some(scribe) = scribe else {
         return true;

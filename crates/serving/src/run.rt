@@ -7,10 +7,11 @@ ghost use Rattle.std.specs.List.{list_all};
 ghost use Rattle.settings.specs.declared.config.ConfigFault.{ConfigFault};
 ghost use Rattle.house_floor.specs.Left.{IsPostLeft, IsStandLeft};
 ghost use Rattle.std.specs.Mem.{manually_drop_value};
-ghost use Rattle.std.specs.Thread.{IsSync};
+ghost use Rattle.std.specs.Thread.{IsSend, IsSync};
 ghost use Rattle.house_floor.specs.Crew.{AllAt, IsCrew, IsHouse, IsPost};
 ghost use Rattle.house_floor.specs.Opening.{AreBaskets};
 ghost use Rattle.lane_work.specs.Rooms.{AreRooms};
+ghost use Rattle.clerks.specs.Keeping.{parts_of};
 ghost use Rattle.serving_workers.specs.Leaving.{IsHired, IsServed, has_thread, serves_mail};
 ghost use Rattle.serving.specs.inner.Dealing.{IsDealt};
 ghost use Rattle.serving.specs.inner.Ending.{CameTo, FirstTakeMail};
@@ -25,8 +26,8 @@ use crate::sockets::Sockets;
 use crate::stopping::{await_end, bytes_held, longest_lane, stop_all};
 use crate::telling::start_telling;
 use clerks::{Hall, Staff, Unhindered, dismiss_all, hire_all, stand_down};
-use delivery_token::Noted;
 use house_floor::{Baskets, Crew, Floor, Guest, Post, Ran, Stand, Started};
+use house_history::{Answer, Naming};
 use lane_work::{Consumed, Worked};
 use line_io::Sink;
 use reckoning::{Closes, abandon};
@@ -45,9 +46,9 @@ use workers_sync::Sleeper;
 
 // What the threads of the producers leave; or their posts, where there was no memory to note the threads in, or no thread for the log, and
 // none of them was started.
-struct Over {
-    served: Vec<Served>,
-    posts: Vec<Post>,
+struct Over<B: Naming> {
+    served: Vec<Served<B>>,
+    posts: Vec<Post<B>>,
     // Whether each thread that was tried could be made.
     all_started: bool,
     // Whether no producer was started.
@@ -57,8 +58,8 @@ struct Over {
 }
 
 // The threads of the producers once all stand, and whoever said so.
-struct Begin<'s, 'o, W: Sink> {
-    hired: Vec<Hired<'s>>,
+struct Begin<'s, 'o, B: Naming, W: Sink> {
+    hired: Vec<Hired<'s, B>>,
     // Whether each thread could be made.
     all_started: bool,
     // Whether all was said of the listeners.
@@ -67,33 +68,33 @@ struct Begin<'s, 'o, W: Sink> {
 }
 
 // What the threads of the producers leave, and whoever said that they stood.
-struct Left<'o, W: Sink> {
-    over: Over,
+struct Left<'o, B: Naming, W: Sink> {
+    over: Over<B>,
     announcer: Announcer<'o, W>,
 }
 
 // What is dealt to the threads, and room for what the producers leave.
-struct Dealt {
-    posts: Vec<Post>,
+struct Dealt<B: Naming> {
+    posts: Vec<Post<B>>,
     // The berths' ends of their bells.
     bells: Vec<Sleeper>,
     equipment: Equipment,
-    served: Vec<Served>,
+    served: Vec<Served<B>>,
 }
 
 // Starts all threads, and says whether each could be made. Nobody is accepted while the start is held, as the caller does. Where one couldn't
 // be made the mark is set, so nobody is served.
-fn start_all<'s, E, H: Hall + Send, R: Threads + Wait + Sync>(
+fn start_all<'s, E, B: Naming + Send + Sync, H: Hall + Send, R: Threads + Wait + Sync>(
     scope: &thread::Scope<'s, E>,
     rt: &'s R,
-    site: &'s Site<H>,
-    posts: Vec<Post>,
+    site: &'s Site<B, H>,
+    posts: Vec<Post<B>>,
     buffers: Vec<Buffers>,
-    furnishings: Furnishings<'s, R>,
-    hired: Vec<Hired<'s>>,
-) -> (Vec<Hired<'s>>, bool)
+    furnishings: Furnishings<'s, B, R>,
+    hired: Vec<Hired<'s, B>>,
+) -> (Vec<Hired<'s, B>>, bool)
     requires lanes { H.lanes ≡ Some site.now.workplace.floor.office.lanes.items }
-    requires depot { H.depot ≡ Some site.now.workplace.floor.depot }
+    requires depot { H.depot ≡ Some (parts_of site.now.workplace.floor.depot) }
     requires house { IsHouse site.now.workplace.floor
         (length site.now.workplace.floor.depot.channels.items) }
     requires grips { length site.now.grips.mail.items + length site.now.guests.items
@@ -115,7 +116,7 @@ fn start_all<'s, E, H: Hall + Send, R: Threads + Wait + Sync>(
     ensures count { vec_len result.0 ≡ length site.now.workplace.floor.depot.channels.items }
     ensures all { result.1 ≡ true → list_all has_thread result.0.items ≡ true }
 {
-    let Begun { hired, posts } = start_workers::<E, H, R>(
+    let Begun { hired, posts } = start_workers::<E, B, H, R>(
         scope,
         rt,
         &site.workplace,
@@ -124,25 +125,33 @@ fn start_all<'s, E, H: Hall + Send, R: Threads + Wait + Sync>(
         buffers,
         hired,
     );
-    start_berths::<E, H, R>(scope, rt, site, furnishings, posts, hired)
+    start_berths::<E, B, H, R>(scope, rt, site, furnishings, posts, hired)
 }
 
 // Starts all threads, and writes the lines that tell of the listeners. Nobody is accepted before that: all threads wait for the start,
 // which is held here. Where a thread couldn't be made nothing is written. There, and where the lines couldn't be written, the mark is set by
 // then, so nobody is served.
-fn start_and_tell<'s, 'o, E, H: Hall + Send, R: Threads + Wait + Sync, W: Sink>(
+fn start_and_tell<
+    's,
+    'o,
+    E,
+    B: Naming + Send + Sync,
+    H: Hall + Send,
+    R: Threads + Wait + Sync,
+    W: Sink,
+>(
     scope: &thread::Scope<'s, E>,
     rt: &'s R,
-    site: &'s Site<H>,
-    posts: Vec<Post>,
+    site: &'s Site<B, H>,
+    posts: Vec<Post<B>>,
     buffers: Vec<Buffers>,
-    furnishings: Furnishings<'s, R>,
-    hired: Vec<Hired<'s>>,
+    furnishings: Furnishings<'s, B, R>,
+    hired: Vec<Hired<'s, B>>,
     lines: &[u8],
     announcer: Announcer<'o, W>,
-) -> Begin<'s, 'o, W>
+) -> Begin<'s, 'o, B, W>
     requires lanes { H.lanes ≡ Some site.now.workplace.floor.office.lanes.items }
-    requires depot { H.depot ≡ Some site.now.workplace.floor.depot }
+    requires depot { H.depot ≡ Some (parts_of site.now.workplace.floor.depot) }
     requires house { IsHouse site.now.workplace.floor
         (length site.now.workplace.floor.depot.channels.items) }
     requires grips { length site.now.grips.mail.items + length site.now.guests.items
@@ -174,7 +183,7 @@ fn start_and_tell<'s, 'o, E, H: Hall + Send, R: Threads + Wait + Sync, W: Sink>(
         lines.now }
 {
     let _not_yet = site.workplace.mark.start.lock(rt);
-    let (hired, all_started) = start_all::<E, H, R>(
+    let (hired, all_started) = start_all::<E, B, H, R>(
         scope,
         rt,
         site,
@@ -191,7 +200,7 @@ fn start_and_tell<'s, 'o, E, H: Hall + Send, R: Threads + Wait + Sync, W: Sink>(
             announcer,
         };
     }
-    if !start_telling::<E, H, R>(scope, rt, site) {
+    if !start_telling::<E, B, H, R>(scope, rt, site) {
         return Begin {
             hired,
             all_started: false,
@@ -212,7 +221,7 @@ fn start_and_tell<'s, 'o, E, H: Hall + Send, R: Threads + Wait + Sync, W: Sink>(
 }
 
 // What is left where no thread of a producer was tried: for want of memory, or since a thread before them could not be made.
-fn untried(served: Vec<Served>, posts: Vec<Post>, all_started: bool) -> Over
+fn untried<B: Naming>(served: Vec<Served<B>>, posts: Vec<Post<B>>, all_started: bool) -> Over<B>
     ensures left { (result.served ≡ served) × (result.posts ≡ posts) }
     ensures none { (result.none_started ≡ true) × (result.all_started ≡ all_started)
         × (result.is_told ≡ false) }
@@ -227,7 +236,7 @@ fn untried(served: Vec<Served>, posts: Vec<Post>, all_started: bool) -> Over
 }
 
 // The log ends: whoever writes it tells what was counted, and what the server held.
-fn end_log<H: Hall, R: Wait>(rt: &R, site: &Site<H>) {
+fn end_log<B: Naming, H: Hall, R: Wait>(rt: &R, site: &Site<B, H>) {
     let workplace = &site.workplace;
     if workplace.log.is_on() {
         let held = Held {
@@ -239,13 +248,13 @@ fn end_log<H: Hall, R: Wait>(rt: &R, site: &Site<H>) {
 }
 
 // The end is awaited, if it was said that the house serves; all threads are stopped, and the producers are joined.
-fn stop_and_join<'s, 'o, H: Hall, R: Threads + Wait, I: Read + Drop, W: Sink>(
+fn stop_and_join<'s, 'o, B: Naming, H: Hall, R: Threads + Wait, I: Read + Drop, W: Sink>(
     rt: &R,
-    site: &'s Site<H>,
-    begin: Begin<'s, 'o, W>,
-    served: Vec<Served>,
+    site: &'s Site<B, H>,
+    begin: Begin<'s, 'o, B, W>,
+    served: Vec<Served<B>>,
     stop: I,
-) -> Left<'o, W>
+) -> Left<'o, B, W>
     requires hired { AllAt (IsHired site.now.workplace.floor) 0 begin.hired.items
         × (vec_len begin.hired ≡ length site.now.workplace.floor.depot.channels.items) }
     requires mail { FirstTakeMail (length site.now.grips.mail.items)
@@ -290,6 +299,7 @@ fn in_scope<
     's,
     'o,
     E,
+    B: Naming + Send + Sync,
     H: Hall + Send,
     R: Threads + Wait + Sync,
     I: Read + Drop,
@@ -298,15 +308,15 @@ fn in_scope<
 >(
     scope: &thread::Scope<'s, E>,
     rt: &'s R,
-    site: &'s Site<H>,
-    dealt: ManuallyDrop<Dealt>,
+    site: &'s Site<B, H>,
+    dealt: ManuallyDrop<Dealt<B>>,
     writing: Writing<F>,
     stop: I,
     lines: &[u8],
     announcer: Announcer<'o, W>,
-) -> Left<'o, W>
+) -> Left<'o, B, W>
     requires lanes { H.lanes ≡ Some site.now.workplace.floor.office.lanes.items }
-    requires depot { H.depot ≡ Some site.now.workplace.floor.depot }
+    requires depot { H.depot ≡ Some (parts_of site.now.workplace.floor.depot) }
     requires house { IsHouse site.now.workplace.floor
         (length site.now.workplace.floor.depot.channels.items) }
     requires grips { length site.now.grips.mail.items + length site.now.guests.items
@@ -352,7 +362,7 @@ fn in_scope<
         let over = untried(served, posts, true);
         return Left { over, announcer };
     };
-    if !start_writing::<E, H, R, F>(scope, rt, site, writing) {
+    if !start_writing::<E, B, H, R, F>(scope, rt, site, writing) {
         let over = untried(served, posts, false);
         return Left { over, announcer };
     }
@@ -365,7 +375,7 @@ fn in_scope<
         bells,
         buffers: client_buffers,
     };
-    let begin = start_and_tell::<E, H, R, W>(
+    let begin = start_and_tell::<E, B, H, R, W>(
         scope,
         rt,
         site,
@@ -381,6 +391,7 @@ fn in_scope<
 
 // The scope of all threads, in which it is said that they stand.
 fn serve_in_threads<
+    B: Naming + Send + Sync,
     H: Hall + Send,
     R: Threads + Wait + Sync,
     I: Read + Drop,
@@ -388,15 +399,15 @@ fn serve_in_threads<
     F: Write + Drop + Send,
 >(
     rt: &R,
-    site: &Site<H>,
-    dealt: Dealt,
+    site: &Site<B, H>,
+    dealt: Dealt<B>,
     writing: Writing<F>,
     stop: I,
     lines: &[u8],
     output: &mut W,
-) -> Over
+) -> Over<B>
     requires lanes { H.lanes ≡ Some site.now.workplace.floor.office.lanes.items }
-    requires depot { H.depot ≡ Some site.now.workplace.floor.depot }
+    requires depot { H.depot ≡ Some (parts_of site.now.workplace.floor.depot) }
     requires house { IsHouse site.now.workplace.floor
         (length site.now.workplace.floor.depot.channels.items) }
     requires grips { length site.now.grips.mail.items + length site.now.guests.items
@@ -427,10 +438,10 @@ fn serve_in_threads<
     let Left { over, announcer } = thread::scope(
         thread::scope_env(),
         rt,
-        |scope| -> Left<'_, W>
-            requires hall { IsSync R.row × (H.lanes
+        |scope| -> Left<'_, B, W>
+            requires hall { IsSend B.row × IsSync B.row × IsSync R.row × (H.lanes
                 ≡ Some site.now.workplace.floor.office.lanes.items)
-                × (H.depot ≡ Some site.now.workplace.floor.depot) }
+                × (H.depot ≡ Some (parts_of site.now.workplace.floor.depot)) }
             requires house { IsHouse site.now.workplace.floor
                 (length site.now.workplace.floor.depot.channels.items) }
             requires grips { length site.now.grips.mail.items + length site.now.guests.items
@@ -470,13 +481,13 @@ fn serve_in_threads<
 }
 
 // Spends a house in which nothing ran.
-fn give_up(
-    floor: Floor,
-    worked: Vec<Worked>,
-    consumed: Vec<Consumed>,
-    stands: Vec<Stand>,
-    posts: Vec<Post>,
-    baskets: Baskets,
+fn give_up<B: Naming>(
+    floor: Floor<B>,
+    worked: Vec<Worked<B>>,
+    consumed: Vec<Consumed<B>>,
+    stands: Vec<Stand<B>>,
+    posts: Vec<Post<B>>,
+    baskets: Baskets<B>,
 ) -> ServeFault
     requires some { (0 < length floor.depot.channels.items)
         × (0 < length floor.office.lanes.items) }
@@ -502,12 +513,16 @@ fn give_up(
 }
 
 // What the end of a house comes to: what was taken of its queues, where nothing was amiss.
-fn told(all_started: bool, is_told: bool, closes: Option<Closes>) -> Result<Closes, ServeFault>
+fn told<B: Naming>(
+    all_started: bool,
+    is_told: bool,
+    closes: Option<Closes<B>>,
+) -> Result<Closes<B>, ServeFault>
     ensures spawn { all_started ≡ false → result ≡ Err ServeFault.Spawn }
     ensures device { all_started ≡ true → is_told ≡ false → result ≡ Err ServeFault.Device }
     ensures torn { all_started ≡ true → is_told ≡ true → closes ≡ None
         → result ≡ Err ServeFault.Torn }
-    ensures done { (taken : Closes) → all_started ≡ true → is_told ≡ true → closes ≡ Some taken
+    ensures done { (taken : Closes B) → all_started ≡ true → is_told ≡ true → closes ≡ Some taken
         → result ≡ Ok taken }
 {
     if !all_started {
@@ -524,18 +539,18 @@ fn told(all_started: bool, is_told: bool, closes: Option<Closes>) -> Result<Clos
 
 // Closes the house that the threads have left, and hands out what was taken of its queues, or spends it where none was started. Ok says that
 // nothing was amiss.
-fn close_or_spend<H: Hall, R: Wait>(
+fn close_or_spend<B: Naming, H: Hall, R: Wait>(
     rt: &R,
-    site: Site<H>,
-    rooms: Vec<Vec<SenderEnded<Noted>>>,
-    stands: Vec<Stand>,
-    over: Over,
-    worked: Vec<Worked>,
-    consumed: Vec<Consumed>,
-    baskets: Baskets,
-) -> Result<Closes, ServeFault>
+    site: Site<B, H>,
+    rooms: Vec<Vec<SenderEnded<Answer<B>>>>,
+    stands: Vec<Stand<B>>,
+    over: Over<B>,
+    worked: Vec<Worked<B>>,
+    consumed: Vec<Consumed<B>>,
+    baskets: Baskets<B>,
+) -> Result<Closes<B>, ServeFault>
     requires lanes { H.lanes ≡ Some site.workplace.floor.office.lanes.items }
-    requires depot { H.depot ≡ Some site.workplace.floor.depot }
+    requires depot { H.depot ≡ Some (parts_of site.workplace.floor.depot) }
     requires house { IsHouse site.workplace.floor
         (length site.workplace.floor.depot.channels.items) }
     requires some { (0 < length site.workplace.floor.depot.channels.items)
@@ -640,6 +655,7 @@ pub(crate) struct Manning<F> {
 /// nothing was written; `Device` where the lines can't be written: after these three nobody was served. `Torn` where somebody met what he
 /// didn't await, or a queue could not be closed. All of the house is spent then too.
 pub(crate) fn run_house_in<
+    B: Naming + Send + Sync,
     H: Hall + Send,
     R: Threads + Wait + Sync,
     I: Read + Drop,
@@ -647,17 +663,17 @@ pub(crate) fn run_house_in<
     F: Write + Drop + Send,
 >(
     rt: &R,
-    floor: Floor,
+    floor: Floor<B>,
     manning: Manning<F>,
-    crew: Crew,
-    baskets: Baskets,
+    crew: Crew<B>,
+    baskets: Baskets<B>,
     sockets: Sockets,
     stop: I,
     lines: Vec<u8>,
     output: &mut W,
-) -> Result<Closes, ServeFault>
+) -> Result<Closes<B>, ServeFault>
     requires lanes { H.lanes ≡ Some floor.office.lanes.items }
-    requires depot { H.depot ≡ Some floor.depot }
+    requires depot { H.depot ≡ Some (parts_of floor.depot) }
     requires house { IsHouse floor (length floor.depot.channels.items) }
     requires some { (0 < length floor.depot.channels.items)
         × (0 < length floor.office.lanes.items) }
@@ -694,7 +710,7 @@ pub(crate) fn run_house_in<
         unmanned,
     } = crew;
     unmanned.destroy_empty();
-    let Ok(rooms) = make_rooms::<H>(&floor, workers, guests.len(), &bells) else {
+    let Ok(rooms) = make_rooms::<B, H>(&floor, workers, guests.len(), &bells) else {
         return Err(give_up(floor, worked, consumed, stands, posts, baskets));
     };
     let Rooms {

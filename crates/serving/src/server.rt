@@ -1,6 +1,7 @@
 //! The whole of a server: settings, sockets, what is said of them, the house, and the end. What runs in between stands in `run`.
 
-ghost use Rattle.std.specs.Prelude.{◌≡◌, ◌≢◌, ◌≤◌, ◌<◌, ◌+◌, ◌⊎◌, All, Err, IfErr, IfOk, None, OnOk, Some, false, length, vec_len};
+ghost use Rattle.std.specs.Prelude.{ℕ, ◌≡◌, ◌≢◌, ◌≤◌, ◌<◌, ◌+◌, ◌⊎◌, All, Err, IfErr, IfOk, None, OnOk, Some, false, length, take, vec_len};
+ghost use Rattle.std.specs.Io.KnownBytes.{Appends};
 ghost use Rattle.settings.specs.Settings.{IsInRange, directory_for};
 ghost use Rattle.serving.specs.Producers.{server_fault};
 ghost use Rattle.mailbox.specs.declared.history.History.{History};
@@ -18,8 +19,10 @@ use crate::sockets::{Open, Sockets, open_sockets};
 use clerks::copies_at_once;
 use envelope::Directory;
 use house_floor::{Guest, MOST_PRODUCERS, Opened, Sizes, open};
+use house_history::Naming;
 use line_io::Sink;
 use mailbox::{History, Limits};
+use server_report::Log;
 use settings::{Config, ConfigFault, directory_of};
 use std::alloc::Global;
 use std::io::{Read, Write};
@@ -128,6 +131,81 @@ fn listen<R: Net<Listener = TcpListener, Stream = TcpStream>>(
     Ok(Listeners { sockets, lines })
 }
 
+// All that a server has before its house: whom it is for, its listeners, where what happens is told, and who writes that.
+struct Ready<F> {
+    layout: Layout,
+    listeners: Listeners,
+    log: Log,
+    writing: Writing<F>,
+}
+
+// Serves a house of these settings, whose history was just opened, until `stop` is at its end. Errors: those of `run_house_in`.
+fn serve_in<
+    B: Naming + Send + Sync,
+    R: Threads + Wait + Sync,
+    I: Read + Drop,
+    W: Sink,
+    F: Write + Drop + Send,
+>(
+    rt: &R,
+    alloc: Global,
+    history: house_history::Opened,
+    config: &Config,
+    ready: Ready<F>,
+    stop: I,
+    output: &mut W,
+) -> Result<(), ServeFault>
+    requires history { history ≡ B.book }
+    requires range { IsInRange config.now }
+    requires directory { ready.layout.directory ≡ directory_for config.now }
+    requires host { length config.now.host.items < 256 }
+    requires named { All (λ v.
+        user_numbered v.user ready.layout.directory.homes ≢ None) ready.layout.guests.items }
+    requires few { config.now.workers + vec_len ready.layout.guests ≤ 255 }
+    requires imap { vec_len ready.listeners.sockets.imap
+        ≡ length (users_of ready.layout.directory.homes) }
+    requires live { W.failed output.old ≡ false }
+    ensures setting { (fault : ConfigFault) → result ≢ Err (ServeFault.Config fault) }
+    ensures untried { result ≡ Err ServeFault.NoMemory → output.new ≡ output.old }
+    ensures unsaid { result ≡ Err ServeFault.Spawn → output.new ≡ output.old }
+    ensures told { (n : ℕ) × Appends (W.taken output.old) (W.taken output.new)
+        (take n ready.listeners.lines.items) }
+    ensures all { OnOk result
+        (Appends (W.taken output.old) (W.taken output.new) ready.listeners.lines.items) }
+{
+    let Ready {
+        layout,
+        listeners,
+        log,
+        writing,
+    } = ready;
+    let Layout { directory, guests } = layout;
+    let Listeners { sockets, lines } = listeners;
+    let sizes = sizes_of(config, guests.len());
+    let Opened {
+        floor,
+        crew,
+        baskets,
+        sleepers,
+    } = open::<B>(alloc, history, directory, sizes, guests.as_slice())?;
+    let workers = usize::from(config.workers);
+    let at_once = copies_at_once(config.depth, workers, guests.len());
+    let manning = Manning {
+        workers,
+        at_once,
+        guests,
+        bells: sleepers,
+        sessions: config.sessions,
+        log,
+        writing,
+    };
+    // Over sockets nothing can be named that what was taken could be compared with.
+    let _taken = run_house_in::<B, Brand, R, I, W, F>(
+        rt, floor, manning, crew, baskets, sockets, stop, lines, output,
+    )?;
+    Ok(())
+}
+
 /// Serves a house of these settings on the loopback address until `stop` is at its end: mail on `lmtp_port` to so many connections at a
 /// time as there are `workers`, and each user's sessions on a port of its own, from `imap_port` on, so many at a time as `sessions` says.
 /// A port that is 0 is chosen by the system, for each user another.
@@ -202,31 +280,19 @@ pub fn serve<
         uidvalidity,
     )?;
     let Records { log, scribe } = records_for(rt, alloc, report)?;
-    let Opened {
-        floor,
-        crew,
-        baskets,
-        sleepers,
-    } = open(
+    serve_in::<Brand, R, &mut I, W, F>(
+        rt,
         alloc,
-        directory,
-        sizes_of(config, guests.len()),
-        guests.as_slice(),
-    )?;
-    let workers = usize::from(config.workers);
-    let at_once = copies_at_once(config.depth, workers, guests.len());
-    let manning = Manning {
-        workers,
-        at_once,
-        guests,
-        bells: sleepers,
-        sessions: config.sessions,
-        log,
-        writing: Writing { scribe, errors },
-    };
-    // Over sockets nothing can be named that what was taken could be compared with.
-    let _taken = run_house_in::<Brand, R, &mut I, W, F>(
-        rt, floor, manning, crew, baskets, sockets, stop, lines, output,
+        house_history::Opened::new(),
+        config,
+        Ready {
+            layout: Layout { directory, guests },
+            listeners: Listeners { sockets, lines },
+            log,
+            writing: Writing { scribe, errors },
+        },
+        stop,
+        output,
     )?;
     Ok(())
 }

@@ -13,15 +13,16 @@ ghost use Rattle.lane_work.specs.Permits.{AreEnded, ArePermits, put_by};
 ghost use Rattle.lane_work.specs.Speaking.{premises_of};
 ghost use Rattle.serving.specs.inner.Ending.{FirstTakeMail};
 ghost use Rattle.serving.specs.inner.Visiting.{IsVisitOf};
+ghost use Rattle.clerks.specs.Keeping.{parts_of};
 ghost use Rattle.serving_workers.specs.Leaving.{AreAttended, IsHired, IsServed, has_thread, serves_mail};
 
 use crate::equipment::SharedBerth;
 use crate::site::Site;
 use crate::visiting::{Incoming, Sign, Signed, Visitor};
 use clerks::{Hall, Unhindered};
-use delivery_token::Job;
 use envelope::Directory;
 use house_floor::{Floor, Post, inbox_numbered, most_of};
+use house_history::{Letter, Naming};
 use imap_session::folders_of;
 use imap_stream::{Berth, Hush, Visit};
 use lane_work::{Context, Desk, LaneCourier, Summons, end_all};
@@ -41,7 +42,7 @@ use workers_sync::{Actor, Courier, Grip, Pace, Patience, Sleeper, Timely, prepar
 type ClientOutput<'a> = Signed<'a, Watched<Timely<TcpStream>>>;
 
 /// Where one client of a user is served at a time.
-pub(crate) type ClientBerth<'a, R> = Berth<'a, R, Unhindered, ClientOutput<'a>>;
+pub(crate) type ClientBerth<'a, B, R> = Berth<'a, B, R, Unhindered, ClientOutput<'a>>;
 
 // The connection that a berth's thread has at hand, for the watch beside it. It comes to hand before its visit stands in the berth, and
 // the next one only when that visit was taken out: see `answer_clients`.
@@ -57,9 +58,9 @@ impl Hush for AtHand<'_> {
 }
 
 /// Where a berth's clients come in, which berth it is, and what they find there.
-#[derive(Clone, Copy)]
-pub(crate) struct Gateway<'s> {
-    pub(crate) floor: &'s Floor,
+#[derive_where(Clone, Copy)]
+pub(crate) struct Gateway<'s, B: Naming> {
+    pub(crate) floor: &'s Floor<B>,
     pub(crate) gate: &'s Unhindered,
     /// Where the clients of its user come in.
     pub(crate) door: Door<'s>,
@@ -76,7 +77,7 @@ pub(crate) struct Gateway<'s> {
 }
 
 // What this berth shows of the client that it has at hand.
-fn presence_in<H: Hall>(site: &Site<H>, berth: usize) -> Option<&Presence> {
+fn presence_in<B: Naming, H: Hall>(site: &Site<B, H>, berth: usize) -> Option<&Presence> {
     match site.signs.get(berth) {
         Some(sign) => Some(sign.presence()),
         None => None,
@@ -84,7 +85,7 @@ fn presence_in<H: Hall>(site: &Site<H>, berth: usize) -> Option<&Presence> {
 }
 
 // The gateway of this berth.
-fn gateway_of<H: Hall>(site: &Site<H>, session: u8) -> Gateway<'_>
+fn gateway_of<B: Naming, H: Hall>(site: &Site<B, H>, session: u8) -> Gateway<'_, B>
     requires session { session < length site.now.guests.items }
     requires grips { length site.now.grips.clients.items ≡ length site.now.guests.items }
     requires imap { All (λ v. v.user < vec_len site.now.imap) site.now.guests.items }
@@ -123,7 +124,7 @@ pub(crate) fn name_of_user(directory: &Directory, user: u8) -> &[u8] {
 }
 
 // The client that this berth serves, for the log.
-fn visitor_of<'s>(gateway: Gateway<'s>) -> Visitor<'s> {
+fn visitor_of<'s, B: Naming>(gateway: Gateway<'s, B>) -> Visitor<'s> {
     let user = name_of_user(&gateway.floor.office.directory, gateway.user);
     let door = gateway.door;
     Visitor {
@@ -136,11 +137,11 @@ fn visitor_of<'s>(gateway: Gateway<'s>) -> Visitor<'s> {
 
 // Opens the visit of a client of this berth's user, who is greeted on `output` and has that user's folders. None where memory is refused, or the
 // client has gone.
-fn open_visit<'a, R: Wait, W: Sink + Drop>(
+fn open_visit<'a, B: Naming, R: Wait, W: Sink + Drop>(
     rt: &'a R,
-    gateway: Gateway<'a>,
+    gateway: Gateway<'a, B>,
     output: W,
-) -> Option<Visit<'a, R, Unhindered, W>>
+) -> Option<Visit<'a, B, R, Unhindered, W>>
     requires live { W.failed output ≡ false }
     ensures { IfSome result (IsVisitOf gateway.entry.floor.now gateway.entry.user
         (W.taken output)) }
@@ -153,7 +154,14 @@ fn open_visit<'a, R: Wait, W: Sink + Drop>(
     let Ok(folders) = folders_of(floor.alloc, directory, user) else {
         return None;
     };
-    let store = LockedStore::new(rt, gate, gateway.session, &floor.depot.mailboxes, bells);
+    let store = LockedStore::new(
+        rt,
+        gate,
+        gateway.session,
+        &floor.depot.mailboxes,
+        floor.depot.front.again(),
+        bells,
+    );
     let most = Some(most_of(floor.office.max_message));
     let Ok(visit) = Visit::open(rt, floor.alloc, store, folders, most, output) else {
         return None;
@@ -162,7 +170,11 @@ fn open_visit<'a, R: Wait, W: Sink + Drop>(
 }
 
 // How a visit ended, where this was the end of reading.
-fn how_it_ended(gateway: Gateway<'_>, visitor: Visitor<'_>, read: Happened) -> Happened {
+fn how_it_ended<B: Naming>(
+    gateway: Gateway<'_, B>,
+    visitor: Visitor<'_>,
+    read: Happened,
+) -> Happened {
     if visitor.has_lapsed() {
         return Happened::Lapsed;
     }
@@ -173,12 +185,12 @@ fn how_it_ended(gateway: Gateway<'_>, visitor: Visitor<'_>, read: Happened) -> H
 }
 
 // One client's visit, which is of this berth's user, from its first byte to its end; and how it ended.
-fn attend_visit<'a, R: Wait, C: Courier>(
+fn attend_visit<'a, B: Naming, R: Wait, C: Courier>(
     rt: &'a R,
-    berth: &ClientBerth<'a, R>,
+    berth: &ClientBerth<'a, B, R>,
     courier: &mut C,
-    gateway: Gateway<'a>,
-    visit: Visit<'a, R, Unhindered, ClientOutput<'a>>,
+    gateway: Gateway<'a, B>,
+    visit: Visit<'a, B, R, Unhindered, ClientOutput<'a>>,
     stream: &TcpStream,
     buffer: &mut [u8],
 ) -> Happened
@@ -204,11 +216,11 @@ fn attend_visit<'a, R: Wait, C: Courier>(
 }
 
 // One client, from the greeting to its end; and how it ended.
-fn serve_client<'a, R: Wait, C: Courier>(
+fn serve_client<'a, B: Naming, R: Wait, C: Courier>(
     rt: &'a R,
-    berth: &ClientBerth<'a, R>,
+    berth: &ClientBerth<'a, B, R>,
     courier: &mut C,
-    gateway: Gateway<'a>,
+    gateway: Gateway<'a, B>,
     stream: &TcpStream,
     buffer: &mut [u8],
 ) -> Happened
@@ -231,11 +243,11 @@ fn serve_client<'a, R: Wait, C: Courier>(
 
 // The client that was accepted is at hand while it is served. Whoever stops the house sets its mark first and then looks for what is at
 // hand, so the mark is looked at behind that.
-fn receive<'a, R: Wait, C: Courier>(
+fn receive<'a, B: Naming, R: Wait, C: Courier>(
     rt: &'a R,
-    berth: &ClientBerth<'a, R>,
+    berth: &ClientBerth<'a, B, R>,
     courier: &mut C,
-    gateway: Gateway<'a>,
+    gateway: Gateway<'a, B>,
     stream: &TcpStream,
     buffer: &mut [u8],
 )
@@ -257,11 +269,11 @@ fn receive<'a, R: Wait, C: Courier>(
 
 // One client after another, each with the next serial from 0 on, the first once all threads stand, until the house stops, or something came
 // that wasn't the verdict on a message, or the serials are spent: then nobody is served any more.
-fn answer_clients<'a, R: Wait, S: Summons>(
+fn answer_clients<'a, B: Naming, R: Wait, S: Summons>(
     rt: &'a R,
-    berth: &ClientBerth<'a, R>,
-    courier: &mut LaneCourier<'_, R, S, LogBook<'_, R>>,
-    gateway: Gateway<'a>,
+    berth: &ClientBerth<'a, B, R>,
+    courier: &mut LaneCourier<'_, B, R, S, LogBook<'_, R>>,
+    gateway: Gateway<'a, B>,
     mut buffer: Vec<u8>,
 )
     requires ready { IsReady courier.old.context.office.now courier.old.context.channel.now
@@ -297,12 +309,12 @@ fn answer_clients<'a, R: Wait, S: Summons>(
 }
 
 // Ends the permits of a berth that serves nobody any more. It hears no end of its channel: those come when all have ended.
-fn leave<R: Wait, S: Summons>(
-    courier: LaneCourier<'_, R, S, LogBook<'_, R>>,
+fn leave<B: Naming, R: Wait, S: Summons>(
+    courier: LaneCourier<'_, B, R, S, LogBook<'_, R>>,
     gate: &Unhindered,
     session: u8,
-    room: Vec<Ended<Job>>,
-) -> Served
+    room: Vec<Ended<Letter<B>>>,
+) -> Served<B>
     requires permits { ArePermits courier.context.office.now.lanes.items courier.desk.number
         courier.desk.permits.items }
     requires room { (room.items ≡ [])
@@ -327,6 +339,7 @@ fn leave<R: Wait, S: Summons>(
         permits,
         receiver,
         ends,
+        dispatch,
     } = desk;
     let mut pace = Pace::new(gate, Actor::Session(session));
     let ended = end_all(
@@ -342,23 +355,24 @@ fn leave<R: Wait, S: Summons>(
         ended,
         receiver,
         ends,
+        dispatch,
         torn,
         mail: false,
     }
 }
 
 // The life of the thread that answers: its clients, who append by way of the lanes, and then the end of its permits.
-fn attend_there<'a, H: Hall, R: Wait>(
+fn attend_there<'a, B: Naming, H: Hall, R: Wait>(
     rt: &'a R,
-    site: &'a Site<H>,
-    berth: Arc<ClientBerth<'a, R>>,
+    site: &'a Site<B, H>,
+    berth: Arc<ClientBerth<'a, B, R>>,
     session: u8,
     number: u8,
-    post: ManuallyDrop<Post>,
+    post: ManuallyDrop<Post<B>>,
     buffer: Vec<u8>,
-) -> ManuallyDrop<Served>
+) -> ManuallyDrop<Served<B>>
     requires lanes { H.lanes ≡ Some site.now.workplace.floor.office.lanes.items }
-    requires depot { H.depot ≡ Some site.now.workplace.floor.depot }
+    requires depot { H.depot ≡ Some (parts_of site.now.workplace.floor.depot) }
     requires house { IsHouse site.now.workplace.floor
         (length site.now.workplace.floor.depot.channels.items) }
     requires number { number < length site.now.workplace.floor.depot.channels.items }
@@ -393,9 +407,9 @@ fn attend_there<'a, H: Hall, R: Wait>(
 }
 
 // The life of the thread that shows a client what there is, until the house stops.
-fn watch_clients<'a, R: Wait>(
+fn watch_clients<'a, B: Naming, R: Wait>(
     rt: &R,
-    berth: &ClientBerth<'a, R>,
+    berth: &ClientBerth<'a, B, R>,
     bell: &Sleeper,
     mark: &Mark,
     grip: &Grip,
@@ -405,18 +419,18 @@ fn watch_clients<'a, R: Wait>(
 
 // Starts the thread of a berth that answers. Where none can be made the house's mark has to be set before what came of it can be had: so
 // nobody is served there, and its permits are ended here.
-fn start_answering<'s, E, H: Hall + Send, R: Threads + Wait + Sync>(
+fn start_answering<'s, E, B: Naming + Send + Sync, H: Hall + Send, R: Threads + Wait + Sync>(
     scope: &thread::Scope<'s, E>,
     rt: &'s R,
-    site: &'s Site<H>,
-    berth: Arc<ClientBerth<'s, R>>,
+    site: &'s Site<B, H>,
+    berth: Arc<ClientBerth<'s, B, R>>,
     session: u8,
     number: u8,
-    post: Post,
+    post: Post<B>,
     buffer: Vec<u8>,
-) -> Hired<'s>
+) -> Hired<'s, B>
     requires lanes { H.lanes ≡ Some site.now.workplace.floor.office.lanes.items }
-    requires depot { H.depot ≡ Some site.now.workplace.floor.depot }
+    requires depot { H.depot ≡ Some (parts_of site.now.workplace.floor.depot) }
     requires house { IsHouse site.now.workplace.floor
         (length site.now.workplace.floor.depot.channels.items) }
     requires number { number < length site.now.workplace.floor.depot.channels.items }
@@ -435,7 +449,7 @@ fn start_answering<'s, E, H: Hall + Send, R: Threads + Wait + Sync>(
         mail: false,
     };
     match scope.spawn_with(promise, move || {
-        attend_there::<H, R>(rt, site, berth, session, number, parcel, buffer)
+        attend_there::<B, H, R>(rt, site, berth, session, number, parcel, buffer)
     }) {
         Ok(child) => Hired::There(child),
         Err(refused) => {
@@ -447,11 +461,11 @@ fn start_answering<'s, E, H: Hall + Send, R: Threads + Wait + Sync>(
 
 // Starts the thread of a berth that watches, and says whether it could be made. Where it can't be the house's mark is set, and the one that
 // answers serves nobody.
-fn start_watching<'s, E, R: Threads + Wait + Sync>(
+fn start_watching<'s, E, B: Naming + Send + Sync, R: Threads + Wait + Sync>(
     scope: &thread::Scope<'s, E>,
     rt: &'s R,
-    berth: Arc<ClientBerth<'s, R>>,
-    gateway: Gateway<'s>,
+    berth: Arc<ClientBerth<'s, B, R>>,
+    gateway: Gateway<'s, B>,
     bell: Sleeper,
 ) -> bool {
     let (mark, grip) = (gateway.door.mark, gateway.grip);
@@ -465,9 +479,9 @@ fn start_watching<'s, E, R: Threads + Wait + Sync>(
 
 /// What the berths' threads are given, for each berth one of each.
 #[derive(Drop)]
-pub(crate) struct Furnishings<'s, R: Wait> {
+pub(crate) struct Furnishings<'s, B: Naming, R: Wait> {
     /// The berth itself, for both threads.
-    pub(crate) berths: Vec<SharedBerth<'s, R>>,
+    pub(crate) berths: Vec<SharedBerth<'s, B, R>>,
     /// The bell on which its watch sleeps.
     pub(crate) bells: Vec<Sleeper>,
     /// For what comes of its clients.
@@ -477,16 +491,22 @@ pub(crate) struct Furnishings<'s, R: Wait> {
 /// Starts two threads for each berth, with these posts, which are those behind the workers'. The threads that answer go behind those in
 /// `hired`, which has room for them. Says whether each of these has a thread, the workers' too, and each berth its watch. Where a thread
 /// can't be made the mark is set; nobody is accepted while its start is held, as the caller does.
-pub(crate) fn start_berths<'s, E, H: Hall + Send, R: Threads + Wait + Sync>(
+pub(crate) fn start_berths<
+    's,
+    E,
+    B: Naming + Send + Sync,
+    H: Hall + Send,
+    R: Threads + Wait + Sync,
+>(
     scope: &thread::Scope<'s, E>,
     rt: &'s R,
-    site: &'s Site<H>,
-    mut furnishings: Furnishings<'s, R>,
-    mut posts: Vec<Post>,
-    mut hired: Vec<Hired<'s>>,
-) -> (Vec<Hired<'s>>, bool)
+    site: &'s Site<B, H>,
+    mut furnishings: Furnishings<'s, B, R>,
+    mut posts: Vec<Post<B>>,
+    mut hired: Vec<Hired<'s, B>>,
+) -> (Vec<Hired<'s, B>>, bool)
     requires lanes { H.lanes ≡ Some site.now.workplace.floor.office.lanes.items }
-    requires depot { H.depot ≡ Some site.now.workplace.floor.depot }
+    requires depot { H.depot ≡ Some (parts_of site.now.workplace.floor.depot) }
     requires house { IsHouse site.now.workplace.floor
         (length site.now.workplace.floor.depot.channels.items) }
     requires berths { vec_len furnishings.berths ≡ length site.now.guests.items }
@@ -514,7 +534,7 @@ pub(crate) fn start_berths<'s, E, H: Hall + Send, R: Threads + Wait + Sync>(
         let (bell, buffer) = (furnishings.bells.remove(0), furnishings.buffers.remove(0));
         let number = hired.len() as u8;
         let post = posts.remove(0);
-        let one = start_answering::<E, H, R>(
+        let one = start_answering::<E, B, H, R>(
             scope, rt, site, reader, session, number, post, buffer,
         );
         hired.push_reserved(one);

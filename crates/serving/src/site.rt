@@ -5,14 +5,15 @@ use crate::page::Page;
 use crate::visiting::Sign;
 use clerks::{Hall, Unhindered};
 use house_floor::Guest;
+use house_history::Naming;
 use serving_workers::Workplace;
 use workers_sync::Listening;
 
 /// What all threads of a server share. It is made before the first of them, and taken apart when the last was joined. It owns what it
 /// holds: a closure that captures a reference to a struct with borrows in it loses what is proved of its result.
-pub(crate) struct Site<H: Hall> {
+pub(crate) struct Site<B: Naming, H: Hall> {
     /// What workers and berths work with.
-    pub(crate) workplace: Workplace<H>,
+    pub(crate) workplace: Workplace<B, H>,
     /// The gate of everybody, which holds nobody up.
     pub(crate) gate: Unhindered,
     /// The guest of each berth, in the order of the berths.

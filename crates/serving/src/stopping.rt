@@ -3,10 +3,11 @@
 
 use crate::site::Site;
 use clerks::{Clerk, Hall};
-use mailbox::Mailbox;
+use house_history::Naming;
+use locked_mailbox::LockedMailbox;
 use std::io::{ErrorKind, Read};
 use std::sync::{Mutex, Wait};
-use workers_sync::{Grip, SessionBell, count};
+use workers_sync::{Grip, SessionBell};
 
 /// So many pauses, of a tenth of a second each, all connections together have for their last words. What is done before and behind them
 /// is to fit into six seconds with them.
@@ -39,7 +40,7 @@ fn wake_all(rows: &[Vec<SessionBell>]) {
 }
 
 // Nothing is accepted any more.
-fn shut_listeners<H: Hall>(site: &Site<H>) {
+fn shut_listeners<B: Naming, H: Hall>(site: &Site<B, H>) {
     site.workplace.lmtp.shut();
     for listening in &site.imap {
         listening.shut();
@@ -56,7 +57,7 @@ fn hush_each<R: Wait>(rt: &R, grips: &[Grip]) {
     }
 }
 
-fn hush_all<H: Hall, R: Wait>(rt: &R, site: &Site<H>) {
+fn hush_all<B: Naming, H: Hall, R: Wait>(rt: &R, site: &Site<B, H>) {
     hush_each(rt, &site.grips.mail);
     hush_each(rt, &site.grips.clients);
     if let Some(page) = &site.page {
@@ -70,7 +71,7 @@ fn cut_each<R: Wait>(rt: &R, grips: &[Grip]) {
     }
 }
 
-fn cut_all<H: Hall, R: Wait>(rt: &R, site: &Site<H>) {
+fn cut_all<B: Naming, H: Hall, R: Wait>(rt: &R, site: &Site<B, H>) {
     cut_each(rt, &site.grips.mail);
     cut_each(rt, &site.grips.clients);
     if let Some(page) = &site.page {
@@ -83,7 +84,7 @@ fn are_empty<R: Wait>(rt: &R, grips: &[Grip]) -> bool {
 }
 
 // Whether nobody is at the page.
-fn is_unread<H: Hall, R: Wait>(rt: &R, site: &Site<H>) -> bool {
+fn is_unread<B: Naming, H: Hall, R: Wait>(rt: &R, site: &Site<B, H>) -> bool {
     match &site.page {
         Some(page) => page.grip.is_empty(rt),
         None => true,
@@ -91,7 +92,7 @@ fn is_unread<H: Hall, R: Wait>(rt: &R, site: &Site<H>) -> bool {
 }
 
 // Waits until no connection is at hand, or the grace is over.
-fn give_grace<H: Hall, R: Wait>(rt: &R, site: &Site<H>) {
+fn give_grace<B: Naming, H: Hall, R: Wait>(rt: &R, site: &Site<B, H>) {
     for _ in 0..GRACE {
         if are_empty(rt, &site.grips.mail)
             && are_empty(rt, &site.grips.clients)
@@ -105,7 +106,7 @@ fn give_grace<H: Hall, R: Wait>(rt: &R, site: &Site<H>) {
 
 /// Stops the house: it is marked, nothing is accepted any more, no thread hears its peer any more, each watch is woken; and what is at
 /// hand some five seconds later is cut.
-pub(crate) fn stop_all<H: Hall, R: Wait>(rt: &R, site: &Site<H>) {
+pub(crate) fn stop_all<B: Naming, H: Hall, R: Wait>(rt: &R, site: &Site<B, H>) {
     site.workplace.mark.set();
     shut_listeners(site);
     hush_all(rt, site);
@@ -115,12 +116,15 @@ pub(crate) fn stop_all<H: Hall, R: Wait>(rt: &R, site: &Site<H>) {
 }
 
 // The most that a clerk took in a row, as it is found under its lock.
-fn longest_of<H: Hall, R: Wait>(rt: &R, clerk: &Mutex<Clerk<H>>) -> u64 {
+fn longest_of<B: Naming, H: Hall, R: Wait>(rt: &R, clerk: &Mutex<Clerk<B, H>>) -> u64 {
     clerk.lock(rt).longest()
 }
 
 /// The most that one of these clerks took of its lane in a row.
-pub(crate) fn longest_lane<H: Hall, R: Wait>(rt: &R, clerks: &[Mutex<Clerk<H>>]) -> u64 {
+pub(crate) fn longest_lane<B: Naming, H: Hall, R: Wait>(
+    rt: &R,
+    clerks: &[Mutex<Clerk<B, H>>],
+) -> u64 {
     let mut longest = 0u64;
     for clerk in clerks {
         longest = longest.max(longest_of(rt, clerk));
@@ -129,13 +133,13 @@ pub(crate) fn longest_lane<H: Hall, R: Wait>(rt: &R, clerks: &[Mutex<Clerk<H>>])
 }
 
 // How many bytes a mailbox holds, by a look under its lock.
-fn bytes_in<R: Wait>(rt: &R, mailbox: &Mutex<Mailbox>) -> u64 {
+fn bytes_in<B: Naming, R: Wait>(rt: &R, mailbox: &Mutex<LockedMailbox<B>>) -> u64 {
     let held = mailbox.lock(rt);
-    u64::try_from(count(&held).size).unwrap_or(u64::MAX)
+    u64::try_from(held.count().size).unwrap_or(u64::MAX)
 }
 
 /// How many bytes these mailboxes hold, each as it is found under its lock.
-pub(crate) fn bytes_held<R: Wait>(rt: &R, mailboxes: &[Mutex<Mailbox>]) -> u64 {
+pub(crate) fn bytes_held<B: Naming, R: Wait>(rt: &R, mailboxes: &[Mutex<LockedMailbox<B>>]) -> u64 {
     let mut held = 0u64;
     for mailbox in mailboxes {
         held = held.saturating_add(bytes_in(rt, mailbox));

@@ -7,6 +7,7 @@ use crate::gathering::{Gathered, gather};
 use crate::page::Page;
 use crate::site::Site;
 use clerks::Hall;
+use house_history::Naming;
 use line_io::{Sink, Watched};
 use server_report::{Answer, HEAD_ROOM, Reply, hear, tell};
 use serving_workers::Door;
@@ -49,9 +50,9 @@ fn wanting(has_body: bool) -> Reply {
 }
 
 // What an answer tells of: what the server is doing, where it is asked for that, and else nothing.
-fn gather_for<'s, H: Hall, R: Wait>(
+fn gather_for<'s, B: Naming, H: Hall, R: Wait>(
     rt: &R,
-    site: &'s Site<H>,
+    site: &'s Site<B, H>,
     answer: Answer,
 ) -> Result<Gathered<'s>, AllocError> {
     match answer {
@@ -61,7 +62,12 @@ fn gather_for<'s, H: Hall, R: Wait>(
 }
 
 // Answers a request. Where memory is refused that is told in place of it.
-fn reply_with<H: Hall, R: Wait, O: Sink>(rt: &R, site: &Site<H>, reply: Reply, output: &mut O)
+fn reply_with<B: Naming, H: Hall, R: Wait, O: Sink>(
+    rt: &R,
+    site: &Site<B, H>,
+    reply: Reply,
+    output: &mut O,
+)
     requires { O.failed output.old ≡ false }
 {
     let alloc = site.workplace.floor.alloc;
@@ -75,7 +81,7 @@ fn reply_with<H: Hall, R: Wait, O: Sink>(rt: &R, site: &Site<H>, reply: Reply, o
 }
 
 // Hears a peer's request, and answers it.
-fn converse<H: Hall, R: Wait>(rt: &R, site: &Site<H>, stream: &TcpStream) {
+fn converse<B: Naming, H: Hall, R: Wait>(rt: &R, site: &Site<B, H>, stream: &TcpStream) {
     let mut output = Watched::new(Timely::new(stream));
     let Ok(mut room) = room_of(site.workplace.floor.alloc, HEAD_ROOM) else {
         reply_with(rt, site, wanting(true), &mut output);
@@ -90,9 +96,9 @@ fn converse<H: Hall, R: Wait>(rt: &R, site: &Site<H>, stream: &TcpStream) {
 
 // The connection that was accepted is at hand while it is served. Whoever stops the house sets its mark first and then looks for what is at
 // hand, so the mark is looked at behind that.
-fn attend<H: Hall, R: Wait>(
+fn attend<B: Naming, H: Hall, R: Wait>(
     rt: &R,
-    site: &Site<H>,
+    site: &Site<B, H>,
     page: &Page,
     door: &Door<'_>,
     stream: &TcpStream,
@@ -106,7 +112,7 @@ fn attend<H: Hall, R: Wait>(
 }
 
 // Tells one peer after another, the first once all threads stand, until the house stops.
-fn tell_each<'s, H: Hall, R: Wait>(rt: &R, site: &'s Site<H>, page: &'s Page) {
+fn tell_each<'s, B: Naming, H: Hall, R: Wait>(rt: &R, site: &'s Site<B, H>, page: &'s Page) {
     let door = Door {
         listening: &page.listening,
         mark: &site.workplace.mark,
@@ -127,11 +133,13 @@ fn tell_each<'s, H: Hall, R: Wait>(rt: &R, site: &'s Site<H>, page: &'s Page) {
 
 /// Starts the thread that tells what the server is doing, where there is a page, and says whether it could be made. Where it can't be the
 /// house's mark is set. Nobody is accepted while its start is held, as the caller does.
-pub(crate) fn start_telling<'s, E, H: Hall + Send, R: Threads + Wait + Sync>(
-    scope: &thread::Scope<'s, E>,
-    rt: &'s R,
-    site: &'s Site<H>,
-) -> bool {
+pub(crate) fn start_telling<
+    's,
+    E,
+    B: Naming + Send + Sync,
+    H: Hall + Send,
+    R: Threads + Wait + Sync,
+>(scope: &thread::Scope<'s, E>, rt: &'s R, site: &'s Site<B, H>) -> bool {
     let Some(page) = &site.page else {
         return true;
     };

@@ -34,10 +34,10 @@ first_of [] rest x some is less = absurd (omega (arith, some))
 first_of {A} (y ∷ ys) rest x some is less = ap (λ (v : A). v ∷ ys) (sym is) ∙ ap (λ (v : List A). x ∷ v) (sym less)
 
 -- one producer more was heard out
-pub one_more : (done new : List Worked) (w : Worked) (left rest : List Served) (s : Served) (all : List (List (Ended Job))) → map (λ w. w.ended.items) done ++ map (λ s. s.ended.items) left ≡ all
+pub one_more : {B : Type 0} (done new : List (Worked B)) (w : Worked B) (left rest : List (Served B)) (s : Served B) (all : List (List (Ended Job))) → map (λ w. w.ended.items) done ++ map (λ s. s.ended.items) left ≡ all
     → 0 < length left → s ≡ slice_index_or left 0 s → rest ≡ drop 1 left → new ≡ done ++ w ∷ [] → w.ended ≡ s.ended → map (λ w. w.ended.items) new ++ map (λ s. s.ended.items) rest ≡ all
 one_more done new w left rest s all before some is less more same =
-    laid_items (λ (w : Worked). w.ended.items) (λ (s : Served). s.ended.items) done new all left rest s w before (first_of left rest s some is less) more
+    laid_items (λ (w : Worked _). w.ended.items) (λ (s : Served _). s.ended.items) done new all left rest s w before (first_of left rest s some is less) more
     (ap (λ (v : Vec (Ended Job) Global). v.items) same)
 
 -- ---- what was heard
@@ -53,42 +53,42 @@ go_on_at [] (x ∷ front) back old new grew are = absurd are
 go_on_at (first ∷ all) [] back old new grew are = (start_on first old new are.0 grew, are.1)
 go_on_at (first ∷ all) (x ∷ front) back old new grew are = (are.0, go_on_at all front back old new grew are.1)
 
-abbrev of_worked : Worked → List (Entry Noted)
+abbrev of_worked : {B : Type 0} → Worked B → List (Entry Noted)
 of_worked w = received w.receiver
 
-abbrev of_served : Served → List (Entry Noted)
+abbrev of_served : {B : Type 0} → Served B → List (Entry Noted)
 of_served s = received s.receiver
 
-pub one_heard : (done new : List Worked) (w : Worked) (left rest : List Served) (s : Served) (all : List (List (Entry Noted))) → GoOn all (map of_worked done ++ map of_served left)
+pub one_heard : {B : Type 0} (done new : List (Worked B)) (w : Worked B) (left rest : List (Served B)) (s : Served B) (all : List (List (Entry Noted))) → GoOn all (map of_worked done ++ map of_served left)
     → 0 < length left → s ≡ slice_index_or left 0 s → rest ≡ drop 1 left → new ≡ done ++ w ∷ [] → IsStartOf (received s.receiver) (received w.receiver)
     → GoOn all (map of_worked new ++ map of_served rest)
 one_heard done new w left rest s all before some is less more grew =
     let first : left ≡ s ∷ rest = first_of left rest s some is less in
-    let was : GoOn all (map of_worked done ++ received s.receiver ∷ map of_served rest) = subst (λ (l : List Served). GoOn all (map of_worked done ++ map of_served l)) first before in
+    let was : GoOn all (map of_worked done ++ received s.receiver ∷ map of_served rest) = subst (λ (l : List (Served _)). GoOn all (map of_worked done ++ map of_served l)) first before in
     let now = go_on_at all (map of_worked done) (map of_served rest) (received s.receiver) (received w.receiver) grew was in
     let e : map of_worked new ++ map of_served rest ≡ map of_worked done ++ received w.receiver ∷ map of_served rest =
-    ap (λ (l : List (List (Entry Noted))). l ++ map of_served rest) (ap (λ (l : List Worked). map of_worked l) more ∙ map-append of_worked done (w ∷ []))
+    ap (λ (l : List (List (Entry Noted))). l ++ map of_served rest) (ap (λ (l : List (Worked _)). map of_worked l) more ∙ map-append of_worked done (w ∷ []))
     ∙ append_assoc (map of_worked done) (received w.receiver ∷ []) (map of_served rest) in
     subst (GoOn all) (sym e) now
 
-pub all_heard : (all : List (List (Entry Noted))) (done : List Worked) (left : List Served) → length left ≡ 0 → GoOn all (map of_worked done ++ map of_served left) → GoOn all (map of_worked done)
+pub all_heard : {B : Type 0} (all : List (List (Entry Noted))) (done : List (Worked B)) (left : List (Served B)) → length left ≡ 0 → GoOn all (map of_worked done ++ map of_served left) → GoOn all (map of_worked done)
 all_heard all done [] none are = subst (GoOn all) (append-nil (map of_worked done)) are
 all_heard all done (s ∷ left) none are = absurd (omega (arith, none))
 
-module _ (floor : Floor) where
-  pub ended_of : (n : ℕ) (ws : List Worked) → AllAt (HasHeard floor) n ws → AreEndedHands floor.office.lanes.items n (map (λ w. w.ended.items) ws)
+module _ {B : Type 0} (floor : Floor B) where
+  pub ended_of : (n : ℕ) (ws : List (Worked B)) → AllAt (HasHeard floor) n ws → AreEndedHands floor.office.lanes.items n (map (λ w. w.ended.items) ws)
   ended_of n [] all = tt
   ended_of n (w ∷ ws) all = (all.0.ended, ended_of (suc n) ws all.1)
 
-  pub receivers_of : (n : ℕ) (ws : List Worked) → AllAt (HasHeard floor) n ws → n + length ws ≡ length floor.depot.channels.items → AreReceivers (drop n floor.depot.channels.items) (map (λ w. w.receiver) ws)
+  pub receivers_of : (n : ℕ) (ws : List (Worked B)) → AllAt (HasHeard floor) n ws → n + length ws ≡ length floor.depot.channels.items → AreReceivers (drop n floor.depot.channels.items) (map (λ w. w.receiver) ws)
   receivers_of n [] all count = subst (λ cs. AreReceivers cs []) (sym (past_all floor.depot.channels.items n (omega (arith, count)))) tt
   receivers_of n (w ∷ ws) all count =
       let channel = some_at floor.depot.channels.items n (omega (arith, count)) in
       subst (λ cs. AreReceivers cs (w.receiver ∷ map (λ v. v.receiver) ws)) (sym (from_here floor.depot.channels.items n channel.0 channel.1))
       (all.0.receiver channel.0 channel.1, receivers_of (suc n) ws all.1 (omega (arith, count)))
 
-  pub lengths_of : (n : ℕ) (ws : List Worked) → AllAt (HasHeard floor) n ws → All (λ (w : Worked). vec_len w.ended ≡ length floor.office.lanes.items) ws
-  lengths_of n [] all = All-nil (λ (w : Worked). vec_len w.ended ≡ length floor.office.lanes.items)
+  pub lengths_of : (n : ℕ) (ws : List (Worked B)) → AllAt (HasHeard floor) n ws → All (λ (w : Worked B). vec_len w.ended ≡ length floor.office.lanes.items) ws
+  lengths_of n [] all = All-nil (λ (w : Worked B). vec_len w.ended ≡ length floor.office.lanes.items)
   lengths_of n (w ∷ ws) all =
       let count = ended_length floor.office.lanes.items n w.ended.items all.0.ended in
-      All-cons (λ (v : Worked). vec_len v.ended ≡ length floor.office.lanes.items) w ws (omega (arith, count, w.ended.ok.0)) (lengths_of (suc n) ws all.1)
+      All-cons (λ (v : Worked B). vec_len v.ended ≡ length floor.office.lanes.items) w ws (omega (arith, count, w.ended.ok.0)) (lengths_of (suc n) ws all.1)

@@ -15,7 +15,7 @@ use Rattle.house_floor.proofs.Finding.{found_at}
 pub here_at : {A : Type 0} (xs : List A) (i n : ℕ) (d : A) → i ≡ n → n < length xs → slice_get xs n ≡ Some (slice_index_or xs i d)
 here_at xs i n d same under = slice_get-get_or xs n d under ∙ ap (λ k. Some (slice_index_or xs k d)) (sym same)
 
-pub served_by : (floor : Floor) (i n number : ℕ) (c : ReplyChannel Noted) (s r : Served) → i ≡ n → number ≡ n → r ≡ s
+pub served_by : {B : Type 0} (floor : Floor B) (i n number : ℕ) (c : ReplyChannel Noted) (s r : Served B) → i ≡ n → number ≡ n → r ≡ s
     → AreEnded floor.office.lanes.items number s.ended.items → IsReceiver (slice_index_or floor.depot.channels.items i c) s.receiver
     → (s.mail ≡ true → s.torn ≡ false → HasServedMail (premises_of floor.office) number (received s.receiver) (map said s.ended.items))
     → (s.mail ≡ false → s.torn ≡ false → HasServedClients (premises_of floor.office) number (received s.receiver) (map said s.ended.items)) → IsServed floor n r

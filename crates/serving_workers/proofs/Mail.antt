@@ -19,7 +19,7 @@ pub passed_by : {house : Premises} {seat n : ℕ} {heard : List (Entry Noted)} {
 passed_by before = (before.0, passed before.1, before.2)
 
 -- before the first
-pub mail_begins : (office : Office) (seat : ℕ) (receiver : ReceiverPermit Noted) (permits : List LanePermit) → All IsNew permits
+pub mail_begins : {B : Type 0} (office : Office B) (seat : ℕ) (receiver : ReceiverPermit Noted) (permits : List (LanePermit Job)) → All IsNew permits
     → AreServed (premises_of office) seat 0 (received receiver) (map put_by permits)
 mail_begins office seat receiver permits fresh =
     let begun = books_begin office.directory (rooms_of office.lanes.items) seat [] (received receiver) permits refl fresh in

@@ -19,11 +19,11 @@ use Rattle.reckoning.specs.declared.balancing.Closes.{Closes}
 use Rattle.serving_workers.specs.Closing.{GoOn, WasClosed}
 use Rattle.serving_workers.specs.declared.accepting.Served.{Served}
 
-got_twice : (ws : List Worked) → map received (map (λ (w : Worked). w.receiver) ws) ≡ map (λ (w : Worked). received w.receiver) ws
+got_twice : {B : Type 0} (ws : List (Worked B)) → map received (map (λ (w : Worked B). w.receiver) ws) ≡ map (λ (w : Worked B). received w.receiver) ws
 got_twice [] = refl
 got_twice (w ∷ ws) = ap (λ (l : List (List (Entry Noted))). received w.receiver ∷ l) (got_twice ws)
 
-pub whole_of : (floor : Floor) (served : List Served) (d : Dismissed) (ws : List Worked) (lanes : Vec (ShardQueue Job) Global) (channels : Vec (ReplyChannel Noted) Global) (closes : Closes)
+pub whole_of : {B : Type 0} (floor : Floor B) (served : List (Served B)) (d : Dismissed B) (ws : List (Worked B)) (lanes : Vec (ShardQueue Job) Global) (channels : Vec (ReplyChannel Noted) Global) (closes : Closes B)
     → d.in_order ≡ true → list_any (λ s. s.torn) served ≡ false → list_any (λ c. c.torn) d.consumed.items ≡ false
     → lanes ≡ floor.office.lanes → channels ≡ floor.depot.channels → map (λ w. w.ended.items) ws ≡ map (λ s. s.ended.items) served
     → GoOn (map (λ s. received s.receiver) served) (map (λ w. received w.receiver) ws)
@@ -31,15 +31,15 @@ pub whole_of : (floor : Floor) (served : List Served) (d : Dismissed) (ws : List
     → AreChannelsClosedWith channels.items (map (λ c. c.senders.items) d.consumed.items) (map (λ w. w.receiver) ws) closes.channels.items
     → AreReceivers floor.depot.channels.items (map (λ w. w.receiver) ws) → WasClosed floor served d closes
 whole_of floor served d ws lanes channels closes order producers clerks of_lanes of_channels ended grew closed shut own =
-    let permits = map (λ (c : Consumed). c.permit) d.consumed.items in
-    let senders = map (λ (c : Consumed). c.senders.items) d.consumed.items in
-    let receivers = map (λ (w : Worked). w.receiver) ws in
+    let permits = map (λ (c : Consumed _). c.permit) d.consumed.items in
+    let senders = map (λ (c : Consumed _). c.senders.items) d.consumed.items in
+    let receivers = map (λ (w : Worked _). w.receiver) ws in
     record {
       in_order = order;
       producers = producers;
       clerks = clerks;
       lanes = subst (λ hs. AreClosedWith floor.office.lanes.items hs permits closes.lanes.items) ended
-          (subst (λ (v : Vec (ShardQueue Job) Global). AreClosedWith v.items (map (λ (w : Worked). w.ended.items) ws) permits closes.lanes.items) of_lanes closed);
+          (subst (λ (v : Vec (ShardQueue Job) Global). AreClosedWith v.items (map (λ (w : Worked _). w.ended.items) ws) permits closes.lanes.items) of_lanes closed);
       channels = (receivers, own, subst (λ (v : Vec (ReplyChannel Noted) Global). AreChannelsClosedWith v.items senders receivers closes.channels.items) of_channels shut);
-      heard = subst (GoOn (map (λ (s : Served). received s.receiver) served)) (sym (histories_taken shut.2 ∙ got_twice ws)) grew;
+      heard = subst (GoOn (map (λ (s : Served _). received s.receiver) served)) (sym (histories_taken shut.2 ∙ got_twice ws)) grew;
     }

@@ -22,7 +22,7 @@ GoOn (first ∷ before) (list ∷ after) = IsStartOf first list × GoOn before a
 
 -- Each clerk stood in its place, and nobody met what he didn't await. These are what was taken of each queue: each lane was closed with what the producers
 -- left of their permits there and with its consumer's, each reply channel with what the clerks left of theirs and with its own receiver.
-pub record WasClosed (floor : Floor) (served : List Served) (dismissed : Dismissed) (closes : Closes) : Type 0 where
+pub record WasClosed {B : Type 0} (floor : Floor B) (served : List (Served B)) (dismissed : Dismissed B) (closes : Closes B) : Type 0 where
   pub in_order : dismissed.in_order ≡ true
   pub producers : list_any (λ s. s.torn) served ≡ false
   pub clerks : list_any (λ c. c.torn) dismissed.consumed.items ≡ false

@@ -65,22 +65,22 @@ pub record HasServedClients (house : Premises) (seat : ℕ) (heard : List (Entry
 -- ---- all of them
 
 -- What producer n leaves: its ended permits on all lanes, and its end of its own channel. A worker's words are its connections' own, and those of another its clients'.
-pub record IsServed (floor : Floor) (n : ℕ) (s : Served) : Type 0 where
+pub record IsServed {B : Type 0} (floor : Floor B) (n : ℕ) (s : Served B) : Type 0 where
   pub ended : AreEnded floor.office.lanes.items n s.ended.items
   pub receiver : (channel : ReplyChannel Noted) → slice_get floor.depot.channels.items n ≡ Some channel → IsReceiver channel s.receiver
   pub mail : s.mail ≡ true → s.torn ≡ false → HasServedMail (premises_of floor.office) n (received s.receiver) (map said s.ended.items)
   pub clients : s.mail ≡ false → s.torn ≡ false → HasServedClients (premises_of floor.office) n (received s.receiver) (map said s.ended.items)
 
 -- its thread will leave that, or it is there
-abbrev pub IsHired : Floor → ℕ → Hired → Type 0
+abbrev pub IsHired : {B : Type 0} → Floor B → ℕ → Hired B → Type 0
 IsHired floor n (There h) = (h.promise.floor.now ≡ floor) × (h.promise.number ≡ n)
 IsHired floor n (Here s) = IsServed floor n (manually_drop_value s)
 
 -- it is a worker, or was one
-abbrev pub serves_mail : Hired → Bool
+abbrev pub serves_mail : {B : Type 0} → Hired B → Bool
 serves_mail (There h) = h.promise.mail
 serves_mail (Here s) = (manually_drop_value s).mail
 
-abbrev pub has_thread : Hired → Bool
+abbrev pub has_thread : {B : Type 0} → Hired B → Bool
 has_thread (There h) = true
 has_thread (Here s) = false

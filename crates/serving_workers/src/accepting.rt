@@ -9,8 +9,8 @@ ghost use Rattle.lane_work.specs.Speaking.{premises_of};
 ghost use Rattle.serving_workers.specs.Leaving.{AreServed, HasServedMail};
 
 use crate::door::Door;
-use delivery_token::{Job, Noted};
-use lane_work::{Context, Desk, Ending, Producer, Summons, TalkFault, converse, end_all};
+use house_history::{Answer, Letter, Naming};
+use lane_work::{Context, Desk, Dispatch, Ending, Producer, Summons, TalkFault, converse, end_all};
 use line_io::Watched;
 use server_report::{Happened, LogBook};
 use shard_queue::{Ended, ReceiverPermit};
@@ -19,13 +19,15 @@ use std::sync::Wait;
 use workers_sync::{Gate, Grip, Pace, Patience, Timely, prepare};
 
 /// What a producer of a server leaves: a worker, or whoever else has a post.
-pub struct Served {
+pub struct Served<B: Naming> {
     /// What is left of its permit on each lane.
-    pub ended: Vec<Ended<Job>>,
+    pub ended: Vec<Ended<Letter<B>>>,
     /// Its end of its reply channel.
-    pub receiver: ReceiverPermit<Noted>,
+    pub receiver: ReceiverPermit<Answer<B>>,
     /// How many shards' ends it has heard there.
     pub ends: usize,
+    /// What it sent its copies with.
+    pub dispatch: Dispatch<B>,
     /// Whether it heard a verdict that it didn't await, after which it served nobody.
     pub torn: bool,
     /// Whether it is a worker, and took mail.
@@ -61,9 +63,9 @@ fn how_it_ended(ending: Result<Ending, TalkFault>) -> Happened {
 }
 
 // One connection, from its greeting to its end, and whether a verdict came that the worker didn't await.
-fn serve_one<R: Wait, G: Gate, S: Summons>(
-    context: &Context<'_, R, S>,
-    producer: &mut Producer<'_, G, LogBook<'_, R>>,
+fn serve_one<B: Naming, R: Wait, G: Gate, S: Summons>(
+    context: &Context<'_, B, R, S>,
+    producer: &mut Producer<'_, B, G, LogBook<'_, R>>,
     serial: u64,
     door: &Door<'_>,
     stream: &TcpStream,
@@ -116,9 +118,9 @@ fn serve_one<R: Wait, G: Gate, S: Summons>(
 
 // The connection that was accepted is at hand while it is served. Whoever stops the house sets its mark first and then looks for what is
 // at hand, so a thread has to look at the mark behind that.
-fn attend<R: Wait, G: Gate, S: Summons>(
-    context: &Context<'_, R, S>,
-    producer: &mut Producer<'_, G, LogBook<'_, R>>,
+fn attend<B: Naming, R: Wait, G: Gate, S: Summons>(
+    context: &Context<'_, B, R, S>,
+    producer: &mut Producer<'_, B, G, LogBook<'_, R>>,
     serial: u64,
     door: &Door<'_>,
     grip: &Grip,
@@ -163,9 +165,9 @@ fn attend<R: Wait, G: Gate, S: Summons>(
 
 // Serves one connection after another until the house stops, the first once all threads stand, each with the next serial, and answers whether a verdict came that it
 // didn't await: then it serves nobody any more.
-fn serve_all<R: Wait, G: Gate, S: Summons>(
-    context: &Context<'_, R, S>,
-    producer: &mut Producer<'_, G, LogBook<'_, R>>,
+fn serve_all<B: Naming, R: Wait, G: Gate, S: Summons>(
+    context: &Context<'_, B, R, S>,
+    producer: &mut Producer<'_, B, G, LogBook<'_, R>>,
     door: &Door<'_>,
     grip: &Grip,
     buffers: &mut Buffers,
@@ -209,15 +211,15 @@ fn serve_all<R: Wait, G: Gate, S: Summons>(
 /// its channel: those come when all workers have ended. What becomes of the copies, and of the connections, is told to the door's log.
 ///
 /// `room`, which is empty, has room for what is left of each permit.
-pub(crate) fn serve_until_stopped<R: Wait, G: Gate, S: Summons>(
-    context: &Context<'_, R, S>,
+pub(crate) fn serve_until_stopped<B: Naming, R: Wait, G: Gate, S: Summons>(
+    context: &Context<'_, B, R, S>,
     pace: Pace<'_, G>,
-    desk: Desk,
-    room: Vec<Ended<Job>>,
+    desk: Desk<B>,
+    room: Vec<Ended<Letter<B>>>,
     door: &Door<'_>,
     grip: &Grip,
     mut buffers: Buffers,
-) -> Served
+) -> Served<B>
     requires permits { AreInForce context.now.office.now.directory
         context.now.office.now.lanes.items desk.number
         desk.permits.items }
@@ -248,6 +250,7 @@ pub(crate) fn serve_until_stopped<R: Wait, G: Gate, S: Summons>(
         permits,
         receiver,
         ends,
+        dispatch,
     } = desk;
     let ended = end_all(
         context.rt,
@@ -262,6 +265,7 @@ pub(crate) fn serve_until_stopped<R: Wait, G: Gate, S: Summons>(
         ended,
         receiver,
         ends,
+        dispatch,
         torn,
         mail: true,
     }

@@ -17,6 +17,7 @@ use crate::accepting::Served;
 use clerks::{Dismissed, Unhindered};
 use delivery_token::WorkerLog;
 use house_floor::{Baskets, Floor, Ran, Started};
+use house_history::Naming;
 use lane_work::{Consumed, Fate, Worked, hear_ends};
 use reckoning::{Closes, Closings, Remains, abandon, close_queues, remains_of};
 use std::sync::Wait;
@@ -29,7 +30,12 @@ fn fate_of(quiet: bool) -> Fate {
 
 // A producer hears the end of each shard, which each clerk has sent it. Of its replies and verdicts nothing was kept. Its fate says whether
 // it heard these ends alone.
-fn hear_out<R: Wait>(rt: &R, floor: &Floor, number: u8, served: Served) -> Worked
+fn hear_out<B: Naming, R: Wait>(
+    rt: &R,
+    floor: &Floor<B>,
+    number: u8,
+    served: Served<B>,
+) -> Worked<B>
     requires there { number < length floor.now.depot.channels.items }
     requires served { IsServed floor.now number served }
     ensures heard { HasHeard floor.now number result }
@@ -40,6 +46,7 @@ fn hear_out<R: Wait>(rt: &R, floor: &Floor, number: u8, served: Served) -> Worke
         ended,
         mut receiver,
         ends,
+        dispatch,
         torn: _,
         mail: _,
     } = served;
@@ -53,17 +60,18 @@ fn hear_out<R: Wait>(rt: &R, floor: &Floor, number: u8, served: Served) -> Worke
         receiver,
         replies: Vec::new(floor.alloc),
         log: WorkerLog::new(floor.alloc, number),
+        dispatch,
         fate: fate_of(quiet),
     }
 }
 
 // The same of all producers. `worked`, which is empty, has room for all.
-fn hear_all_out<R: Wait>(
+fn hear_all_out<B: Naming, R: Wait>(
     rt: &R,
-    floor: &Floor,
-    served: Vec<Served>,
-    mut worked: Vec<Worked>,
-) -> Vec<Worked>
+    floor: &Floor<B>,
+    served: Vec<Served<B>>,
+    mut worked: Vec<Worked<B>>,
+) -> Vec<Worked<B>>
     requires house { IsHouse floor.now (vec_len served) }
     requires served { AllAt (IsServed floor.now) 0 served.items }
     requires room { (worked.items ≡ []) × (vec_len served ≤ vec_capacity worked) }
@@ -83,26 +91,31 @@ fn hear_all_out<R: Wait>(
 }
 
 // Whether a producer heard a verdict that it didn't await.
-fn is_producer_torn(served: &[Served]) -> bool
+fn is_producer_torn<B: Naming>(served: &[Served<B>]) -> bool
     ensures { result ≡ list_any (λ s. s.torn) served.now }
 {
     served.iter().any(|one| one.torn)
 }
 
 // Whether a clerk met a copy that was nobody's.
-fn is_clerk_torn(consumed: &[Consumed]) -> bool
+fn is_clerk_torn<B: Naming>(consumed: &[Consumed<B>]) -> bool
     ensures { result ≡ list_any (λ c. c.torn) consumed.now }
 {
     consumed.iter().any(|one| one.torn)
 }
 
 // Whether nobody heard anything but the shards' ends at last.
-fn are_quiet(worked: &[Worked]) -> bool {
+fn are_quiet<B: Naming>(worked: &[Worked<B>]) -> bool {
     worked.iter().all(|one| one.fate == Fate::Whole)
 }
 
 // Spends a house of which a clerk stood at another's position, so that no lane and no channel can be closed.
-fn spend_house(floor: Floor, worked: Vec<Worked>, consumed: Vec<Consumed>, baskets: Baskets)
+fn spend_house<B: Naming>(
+    floor: Floor<B>,
+    worked: Vec<Worked<B>>,
+    consumed: Vec<Consumed<B>>,
+    baskets: Baskets<B>,
+)
     requires some { (0 < length floor.depot.channels.items)
         × (0 < length floor.office.lanes.items) }
     requires each { (vec_len worked ≡ length floor.depot.channels.items)
@@ -129,14 +142,14 @@ fn spend_house(floor: Floor, worked: Vec<Worked>, consumed: Vec<Consumed>, baske
 /// didn't await, and each queue could be closed. Where it didn't, all of the house is spent all the same.
 ///
 /// `worked`, which is empty, has room for all producers.
-pub fn close_all<R: Wait>(
+pub fn close_all<B: Naming, R: Wait>(
     rt: &R,
-    floor: Floor,
-    served: Vec<Served>,
-    worked: Vec<Worked>,
-    dismissed: Dismissed,
-    baskets: Baskets,
-) -> Option<Closes>
+    floor: Floor<B>,
+    served: Vec<Served<B>>,
+    worked: Vec<Worked<B>>,
+    dismissed: Dismissed<B>,
+    baskets: Baskets<B>,
+) -> Option<Closes<B>>
     requires house { IsHouse floor (vec_len served) }
     requires some { (0 < vec_len served) × (0 < length floor.office.lanes.items) }
     requires served { AllAt (IsServed floor) 0 served.items }

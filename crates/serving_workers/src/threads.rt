@@ -5,6 +5,7 @@ ghost use Rattle.std.specs.Prelude.{ℕ, ◌≡◌, ◌≤◌, ◌<◌, ◌+◌,
 ghost use Rattle.std.specs.Mem.{manually_drop_value};
 ghost use Rattle.house_floor.specs.Crew.{AllAt, IsHouse, IsPost};
 ghost use Rattle.std.specs.List.{list_all};
+ghost use Rattle.clerks.specs.Keeping.{parts_of};
 ghost use Rattle.serving_workers.specs.Leaving.{IsHired, IsServed, has_thread, serves_mail};
 
 use crate::accepting::{Buffers, Served, serve_until_stopped};
@@ -12,6 +13,7 @@ use crate::parcels::packed;
 use crate::workplace::Workplace;
 use clerks::{Hall, Unhindered};
 use house_floor::{Floor, Post};
+use house_history::Naming;
 use lane_work::Context;
 use std::mem::ManuallyDrop;
 use std::sync::Wait;
@@ -20,17 +22,17 @@ use std::thread::{Promise, Threads};
 use workers_sync::{Actor, Grip, Pace};
 
 /// What the thread of this producer is to return: what is left of its permits.
-#[derive(Clone, Copy)]
-pub struct Serves<'a> {
+#[derive_where(Clone, Copy)]
+pub struct Serves<'a, B: Naming> {
     /// The house that it serves in.
-    pub floor: &'a Floor,
+    pub floor: &'a Floor<B>,
     /// Its number among the producers, from 0: the workers', and behind them the others'.
     pub number: u8,
     /// Whether it is a worker, and takes mail.
     pub mail: bool,
 }
 
-impl<'a> Promise<ManuallyDrop<Served>> for Serves<'a> {
+impl<'a, B: Naming> Promise<ManuallyDrop<Served<B>>> for Serves<'a, B> {
     ghost use Rattle.std.specs.Prelude.{◌≡◌};
     ghost use Rattle.std.specs.Mem.{manually_drop_value};
     ghost use Rattle.serving_workers.specs.Leaving.{IsServed};
@@ -40,31 +42,31 @@ impl<'a> Promise<ManuallyDrop<Served>> for Serves<'a> {
 
 /// A producer's thread, or what came of it where there is none.
 #[derive(Drop)]
-pub enum Hired<'a> {
+pub enum Hired<'a, B: Naming> {
     /// Its thread, which leaves what the producer does.
-    There(thread::PromisedHandle<ManuallyDrop<Served>, Serves<'a>>),
+    There(thread::PromisedHandle<ManuallyDrop<Served<B>>, Serves<'a, B>>),
     /// No thread could be made: what it leaves, that served nobody.
-    Here(ManuallyDrop<Served>),
+    Here(ManuallyDrop<Served<B>>),
 }
 
 /// Whether each of these producers has a thread.
-pub fn have_threads(hired: &[Hired<'_>]) -> bool
+pub fn have_threads<B: Naming>(hired: &[Hired<'_, B>]) -> bool
     ensures { result ≡ list_all has_thread hired.now }
 {
     hired.iter().all(|one| matches!(one, Hired::There(_)))
 }
 
 // A worker's life.
-fn serve_there<H: Hall, R: Wait>(
+fn serve_there<B: Naming, H: Hall, R: Wait>(
     rt: &R,
-    workplace: &Workplace<H>,
+    workplace: &Workplace<B, H>,
     grip: &Grip,
     number: u8,
-    post: ManuallyDrop<Post>,
+    post: ManuallyDrop<Post<B>>,
     buffers: Buffers,
-) -> ManuallyDrop<Served>
+) -> ManuallyDrop<Served<B>>
     requires lanes { H.lanes ≡ Some workplace.now.floor.office.lanes.items }
-    requires depot { H.depot ≡ Some workplace.now.floor.depot }
+    requires depot { H.depot ≡ Some (parts_of workplace.now.floor.depot) }
     requires house { IsHouse workplace.now.floor (length workplace.now.floor.depot.channels.items) }
     requires number { number < length workplace.now.floor.depot.channels.items }
     requires post { IsPost workplace.now.floor number (manually_drop_value post) }
@@ -89,17 +91,17 @@ fn serve_there<H: Hall, R: Wait>(
 
 // Starts a worker's thread. Where none can be made the house's mark has to be set before what came of it can be had: so the worker serves
 // nobody, and its permits are ended here.
-fn start_worker<'s, E, H: Hall + Send, R: Threads + Wait + Sync>(
+fn start_worker<'s, E, B: Naming + Send + Sync, H: Hall + Send, R: Threads + Wait + Sync>(
     scope: &thread::Scope<'s, E>,
     rt: &'s R,
-    workplace: &'s Workplace<H>,
+    workplace: &'s Workplace<B, H>,
     grip: &'s Grip,
     number: u8,
-    post: Post,
+    post: Post<B>,
     buffers: Buffers,
-) -> Hired<'s>
+) -> Hired<'s, B>
     requires lanes { H.lanes ≡ Some workplace.now.floor.office.lanes.items }
-    requires depot { H.depot ≡ Some workplace.now.floor.depot }
+    requires depot { H.depot ≡ Some (parts_of workplace.now.floor.depot) }
     requires house { IsHouse workplace.now.floor (length workplace.now.floor.depot.channels.items) }
     requires number { number < length workplace.now.floor.depot.channels.items }
     requires post { IsPost workplace.now.floor number post }
@@ -114,7 +116,7 @@ fn start_worker<'s, E, H: Hall + Send, R: Threads + Wait + Sync>(
         mail: true,
     };
     match scope.spawn_with(promise, move || {
-        serve_there::<H, R>(rt, workplace, grip, number, parcel, buffers)
+        serve_there::<B, H, R>(rt, workplace, grip, number, parcel, buffers)
     }) {
         Ok(child) => Hired::There(child),
         Err(refused) => {
@@ -126,18 +128,18 @@ fn start_worker<'s, E, H: Hall + Send, R: Threads + Wait + Sync>(
 
 // Starts the thread of the next worker, with the first of these posts and of these buffers, and puts it behind those in `hired`, which has
 // room for it.
-fn start_next<'s, E, H: Hall + Send, R: Threads + Wait + Sync>(
+fn start_next<'s, E, B: Naming + Send + Sync, H: Hall + Send, R: Threads + Wait + Sync>(
     scope: &thread::Scope<'s, E>,
     rt: &'s R,
-    workplace: &'s Workplace<H>,
+    workplace: &'s Workplace<B, H>,
     grip: &'s Grip,
     number: u8,
-    posts: &mut Vec<Post>,
+    posts: &mut Vec<Post<B>>,
     buffers: &mut Vec<Buffers>,
-    hired: &mut Vec<Hired<'s>>,
+    hired: &mut Vec<Hired<'s, B>>,
 )
     requires lanes { H.lanes ≡ Some workplace.now.floor.office.lanes.items }
-    requires depot { H.depot ≡ Some workplace.now.floor.depot }
+    requires depot { H.depot ≡ Some (parts_of workplace.now.floor.depot) }
     requires house { IsHouse workplace.now.floor (length workplace.now.floor.depot.channels.items) }
     requires number { number < length workplace.now.floor.depot.channels.items }
     requires posts { AllAt (IsPost workplace.now.floor) number posts.old.items
@@ -163,28 +165,28 @@ fn start_next<'s, E, H: Hall + Send, R: Threads + Wait + Sync>(
 }
 
 /// The workers' threads, and what is left of the posts.
-pub struct Begun<'a> {
+pub struct Begun<'a, B: Naming> {
     /// For each worker its thread, or what came of it: in their order, with room for all producers.
-    pub hired: Vec<Hired<'a>>,
+    pub hired: Vec<Hired<'a, B>>,
     /// The posts of the other producers, in their order.
-    pub posts: Vec<Post>,
+    pub posts: Vec<Post<B>>,
 }
 
 /// Starts a thread for each worker, a grip for each, in their order, with the first of these posts. The others are given back, and so is
 /// the list of threads, in which there is room for all posts. None of them accepts anybody while the start of the workplace's mark is held, as whoever
 /// calls it does. Where a thread can't be made the mark is set, so no worker serves anybody.
-pub fn start_workers<'s, E, H: Hall + Send, R: Threads + Wait + Sync>(
+pub fn start_workers<'s, E, B: Naming + Send + Sync, H: Hall + Send, R: Threads + Wait + Sync>(
     scope: &thread::Scope<'s, E>,
     rt: &'s R,
-    workplace: &'s Workplace<H>,
+    workplace: &'s Workplace<B, H>,
     grips: &'s [Grip],
-    mut posts: Vec<Post>,
+    mut posts: Vec<Post<B>>,
     mut buffers: Vec<Buffers>,
-    mut hired: Vec<Hired<'s>>,
-) -> Begun<'s>
+    mut hired: Vec<Hired<'s, B>>,
+) -> Begun<'s, B>
     // The workplace's floor is a house, and that of its clerks' hall.
     requires lanes { H.lanes ≡ Some workplace.now.floor.office.lanes.items }
-    requires depot { H.depot ≡ Some workplace.now.floor.depot }
+    requires depot { H.depot ≡ Some (parts_of workplace.now.floor.depot) }
     requires house { IsHouse workplace.now.floor (length workplace.now.floor.depot.channels.items) }
 
     // There are no more workers than producers.
@@ -225,7 +227,7 @@ pub fn start_workers<'s, E, H: Hall + Send, R: Threads + Wait + Sync>(
     Begun { hired, posts }
 }
 
-fn join_producer<R: Threads>(rt: &R, floor: &Floor, hired: Hired<'_>) -> Served
+fn join_producer<B: Naming, R: Threads>(rt: &R, floor: &Floor<B>, hired: Hired<'_, B>) -> Served<B>
     ensures served { (n : ℕ) → IsHired floor.now n hired.entry → IsServed floor.now n result }
     ensures mail { result.mail ≡ serves_mail hired.entry }
 {
@@ -236,12 +238,12 @@ fn join_producer<R: Threads>(rt: &R, floor: &Floor, hired: Hired<'_>) -> Served
 }
 
 /// Waits for each producer's end. `served`, which is empty, has room for all.
-pub fn join_producers<R: Threads>(
+pub fn join_producers<B: Naming, R: Threads>(
     rt: &R,
-    floor: &Floor,
-    hired: Vec<Hired<'_>>,
-    mut served: Vec<Served>,
-) -> Vec<Served>
+    floor: &Floor<B>,
+    hired: Vec<Hired<'_, B>>,
+    mut served: Vec<Served<B>>,
+) -> Vec<Served<B>>
     // Each is a producer's thread, by its number, or what that has left without one.
     requires hired { AllAt (IsHired floor.now) 0 hired.items }
     requires room { (served.items ≡ []) × (vec_len hired ≤ vec_capacity served) }

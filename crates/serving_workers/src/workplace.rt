@@ -1,22 +1,24 @@
 //! What the producers of a server work with. What they do with it stands elsewhere.
 
 ghost use Rattle.std.specs.Prelude.{◌≡◌, Some};
+ghost use Rattle.clerks.specs.Keeping.{parts_of};
 
 use crate::door::Door;
 use crate::mark::Mark;
 use clerks::{Clerk, Clerks, Hall, Unhindered};
 use house_floor::Floor;
+use house_history::Naming;
 use server_report::{Log, Names, Presence};
 use std::sync::Mutex;
 use workers_sync::{Listening, Pause};
 
 /// What all producers of a server work with, and those who close it. It is made before the first of their threads. It owns what it holds:
 /// a closure that captures a reference to a struct with borrows in it loses what is proved of its result.
-pub struct Workplace<H: Hall> {
+pub struct Workplace<B: Naming, H: Hall> {
     /// Lanes, channels, mailboxes and the directory.
-    pub floor: Floor,
+    pub floor: Floor<B>,
     /// The clerk of each shard, behind its lock at the shard's position.
-    pub clerks: Vec<Mutex<Clerk<H>>>,
+    pub clerks: Vec<Mutex<Clerk<B, H>>>,
     /// Behind so many copies of one message a clerk is summoned (`copies_at_once`).
     pub at_once: usize,
     /// Where mail comes in.
@@ -35,12 +37,12 @@ pub struct Workplace<H: Hall> {
     pub presences: Vec<Presence>,
 }
 
-impl<H: Hall> Workplace<H> {
+impl<B: Naming, H: Hall> Workplace<B, H> {
     /// How the clerks are summoned, with a gate that holds nobody up.
-    pub fn summons<'a>(&'a self, gate: &'a Unhindered) -> Clerks<'a, H, Unhindered>
+    pub fn summons<'a>(&'a self, gate: &'a Unhindered) -> Clerks<'a, B, H, Unhindered>
         // The floor is that of the clerks' hall.
         requires lanes { H.lanes ≡ Some self.now.floor.office.lanes.items }
-        requires depot { H.depot ≡ Some self.now.floor.depot }
+        requires depot { H.depot ≡ Some (parts_of self.now.floor.depot) }
     {
         let floor = &self.floor;
         Clerks::new(

@@ -11,6 +11,7 @@ ghost use Rattle.session_thread.specs.Life.{Awaits, Departs, IsForgotten, IsOver
 use crate::locked_store::LockedStore;
 use crate::speaking::answer;
 use crate::turns::idle_turn;
+use house_history::Naming;
 use imap_session::{After, Folder, ImapConnection, Store};
 use settings::Step;
 use std::alloc::{AllocError, Global};
@@ -30,9 +31,9 @@ pub fn takes_more(connection: &ImapConnection) -> bool
 }
 
 // The session has turns while it idles, until so many changes were shown or so many turns are spent. Others go on where one showed nothing.
-fn wait_for<R: Wait, G: Gate>(
+fn wait_for<B: Naming, R: Wait, G: Gate>(
     connection: &mut ImapConnection,
-    store: &mut LockedStore<'_, R, G>,
+    store: &mut LockedStore<'_, B, R, G>,
     count: u64,
     turns: u64,
     out: &mut Vec<u8>,
@@ -64,10 +65,10 @@ fn wait_for<R: Wait, G: Gate>(
 }
 
 // One step. A session that has ended, or awaits a verdict, does nothing.
-fn make<R: Wait, G: Gate, C: Courier>(
+fn make<B: Naming, R: Wait, G: Gate, C: Courier>(
     alloc: Global,
     connection: &mut ImapConnection,
-    store: &mut LockedStore<'_, R, G>,
+    store: &mut LockedStore<'_, B, R, G>,
     courier: &mut C,
     step: &Step,
     turns: u64,
@@ -99,10 +100,10 @@ fn make<R: Wait, G: Gate, C: Courier>(
 }
 
 // The steps, after the greeting.
-fn make_all<R: Wait, G: Gate, C: Courier>(
+fn make_all<B: Naming, R: Wait, G: Gate, C: Courier>(
     alloc: Global,
     connection: &mut ImapConnection,
-    store: &mut LockedStore<'_, R, G>,
+    store: &mut LockedStore<'_, B, R, G>,
     courier: &mut C,
     steps: &[Step],
     turns: u64,
@@ -133,7 +134,7 @@ fn make_all<R: Wait, G: Gate, C: Courier>(
 ///
 /// Errors: `Torn` where the mailbox that was found doesn't know the session's handle, which the session
 /// keeps then.
-pub fn depart<R: Wait, G: Gate>(store: &mut LockedStore<'_, R, G>) -> Result<(), Lost>
+pub fn depart<B: Naming, R: Wait, G: Gate>(store: &mut LockedStore<'_, B, R, G>) -> Result<(), Lost>
     ensures gone { OnOk result (Departs store.old store.new) }
     ensures forgotten { OnErr result (IsForgotten store.old store.new) }
     ensures torn { IfErr result (λ why. why ≡ Lost.Torn) }
@@ -161,9 +162,9 @@ pub fn depart<R: Wait, G: Gate>(store: &mut LockedStore<'_, R, G>) -> Result<(),
 /// the greeting the session stops, and leaves its mailbox all the same: what was said by then stands
 /// behind `out`, and is what the steps say that were made, and of the next what was answered or the turns
 /// that were had. What a command was refused memory for is told to the client and is no error.
-pub fn live<R: Wait, G: Gate, C: Courier>(
+pub fn live<B: Naming, R: Wait, G: Gate, C: Courier>(
     alloc: Global,
-    store: &mut LockedStore<'_, R, G>,
+    store: &mut LockedStore<'_, B, R, G>,
     courier: &mut C,
     folders: Vec<Folder>,
     most: Option<u32>,

@@ -1,5 +1,5 @@
-//! One hold of a mailbox's lock for each call: through the door of `workers_sync` one thing is done to the
-//! mailbox that is found. Which lock, and for whose handle, is told above.
+//! One hold of a mailbox's lock for each call: through the door of `locked_mailbox` one thing is done to the mailbox that is found, and the
+//! house's history is told of it. Which lock, and for whose handle, is told above.
 
 ghost use Rattle.std.specs.Prelude.{◌≡◌, ◌≢◌, ◌≤◌, ◌⊎◌, ℕ, List, None, Some, Ok, Err, IfErr, IfOk, option_map};
 ghost use Rattle.imap_grammar.specs.Sets.{messages_in};
@@ -11,54 +11,69 @@ ghost use Rattle.session_thread.specs.inner.Entering.{DoesEnterAt};
 
 use change_ring::{FlagOp, Flags};
 use cursor_set::CursorHandle;
+use house_history::{Front, Naming};
 use imap_grammar::{Named, SeqSet, SetFault};
-use mailbox::{MailFault, Mailbox, Opening, Row, Status};
+use locked_mailbox::{LockedMailbox, under, under_with};
+use mailbox::{MailFault, Opening, Row, Status};
 use std::alloc::Global;
 use std::sync::{Mutex, Wait};
-use workers_sync as holds;
-use workers_sync::{under, under_with};
 
 // Lets a client into the mailbox that is held, where it has this number.
-fn enter_at(mailbox: &mut Mailbox, number: u8) -> Result<(CursorHandle, Opening), MailFault>
-    ensures { DoesEnterAt number mailbox.old result mailbox.new }
+fn enter_at<B: Naming>(
+    locked: &mut LockedMailbox<B>,
+    front: &mut Front<B>,
+    number: u8,
+) -> Result<(CursorHandle, Opening), MailFault>
+    ensures { DoesEnterAt number locked.old.mailbox result locked.new.mailbox }
 {
-    if mailbox.number() != number {
+    if locked.mailbox().number() != number {
         return Err(MailFault::Stranger);
     }
-    holds::enter(mailbox)
+    locked.enter(front)
 }
 
-pub(crate) fn enter<R: Wait>(
+pub(crate) fn enter<B: Naming, R: Wait>(
     rt: &R,
-    lock: &Mutex<Mailbox>,
+    lock: &Mutex<LockedMailbox<B>>,
+    front: &mut Front<B>,
     number: u8,
 ) -> Result<(CursorHandle, Opening), MailFault>
     ensures { UnderLock (λ found left. DoesEnterAt number found result left) }
 {
-    under(
+    let mut seen = front.again();
+    let (entered, seen) = under(
         rt,
         lock,
-        |mailbox: &mut Mailbox| -> Result<(CursorHandle, Opening), MailFault>
-            ensures { DoesEnterAt number mailbox.old result mailbox.new }
-        { enter_at(mailbox, number) },
-    )
+        move |locked: &mut LockedMailbox<B>| -> (
+            Result<(CursorHandle, Opening), MailFault>,
+            Front<B>,
+        )
+            ensures { DoesEnterAt number locked.old.mailbox result.0 locked.new.mailbox }
+        {
+            let entered = enter_at(locked, &mut seen, number);
+            (entered, seen)
+        },
+    );
+    *front = seen;
+    entered
 }
 
 // The messages that a set names, as the handle's client counts them. Memory is wanted only where there is one.
-fn choose_in(
+fn choose_in<B: Naming>(
     alloc: Global,
-    mailbox: &Mailbox,
+    locked: &LockedMailbox<B>,
     handle: &CursorHandle,
     set: &SeqSet<'_>,
     by_uid: bool,
 ) -> Result<Option<Vec<Named>>, MailFault>
     ensures chosen { IfOk result (λ chosen. (view : List ℕ)
-        × DoesLook mailbox.now handle.now (Ok view)
+        × DoesLook locked.now.mailbox handle.now (Ok view)
         × (option_map (λ named. named.items) chosen ≡ messages_in by_uid set.now view)) }
-    ensures not { IfErr result (λ fault. LooksNot by_uid set.now fault mailbox.now handle.now) }
+    ensures not { IfErr result (λ fault.
+        LooksNot by_uid set.now fault locked.now.mailbox handle.now) }
     ensures faults { IfErr result (λ f. (f ≡ MailFault.Stranger) ⊎ (f ≡ MailFault.NoMemory)) }
 {
-    let view = holds::view(mailbox, handle)?;
+    let view = locked.view(handle)?;
     match set.resolve(alloc, &view, by_uid) {
         Err(SetFault::TooHigh) => Ok(None),
         Err(SetFault::NoMemory) => Err(MailFault::NoMemory),
@@ -66,10 +81,10 @@ fn choose_in(
     }
 }
 
-pub(crate) fn choose<R: Wait>(
+pub(crate) fn choose<B: Naming, R: Wait>(
     rt: &R,
     alloc: Global,
-    lock: &Mutex<Mailbox>,
+    lock: &Mutex<LockedMailbox<B>>,
     handle: &CursorHandle,
     set: &SeqSet<'_>,
     by_uid: bool,
@@ -87,82 +102,176 @@ pub(crate) fn choose<R: Wait>(
         rt,
         lock,
         &mut set,
-        |mailbox: &mut Mailbox, set: &mut &SeqSet<'_>| -> Result<Option<Vec<Named>>, MailFault>
-            ensures same { mailbox.new ≡ mailbox.old }
+        |locked: &mut LockedMailbox<B>, set: &mut &SeqSet<'_>| -> Result<
+            Option<Vec<Named>>,
+            MailFault,
+        >
+            ensures same { locked.new ≡ locked.old }
             ensures chosen { IfOk result (λ chosen. (view : List ℕ)
-                × DoesLook mailbox.old handle.entry.now (Ok view)
+                × DoesLook locked.old.mailbox handle.entry.now (Ok view)
                 × (option_map (λ named. named.items) chosen
                 ≡ messages_in by_uid set.old.now view)) }
             ensures not { IfErr result (λ fault.
-                LooksNot by_uid set.old.now fault mailbox.old handle.entry.now) }
+                LooksNot by_uid set.old.now fault locked.old.mailbox handle.entry.now) }
             ensures faults { IfErr result (λ f. (f ≡ MailFault.Stranger)
                 ⊎ (f ≡ MailFault.NoMemory)) }
-        { choose_in(alloc, mailbox, handle, set, by_uid) },
+        { choose_in(alloc, locked, handle, set, by_uid) },
     )
 }
 
-pub(crate) fn read<R: Wait>(
+pub(crate) fn read<B: Naming, R: Wait>(
     rt: &R,
-    lock: &Mutex<Mailbox>,
+    lock: &Mutex<LockedMailbox<B>>,
+    front: &mut Front<B>,
     handle: &CursorHandle,
     uid: u32,
     mark_seen: bool,
 ) -> Result<Option<Row>, MailFault>
     ensures { UnderLock (λ found left. DoesRead found handle.now uid mark_seen result left) }
 {
-    under(
+    let mut seen = front.again();
+    let (row, seen) = under(
         rt,
         lock,
-        |mailbox: &mut Mailbox| -> Result<Option<Row>, MailFault>
-            ensures { DoesRead mailbox.old handle.entry.now uid mark_seen result mailbox.new }
-        { holds::read(mailbox, handle, uid, mark_seen) },
-    )
+        move |locked: &mut LockedMailbox<B>| -> (Result<Option<Row>, MailFault>, Front<B>)
+            ensures { DoesRead locked.old.mailbox handle.entry.now uid mark_seen result.0
+                locked.new.mailbox }
+        {
+            let row = locked.read(&mut seen, handle, uid, mark_seen);
+            (row, seen)
+        },
+    );
+    *front = seen;
+    row
 }
 
 // Counts the mailbox that is held, where it has this number.
-fn count_at(mailbox: &Mailbox, number: u8) -> Result<Status, MailFault>
-    ensures { DoesCountAt number mailbox.now result mailbox.now }
+fn count_at<B: Naming>(locked: &LockedMailbox<B>, number: u8) -> Result<Status, MailFault>
+    ensures { DoesCountAt number locked.now.mailbox result locked.now.mailbox }
 {
-    if mailbox.number() != number {
+    if locked.mailbox().number() != number {
         return Err(MailFault::Stranger);
     }
-    Ok(holds::count(mailbox))
+    Ok(locked.count())
 }
 
-pub(crate) fn count<R: Wait>(rt: &R, lock: &Mutex<Mailbox>, number: u8) -> Result<Status, MailFault>
+pub(crate) fn count<B: Naming, R: Wait>(
+    rt: &R,
+    lock: &Mutex<LockedMailbox<B>>,
+    number: u8,
+) -> Result<Status, MailFault>
     ensures { UnderLock (λ found left. DoesCountAt number found result left) }
 {
     under(
         rt,
         lock,
-        |mailbox: &mut Mailbox| -> Result<Status, MailFault>
-            ensures { DoesCountAt number mailbox.old result mailbox.new }
-        { count_at(mailbox, number) },
+        |locked: &mut LockedMailbox<B>| -> Result<Status, MailFault>
+            ensures { DoesCountAt number locked.old.mailbox result locked.new.mailbox }
+        { count_at(locked, number) },
     )
 }
 
-pub(crate) fn alter<R: Wait>(
+pub(crate) fn alter<B: Naming, R: Wait>(
     rt: &R,
-    lock: &Mutex<Mailbox>,
+    lock: &Mutex<LockedMailbox<B>>,
+    front: &mut Front<B>,
     handle: &CursorHandle,
     uid: u32,
     op: FlagOp,
 ) -> Result<Option<Flags>, MailFault>
     ensures { UnderLock (λ found left. DoesAlter found handle.now uid op result left) }
 {
-    under(
+    let mut seen = front.again();
+    let (flags, seen) = under(
         rt,
         lock,
-        |mailbox: &mut Mailbox| -> Result<Option<Flags>, MailFault>
-            ensures { DoesAlter mailbox.old handle.entry.now uid op result mailbox.new }
-        { holds::alter(mailbox, handle, uid, op) },
-    )
+        move |locked: &mut LockedMailbox<B>| -> (Result<Option<Flags>, MailFault>, Front<B>)
+            ensures { DoesAlter locked.old.mailbox handle.entry.now uid op result.0
+                locked.new.mailbox }
+        {
+            let flags = locked.alter(&mut seen, handle, uid, op);
+            (flags, seen)
+        },
+    );
+    *front = seen;
+    flags
 }
 
-pub(crate) fn expunge<R: Wait>(
+// Every message that is marked as deleted.
+fn expunge_all<B: Naming, R: Wait>(
     rt: &R,
-    lock: &Mutex<Mailbox>,
+    lock: &Mutex<LockedMailbox<B>>,
+    front: &mut Front<B>,
     mut handle: CursorHandle,
+    out: &mut Vec<u8>,
+) -> (Result<usize, MailFault>, CursorHandle)
+    ensures event { UnderLock (λ found left.
+        DoesExpunge found handle None out.old.items out.new.items result.0 left result.1) }
+    ensures room { vec_capacity out.old ≤ vec_capacity out.new }
+{
+    let mut seen = front.again();
+    let (gone, handle, seen) = under_with(
+        rt,
+        lock,
+        out,
+        move |locked: &mut LockedMailbox<B>, out: &mut Vec<u8>| -> (
+            Result<usize, MailFault>,
+            CursorHandle,
+            Front<B>,
+        )
+            ensures event { DoesExpunge locked.old.mailbox handle None out.old.items
+                out.new.items result.0 locked.new.mailbox result.1 }
+            ensures room { vec_capacity out.old ≤ vec_capacity out.new }
+        {
+            let gone = locked.expunge(&mut seen, &mut handle, None, out);
+            (gone, handle, seen)
+        },
+    );
+    *front = seen;
+    (gone, handle)
+}
+
+// Of those with these UIDs.
+fn expunge_named<B: Naming, R: Wait>(
+    rt: &R,
+    lock: &Mutex<LockedMailbox<B>>,
+    front: &mut Front<B>,
+    mut handle: CursorHandle,
+    uids: &[u32],
+    out: &mut Vec<u8>,
+) -> (Result<usize, MailFault>, CursorHandle)
+    ensures event { UnderLock (λ found left.
+        DoesExpunge found handle (Some uids.now) out.old.items out.new.items result.0
+        left result.1) }
+    ensures room { vec_capacity out.old ≤ vec_capacity out.new }
+{
+    let mut seen = front.again();
+    let (gone, handle, seen) = under_with(
+        rt,
+        lock,
+        out,
+        move |locked: &mut LockedMailbox<B>, out: &mut Vec<u8>| -> (
+            Result<usize, MailFault>,
+            CursorHandle,
+            Front<B>,
+        )
+            ensures event { DoesExpunge locked.old.mailbox handle (Some uids.entry.now)
+                out.old.items out.new.items result.0 locked.new.mailbox result.1 }
+            ensures room { vec_capacity out.old ≤ vec_capacity out.new }
+        {
+            let gone = locked.expunge(&mut seen, &mut handle, Some(uids), out);
+            (gone, handle, seen)
+        },
+    );
+    *front = seen;
+    (gone, handle)
+}
+
+pub(crate) fn expunge<B: Naming, R: Wait>(
+    rt: &R,
+    lock: &Mutex<LockedMailbox<B>>,
+    front: &mut Front<B>,
+    handle: CursorHandle,
     uids: Option<&[u32]>,
     out: &mut Vec<u8>,
 ) -> (Result<usize, MailFault>, CursorHandle)
@@ -172,44 +281,15 @@ pub(crate) fn expunge<R: Wait>(
     ensures room { vec_capacity out.old ≤ vec_capacity out.new }
 {
     match uids {
-        None => under_with(
-            rt,
-            lock,
-            out,
-            move |mailbox: &mut Mailbox, out: &mut Vec<u8>| -> (
-                Result<usize, MailFault>,
-                CursorHandle,
-            )
-                ensures event { DoesExpunge mailbox.old handle None out.old.items out.new.items
-                    result.0 mailbox.new result.1 }
-                ensures room { vec_capacity out.old ≤ vec_capacity out.new }
-            {
-                let gone = holds::expunge(mailbox, &mut handle, None, out);
-                (gone, handle)
-            },
-        ),
-        Some(uids) => under_with(
-            rt,
-            lock,
-            out,
-            move |mailbox: &mut Mailbox, out: &mut Vec<u8>| -> (
-                Result<usize, MailFault>,
-                CursorHandle,
-            )
-                ensures event { DoesExpunge mailbox.old handle (Some uids.entry.now) out.old.items
-                    out.new.items result.0 mailbox.new result.1 }
-                ensures room { vec_capacity out.old ≤ vec_capacity out.new }
-            {
-                let gone = holds::expunge(mailbox, &mut handle, Some(uids), out);
-                (gone, handle)
-            },
-        ),
+        None => expunge_all(rt, lock, front, handle, out),
+        Some(uids) => expunge_named(rt, lock, front, handle, uids, out),
     }
 }
 
-pub(crate) fn feed<R: Wait>(
+pub(crate) fn feed<B: Naming, R: Wait>(
     rt: &R,
-    lock: &Mutex<Mailbox>,
+    lock: &Mutex<LockedMailbox<B>>,
+    front: &mut Front<B>,
     mut handle: CursorHandle,
     limit: usize,
     out: &mut Vec<u8>,
@@ -220,36 +300,50 @@ pub(crate) fn feed<R: Wait>(
     ensures faults { IfErr result.0 (λ f. f ≢ MailFault.Spent) }
     ensures room { vec_capacity out.old ≤ vec_capacity out.new }
 {
-    under_with(
+    let mut seen = front.again();
+    let (fed, handle, seen) = under_with(
         rt,
         lock,
         out,
-        move |mailbox: &mut Mailbox, out: &mut Vec<u8>| -> (Result<usize, MailFault>, CursorHandle)
-            ensures event { DoesFeed mailbox.old handle limit out.old.items out.new.items result.0
-                mailbox.new result.1 }
+        move |locked: &mut LockedMailbox<B>, out: &mut Vec<u8>| -> (
+            Result<usize, MailFault>,
+            CursorHandle,
+            Front<B>,
+        )
+            ensures event { DoesFeed locked.old.mailbox handle limit out.old.items out.new.items
+                result.0 locked.new.mailbox result.1 }
             ensures few { IfOk result.0 (λ n. n ≤ limit) }
             ensures faults { IfErr result.0 (λ f. f ≢ MailFault.Spent) }
             ensures room { vec_capacity out.old ≤ vec_capacity out.new }
         {
-            let fed = holds::feed(mailbox, &mut handle, limit, out);
-            (fed, handle)
+            let fed = locked.feed(&mut seen, &mut handle, limit, out);
+            (fed, handle, seen)
         },
-    )
+    );
+    *front = seen;
+    (fed, handle)
 }
 
-pub(crate) fn leave<R: Wait>(
+pub(crate) fn leave<B: Naming, R: Wait>(
     rt: &R,
-    lock: &Mutex<Mailbox>,
+    lock: &Mutex<LockedMailbox<B>>,
+    front: &mut Front<B>,
     handle: CursorHandle,
     remove: bool,
 ) -> Result<usize, (CursorHandle, MailFault)>
     ensures { UnderLock (λ found left. DoesLeave found handle remove result left) }
 {
-    under(
+    let mut seen = front.again();
+    let (left, seen) = under(
         rt,
         lock,
-        move |mailbox: &mut Mailbox| -> Result<usize, (CursorHandle, MailFault)>
-            ensures { DoesLeave mailbox.old handle remove result mailbox.new }
-        { holds::leave(mailbox, handle, remove) },
-    )
+        move |locked: &mut LockedMailbox<B>| -> (Result<usize, (CursorHandle, MailFault)>, Front<B>)
+            ensures { DoesLeave locked.old.mailbox handle remove result.0 locked.new.mailbox }
+        {
+            let left = locked.leave(&mut seen, handle, remove);
+            (left, seen)
+        },
+    );
+    *front = seen;
+    left
 }

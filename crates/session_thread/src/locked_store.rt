@@ -10,9 +10,11 @@ use crate::locked;
 use change_ring::{FlagOp, Flags};
 use cursor_set::CursorHandle;
 use delivery_token::Verdict;
+use house_history::{Front, Naming};
 use imap_grammar::{Named, SeqSet};
 use imap_session::{Append, Store};
-use mailbox::{MailFault, Mailbox, Opening, Row, Status};
+use locked_mailbox::LockedMailbox;
+use mailbox::{MailFault, Opening, Row, Status};
 use std::alloc::Global;
 use std::marker::Model;
 use std::sync::{Mutex, Wait};
@@ -59,16 +61,18 @@ struct Entry {
 /// the lock; a look at the view is none, and a call that takes no lock doesn't ask. Behind a hold that
 /// logged a change the bells of the user's sessions are rung.
 #[derive(Drop)]
-pub struct LockedStore<'a, R: Wait, G: Gate> {
+pub struct LockedStore<'a, B: Naming, R: Wait, G: Gate> {
     rt: &'a R,
     pace: Pace<'a, G>,
-    mailboxes: &'a [Mutex<Mailbox>],
+    mailboxes: &'a [Mutex<LockedMailbox<B>>],
+    // How the house's history begins, as far as the session knows it.
+    front: Front<B>,
     // Those of its user's sessions.
     bells: &'a [SessionBell],
     entered: Option<Entry>,
 }
 
-impl<'a, R: Wait, G: Gate> Model for LockedStore<'a, R, G> {
+impl<'a, B: Naming, R: Wait, G: Gate> Model for LockedStore<'a, B, R, G> {
     ghost use Rattle.std.specs.Prelude.{◌<◌, length, IfSome};
     ghost use Rattle.session_thread.specs.Locks.{LockedStore};
 
@@ -79,23 +83,25 @@ impl<'a, R: Wait, G: Gate> Model for LockedStore<'a, R, G> {
     ghost invariant = { λ d. IfSome d.entered (λ here. here.mailbox < length d.mailboxes.now) };
 }
 
-impl<'a, R: Wait, G: Gate> LockedStore<'a, R, G> {
+impl<'a, B: Naming, R: Wait, G: Gate> LockedStore<'a, B, R, G> {
     /// The store of the session of this number among all sessions of the house, from 0, which has
-    /// entered no mailbox. `mailboxes` are all of the house, by their numbers from 0, and `bells` are
-    /// those of its user's sessions.
+    /// entered no mailbox. `mailboxes` are all of the house, by their numbers from 0, `front` is how its history
+    /// began, and `bells` are those of its user's sessions.
     pub fn new(
         rt: &'a R,
         gate: &'a G,
         session: u8,
-        mailboxes: &'a [Mutex<Mailbox>],
+        mailboxes: &'a [Mutex<LockedMailbox<B>>],
+        front: Front<B>,
         bells: &'a [SessionBell],
-    ) -> LockedStore<'a, R, G>
+    ) -> LockedStore<'a, B, R, G>
         ensures { result ≡ record { mailboxes = length mailboxes.now; entered = None } }
     {
         LockedStore {
             rt,
             pace: Pace::new(gate, Actor::Session(session)),
             mailboxes,
+            front,
             bells,
             entered: None,
         }
@@ -133,6 +139,7 @@ impl<'a, R: Wait, G: Gate> LockedStore<'a, R, G> {
             rt: _,
             pace,
             mailboxes: _,
+            front: _,
             bells: _,
             entered: _,
         } = self;
@@ -157,7 +164,7 @@ impl<'a, R: Wait, G: Gate> LockedStore<'a, R, G> {
     }
 }
 
-impl<'a, R: Wait, G: Gate> Store for LockedStore<'a, R, G> {
+impl<'a, B: Naming, R: Wait, G: Gate> Store for LockedStore<'a, B, R, G> {
     ghost step = { λ old call answered new. Holds old call answered new };
 
     fn enter(&mut self, mailbox: u8) -> Result<Opening, MailFault> {
@@ -169,7 +176,7 @@ impl<'a, R: Wait, G: Gate> Store for LockedStore<'a, R, G> {
         }
         self.pace.pass();
         let lock = &self.mailboxes[usize::from(mailbox)];
-        let (handle, opening) = locked::enter(self.rt, lock, mailbox)?;
+        let (handle, opening) = locked::enter(self.rt, lock, &mut self.front, mailbox)?;
         self.entered = Some(Entry {
             mailbox,
             start: handle.at(),
@@ -198,7 +205,7 @@ impl<'a, R: Wait, G: Gate> Store for LockedStore<'a, R, G> {
         };
         self.pace.pass();
         let lock = &mailboxes[usize::from(here.mailbox)];
-        let row = locked::read(self.rt, lock, &here.handle, uid, mark_seen);
+        let row = locked::read(self.rt, lock, &mut self.front, &here.handle, uid, mark_seen);
         if has_marked(&row) {
             ring_each(self.bells);
         }
@@ -221,7 +228,7 @@ impl<'a, R: Wait, G: Gate> Store for LockedStore<'a, R, G> {
         };
         self.pace.pass();
         let lock = &mailboxes[usize::from(here.mailbox)];
-        let flags = locked::alter(self.rt, lock, &here.handle, uid, op);
+        let flags = locked::alter(self.rt, lock, &mut self.front, &here.handle, uid, op);
         // Also where the flags were so before: the mailbox doesn't tell, and a ring too many costs
         // a turn.
         if has_stored(&flags) {
@@ -236,7 +243,14 @@ impl<'a, R: Wait, G: Gate> Store for LockedStore<'a, R, G> {
         };
         self.pace.pass();
         let lock = &self.mailboxes[usize::from(here.mailbox)];
-        let (gone, handle) = locked::expunge(self.rt, lock, here.handle, uids, out);
+        let (gone, handle) = locked::expunge(
+            self.rt,
+            lock,
+            &mut self.front,
+            here.handle,
+            uids,
+            out,
+        );
         self.entered = Some(Entry {
             mailbox: here.mailbox,
             start: here.start,
@@ -254,7 +268,7 @@ impl<'a, R: Wait, G: Gate> Store for LockedStore<'a, R, G> {
         };
         self.pace.pass();
         let lock = &self.mailboxes[usize::from(here.mailbox)];
-        let (fed, handle) = locked::feed(self.rt, lock, here.handle, limit, out);
+        let (fed, handle) = locked::feed(self.rt, lock, &mut self.front, here.handle, limit, out);
         self.entered = Some(Entry {
             mailbox: here.mailbox,
             start: here.start,
@@ -269,7 +283,7 @@ impl<'a, R: Wait, G: Gate> Store for LockedStore<'a, R, G> {
         };
         self.pace.pass();
         let lock = &self.mailboxes[usize::from(here.mailbox)];
-        match locked::leave(self.rt, lock, here.handle, remove) {
+        match locked::leave(self.rt, lock, &mut self.front, here.handle, remove) {
             Ok(gone) => {
                 if gone > 0 {
                     ring_each(self.bells);

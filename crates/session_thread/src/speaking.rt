@@ -11,6 +11,7 @@ ghost use Rattle.workers_sync.specs.Carried.{Carried};
 ghost use Rattle.session_thread.specs.Life.{Says, SaysInPart, TellsVerdict, moment};
 
 use crate::locked_store::LockedStore;
+use house_history::Naming;
 use imap_session::{After, ImapConnection};
 use std::alloc::Global;
 use std::sync::Wait;
@@ -26,9 +27,9 @@ fn awaits_verdict(connection: &ImapConnection) -> bool
 
 // Carries the message that was submitted, and answers the verdict on it. Room for the answer is asked for
 // first: behind the carrying nothing is refused.
-fn hear_verdict<R: Wait, G: Gate, C: Courier>(
+fn hear_verdict<B: Naming, R: Wait, G: Gate, C: Courier>(
     connection: &mut ImapConnection,
-    store: &mut LockedStore<'_, R, G>,
+    store: &mut LockedStore<'_, B, R, G>,
     courier: &mut C,
     out: &mut Vec<u8>,
 ) -> Result<(), Lost>
@@ -65,10 +66,10 @@ fn hear_verdict<R: Wait, G: Gate, C: Courier>(
 /// before the next line, or to the courier, or for the answer to a verdict before its message was carried;
 /// `Torn` where the courier met something else than that verdict. What was answered by then stands behind
 /// `out`.
-pub fn answer<R: Wait, G: Gate, C: Courier>(
+pub fn answer<B: Naming, R: Wait, G: Gate, C: Courier>(
     alloc: Global,
     connection: &mut ImapConnection,
-    store: &mut LockedStore<'_, R, G>,
+    store: &mut LockedStore<'_, B, R, G>,
     courier: &mut C,
     bytes: &[u8],
     out: &mut Vec<u8>,

@@ -7,6 +7,7 @@ ghost use Rattle.imap_session.specs.Dialogue.{Dialogue, StandsFor};
 ghost use Rattle.session_thread.specs.Life.{HasShown, IsShortInTurn, moment};
 
 use crate::locked_store::LockedStore;
+use house_history::Naming;
 use imap_session::{ImapConnection, SessionFault};
 use std::alloc::AllocError;
 use std::sync::Wait;
@@ -19,9 +20,9 @@ const TURN_ROOM: usize = 48;
 /// many were shown; where the client missed changes it was told BYE, and its session has ended.
 ///
 /// Errors: `AllocError` where memory was refused, by the mailbox or for that BYE. Nothing happened then.
-pub fn idle_turn<R: Wait, G: Gate>(
+pub fn idle_turn<B: Naming, R: Wait, G: Gate>(
     connection: &mut ImapConnection,
-    store: &mut LockedStore<'_, R, G>,
+    store: &mut LockedStore<'_, B, R, G>,
     out: &mut Vec<u8>,
 ) -> Result<usize, AllocError>
     requires { is_idling connection.old.session ≡ true }

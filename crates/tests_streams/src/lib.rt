@@ -3,12 +3,18 @@
 #![tactic(auto)]
 
 #[cfg(test)]
+mod houses;
+#[cfg(test)]
 mod imap;
 #[cfg(test)]
 mod lmtp;
+#[cfg(test)]
+mod permits;
 #[cfg(test)]
 mod sessions;
 #[cfg(test)]
 mod stream_couriers;
 #[cfg(test)]
 mod thread_couriers;
+#[cfg(test)]
+mod wires;

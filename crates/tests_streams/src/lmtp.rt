@@ -6,18 +6,23 @@ ghost use Rattle.shard_queue.specs.Permits.{IsConsumer, IsProducer, number_of};
 ghost use Rattle.shard_queue.specs.Reply.{IsReceiver, IsSender};
 ghost use Rattle.lane_work.specs.Permits.{AreInForce};
 
-use delivery_token::{Job, Noted, Verdict};
+use crate::houses::{Shelf, open_shelf};
+use crate::permits::{Permits, Room, make_permits, make_room, sort, spend_room};
 use envelope::Directory;
+use house_history::{Answer, Letter, Naming, Opened};
 use lane_work::{
-    Context, Desk, Ending, LanePermit, Office, Producer, Summons, TalkFault, Unkept, converse,
+    Context, Desk, Dispatch, Ending, LanePermit, Office, Producer, Summons, TalkFault, Unkept,
+    converse,
 };
 use line_io::Sink;
+use mailbox::Limits;
 use shard_queue::{
     ConsumerPermit, Ended, ProducerPermit, ReceiverPermit, ReplyChannel, SenderPermit, ShardQueue,
     Taken,
 };
 use std::alloc::{AllocError, Global};
 use std::io::{Error, ErrorKind, Read, Result as IoResult};
+use std::marker::Brand;
 use std::sync::atomic::{AtomicBool, Ordering};
 use std::sync::{Mutex, Wait};
 use workers_sync::{Actor, Gate, Pace};
@@ -55,27 +60,28 @@ const TWO: &[u8] =
     b"LHLO c.example\r\nMAIL FROM:<s@a.example>\r\nRCPT TO:<alice@example.org>\r\nRCPT TO:<bob@example.org>\r\nDATA\r\nhi\r\n.\r\nMAIL FROM:<>\r\nRCPT TO:<bob@example.org>\r\nDATA\r\n..\r\n.\r\nQUIT\r\n";
 
 // A shard's consumer that serves where it is summoned: each copy is stored.
-struct Clerk<'a> {
-    lane: &'a ShardQueue<Job>,
-    channel: &'a ReplyChannel<Noted>,
-    permit: ConsumerPermit<Job>,
-    sender: SenderPermit<Noted>,
+struct Clerk<'a, B: Naming> {
+    shelf: &'a Shelf<B>,
+    lane: &'a ShardQueue<Letter<B>>,
+    channel: &'a ReplyChannel<Answer<B>>,
+    permit: ConsumerPermit<Letter<B>>,
+    sender: SenderPermit<Answer<B>>,
     ghost takes: { IsConsumer lane.now permit },
     ghost answers: { IsSender channel.now sender },
 }
 
-impl<'a> Clerk<'a> {
+impl<'a, B: Naming> Clerk<'a, B> {
+    // Delivers a copy, and tells its producer.
+    fn answer<R: Wait>(&mut self, rt: &R, letter: Letter<B>) {
+        if let Some(answer) = self.shelf.judge(rt, letter) {
+            let _ = self.channel.send_as(rt, &mut self.sender, answer);
+        }
+    }
+
     fn serve<R: Wait>(&mut self, rt: &R) {
         for _ in rt.forever() {
             match self.lane.take_as(rt, &mut self.permit) {
-                Taken::Item(_, job) => {
-                    let noted = Noted {
-                        key: job.key,
-                        mailbox: job.mailbox,
-                        verdict: Verdict::Stored { uid: 1 },
-                    };
-                    let _ = self.channel.send_as(rt, &mut self.sender, noted);
-                }
+                Taken::Item(_, letter) => self.answer(rt, letter),
                 Taken::End(_) => {}
                 Taken::Empty => return,
             }
@@ -84,13 +90,13 @@ impl<'a> Clerk<'a> {
 }
 
 // The clerk behind its lock, who may set the mark of the house's end as it is summoned.
-struct Counter<'a> {
-    clerk: Mutex<Clerk<'a>>,
+struct Counter<'a, B: Naming> {
+    clerk: Mutex<Clerk<'a, B>>,
     stop: &'a AtomicBool,
     stops: bool,
 }
 
-impl<'a> Summons for Counter<'a> {
+impl<'a, B: Naming> Summons for Counter<'a, B> {
     fn summon<R: Wait>(&self, rt: &R, _shard: usize) {
         if self.stops {
             self.stop.store(true, Ordering::SeqCst);
@@ -366,9 +372,9 @@ fn has_front(bytes: &[u8], replies: &[&[u8]], room: usize) -> bool {
 }
 
 // Plays the connection of a case, and answers whether it came as it was to come.
-fn talk<R: Wait, S: Summons>(
-    context: &Context<'_, R, S>,
-    producer: &mut Producer<'_, Open, Unkept>,
+fn talk<B: Naming, R: Wait, S: Summons>(
+    context: &Context<'_, B, R, S>,
+    producer: &mut Producer<'_, B, Open, Unkept>,
     stop: &AtomicBool,
     case: &Case,
 ) -> Result<bool, AllocError>
@@ -412,19 +418,20 @@ fn talk<R: Wait, S: Summons>(
 }
 
 // The same with a clerk who serves the lane.
-fn with_clerk<'x, R: Wait>(
+fn with_clerk<'x, B: Naming, R: Wait>(
     rt: &'x R,
     alloc: Global,
-    office: &'x Office,
-    lane: &'x ShardQueue<Job>,
-    channel: &'x ReplyChannel<Noted>,
-    producer: &mut Producer<'_, Open, Unkept>,
-    permit: ConsumerPermit<Job>,
-    sender: SenderPermit<Noted>,
+    office: &'x Office<B>,
+    lane: &'x ShardQueue<Letter<B>>,
+    channel: &'x ReplyChannel<Answer<B>>,
+    producer: &mut Producer<'_, B, Open, Unkept>,
+    permit: ConsumerPermit<Letter<B>>,
+    sender: SenderPermit<Answer<B>>,
+    shelf: &'x Shelf<B>,
     case: &Case,
 ) -> (
-    ConsumerPermit<Job>,
-    SenderPermit<Noted>,
+    ConsumerPermit<Letter<B>>,
+    SenderPermit<Answer<B>>,
     Result<bool, AllocError>,
 )
     requires permits { AreInForce office.now.directory office.now.lanes.items
@@ -440,6 +447,7 @@ fn with_clerk<'x, R: Wait>(
     let stop = AtomicBool::new(false);
     let counter = Counter {
         clerk: Mutex::new(Clerk {
+            shelf,
             lane,
             channel,
             permit,
@@ -462,6 +470,7 @@ fn with_clerk<'x, R: Wait>(
         stops: _,
     } = counter;
     let Clerk {
+        shelf: _,
         lane: _,
         channel: _,
         permit,
@@ -476,153 +485,20 @@ fn directory(alloc: Global) -> Option<Directory>
     Directory::new(alloc, &[b"example.org"], &[b"alice", b"bob"], 1).ok()
 }
 
-// The permits of one lane and one channel, each with one that puts and one that takes.
-struct Permits {
-    lane: ShardQueue<Job>,
-    producer: ProducerPermit<Job>,
-    permit: ConsumerPermit<Job>,
-    channel: ReplyChannel<Noted>,
-    sender: SenderPermit<Noted>,
-    receiver: ReceiverPermit<Noted>,
-}
-
-fn make_permits(alloc: Global) -> Result<Permits, AllocError>
-    ensures producer { IfOk result (λ s. IsProducer s.lane s.producer
-        × (number_of s.producer ≡ 0)) }
-    ensures permit { IfOk result (λ s. IsConsumer s.lane s.permit) }
-    ensures sender { IfOk result (λ s. IsSender s.channel s.sender) }
-    ensures receiver { IfOk result (λ s. IsReceiver s.channel s.receiver) }
-{
-    let (lane, mut hand, permit) = ShardQueue::new(alloc, 4, 1)?;
-    let (channel, mut senders, receiver) = match ReplyChannel::new(alloc, 4, 1) {
-        Ok(made) => made,
-        Err(e) => {
-            lane.abandon(hand, Vec::new(alloc), permit);
-            return Err(e);
-        }
-    };
-    let sender = senders.remove(0);
-    senders.destroy_empty();
-    let producer = hand.remove(0);
-    hand.destroy_empty();
-    Ok(Permits {
-        lane,
-        producer,
-        permit,
-        channel,
-        sender,
-        receiver,
-    })
-}
-
-// Lists with room for one, of the lanes and of the permits, before and after.
-struct Room {
-    lanes: Vec<ShardQueue<Job>>,
-    hand: Vec<LanePermit>,
-    live: Vec<ProducerPermit<Job>>,
-    ended: Vec<Ended<Job>>,
-    back: Vec<SenderPermit<Noted>>,
-}
-
-fn no_room(alloc: Global) -> Room
-    ensures { (result.lanes.items ≡ []) × (result.hand.items ≡ []) × (result.live.items ≡ [])
-        × (result.ended.items ≡ []) × (result.back.items ≡ []) }
-{
-    Room {
-        lanes: Vec::new(alloc),
-        hand: Vec::new(alloc),
-        live: Vec::new(alloc),
-        ended: Vec::new(alloc),
-        back: Vec::new(alloc),
-    }
-}
-
-fn spend_room(room: Room)
-    requires { (room.lanes.items ≡ []) × (room.hand.items ≡ []) × (room.live.items ≡ [])
-        × (room.ended.items ≡ []) × (room.back.items ≡ []) }
-{
-    let Room {
-        lanes,
-        hand,
-        live,
-        ended,
-        back,
-    } = room;
-    lanes.destroy_empty();
-    hand.destroy_empty();
-    live.destroy_empty();
-    ended.destroy_empty();
-    back.destroy_empty();
-}
-
-fn reserve(room: &mut Room) -> Result<(), AllocError>
-    requires { (room.old.lanes.items ≡ []) × (room.old.hand.items ≡ []) × (room.old.live.items ≡ [])
-        × (room.old.ended.items ≡ []) ×
-        (room.old.back.items ≡ []) }
-    ensures empty { (room.new.lanes.items ≡ []) × (room.new.hand.items ≡ [])
-        × (room.new.live.items ≡ []) × (room.new.ended.items ≡ []) ×
-        (room.new.back.items ≡ []) }
-    ensures room { OnOk result ((1 ≤ vec_capacity room.new.lanes) × (1 ≤ vec_capacity room.new.hand)
-        × (1 ≤ vec_capacity room.new.live) ×
-        (1 ≤ vec_capacity room.new.ended) × (1 ≤ vec_capacity room.new.back)) }
-{
-    room.lanes.reserve(1)?;
-    room.hand.reserve(1)?;
-    room.live.reserve(1)?;
-    room.ended.reserve(1)?;
-    room.back.reserve(1)?;
-    Ok(())
-}
-
-fn make_room(alloc: Global) -> Result<Room, AllocError>
-    ensures empty { IfOk result (λ r. (r.lanes.items ≡ []) × (r.hand.items ≡ [])
-        × (r.live.items ≡ []) × (r.ended.items ≡ []) × (r.back.items ≡ [])) }
-    ensures room { IfOk result (λ r. (1 ≤ vec_capacity r.lanes) × (1 ≤ vec_capacity r.hand)
-        × (1 ≤ vec_capacity r.live) ×
-        (1 ≤ vec_capacity r.ended) × (1 ≤ vec_capacity r.back)) }
-{
-    let mut room = no_room(alloc);
-    match reserve(&mut room) {
-        Ok(()) => Ok(room),
-        Err(e) => {
-            spend_room(room);
-            Err(e)
-        }
-    }
-}
-
-// The permit of a desk goes to those that may put still, or to what is left of the others.
-fn sort(
-    desk_permits: Vec<LanePermit>,
-    live: &mut Vec<ProducerPermit<Job>>,
-    ended: &mut Vec<Ended<Job>>,
-)
-    requires permits { vec_len desk_permits ≡ 1 }
-    requires live { vec_len live.old < vec_capacity live.old }
-    requires ended { vec_len ended.old < vec_capacity ended.old }
-{
-    let mut permits = desk_permits;
-    match permits.remove(0) {
-        LanePermit::Live(permit) => live.push_reserved(permit),
-        LanePermit::Over(left) => ended.push_reserved(left),
-    }
-    permits.destroy_empty();
-}
-
 // What comes back when the connection is over.
-struct Back {
-    live: Vec<ProducerPermit<Job>>,
-    ended: Vec<Ended<Job>>,
-    senders: Vec<SenderPermit<Noted>>,
+struct Back<B: Naming> {
+    live: Vec<ProducerPermit<Letter<B>>>,
+    ended: Vec<Ended<Letter<B>>>,
+    senders: Vec<SenderPermit<Answer<B>>>,
 }
 
 // What is left goes.
-fn spend(
-    office: Office,
-    desk: Desk,
-    channel: ReplyChannel<Noted>,
-    permit: ConsumerPermit<Job>,
-    back: Back,
+fn spend<B: Naming>(
+    office: Office<B>,
+    desk: Desk<B>,
+    channel: ReplyChannel<Answer<B>>,
+    permit: ConsumerPermit<Letter<B>>,
+    back: Back<B>,
     alloc: Global,
 )
     requires lanes { vec_len office.lanes ≡ 1 }
@@ -642,6 +518,7 @@ fn spend(
         permits,
         receiver,
         ends: _,
+        dispatch: _,
     } = desk;
     let Back {
         mut live,
@@ -656,7 +533,11 @@ fn spend(
 }
 
 // The desk of the one producer, which has heard nothing yet.
-fn desk_of(permits: Vec<LanePermit>, receiver: ReceiverPermit<Noted>) -> Desk
+fn desk_of<B: Naming>(
+    permits: Vec<LanePermit<Letter<B>>>,
+    receiver: ReceiverPermit<Answer<B>>,
+    dispatch: Dispatch<B>,
+) -> Desk<B>
     ensures { (result.number ≡ 0) × (result.permits ≡ permits) × (result.receiver ≡ receiver) }
 {
     Desk {
@@ -664,17 +545,20 @@ fn desk_of(permits: Vec<LanePermit>, receiver: ReceiverPermit<Noted>) -> Desk
         permits,
         receiver,
         ends: 0,
+        dispatch,
     }
 }
 
 // A case is played in a house of these permits.
-fn play_in<R: Wait>(
+fn play_in<B: Naming, R: Wait>(
     rt: &R,
     alloc: Global,
     directory: Directory,
     host: Vec<u8>,
-    room: Room,
-    permits: Permits,
+    room: Room<B>,
+    permits: Permits<B>,
+    shelf: &Shelf<B>,
+    dispatch: Dispatch<B>,
     case: &Case,
 ) -> Result<bool, AllocError>
     requires shards { directory.shards ≡ 1 }
@@ -717,12 +601,12 @@ fn play_in<R: Wait>(
     let gate = Open;
     let mut own = Producer {
         pace: Pace::new(&gate, Actor::Worker(0)),
-        desk: desk_of(hand, receiver),
+        desk: desk_of(hand, receiver, dispatch),
         book: Unkept,
     };
     let served = &office.lanes[0];
     let (permit, sender, told) = with_clerk(
-        rt, alloc, &office, served, &channel, &mut own, permit, sender, case,
+        rt, alloc, &office, served, &channel, &mut own, permit, sender, shelf, case,
     );
     let Producer {
         pace: _,
@@ -739,12 +623,26 @@ fn play_in<R: Wait>(
     told
 }
 
-// A case is played in a house of its own.
-fn play<R: Wait>(rt: &R, alloc: Global, case: &Case) -> Result<bool, AllocError> {
+const LIMITS: Limits = Limits {
+    messages: 8,
+    ring: 16,
+    ring_max: 0,
+};
+
+// A case is played in a house of its own, whose history was just opened.
+fn play<B: Naming, R: Wait>(
+    rt: &R,
+    alloc: Global,
+    history: Opened,
+    case: &Case,
+) -> Result<bool, AllocError>
+    requires { history ≡ B.book }
+{
     let Some(directory) = directory(alloc) else {
         return Err(AllocError);
     };
     let host = Vec::from_slice(alloc, b"mx.example.org")?;
+    let (shelf, dispatch) = open_shelf::<B>(alloc, history, 2, LIMITS)?;
     let room = make_room(alloc)?;
     let permits = match make_permits(alloc) {
         Ok(permits) => permits,
@@ -753,13 +651,15 @@ fn play<R: Wait>(rt: &R, alloc: Global, case: &Case) -> Result<bool, AllocError>
             return Err(e);
         }
     };
-    play_in(rt, alloc, directory, host, room, permits, case)
+    play_in(
+        rt, alloc, directory, host, room, permits, &shelf, dispatch, case,
+    )
 }
 
 // The first case that doesn't come as it is to come.
 fn first_other<R: Wait>(rt: &R, alloc: Global) -> Result<Option<usize>, AllocError> {
     for position in 0..CASES.len() {
-        if !play(rt, alloc, &CASES[position])? {
+        if !play::<Brand, R>(rt, alloc, Opened::new(), &CASES[position])? {
             return Ok(Some(position));
         }
     }

@@ -1,18 +1,23 @@
 //! Sessions that read what another thread delivers, their gate and their bells. What they are shown is
 //! written in RFC 9051, 6.3.2, 6.4.5 and 7.4.
 
+ghost use Rattle.std.specs.Prelude.{◌≡◌, None};
+
+use crate::houses::{TestHouse, open_house};
 use crate::thread_couriers::{TestCourier, Way};
 use change_ring::{FlagOp, Flags, NO_FLAGS};
-use delivery_token::{CopyKey, Job, Text, Verdict};
+use delivery_token::{Text, Verdict};
+use house_history::{Naming, Opened};
 use imap_grammar::{Command, read_line};
 use imap_session::{Folder, ImapConnection, Store};
-use mailbox::{History, Limits, MailFault, Mailbox, verdict_of};
+use mailbox::{Limits, MailFault};
 use session_thread::{LockedStore, depart, live, takes_more};
 use settings::Step;
 use std::alloc::{AllocError, Global};
+use std::marker::Brand;
 use std::mem;
+use std::sync::Wait;
 use std::sync::atomic::{AtomicBool, AtomicU64, Ordering};
-use std::sync::{Mutex, Wait};
 use std::thread::{self, Threads, join};
 use workers_sync::{Actor, Gate, Lost, SessionBell, Sleeper, ring_each};
 
@@ -70,11 +75,14 @@ impl Gate for Order {
     }
 }
 
-pub(crate) fn two_mailboxes(alloc: Global) -> Result<Vec<Mutex<Mailbox>>, AllocError> {
-    let mut mailboxes = Vec::new(alloc);
-    mailboxes.push(Mutex::new(Mailbox::new(alloc, 0, 7, 1, SMALL, History::Kept)?))?;
-    mailboxes.push(Mutex::new(Mailbox::new(alloc, 1, 8, 1, SMALL, History::Kept)?))?;
-    Ok(mailboxes)
+/// A house with two mailboxes, whose history was just opened.
+pub(crate) fn two_mailboxes<B: Naming>(
+    alloc: Global,
+    history: Opened,
+) -> Result<TestHouse<B>, AllocError>
+    requires { history ≡ B.book }
+{
+    open_house(alloc, history, 2, SMALL)
 }
 
 pub(crate) fn folders(alloc: Global) -> Result<Vec<Folder>, AllocError> {
@@ -89,50 +97,58 @@ pub(crate) fn saying(alloc: Global, steps: &mut Vec<Step>, bytes: &[u8]) -> Resu
     Ok(())
 }
 
-fn copy(alloc: Global) -> Result<Job, AllocError> {
-    Ok(Job {
-        key: CopyKey {
-            seat: 0,
-            serial: 0,
-            message: 0,
-            recipient: 0,
-        },
-        mailbox: 0,
-        text: Text::new(Vec::from_slice(alloc, b"Return-Path: <s@a.example>\r\nhi\r\n")?)?,
-        flags: NO_FLAGS,
-    })
+fn text(alloc: Global) -> Result<Text, AllocError> {
+    Text::new(Vec::from_slice(alloc, b"Return-Path: <s@a.example>\r\nhi\r\n")?)
 }
 
-// Whether a copy was delivered to the mailbox behind this lock.
-fn has_stored<R: Wait>(rt: &R, lock: &Mutex<Mailbox>, job: &Job) -> bool {
+// Whether a copy was delivered to the first mailbox.
+fn has_stored<B: Naming, R: Wait>(rt: &R, house: &TestHouse<B>, text: Text) -> bool {
     matches!(
-        verdict_of(lock.lock(rt).deliver(job)),
-        Verdict::Stored { uid: _ }
+        house.deliver(rt, 0, text, NO_FLAGS),
+        Some(Verdict::Stored { uid: _ })
     )
 }
 
 // What a consumer does with a copy: one event of the mailbox under its lock, and then the bells of its user.
-fn deliver<R: Wait>(
+fn deliver<B: Naming, R: Wait>(
     rt: &R,
-    mailboxes: &[Mutex<Mailbox>],
+    house: &TestHouse<B>,
     order: &Order,
     bells: &[SessionBell],
-    job: &Job,
+    text: Text,
 ) -> bool {
     order.pass(Actor::Consumer(0), 0);
-    let Some(mailbox) = mailboxes.first() else {
-        return false;
-    };
-    let is_stored = has_stored(rt, mailbox, job);
+    let is_stored = has_stored(rt, house, text);
     order.delivered.store(true, Ordering::SeqCst);
     ring_each(bells);
     is_stored
 }
 
-fn session<R: Wait>(
+// A session's way to a house's mailboxes.
+pub(crate) fn store_of<'a, B: Naming, R: Wait, G: Gate>(
+    rt: &'a R,
+    gate: &'a G,
+    session: u8,
+    house: &'a TestHouse<B>,
+    bells: &'a [SessionBell],
+) -> LockedStore<'a, B, R, G>
+    ensures { result.entered ≡ None }
+{
+    let shelf = &house.shelf;
+    LockedStore::new(
+        rt,
+        gate,
+        session,
+        &shelf.mailboxes,
+        shelf.front.again(),
+        bells,
+    )
+}
+
+fn session<B: Naming, R: Wait>(
     rt: &R,
     alloc: Global,
-    mailboxes: &[Mutex<Mailbox>],
+    house: &TestHouse<B>,
     order: &Order,
     bells: &[SessionBell],
     steps: &[Step],
@@ -141,9 +157,9 @@ fn session<R: Wait>(
         return None;
     };
     let mut said = Vec::new(alloc);
-    let mut store = LockedStore::new(rt, order, 0, mailboxes, bells);
+    let mut store = store_of(rt, order, 0, house, bells);
     // It takes no message, so nobody is asked to carry one.
-    let mut courier = TestCourier::new(rt, mailboxes, Way::Loses(Lost::Torn));
+    let mut courier = TestCourier::new(rt, house, Way::Loses(Lost::Torn));
     let lived = live(
         alloc,
         &mut store,
@@ -169,34 +185,37 @@ fn bells_of(alloc: Global, bell: &Sleeper) -> Result<Vec<SessionBell>, AllocErro
 }
 
 // What the session says beside the thread that delivers a copy; none where that isn't stored.
-fn run_in<R: Threads + Wait + Sync>(
+fn run_in<B: Naming + Send + Sync, R: Threads + Wait + Sync>(
     rt: &R,
     alloc: Global,
     order: &Order,
-    mailboxes: &[Mutex<Mailbox>],
-    job: &Job,
+    house: &TestHouse<B>,
+    text: Text,
     bells: &[SessionBell],
     steps: &[Step],
 ) -> Option<Vec<u8>> {
     let (is_stored, said) = join(
         rt,
-        || deliver(rt, mailboxes, order, bells, job),
-        || session(rt, alloc, mailboxes, order, bells, steps),
+        move || deliver(rt, house, order, bells, text),
+        || session(rt, alloc, house, order, bells, steps),
     );
     if is_stored { said } else { None }
 }
 
-fn run_both<R: Threads + Wait + Sync>(
+fn run_both<B: Naming + Send + Sync, R: Threads + Wait + Sync>(
     rt: &R,
     alloc: Global,
+    history: Opened,
     order: &Order,
     steps: &[Step],
-) -> Result<Option<Vec<u8>>, AllocError> {
-    let mailboxes = two_mailboxes(alloc)?;
-    let job = copy(alloc)?;
+) -> Result<Option<Vec<u8>>, AllocError>
+    requires { history ≡ B.book }
+{
+    let house = two_mailboxes::<B>(alloc, history)?;
+    let text = text(alloc)?;
     let bell = Sleeper::new(alloc)?;
     let bells = bells_of(alloc, &bell)?;
-    Ok(run_in(rt, alloc, order, &mailboxes, &job, &bells, steps))
+    Ok(run_in(rt, alloc, order, &house, text, &bells, steps))
 }
 
 // Whether the session says this and no more.
@@ -207,7 +226,7 @@ fn says<R: Threads + Wait + Sync>(
     steps: &[Step],
     wanted: &[u8],
 ) -> Result<bool, AllocError> {
-    match run_both(rt, alloc, &Order::new(first), steps)? {
+    match run_both::<Brand, R>(rt, alloc, Opened::new(), &Order::new(first), steps)? {
         Some(said) => Ok(said.as_slice() == wanted),
         None => Ok(false),
     }
@@ -278,16 +297,16 @@ fn an_idling_session_awaits_a_message(rt: HostRuntime) -> Result<(), AllocError>
 }
 
 // A session that sleeps until its bell rings, and is then shown what is new.
-fn sleep_and_look<R: Wait>(
+fn sleep_and_look<B: Naming, R: Wait>(
     rt: &R,
     alloc: Global,
-    mailboxes: &[Mutex<Mailbox>],
+    house: &TestHouse<B>,
     order: &Order,
     bells: &[SessionBell],
     bell: Sleeper,
 ) -> Option<Vec<u8>> {
     let mut said = Vec::new(alloc);
-    let mut store = LockedStore::new(rt, order, 0, mailboxes, bells);
+    let mut store = store_of(rt, order, 0, house, bells);
     if store.enter(0).is_err() || store.feed(64, &mut said).is_err() {
         return None;
     }
@@ -300,11 +319,11 @@ fn sleep_and_look<R: Wait>(
 }
 
 // What the session says that one thread wakes as it delivers a copy; none where that isn't stored.
-fn ring_in<R: Threads + Wait + Sync>(
+fn ring_in<B: Naming + Send + Sync, R: Threads + Wait + Sync>(
     rt: &R,
     alloc: Global,
-    mailboxes: &[Mutex<Mailbox>],
-    job: &Job,
+    house: &TestHouse<B>,
+    text: Text,
     bells: &[SessionBell],
     bell: Sleeper,
 ) -> Option<Vec<u8>> {
@@ -312,26 +331,28 @@ fn ring_in<R: Threads + Wait + Sync>(
     let held = &order;
     let (said, is_stored) = join(
         rt,
-        move || sleep_and_look(rt, alloc, mailboxes, held, bells, bell),
-        || deliver(rt, mailboxes, held, bells, job),
+        move || sleep_and_look(rt, alloc, house, held, bells, bell),
+        move || deliver(rt, house, held, bells, text),
     );
     if is_stored { said } else { None }
 }
 
-fn ring_once<R: Threads + Wait + Sync>(
+fn ring_once<B: Naming + Send + Sync, R: Threads + Wait + Sync>(
     rt: &R,
     alloc: Global,
-    mailboxes: &[Mutex<Mailbox>],
-) -> Result<Option<Vec<u8>>, AllocError> {
-    let job = copy(alloc)?;
+    history: Opened,
+) -> Result<Option<Vec<u8>>, AllocError>
+    requires { history ≡ B.book }
+{
+    let house = two_mailboxes::<B>(alloc, history)?;
+    let text = text(alloc)?;
     let bell = Sleeper::new(alloc)?;
     let bells = bells_of(alloc, &bell)?;
-    Ok(ring_in(rt, alloc, mailboxes, &job, &bells, bell))
+    Ok(ring_in(rt, alloc, &house, text, &bells, bell))
 }
 
 fn is_woken<R: Threads + Wait + Sync>(rt: &R, alloc: Global) -> Result<bool, AllocError> {
-    let mailboxes = two_mailboxes(alloc)?;
-    match ring_once(rt, alloc, &mailboxes)? {
+    match ring_once::<Brand, R>(rt, alloc, Opened::new())? {
         Some(said) => Ok(said.as_slice() == b"* 1 EXISTS\r\n".as_slice()),
         None => Ok(false),
     }
@@ -384,17 +405,27 @@ const DELETED: Flags = Flags {
 };
 
 // Two mailboxes, the first with one message.
-fn with_a_message<R: Wait>(rt: &R, alloc: Global) -> Result<Vec<Mutex<Mailbox>>, AllocError> {
-    let mailboxes = two_mailboxes(alloc)?;
-    let job = copy(alloc)?;
-    match mailboxes.first() {
-        Some(lock) if has_stored(rt, lock, &job) => Ok(mailboxes),
-        _ => Err(AllocError),
+fn with_a_message<B: Naming, R: Wait>(
+    rt: &R,
+    alloc: Global,
+    history: Opened,
+) -> Result<TestHouse<B>, AllocError>
+    requires { history ≡ B.book }
+{
+    let house = two_mailboxes::<B>(alloc, history)?;
+    let text = text(alloc)?;
+    if has_stored(rt, &house, text) {
+        Ok(house)
+    } else {
+        Err(AllocError)
     }
 }
 
 // Whether a session can look at its view.
-fn has_chosen<R: Wait>(store: &LockedStore<'_, R, Tally>, alloc: Global) -> Option<bool> {
+fn has_chosen<B: Naming, R: Wait>(
+    store: &LockedStore<'_, B, R, Tally>,
+    alloc: Global,
+) -> Option<bool> {
     let Ok((_tag, command)) = read_line(b"a UID FETCH 1:* UID") else {
         return None;
     };
@@ -405,8 +436,8 @@ fn has_chosen<R: Wait>(store: &LockedStore<'_, R, Tally>, alloc: Global) -> Opti
 }
 
 // Each call of a session that is in no mailbox, or of one that isn't there: all are refused.
-fn calls_outside<R: Wait>(
-    store: &mut LockedStore<'_, R, Tally>,
+fn calls_outside<B: Naming, R: Wait>(
+    store: &mut LockedStore<'_, B, R, Tally>,
     alloc: Global,
     out: &mut Vec<u8>,
 ) -> bool {
@@ -421,8 +452,8 @@ fn calls_outside<R: Wait>(
 }
 
 // Each call of a session that enters a mailbox and leaves it: a look, and seven events.
-fn calls_inside<R: Wait>(
-    store: &mut LockedStore<'_, R, Tally>,
+fn calls_inside<B: Naming, R: Wait>(
+    store: &mut LockedStore<'_, B, R, Tally>,
     alloc: Global,
     out: &mut Vec<u8>,
 ) -> bool {
@@ -437,7 +468,9 @@ fn calls_inside<R: Wait>(
 }
 
 // How many messages two mailboxes tell, and with which UIDVALIDITY.
-fn counted<R: Wait>(store: &mut LockedStore<'_, R, Tally>) -> Option<(usize, u32, usize, u32)> {
+fn counted<B: Naming, R: Wait>(
+    store: &mut LockedStore<'_, B, R, Tally>,
+) -> Option<(usize, u32, usize, u32)> {
     let (Ok(first), Ok(second)) = (store.status(0), store.status(1)) else {
         return None;
     };
@@ -450,7 +483,10 @@ fn counted<R: Wait>(store: &mut LockedStore<'_, R, Tally>) -> Option<(usize, u32
 }
 
 // A session that logs more changes than the window has, and is shown each itself.
-fn change_much<R: Wait>(store: &mut LockedStore<'_, R, Tally>, out: &mut Vec<u8>) -> bool {
+fn change_much<B: Naming, R: Wait>(
+    store: &mut LockedStore<'_, B, R, Tally>,
+    out: &mut Vec<u8>,
+) -> bool {
     for _ in 0..9 {
         let set = store.store(1, FlagOp::Insert(FLAGGED));
         let unset = store.store(1, FlagOp::Remove(FLAGGED));
@@ -462,15 +498,15 @@ fn change_much<R: Wait>(store: &mut LockedStore<'_, R, Tally>, out: &mut Vec<u8>
 }
 
 // How often a session asked to pass that lapsed: as it entered, and as it was refused.
-fn passes_of_one_that_lapsed<R: Wait>(
+fn passes_of_one_that_lapsed<B: Naming, R: Wait>(
     rt: &R,
     alloc: Global,
-    mailboxes: &[Mutex<Mailbox>],
+    house: &TestHouse<B>,
 ) -> Option<u64> {
     let (others, tally) = (Tally::new(), Tally::new());
     let mut out = Vec::new(alloc);
-    let mut other = LockedStore::new(rt, &others, 0, mailboxes, &[]);
-    let mut store = LockedStore::new(rt, &tally, 1, mailboxes, &[]);
+    let mut other = store_of(rt, &others, 0, house, &[]);
+    let mut store = store_of(rt, &tally, 1, house, &[]);
     if store.enter(0).is_err() || other.enter(0).is_err() || !change_much(&mut other, &mut out) {
         return None;
     }
@@ -480,48 +516,91 @@ fn passes_of_one_that_lapsed<R: Wait>(
     }
 }
 
-#[test]
-fn each_event_asks_to_pass(rt: HostRuntime) -> Result<(), AllocError> {
-    let alloc = rt.alloc();
-    let mailboxes = with_a_message(&rt, alloc)?;
+// How often a session asked to pass that called outside, that called inside too, and that lapsed. None where a call went otherwise.
+fn passes_in<B: Naming, R: Wait>(
+    rt: &R,
+    alloc: Global,
+    history: Opened,
+) -> Result<Option<(u64, u64, Option<u64>)>, AllocError>
+    requires { history ≡ B.book }
+{
+    let house = with_a_message::<B, R>(rt, alloc, history)?;
     let tally = Tally::new();
     let mut out = Vec::new(alloc);
-    let mut store = LockedStore::new(&rt, &tally, 0, &mailboxes, &[]);
-    assert!(rt; calls_outside(&mut store, alloc, &mut out));
-    assert_eq!(rt; tally.asked(), 0);
-    assert!(rt; calls_inside(&mut store, alloc, &mut out));
-    assert_eq!(rt; tally.asked(), 7);
-    assert_eq!(rt; passes_of_one_that_lapsed(&rt, alloc, &mailboxes), Some(2));
+    let mut store = store_of(rt, &tally, 0, &house, &[]);
+    if !calls_outside(&mut store, alloc, &mut out) {
+        return Ok(None);
+    }
+    let outside = tally.asked();
+    if !calls_inside(&mut store, alloc, &mut out) {
+        return Ok(None);
+    }
+    let inside = tally.asked();
+    Ok(Some((
+        outside,
+        inside,
+        passes_of_one_that_lapsed(rt, alloc, &house),
+    )))
+}
+
+#[test]
+fn each_event_asks_to_pass(rt: HostRuntime) -> Result<(), AllocError> {
+    let passes = passes_in::<Brand, HostRuntime>(&rt, rt.alloc(), Opened::new())?;
+    assert_eq!(rt; passes, Some((0, 7, Some(2))));
     Ok(())
+}
+
+// Enters a mailbox: its UIDVALIDITY.
+fn validity_at<B: Naming, R: Wait>(
+    store: &mut LockedStore<'_, B, R, Tally>,
+    mailbox: u8,
+) -> Option<u32> {
+    match store.enter(mailbox) {
+        Ok(opening) => Some(opening.uidvalidity),
+        Err(_) => None,
+    }
+}
+
+// Whether each call of a session is of the mailbox that it asks for.
+fn takes_its_own<B: Naming, R: Wait>(store: &mut LockedStore<'_, B, R, Tally>) -> bool {
+    counted(store) == Some((1, 7, 0, 8))
+        && validity_at(store, 1) == Some(8)
+        && store.store(1, FlagOp::Insert(FLAGGED)) == Ok(None)
+        && store.leave(false) == Ok(0)
+        && validity_at(store, 0) == Some(7)
+        && store.store(1, FlagOp::Insert(FLAGGED)) == Ok(Some(FLAGGED))
+}
+
+fn takes_its_own_in<B: Naming, R: Wait>(
+    rt: &R,
+    alloc: Global,
+    history: Opened,
+) -> Result<bool, AllocError>
+    requires { history ≡ B.book }
+{
+    let house = with_a_message::<B, R>(rt, alloc, history)?;
+    let tally = Tally::new();
+    Ok(takes_its_own(&mut store_of(rt, &tally, 0, &house, &[])))
 }
 
 // Nothing but this says that the lock at a number is the one that is taken.
 #[test]
 fn each_call_takes_the_lock_of_its_mailbox(rt: HostRuntime) -> Result<(), AllocError> {
-    let alloc = rt.alloc();
-    let mailboxes = with_a_message(&rt, alloc)?;
-    let tally = Tally::new();
-    let mut store = LockedStore::new(&rt, &tally, 0, &mailboxes, &[]);
-    assert_eq!(rt; counted(&mut store), Some((1, 7, 0, 8)));
-    assert_eq!(rt; store.enter(1).map(|opening| opening.uidvalidity), Ok(8));
-    assert_eq!(rt; store.store(1, FlagOp::Insert(FLAGGED)), Ok(None));
-    assert_eq!(rt; store.leave(false), Ok(0));
-    assert_eq!(rt; store.enter(0).map(|opening| opening.uidvalidity), Ok(7));
-    assert_eq!(rt; store.store(1, FlagOp::Insert(FLAGGED)), Ok(Some(FLAGGED)));
+    assert!(rt; takes_its_own_in::<Brand, HostRuntime>(&rt, rt.alloc(), Opened::new())?);
     Ok(())
 }
 
 // The bell is rung behind each call that logged a change: else the test sleeps for good.
-fn wakes_each_time<R: Wait>(
+fn wakes_each_time<B: Naming, R: Wait>(
     rt: &R,
     alloc: Global,
-    mailboxes: &[Mutex<Mailbox>],
+    house: &TestHouse<B>,
     bells: &[SessionBell],
     bell: &Sleeper,
 ) -> bool {
     let tally = Tally::new();
     let mut out = Vec::new(alloc);
-    let mut store = LockedStore::new(rt, &tally, 0, mailboxes, bells);
+    let mut store = store_of(rt, &tally, 0, house, bells);
     if store.enter(0).is_err() || store.read(1, true).is_err() {
         return false;
     }
@@ -535,28 +614,62 @@ fn wakes_each_time<R: Wait>(
     gone == Ok(1)
 }
 
-fn rings_each_time<R: Wait>(
+fn rings_each_time<B: Naming, R: Wait>(
     rt: &R,
     alloc: Global,
-    mailboxes: &[Mutex<Mailbox>],
-) -> Result<bool, AllocError> {
+    history: Opened,
+) -> Result<bool, AllocError>
+    requires { history ≡ B.book }
+{
+    let house = with_a_message::<B, R>(rt, alloc, history)?;
     let bell = Sleeper::new(alloc)?;
     let bells = bells_of(alloc, &bell)?;
-    Ok(wakes_each_time(rt, alloc, mailboxes, &bells, &bell))
+    Ok(wakes_each_time(rt, alloc, &house, &bells, &bell))
 }
 
 #[test]
 fn a_change_rings_the_users_bells(rt: HostRuntime) -> Result<(), AllocError> {
-    let mailboxes = with_a_message(&rt, rt.alloc())?;
-    assert!(rt; rings_each_time(&rt, rt.alloc(), &mailboxes)?);
+    assert!(rt; rings_each_time::<Brand, HostRuntime>(&rt, rt.alloc(), Opened::new())?);
     Ok(())
 }
 
 // Each mailbox stands behind the other's lock then.
-fn exchange<R: Wait>(rt: &R, mailboxes: &[Mutex<Mailbox>]) {
-    if let [first, second] = mailboxes {
+fn exchange<B: Naming, R: Wait>(rt: &R, house: &TestHouse<B>) {
+    if let [first, second] = house.shelf.mailboxes.as_slice() {
         mem::swap(&mut *first.lock(rt), &mut *second.lock(rt));
     }
+}
+
+// Whether a session takes no other mailbox for the one that it asked for.
+fn takes_no_other<B: Naming, R: Wait>(rt: &R, house: &TestHouse<B>) -> bool {
+    let tally = Tally::new();
+    let mut store = store_of(rt, &tally, 0, house, &[]);
+    exchange(rt, house);
+    if store.enter(0).err() != Some(MailFault::Stranger) {
+        return false;
+    }
+    if store.status(1).err() != Some(MailFault::Stranger) {
+        return false;
+    }
+    exchange(rt, house);
+    if store.enter(0).is_err() {
+        return false;
+    }
+    exchange(rt, house);
+    let torn = depart(&mut store);
+    exchange(rt, house);
+    torn == Err(Lost::Torn) && depart(&mut store) == Ok(()) && depart(&mut store) == Ok(())
+}
+
+fn takes_no_other_in<B: Naming, R: Wait>(
+    rt: &R,
+    alloc: Global,
+    history: Opened,
+) -> Result<bool, AllocError>
+    requires { history ≡ B.book }
+{
+    let house = with_a_message::<B, R>(rt, alloc, history)?;
+    Ok(takes_no_other(rt, &house))
 }
 
 // A session looks at the number of the mailbox that it finds: neither SELECT nor STATUS takes another for it.
@@ -564,70 +677,71 @@ fn exchange<R: Wait>(rt: &R, mailboxes: &[Mutex<Mailbox>]) {
 fn another_mailbox_is_not_taken_for_the_one_that_was_asked_for(
     rt: HostRuntime,
 ) -> Result<(), AllocError> {
-    let alloc = rt.alloc();
-    let mailboxes = with_a_message(&rt, alloc)?;
-    let tally = Tally::new();
-    let mut store = LockedStore::new(&rt, &tally, 0, &mailboxes, &[]);
-    exchange(&rt, &mailboxes);
-    assert_eq!(rt; store.enter(0), Err(MailFault::Stranger));
-    assert_eq!(rt; store.status(1), Err(MailFault::Stranger));
-    exchange(&rt, &mailboxes);
-    assert!(rt; store.enter(0).is_ok());
-    exchange(&rt, &mailboxes);
-    assert_eq!(rt; depart(&mut store), Err(Lost::Torn));
-    exchange(&rt, &mailboxes);
-    assert_eq!(rt; depart(&mut store), Ok(()));
-    assert_eq!(rt; depart(&mut store), Ok(()));
+    assert!(rt; takes_no_other_in::<Brand, HostRuntime>(&rt, rt.alloc(), Opened::new())?);
     Ok(())
 }
 
 // What a session is told by a line, which it has selected INBOX for, once another mailbox stands behind its lock; and whether it has
 // ended then.
-fn told_by_another<R: Wait>(
+fn told_by_another<B: Naming, R: Wait>(
     rt: &R,
     alloc: Global,
-    mailboxes: &[Mutex<Mailbox>],
+    house: &TestHouse<B>,
     line: &[u8],
 ) -> Result<(Vec<u8>, bool), AllocError> {
     let tally = Tally::new();
     let mut said = Vec::new(alloc);
-    let mut store = LockedStore::new(rt, &tally, 0, mailboxes, &[]);
+    let mut store = store_of(rt, &tally, 0, house, &[]);
     let mut connection = ImapConnection::new(alloc, folders(alloc)?, None)?;
     let _ = connection.take(alloc, b"a1 SELECT INBOX\r\n", &mut store, &mut said);
     if !takes_more(&connection) {
         return Err(AllocError);
     }
     said.clear();
-    exchange(rt, mailboxes);
+    exchange(rt, house);
     let _ = connection.take(alloc, line, &mut store, &mut said);
-    exchange(rt, mailboxes);
+    exchange(rt, house);
     let has_ended = connection.has_ended();
     let _ = store.leave(false);
     Ok((said, has_ended))
 }
 
+const LINES: &[&[u8]] = &[
+    b"a2 NOOP\r\n",
+    b"a2 FETCH 1 FLAGS\r\n",
+    b"a2 STORE 1 FLAGS (\\Seen)\r\n",
+    b"a2 EXPUNGE\r\n",
+];
+
+// Whether each of these lines is answered with BYE, and ends the session.
+fn says_bye_in<B: Naming, R: Wait>(
+    rt: &R,
+    alloc: Global,
+    history: Opened,
+) -> Result<bool, AllocError>
+    requires { history ≡ B.book }
+{
+    let house = with_a_message::<B, R>(rt, alloc, history)?;
+    for line in LINES {
+        let (said, has_ended) = told_by_another(rt, alloc, &house, line)?;
+        if !has_ended || said.as_slice() != b"* BYE Internal fault\r\n".as_slice() {
+            return Ok(false);
+        }
+    }
+    Ok(true)
+}
+
 // RFC 9051, 7.1.5: a server that is about to close the connection says BYE.
 #[test]
 fn a_session_of_another_mailbox_is_told_so_and_ends(rt: HostRuntime) -> Result<(), AllocError> {
-    let alloc = rt.alloc();
-    let mailboxes = with_a_message(&rt, alloc)?;
-    for line in [
-        b"a2 NOOP\r\n".as_slice(),
-        b"a2 FETCH 1 FLAGS\r\n",
-        b"a2 STORE 1 FLAGS (\\Seen)\r\n",
-        b"a2 EXPUNGE\r\n",
-    ] {
-        let (said, has_ended) = told_by_another(&rt, alloc, &mailboxes, line)?;
-        assert_eq!(rt; said.as_slice(), b"* BYE Internal fault\r\n".as_slice());
-        assert!(rt; has_ended);
-    }
+    assert!(rt; says_bye_in::<Brand, HostRuntime>(&rt, rt.alloc(), Opened::new())?);
     Ok(())
 }
 
 // The handle of a mailbox is a stranger to each call on another, and still its own mailbox's afterwards.
 // Whether each call with a handle of another mailbox is a stranger's.
-fn is_a_stranger<R: Wait>(
-    store: &mut LockedStore<'_, R, Tally>,
+fn is_a_stranger<B: Naming, R: Wait>(
+    store: &mut LockedStore<'_, B, R, Tally>,
     alloc: Global,
     out: &mut Vec<u8>,
 ) -> bool {
@@ -641,25 +755,39 @@ fn is_a_stranger<R: Wait>(
 }
 
 // Whether it is so while another mailbox stands behind its lock, and no longer.
-fn is_a_stranger_meanwhile<R: Wait>(rt: &R, alloc: Global, mailboxes: &[Mutex<Mailbox>]) -> bool {
+fn is_a_stranger_meanwhile<B: Naming, R: Wait>(
+    rt: &R,
+    alloc: Global,
+    house: &TestHouse<B>,
+) -> bool {
     let tally = Tally::new();
-    let mut store = LockedStore::new(rt, &tally, 0, mailboxes, &[]);
+    let mut store = store_of(rt, &tally, 0, house, &[]);
     if store.enter(0).is_err() {
         return false;
     }
-    exchange(rt, mailboxes);
+    exchange(rt, house);
     let is_refused = is_a_stranger(&mut store, alloc, &mut Vec::new(alloc));
-    exchange(rt, mailboxes);
+    exchange(rt, house);
     is_refused
         && store.store(1, FlagOp::Insert(FLAGGED)) == Ok(Some(FLAGGED))
         && store.leave(false) == Ok(0)
+}
+
+fn is_a_stranger_in<B: Naming, R: Wait>(
+    rt: &R,
+    alloc: Global,
+    history: Opened,
+) -> Result<bool, AllocError>
+    requires { history ≡ B.book }
+{
+    let house = with_a_message::<B, R>(rt, alloc, history)?;
+    Ok(is_a_stranger_meanwhile(rt, alloc, &house))
 }
 
 #[test]
 fn a_handle_of_another_mailbox_is_a_stranger_to_each_call(
     rt: HostRuntime,
 ) -> Result<(), AllocError> {
-    let mailboxes = with_a_message(&rt, rt.alloc())?;
-    assert!(rt; is_a_stranger_meanwhile(&rt, rt.alloc(), &mailboxes));
+    assert!(rt; is_a_stranger_in::<Brand, HostRuntime>(&rt, rt.alloc(), Opened::new())?);
     Ok(())
 }

@@ -3,13 +3,16 @@
 
 ghost use Rattle.std.specs.Prelude.{◌≡◌, false};
 
-use crate::imap::{Marks, Tally, Wire, a_mailbox, attend_one, is_greeting_and, open};
+use crate::houses::TestHouse;
+use crate::imap::{a_mailbox, attend_one, is_greeting_and, open};
+use crate::wires::{Marks, Tally, Wire};
 use change_ring::Flags;
-use delivery_token::{CopyKey, Job, Text, Verdict};
+use delivery_token::{Text, Verdict};
+use house_history::{Naming, Opened};
 use imap_session::After;
 use imap_stream::{Visit, VisitFault};
-use mailbox::{Mailbox, verdict_of};
 use std::alloc::{AllocError, Global};
+use std::marker::Brand;
 use std::sync::atomic::AtomicBool;
 use std::sync::{Mutex, Wait};
 use workers_sync::{Courier, Gate, Lost, Pace};
@@ -19,38 +22,30 @@ const MOST: u32 = 64;
 
 // A courier that delivers each message into its mailbox, or loses it.
 #[derive(Drop)]
-pub(crate) struct TestCourier<'a, R: Wait> {
+pub(crate) struct TestCourier<'a, B: Naming, R: Wait> {
     rt: &'a R,
-    mailboxes: &'a [Mutex<Mailbox>],
+    house: &'a TestHouse<B>,
     loses: Option<Lost>,
     // So many messages were given to it.
     asked: u32,
 }
 
-impl<'a, R: Wait> TestCourier<'a, R> {
+impl<'a, B: Naming, R: Wait> TestCourier<'a, B, R> {
     pub(crate) fn new(
         rt: &'a R,
-        mailboxes: &'a [Mutex<Mailbox>],
+        house: &'a TestHouse<B>,
         loses: Option<Lost>,
-    ) -> TestCourier<'a, R> {
+    ) -> TestCourier<'a, B, R> {
         TestCourier {
             rt,
-            mailboxes,
+            house,
             loses,
             asked: 0,
         }
     }
-
-    // The verdict of the mailbox, which is asked as a consumer would.
-    fn deliver(&self, job: &Job) -> Result<Verdict, Lost> {
-        let Some(lock) = self.mailboxes.get(usize::from(job.mailbox)) else {
-            return Err(Lost::Torn);
-        };
-        Ok(verdict_of(lock.lock(self.rt).deliver(job)))
-    }
 }
 
-impl<R: Wait> Courier for TestCourier<'_, R> {
+impl<B: Naming, R: Wait> Courier for TestCourier<'_, B, R> {
     ghost ready = { λ c. Unit };
 
     ghost carried = { λ c done. Unit };
@@ -60,7 +55,7 @@ impl<R: Wait> Courier for TestCourier<'_, R> {
     fn carry<G: Gate>(
         &mut self,
         pace: &mut Pace<'_, G>,
-        message: u32,
+        _message: u32,
         mailbox: u8,
         text: &Text,
         flags: Flags,
@@ -73,17 +68,10 @@ impl<R: Wait> Courier for TestCourier<'_, R> {
         let Ok(text) = text.copy() else {
             return Err(Lost::NoMemory);
         };
-        self.deliver(&Job {
-            key: CopyKey {
-                seat: 0,
-                serial: 0,
-                message,
-                recipient: 0,
-            },
-            mailbox,
-            text,
-            flags,
-        })
+        match self.house.deliver(self.rt, mailbox, text, flags) {
+            Some(verdict) => Ok(verdict),
+            None => Err(Lost::Torn),
+        }
     }
 }
 
@@ -138,10 +126,10 @@ const CASES: &[Case] = &[
 ];
 
 // What a visit answers to two pieces.
-fn answers<R: Wait>(
+fn answers<B: Naming, R: Wait>(
     alloc: Global,
-    visit: &mut Visit<'_, R, Tally, Wire<'_, R>>,
-    courier: &mut TestCourier<'_, R>,
+    visit: &mut Visit<'_, B, R, Tally, Wire<'_, R>>,
+    courier: &mut TestCourier<'_, B, R>,
     case: &Case,
 ) -> Answers {
     let idles = AtomicBool::new(false);
@@ -152,52 +140,61 @@ fn answers<R: Wait>(
 }
 
 // The same, and how many messages it gave to its courier.
-fn visited<'x, R: Wait>(
+fn visited<'x, B: Naming, R: Wait>(
     rt: &'x R,
     alloc: Global,
-    mailboxes: &'x [Mutex<Mailbox>],
+    house: &'x TestHouse<B>,
     case: &Case,
     tally: &'x Tally,
     wire: Wire<'x, R>,
 ) -> Option<(Answers, u32)>
     requires { wire.has_failed ≡ false }
 {
-    let mut courier = TestCourier::new(rt, mailboxes, case.loses);
-    let Some(mut visit) = open(rt, alloc, mailboxes, tally, Some(MOST), wire) else {
+    let mut courier = TestCourier::new(rt, house, case.loses);
+    let Some(mut visit) = open(rt, alloc, house, tally, Some(MOST), wire) else {
         return None;
     };
     let answered = answers(alloc, &mut visit, &mut courier, case);
     Some((answered, courier.asked))
 }
 
-fn is_as_wanted<R: Wait>(rt: &R, alloc: Global, case: &Case) -> Result<bool, AllocError> {
-    let mailboxes = a_mailbox(rt, alloc, false)?;
+fn is_as_wanted<B: Naming, R: Wait>(
+    rt: &R,
+    alloc: Global,
+    history: Opened,
+    case: &Case,
+) -> Result<bool, AllocError>
+    requires { history ≡ B.book }
+{
+    let house = a_mailbox::<B, R>(rt, alloc, history, false)?;
     let told = Mutex::new(Vec::new(alloc));
     let (tally, marks) = (Tally::new(), Marks::new());
     let wire = Wire::new(rt, &told, 9, &marks.told);
-    let answered = visited(rt, alloc, &mailboxes, case, &tally, wire);
+    let answered = visited(rt, alloc, &house, case, &tally, wire);
     Ok(answered == case.wanted && is_greeting_and(&told.into_inner(), case.told))
 }
 
 #[test]
 fn a_visit_answers_verdicts(rt: HostRuntime) -> Result<(), AllocError> {
     for (number, case) in CASES.iter().enumerate() {
-        assert!(rt; is_as_wanted(&rt, rt.alloc(), case)?, "case {number}");
+        let (alloc, history) = (rt.alloc(), Opened::new());
+        let is_wanted = is_as_wanted::<Brand, HostRuntime>(&rt, alloc, history, case)?;
+        assert!(rt; is_wanted, "case {number}");
     }
     Ok(())
 }
 
 // Attends a client that sends these bytes, which are read in pieces of 16: how many messages it gave to its
 // courier; none where the berth wasn't free.
-fn attend<'x, R: Wait>(
+fn attend<'x, B: Naming, R: Wait>(
     rt: &'x R,
     alloc: Global,
-    mailboxes: &'x [Mutex<Mailbox>],
+    house: &'x TestHouse<B>,
     loses: Option<Lost>,
     bytes: &[u8],
-    visit: Visit<'x, R, Tally, Wire<'x, R>>,
+    visit: Visit<'x, B, R, Tally, Wire<'x, R>>,
 ) -> Option<u32> {
-    let mut courier = TestCourier::new(rt, mailboxes, loses);
+    let mut courier = TestCourier::new(rt, house, loses);
     let (mut input, never) = (bytes, AtomicBool::new(false));
     let is_done = attend_one(
         rt,
@@ -212,20 +209,23 @@ fn attend<'x, R: Wait>(
 }
 
 // Whether a client that sends these bytes is told this, and that many messages are carried.
-fn is_attended<R: Wait>(
+fn is_attended<B: Naming, R: Wait>(
     rt: &R,
     alloc: Global,
+    history: Opened,
     loses: Option<Lost>,
     bytes: &[u8],
     carried: u32,
     rest: &[u8],
-) -> Result<bool, AllocError> {
-    let mailboxes = a_mailbox(rt, alloc, false)?;
+) -> Result<bool, AllocError>
+    requires { history ≡ B.book }
+{
+    let house = a_mailbox::<B, R>(rt, alloc, history, false)?;
     let told = Mutex::new(Vec::new(alloc));
     let (tally, marks) = (Tally::new(), Marks::new());
     let wire = Wire::new(rt, &told, 9, &marks.told);
-    let asked = match open(rt, alloc, &mailboxes, &tally, Some(MOST), wire) {
-        Some(visit) => attend(rt, alloc, &mailboxes, loses, bytes, visit),
+    let asked = match open(rt, alloc, &house, &tally, Some(MOST), wire) {
+        Some(visit) => attend(rt, alloc, &house, loses, bytes, visit),
         None => None,
     };
     Ok(asked == Some(carried) && is_greeting_and(&told.into_inner(), rest))
@@ -240,8 +240,11 @@ fn a_berth_attends_a_client_that_appends(rt: HostRuntime) -> Result<(), AllocErr
           a2 OK [APPENDUID 7 2] APPEND completed\r\n\
           * BYE Logging out\r\n\
           a3 OK LOGOUT completed\r\n";
-    assert!(rt; is_attended(&rt, rt.alloc(), None, bytes, 2, told)?);
+    let history = Opened::new();
+    let alloc = rt.alloc();
+    assert!(rt; is_attended::<Brand, HostRuntime>(&rt, alloc, history, None, bytes, 2, told)?);
     // Nothing more is read once no verdict came.
-    assert!(rt; is_attended(&rt, rt.alloc(), Some(Lost::Torn), bytes, 1, b"")?);
+    let (torn, history) = (Some(Lost::Torn), Opened::new());
+    assert!(rt; is_attended::<Brand, HostRuntime>(&rt, alloc, history, torn, bytes, 1, b"")?);
     Ok(())
 }

@@ -1,15 +1,20 @@
 //! Sessions whose clients append messages, over couriers that bring a verdict, or none. What they are
 //! told is written in RFC 9051, 6.3.12 and 7.1, and in RFC 4315, 3.
 
-use crate::sessions::{Tally, folders, saying, two_mailboxes};
+ghost use Rattle.std.specs.Prelude.{◌≡◌};
+
+use crate::houses::TestHouse;
+use crate::sessions::{Tally, folders, saying, store_of, two_mailboxes};
 use change_ring::Flags;
-use delivery_token::{CopyKey, Job, Refusal, Text, Verdict};
+use delivery_token::{Refusal, Text, Verdict};
+use house_history::{Naming, Opened};
 use imap_session::Store;
-use mailbox::{MailFault, Mailbox, verdict_of};
-use session_thread::{LockedStore, live};
+use mailbox::MailFault;
+use session_thread::live;
 use settings::Step;
 use std::alloc::{AllocError, Global};
-use std::sync::{Mutex, Wait};
+use std::marker::Brand;
+use std::sync::Wait;
 use workers_sync::{Courier, Gate, Lost, Pace};
 
 // What a test's courier does with each message.
@@ -25,20 +30,20 @@ pub(crate) enum Way {
 
 // A courier that goes straight to the mailboxes.
 #[derive(Drop)]
-pub(crate) struct TestCourier<'a, R: Wait> {
+pub(crate) struct TestCourier<'a, B: Naming, R: Wait> {
     rt: &'a R,
-    mailboxes: &'a [Mutex<Mailbox>],
+    house: &'a TestHouse<B>,
     way: Way,
     // So many messages were given to it, each with the next number.
     asked: u32,
     are_in_order: bool,
 }
 
-impl<'a, R: Wait> TestCourier<'a, R> {
-    pub(crate) fn new(rt: &'a R, mailboxes: &'a [Mutex<Mailbox>], way: Way) -> TestCourier<'a, R> {
+impl<'a, B: Naming, R: Wait> TestCourier<'a, B, R> {
+    pub(crate) fn new(rt: &'a R, house: &'a TestHouse<B>, way: Way) -> TestCourier<'a, B, R> {
         TestCourier {
             rt,
-            mailboxes,
+            house,
             way,
             asked: 0,
             are_in_order: true,
@@ -46,35 +51,18 @@ impl<'a, R: Wait> TestCourier<'a, R> {
     }
 
     // The verdict of the mailbox, which is asked as a consumer would.
-    fn deliver(
-        &self,
-        message: u32,
-        mailbox: u8,
-        text: &Text,
-        flags: Flags,
-    ) -> Result<Verdict, Lost> {
+    fn deliver(&self, mailbox: u8, text: &Text, flags: Flags) -> Result<Verdict, Lost> {
         let Ok(text) = text.copy() else {
             return Err(Lost::NoMemory);
         };
-        let job = Job {
-            key: CopyKey {
-                seat: 0,
-                serial: 0,
-                message,
-                recipient: 0,
-            },
-            mailbox,
-            text,
-            flags,
-        };
-        let Some(lock) = self.mailboxes.get(usize::from(mailbox)) else {
-            return Err(Lost::Torn);
-        };
-        Ok(verdict_of(lock.lock(self.rt).deliver(&job)))
+        match self.house.deliver(self.rt, mailbox, text, flags) {
+            Some(verdict) => Ok(verdict),
+            None => Err(Lost::Torn),
+        }
     }
 }
 
-impl<R: Wait> Courier for TestCourier<'_, R> {
+impl<B: Naming, R: Wait> Courier for TestCourier<'_, B, R> {
     ghost ready = { λ c. Unit };
 
     ghost carried = { λ c done. Unit };
@@ -93,7 +81,7 @@ impl<R: Wait> Courier for TestCourier<'_, R> {
         self.asked = self.asked.saturating_add(1);
         pace.pass();
         match self.way {
-            Way::Delivers => self.deliver(message, mailbox, text, flags),
+            Way::Delivers => self.deliver(mailbox, text, flags),
             Way::Refuses => Ok(Verdict::Refused(Refusal::Full)),
             Way::Loses(why) => Err(why),
         }
@@ -255,10 +243,10 @@ fn steps_of(alloc: Global, pieces: &[&[u8]]) -> Result<Vec<Step>, AllocError> {
 
 // How a session ends that lives through these steps; none where its courier was given a message out of
 // order, or its mailbox wasn't left.
-fn ending_of<R: Wait>(
+fn ending_of<B: Naming, R: Wait>(
     rt: &R,
     alloc: Global,
-    mailboxes: &[Mutex<Mailbox>],
+    house: &TestHouse<B>,
     case: &Case,
     steps: &[Step],
     said: &mut Vec<u8>,
@@ -267,8 +255,8 @@ fn ending_of<R: Wait>(
         return None;
     };
     let tally = Tally::new();
-    let mut courier = TestCourier::new(rt, mailboxes, case.way);
-    let mut store = LockedStore::new(rt, &tally, 0, mailboxes, &[]);
+    let mut courier = TestCourier::new(rt, house, case.way);
+    let mut store = store_of(rt, &tally, 0, house, &[]);
     let lived = live(
         alloc,
         &mut store,
@@ -296,18 +284,27 @@ fn is_greeting_and(told: &[u8], rest: &[u8]) -> bool {
     told.starts_with(GREETING) && &told[GREETING.len()..] == rest
 }
 
-fn is_as_wanted<R: Wait>(rt: &R, alloc: Global, case: &Case) -> Result<bool, AllocError> {
-    let mailboxes = two_mailboxes(alloc)?;
+fn is_as_wanted<B: Naming, R: Wait>(
+    rt: &R,
+    alloc: Global,
+    history: Opened,
+    case: &Case,
+) -> Result<bool, AllocError>
+    requires { history ≡ B.book }
+{
+    let house = two_mailboxes::<B>(alloc, history)?;
     let steps = steps_of(alloc, case.pieces)?;
     let mut said = Vec::new(alloc);
-    let ending = ending_of(rt, alloc, &mailboxes, case, &steps, &mut said);
+    let ending = ending_of(rt, alloc, &house, case, &steps, &mut said);
     Ok(ending == Some(case.ending) && is_greeting_and(&said, case.told))
 }
 
 #[test]
 fn a_message_is_carried_before_anything_more_is_taken(rt: HostRuntime) -> Result<(), AllocError> {
     for (number, case) in CASES.iter().enumerate() {
-        assert!(rt; is_as_wanted(&rt, rt.alloc(), case)?, "case {number}");
+        let (alloc, history) = (rt.alloc(), Opened::new());
+        let is_wanted = is_as_wanted::<Brand, HostRuntime>(&rt, alloc, history, case)?;
+        assert!(rt; is_wanted, "case {number}");
     }
     Ok(())
 }

@@ -1,5 +1,7 @@
 -- What the tests' round rests on.
-use Rattle.std.proofs.Common.{◌≡◌, ◌≤◌, ◌+◌, ◌∙◌, ◌++◌, ℕ, suc, sym, subst, ap, List, [], ◌∷◌, All, Vec, Global, length, map, append_assoc, vec_len, vec_capacity, arith}
+use Rattle.std.proofs.Common.{Bor, Option, Some, slice_get, ◌≡◌, ◌≤◌, ◌+◌, ◌∙◌, ◌++◌, ℕ, suc, sym, subst, ap, List, [], ◌∷◌, All, Vec, Global, length, map, append_assoc, vec_len, vec_capacity, arith}
+use Rattle.std.specs.Slice.{IsItemAt}
+use Rattle.std.proofs.lemmas.Option.{slice_get-get_or}
 use Rattle.std.proofs.lemmas.List.{length-map}
 use Rattle.std.proofs.lemmas.List.Elements.{All-cons, All-head, All-map, All-nil, All-tail, All-weaker}
 use Rattle.delivery_token.specs.declared.Job.{Job}
@@ -16,7 +18,7 @@ use Rattle.house_floor.specs.declared.floor.Post.{Post}
 use Rattle.tests_threads.specs.inner.Rounds.{IsOwnPost}
 
 -- each post is of its own number
-pub own_posts : (floor : Floor) (n : ℕ) (ps : List Post) → AllAt (IsPost floor) n ps → All (IsOwnPost floor) ps
+pub own_posts : {B : Type 0} (floor : Floor B) (n : ℕ) (ps : List (Post B)) → AllAt (IsPost floor) n ps → All (IsOwnPost floor) ps
 own_posts floor n [] all = All-nil (IsOwnPost floor)
 own_posts floor n (p ∷ ps) all = All-cons (IsOwnPost floor) p ps (record { is = subst (λ k. IsPost floor k p) (sym all.0.number) all.0 }) (own_posts floor (suc n) ps all.1)
 
@@ -36,7 +38,7 @@ none_yet lanes count each lists are same =
     (All-weaker (λ (v : Vec (Ended Job) Global). (v.items ≡ []) × (each ≤ vec_capacity v)) (λ v. v.items ≡ []) (λ v h. h.0) lists.items are.1))
 
 -- one more permit was taken from the front
-pub permit_next : (permits more : List (ConsumerPermit Job)) (consumed less : List Consumed) (one : Consumed) (all : List (ConsumerPermit Job)) → consumed ≡ one ∷ less → more ≡ permits ++ one.permit ∷ []
+pub permit_next : {B : Type 0} (permits more : List (ConsumerPermit Job)) (consumed less : List (Consumed B)) (one : Consumed B) (all : List (ConsumerPermit Job)) → consumed ≡ one ∷ less → more ≡ permits ++ one.permit ∷ []
     → permits ++ map (λ c. c.permit) consumed ≡ all → more ++ map (λ c. c.permit) less ≡ all
 permit_next permits more consumed less one all split grew so =
     ap (λ l. l ++ map (λ c. c.permit) less) grew ∙ append_assoc permits (one.permit ∷ []) (map (λ c. c.permit) less) ∙ ap (λ l. permits ++ map (λ c. c.permit) l) (sym split) ∙ so
@@ -50,3 +52,10 @@ popped {A} P all rest x is so = go rest (subst (All P) is so) where
 
 pub alone : {A : Type 0} (P : A → Type 0) (x : A) → P x → All P (x ∷ [])
 alone P x so = All-cons P x [] so (All-nil P)
+
+-- what was lent of a list at a position
+pub lent_at : {X : Type 0} (xs ys : List X) (i n : ℕ) (r : Option (Bor X)) (b : Bor X) → IsItemAt ys i r → r ≡ Some b → ys ≡ xs → i ≡ n → slice_get xs n ≡ Some b.now
+lent_at {X} xs ys i n r b at is same here =
+    let there = subst (IsItemAt ys i) is at in
+    let found : slice_get ys i ≡ Some b.now = slice_get-get_or ys i b.now there.3.0 ∙ ap (λ (x : X). Some x) (sym there.1) in
+    subst (λ (l : List X). slice_get l n ≡ Some b.now) same (subst (λ (k : ℕ). slice_get ys k ≡ Some b.now) here found)

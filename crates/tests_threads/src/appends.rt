@@ -4,9 +4,9 @@
 use crate::gates::{PATIENCE, Passes, Turnstile};
 use crate::plans::{add_session, add_worker, messages_for, plan_of};
 use crate::reports::{DELIVERED, has_accepted, has_stored, have_said, replied_like};
-use crate::runs::{Stopped, run};
+use crate::runs::{Reported, Stopped, run};
 use delivery_token::CopyKey;
-use running_house::{Plan, Report};
+use running_house::Plan;
 use std::alloc::{AllocError, Global};
 use std::sync::Wait;
 use std::thread::Threads;
@@ -55,7 +55,7 @@ fn do_rise(pairs: &[(CopyKey, u32)]) -> bool {
 }
 
 // Those of this seat among the copies that alice's mailbox accepted.
-fn of_seat(alloc: Global, report: &Report, seat: u8) -> Result<Vec<(CopyKey, u32)>, AllocError> {
+fn of_seat(alloc: Global, report: &Reported, seat: u8) -> Result<Vec<(CopyKey, u32)>, AllocError> {
     let mut own = Vec::new(alloc);
     let Some(pairs) = report.accepted.first() else {
         return Ok(own);
@@ -71,7 +71,7 @@ fn of_seat(alloc: Global, report: &Report, seat: u8) -> Result<Vec<(CopyKey, u32
 // What the report has of this producer that it isn't to have: it sent two copies, each stands once, in their order, and its log says so.
 fn unlike_for(
     alloc: Global,
-    report: &Report,
+    report: &Reported,
     seat: u8,
 ) -> Result<Option<&'static str>, AllocError> {
     let own = of_seat(alloc, report, seat)?;
@@ -87,7 +87,7 @@ fn unlike_for(
     Ok(None)
 }
 
-fn unlike(alloc: Global, report: &Report) -> Result<Option<&'static str>, AllocError> {
+fn unlike(alloc: Global, report: &Reported) -> Result<Option<&'static str>, AllocError> {
     if report.logs.len() != 2 || report.replies.len() != 1 || report.sessions.len() != 1 {
         return Ok(Some("producers"));
     }
@@ -101,7 +101,7 @@ fn unlike(alloc: Global, report: &Report) -> Result<Option<&'static str>, AllocE
 }
 
 // Whether the mailbox has this text under this UID.
-fn has_message(report: &Report, uid: u32, text: &[u8]) -> bool {
+fn has_message(report: &Reported, uid: u32, text: &[u8]) -> bool {
     let Some(texts) = report.texts.first() else {
         return false;
     };

@@ -4,10 +4,10 @@
 use crate::gates::{PATIENCE, Turnstile};
 use crate::plans::{add_worker, message_for, plan_of};
 use crate::reports::{REPLIES, TEXT, has_accepted, has_text};
-use crate::runs::{Stopped, run};
+use crate::runs::{Reported, Stopped, run};
 use delivery_token::CopyKey;
 use lane_work::Closing;
-use running_house::{Plan, Report, WorkFault};
+use running_house::{Plan, WorkFault};
 use settings::ConfigFault;
 use std::alloc::{AllocError, Global};
 use std::sync::Wait;
@@ -63,7 +63,7 @@ fn key(seat: u8, serial: u64) -> CopyKey {
 }
 
 // Whether these were the replies to this connection of worker 0.
-fn is_told(report: &Report, connection: usize, wanted: &[u8]) -> bool {
+fn is_told(report: &Reported, connection: usize, wanted: &[u8]) -> bool {
     let Some(replies) = report.replies.first() else {
         return false;
     };
@@ -74,13 +74,13 @@ fn is_told(report: &Report, connection: usize, wanted: &[u8]) -> bool {
 }
 
 // Whether bob's mailbox accepted the copies of both workers, in either order.
-fn bob_has_both(report: &Report) -> bool {
+fn bob_has_both(report: &Reported) -> bool {
     let first = [(key(0, 1), 1), (key(1, 0), 2)];
     let second = [(key(1, 0), 1), (key(0, 1), 2)];
     has_accepted(report, 1, &first) || has_accepted(report, 1, &second)
 }
 
-fn unlike(report: &Report) -> Option<&'static str> {
+fn unlike(report: &Reported) -> Option<&'static str> {
     if !is_told(report, 0, REPLIES) {
         return Some("replies before");
     }

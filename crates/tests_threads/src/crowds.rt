@@ -5,8 +5,8 @@ use crate::plans::{add_idle_workers, add_idler, add_worker, message_for, message
 use crate::reports::{
     DELIVERED, FULL, accepted_by, accepted_in_all, has_told, replied_like, stored_by, texts_in_all,
 };
-use crate::runs::{Stopped, outcome, run};
-use running_house::{Plan, Report};
+use crate::runs::{Reported, Stopped, outcome, run};
+use running_house::Plan;
 use std::alloc::{AllocError, Global};
 use std::sync::Wait;
 use std::thread::Threads;
@@ -113,7 +113,7 @@ fn after_selection(alloc: Global) -> Result<Turnstile, AllocError> {
 }
 
 // Whether a session was greeted by an empty mailbox, was shown each of its messages, and logged out.
-fn has_seen_all(report: &Report, session: usize) -> bool {
+fn has_seen_all(report: &Reported, session: usize) -> bool {
     has_told(report, session, b"* 0 EXISTS\r\n")
         && has_told(report, session, b"* 13 EXISTS\r\n")
         && has_told(report, session, b"a2 OK IDLE completed\r\n")
@@ -121,7 +121,7 @@ fn has_seen_all(report: &Report, session: usize) -> bool {
 }
 
 // What the report of the crowd has that it isn't to have.
-fn unlike_crowd(alloc: Global, report: &Report) -> Result<Option<&'static str>, AllocError> {
+fn unlike_crowd(alloc: Global, report: &Reported) -> Result<Option<&'static str>, AllocError> {
     if accepted_in_all(report) != 800 || texts_in_all(report) != 800 {
         return Ok(Some("copies"));
     }
@@ -181,7 +181,7 @@ fn narrow(alloc: Global, messages: usize) -> Result<Plan, AllocError> {
 
 // Whether each worker was told of so many messages, of as many of them that they were delivered as its log has as stored, and of all others
 // that the shard was full.
-fn tell_of_each(alloc: Global, report: &Report, messages: usize) -> Result<bool, AllocError> {
+fn tell_of_each(alloc: Global, report: &Reported, messages: usize) -> Result<bool, AllocError> {
     for worker in 0..usize::from(WORKERS) {
         let stored = stored_by(alloc, report, worker, 1)?;
         if stored > messages || replied_like(report, worker, DELIVERED) != stored {
@@ -195,7 +195,7 @@ fn tell_of_each(alloc: Global, report: &Report, messages: usize) -> Result<bool,
 }
 
 // How many copies all workers' logs have as stored.
-fn stored_in_all(alloc: Global, report: &Report) -> Result<usize, AllocError> {
+fn stored_in_all(alloc: Global, report: &Reported) -> Result<usize, AllocError> {
     let mut count: usize = 0;
     for worker in 0..usize::from(WORKERS) {
         count = count.saturating_add(stored_by(alloc, report, worker, 1)?);
@@ -204,7 +204,7 @@ fn stored_in_all(alloc: Global, report: &Report) -> Result<usize, AllocError> {
 }
 
 // Whether what is stored by the logs, accepted and there is so many copies.
-fn are_all(alloc: Global, report: &Report, copies: usize) -> Result<bool, AllocError> {
+fn are_all(alloc: Global, report: &Reported, copies: usize) -> Result<bool, AllocError> {
     Ok(
         stored_in_all(alloc, report)? == copies
             && accepted_in_all(report) == copies

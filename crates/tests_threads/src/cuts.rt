@@ -3,14 +3,14 @@
 use crate::gates::Turnstile;
 use crate::plans::{message_for, two_workers};
 use crate::reports::{accepted_by, first_key, has_accepted};
-use crate::runs::{Stopped, run};
-use running_house::{Plan, Report};
+use crate::runs::{Reported, Stopped, run};
+use running_house::Plan;
 use std::alloc::Global;
 use std::sync::Wait;
 use std::thread::Threads;
 
 // How many copies alice accepted, where bob accepted his.
-fn accepted_in(report: &Report) -> Option<usize> {
+fn accepted_in(report: &Reported) -> Option<usize> {
     if !has_accepted(report, 1, &[(first_key(1), 1)]) {
         return None;
     }

@@ -1,16 +1,20 @@
 //! A small house: two shards, two producers, alice with a folder, and bob.
 
-ghost use Rattle.std.specs.Prelude.{◌≡◌, ◌≢◌, ◌<◌, All, IfOk, None, length, vec_len};
+ghost use Rattle.std.specs.Prelude.{◌≡◌, ◌≢◌, ◌<◌, ◌≤◌, All, IfOk, None, length, vec_len};
 ghost use Rattle.house_floor.specs.Users.{user_numbered};
 
 use envelope::Directory;
 use house_floor::{Guest, Opened, Sizes, inbox_numbered, is_nobody, open};
+use house_history::Naming;
 use mailbox::{History, Limits};
-use std::alloc::Global;
+use std::alloc::{AllocError, Global};
+use std::marker::Brand;
 use std::mem::ManuallyDrop;
 use std::test::Fail;
 
-fn directory(alloc: Global) -> Result<Directory, Fail> {
+fn directory(alloc: Global) -> Result<Directory, Fail>
+    ensures { IfOk result (λ d. 0 < d.shards) }
+{
     let Ok(directory) = Directory::new(
         alloc,
         &[b"example.org".as_slice()],
@@ -33,7 +37,7 @@ const LIMITS: Limits = Limits {
 };
 
 // A house that no thread works in can't be closed, and is left where it is.
-fn leave(opened: Opened) -> ManuallyDrop<Opened> {
+fn leave<B: Naming>(opened: Opened<B>) -> ManuallyDrop<Opened<B>> {
     unsafe { ManuallyDrop::new_unchecked(opened) }
 }
 
@@ -84,7 +88,7 @@ fn guests_of(alloc: Global, directory: &Directory, user: u8) -> Result<Vec<Guest
 }
 
 // How many bells each mailbox has, as digits of a number.
-fn bells_in(opened: &Opened) -> usize {
+fn bells_in<B: Naming>(opened: &Opened<B>) -> usize {
     let mut bells = 0usize;
     for list in &opened.floor.depot.sessions {
         bells = bells.wrapping_mul(10).wrapping_add(list.len());
@@ -92,15 +96,45 @@ fn bells_in(opened: &Opened) -> usize {
     bells
 }
 
+// What a house of these sizes has, whose history was just opened: bells, stands, posts and mailboxes.
+#[derive(Clone, Copy)]
+struct Has {
+    bells: usize,
+    stands: usize,
+    posts: usize,
+    mailboxes: usize,
+}
+
+fn opened_for<B: Naming>(
+    alloc: Global,
+    history: house_history::Opened,
+    directory: Directory,
+    guests: &[Guest],
+) -> Result<Has, AllocError>
+    requires history { history ≡ B.book }
+    requires shards { 0 < directory.shards }
+    requires guests { All (λ v. user_numbered v.user directory.homes ≢ None) guests.now }
+    requires few { length guests.now ≤ 256 }
+{
+    let opened = open::<B>(alloc, history, directory, sizes(), guests)?;
+    let has = Has {
+        bells: bells_in(&opened),
+        stands: opened.crew.stands.len(),
+        posts: opened.crew.posts.len(),
+        mailboxes: opened.floor.depot.mailboxes.len(),
+    };
+    let _left = leave(opened);
+    Ok(has)
+}
+
 #[test]
 fn each_mailbox_has_the_bells_of_its_user(rt: HostRuntime) -> Result<(), Fail> {
     let alloc = rt.alloc();
     let directory = directory(alloc)?;
     let guests = guests_of(alloc, &directory, 1)?;
-    let opened = open(alloc, directory, sizes(), &guests)?;
-    let bells = bells_in(&opened);
-    let _left = leave(opened);
-    assert!(&rt; bells == 1);
+    let history = house_history::Opened::new();
+    let has = opened_for::<Brand>(alloc, history, directory, &guests)?;
+    assert!(&rt; has.bells == 1);
     Ok(())
 }
 
@@ -108,11 +142,9 @@ fn each_mailbox_has_the_bells_of_its_user(rt: HostRuntime) -> Result<(), Fail> {
 fn a_house_has_all_its_parts(rt: HostRuntime) -> Result<(), Fail> {
     let alloc = rt.alloc();
     let directory = directory(alloc)?;
-    let opened = open(alloc, directory, sizes(), &[])?;
-    let threads = (opened.crew.stands.len(), opened.crew.posts.len());
-    let mailboxes = opened.floor.depot.mailboxes.len();
-    let _left = leave(opened);
-    assert!(&rt; threads == (2, 2));
-    assert!(&rt; mailboxes == 3);
+    let history = house_history::Opened::new();
+    let has = opened_for::<Brand>(alloc, history, directory, &[])?;
+    assert!(&rt; (has.stands, has.posts) == (2, 2));
+    assert!(&rt; has.mailboxes == 3);
     Ok(())
 }

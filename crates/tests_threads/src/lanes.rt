@@ -7,17 +7,22 @@ ghost use Rattle.lane_work.specs.Permits.{AreEnded, ArePermits, IsPermit, permit
 ghost use Rattle.lane_work.specs.Rooms.{AreHandRooms};
 ghost use Rattle.lane_work.specs.LanePermits.{AreConsumers, AreEndedHands, AreHands};
 
-use delivery_token::Job;
+use house_history::{Letter, Naming};
 use lane_work::{
     Hands, LanePermit, Lanes, PermitRooms, Rooms, close_lanes, collect_all, deal_all, make_lanes,
     make_rooms, spend_permit_rooms, spend_rooms,
 };
 use shard_queue::{ConsumerPermit, Ended, ProducerPermit, ShardQueue};
 use std::alloc::{AllocError, Global};
+use std::marker::Brand;
 use std::sync::Wait;
 
 // Ends a permit; each lane here has room for all ends.
-fn end_live<R: Wait>(rt: &R, lane: &ShardQueue<Job>, mut permit: ProducerPermit<Job>) -> Ended<Job>
+fn end_live<B: Naming, R: Wait>(
+    rt: &R,
+    lane: &ShardQueue<Letter<B>>,
+    mut permit: ProducerPermit<Letter<B>>,
+) -> Ended<Letter<B>>
     requires { IsProducer lane.now permit }
     ensures { IsEnded lane.now result × (ended_number result ≡ number_of permit) }
 {
@@ -31,7 +36,11 @@ fn end_live<R: Wait>(rt: &R, lane: &ShardQueue<Job>, mut permit: ProducerPermit<
 }
 
 // The same of one that may be over.
-fn end_permit<R: Wait>(rt: &R, lane: &ShardQueue<Job>, permit: LanePermit) -> Ended<Job>
+fn end_permit<B: Naming, R: Wait>(
+    rt: &R,
+    lane: &ShardQueue<Letter<B>>,
+    permit: LanePermit<Letter<B>>,
+) -> Ended<Letter<B>>
     requires { IsPermit lane.now permit }
     ensures { IsEnded lane.now result × (ended_number result ≡ permit_number permit) }
 {
@@ -42,13 +51,13 @@ fn end_permit<R: Wait>(rt: &R, lane: &ShardQueue<Job>, permit: LanePermit) -> En
 }
 
 // Ends one producer's permits.
-fn end_hand<R: Wait>(
+fn end_hand<B: Naming, R: Wait>(
     rt: &R,
-    lanes: &[ShardQueue<Job>],
+    lanes: &[ShardQueue<Letter<B>>],
     number: u8,
-    mut hand: Vec<LanePermit>,
-    mut ended: Vec<Ended<Job>>,
-) -> Vec<Ended<Job>>
+    mut hand: Vec<LanePermit<Letter<B>>>,
+    mut ended: Vec<Ended<Letter<B>>>,
+) -> Vec<Ended<Letter<B>>>
     requires permits { ArePermits lanes.now number hand.items }
     requires room { (ended.items ≡ []) × (length lanes.now ≤ vec_capacity ended) }
     ensures ended { AreEnded lanes.now number result.items }
@@ -63,13 +72,13 @@ fn end_hand<R: Wait>(
 }
 
 // Ends all producers' permits.
-fn end_hands<R: Wait>(
+fn end_hands<B: Naming, R: Wait>(
     rt: &R,
-    lanes: &[ShardQueue<Job>],
+    lanes: &[ShardQueue<Letter<B>>],
     producers: u8,
-    mut hands: Vec<Vec<LanePermit>>,
-    rooms: Hands<Ended<Job>>,
-) -> Vec<Vec<Ended<Job>>>
+    mut hands: Vec<Vec<LanePermit<Letter<B>>>>,
+    rooms: Hands<Ended<Letter<B>>>,
+) -> Vec<Vec<Ended<Letter<B>>>>
     requires count { vec_len hands ≡ producers }
     requires hands { AreHands lanes.now 0 (map (λ v. v.items) hands.items) }
     requires rooms { AreHandRooms producers (length lanes.now) rooms }
@@ -89,10 +98,10 @@ fn end_hands<R: Wait>(
 }
 
 // Takes so many times from a lane.
-fn take_from<R: Wait>(
+fn take_from<B: Naming, R: Wait>(
     rt: &R,
-    lane: &ShardQueue<Job>,
-    permit: &mut ConsumerPermit<Job>,
+    lane: &ShardQueue<Letter<B>>,
+    permit: &mut ConsumerPermit<Letter<B>>,
     times: usize,
 )
     requires { IsConsumer lane.now permit.old }
@@ -104,10 +113,10 @@ fn take_from<R: Wait>(
 }
 
 // Takes so many times from each lane.
-fn take_from_all<R: Wait>(
+fn take_from_all<B: Naming, R: Wait>(
     rt: &R,
-    lanes: &[ShardQueue<Job>],
-    consumers: &mut Vec<ConsumerPermit<Job>>,
+    lanes: &[ShardQueue<Letter<B>>],
+    consumers: &mut Vec<ConsumerPermit<Letter<B>>>,
     times: usize,
 )
     requires { AreConsumers lanes.now consumers.old.items }
@@ -119,10 +128,14 @@ fn take_from_all<R: Wait>(
 }
 
 // Whether two lanes close whose three producers have ended, after so many takes from each.
-fn close_after<R: Wait>(rt: &R, alloc: Global, takes: usize) -> Result<bool, AllocError> {
+fn close_after<B: Naming, R: Wait>(
+    rt: &R,
+    alloc: Global,
+    takes: usize,
+) -> Result<bool, AllocError> {
     let closed = Vec::with_capacity(alloc, 2)?;
     let rooms = make_rooms(alloc, 3, 2)?;
-    let lanes = match make_lanes(alloc, 2, 4, 3) {
+    let lanes = match make_lanes::<B>(alloc, 2, 4, 3) {
         Ok(lanes) => lanes,
         Err(e) => {
             spend_rooms(rooms);
@@ -154,7 +167,7 @@ fn close_after<R: Wait>(rt: &R, alloc: Global, takes: usize) -> Result<bool, All
 
 #[test]
 fn lanes_close_where_each_end_was_taken(rt: HostRuntime) -> Result<(), AllocError> {
-    assert!(&rt; close_after(&rt, rt.alloc(), 3)?);
-    assert!(&rt; !close_after(&rt, rt.alloc(), 2)?);
+    assert!(&rt; close_after::<Brand, _>(&rt, rt.alloc(), 3)?);
+    assert!(&rt; !close_after::<Brand, _>(&rt, rt.alloc(), 2)?);
     Ok(())
 }

@@ -1,7 +1,7 @@
 //! What is read of reports: each reader gives an answer for positions that aren't there, too.
 
+use crate::runs::Reported;
 use delivery_token::CopyKey;
-use running_house::Report;
 use std::alloc::{AllocError, Global};
 
 /// The text of the message of one line.
@@ -36,7 +36,7 @@ pub fn first_key(seat: u8) -> CopyKey {
 }
 
 /// Whether a mailbox accepted just these copies.
-pub fn has_accepted(report: &Report, mailbox: usize, wanted: &[(CopyKey, u32)]) -> bool {
+pub fn has_accepted(report: &Reported, mailbox: usize, wanted: &[(CopyKey, u32)]) -> bool {
     match report.accepted.get(mailbox) {
         Some(pairs) => pairs.as_slice() == wanted,
         None => false,
@@ -44,7 +44,7 @@ pub fn has_accepted(report: &Report, mailbox: usize, wanted: &[(CopyKey, u32)]) 
 }
 
 /// Whether a mailbox holds one message, with this UID and this text.
-pub fn has_text(report: &Report, mailbox: usize, uid: u32, wanted: &[u8]) -> bool {
+pub fn has_text(report: &Reported, mailbox: usize, uid: u32, wanted: &[u8]) -> bool {
     let Some(texts) = report.texts.get(mailbox) else {
         return false;
     };
@@ -55,7 +55,7 @@ pub fn has_text(report: &Report, mailbox: usize, uid: u32, wanted: &[u8]) -> boo
 }
 
 /// Whether a worker had one connection, to which this was replied.
-pub fn has_replied(report: &Report, worker: usize, wanted: &[u8]) -> bool {
+pub fn has_replied(report: &Reported, worker: usize, wanted: &[u8]) -> bool {
     let Some(replies) = report.replies.get(worker) else {
         return false;
     };
@@ -66,7 +66,7 @@ pub fn has_replied(report: &Report, worker: usize, wanted: &[u8]) -> bool {
 }
 
 /// Whether there were as many sessions as there are texts here, and each said its own.
-pub fn have_said(report: &Report, wanted: &[&[u8]]) -> bool {
+pub fn have_said(report: &Reported, wanted: &[&[u8]]) -> bool {
     if report.sessions.len() != wanted.len() {
         return false;
     }
@@ -79,7 +79,7 @@ pub fn have_said(report: &Report, wanted: &[&[u8]]) -> bool {
 }
 
 /// Whether a session said this line.
-pub fn has_told(report: &Report, session: usize, line: &[u8]) -> bool {
+pub fn has_told(report: &Reported, session: usize, line: &[u8]) -> bool {
     match report.sessions.get(session) {
         Some(said) => lines_like(said.as_slice(), line) > 0,
         None => false,
@@ -98,7 +98,7 @@ pub fn lines_like(text: &[u8], wanted: &[u8]) -> usize {
 }
 
 /// How many lines of all replies of a worker are this one.
-pub fn replied_like(report: &Report, worker: usize, wanted: &[u8]) -> usize {
+pub fn replied_like(report: &Reported, worker: usize, wanted: &[u8]) -> usize {
     let Some(replies) = report.replies.get(worker) else {
         return 0;
     };
@@ -112,7 +112,7 @@ pub fn replied_like(report: &Report, worker: usize, wanted: &[u8]) -> usize {
 /// Whether a worker's log has just these copies as stored in a mailbox. An error where memory is refused.
 pub fn has_stored(
     alloc: Global,
-    report: &Report,
+    report: &Reported,
     worker: usize,
     mailbox: u8,
     wanted: &[(CopyKey, u32)],
@@ -127,7 +127,7 @@ pub fn has_stored(
 /// How many copies a worker's log has as stored, in the first so many mailboxes. An error where memory is refused.
 pub fn stored_by(
     alloc: Global,
-    report: &Report,
+    report: &Reported,
     worker: usize,
     mailboxes: u8,
 ) -> Result<usize, AllocError> {
@@ -143,7 +143,7 @@ pub fn stored_by(
 }
 
 /// How many copies a mailbox accepted.
-pub fn accepted_by(report: &Report, mailbox: usize) -> usize {
+pub fn accepted_by(report: &Reported, mailbox: usize) -> usize {
     match report.accepted.get(mailbox) {
         Some(pairs) => pairs.len(),
         None => 0,
@@ -151,7 +151,7 @@ pub fn accepted_by(report: &Report, mailbox: usize) -> usize {
 }
 
 /// How many copies all mailboxes accepted.
-pub fn accepted_in_all(report: &Report) -> usize {
+pub fn accepted_in_all(report: &Reported) -> usize {
     let mut count: usize = 0;
     for pairs in &report.accepted {
         count = count.saturating_add(pairs.len());
@@ -160,7 +160,7 @@ pub fn accepted_in_all(report: &Report) -> usize {
 }
 
 /// How many messages are there in all mailboxes.
-pub fn texts_in_all(report: &Report) -> usize {
+pub fn texts_in_all(report: &Reported) -> usize {
     let mut count: usize = 0;
     for texts in &report.texts {
         count = count.saturating_add(texts.len());

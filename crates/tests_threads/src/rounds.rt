@@ -3,12 +3,13 @@
 
 ghost use Rattle.std.specs.Prelude.{◌≡◌, ◌<◌, ◌≤◌, ◌+◌, ℕ, [], All, IfOk, Some, length, map, vec_len, vec_capacity};
 ghost use Rattle.std.specs.Mem.{manually_drop_value};
-ghost use Rattle.std.specs.Thread.{IsSync};
+ghost use Rattle.std.specs.Thread.{IsSend, IsSync};
 ghost use Rattle.shard_queue.specs.Reply.{IsReceiver};
 ghost use Rattle.shard_queue.specs.Permits.{IsProducer, number_of};
 ghost use Rattle.lane_work.specs.Permits.{ArePermits, IsPermit, permit_number};
 ghost use Rattle.lane_work.specs.Rooms.{AreRooms};
 ghost use Rattle.lane_work.specs.LanePermits.{AreConsumers, EndedRows};
+ghost use Rattle.clerks.specs.Keeping.{parts_of};
 ghost use Rattle.house_floor.specs.Crew.{AllAt, IsCrew, IsPost, IsStand};
 ghost use Rattle.house_floor.specs.Opening.{AreBaskets};
 ghost use Rattle.tests_threads.specs.inner.Rounds.{AreSomeones, IsOwnPost};
@@ -18,13 +19,16 @@ use change_ring::NO_FLAGS;
 use clerks::{
     Clerk, Clerks, Dismissed, Hall, Staff, Unhindered, dismiss_all, hire_all, stand_down,
 };
-use delivery_token::{CopyKey, Job, Noted, Text, Verdict};
+use delivery_token::{CopyKey, Job, Text, Verdict};
 use envelope::Directory;
 use house_floor::{Baskets, Crew, Floor, Opened, Post, Sizes, Stand, open};
+use house_history::{Answer, Letter, Naming};
 use lane_work::{
-    Closing, Consumed, Depot, Desk, LanePermit, Office, close_lanes, collect, end_all, spend_lists,
+    Closing, Consumed, Depot, Desk, Dispatch, LanePermit, Office, close_lanes, collect, end_all,
+    spend_lists,
 };
-use mailbox::{History, Limits, Mailbox};
+use locked_mailbox::LockedMailbox;
+use mailbox::{History, Limits};
 use shard_queue::{
     Closed, ConsumerPermit, Ended, Entry, Full, ProducerPermit, ReceiverPermit, ReplyChannel,
     SenderEnded, ShardQueue,
@@ -46,9 +50,9 @@ const COPIES: u8 = 16;
 const MAILBOXES: u8 = 3;
 
 // What a worker leaves: its ended permits, its end of its channel, and how many copies were stored.
-struct Left {
-    ended: Vec<Ended<Job>>,
-    receiver: ReceiverPermit<Noted>,
+struct Left<B: Naming> {
+    ended: Vec<Ended<Letter<B>>>,
+    receiver: ReceiverPermit<Answer<B>>,
     stored: usize,
 }
 
@@ -74,54 +78,60 @@ fn job_of(alloc: Global, seat: u8, serial: u8) -> Result<Job, AllocError> {
 }
 
 // Puts a copy on a lane. Whether there was room.
-fn put_on<R: Wait>(
+fn put_on<B: Naming, R: Wait>(
     rt: &R,
-    lane: &ShardQueue<Job>,
-    permit: &mut ProducerPermit<Job>,
-    job: Job,
+    lane: &ShardQueue<Letter<B>>,
+    permit: &mut ProducerPermit<Letter<B>>,
+    letter: Letter<B>,
 ) -> bool
     requires { IsProducer lane.now permit.old }
     ensures { IsProducer lane.now permit.new × (number_of permit.new ≡ number_of permit.old) }
 {
-    match lane.put_as(rt, permit, job) {
+    match lane.put_as(rt, permit, letter) {
         Ok(()) => true,
         Err(Full(_)) => false,
     }
 }
 
 // The same with a permit that may be over: then nothing is put.
-fn put_at<R: Wait>(rt: &R, lane: &ShardQueue<Job>, permit: &mut LanePermit, job: Job) -> bool
+fn put_at<B: Naming, R: Wait>(
+    rt: &R,
+    lane: &ShardQueue<Letter<B>>,
+    permit: &mut LanePermit<Letter<B>>,
+    letter: Letter<B>,
+) -> bool
     requires { IsPermit lane.now permit.old }
     ensures { IsPermit lane.now permit.new × (permit_number permit.new ≡ permit_number permit.old) }
 {
     match permit {
-        LanePermit::Live(live) => put_on(rt, lane, live, job),
+        LanePermit::Live(live) => put_on(rt, lane, live, letter),
         LanePermit::Over(_) => false,
     }
 }
 
 // The same, on the lane of the copy's mailbox. The number of its shard, where there was room.
-fn put_copy<R: Wait>(
+fn put_copy<B: Naming, R: Wait>(
     rt: &R,
-    office: &Office,
-    permits: &mut Vec<LanePermit>,
+    office: &Office<B>,
+    permits: &mut Vec<LanePermit<Letter<B>>>,
     number: u8,
-    job: Job,
+    letter: Letter<B>,
 ) -> Option<usize>
     requires permits { ArePermits office.now.lanes.items number permits.old.items }
     requires lanes { office.now.directory.shards ≡ length office.now.lanes.items }
     ensures { ArePermits office.now.lanes.items number permits.new.items }
 {
-    let shard = office.directory.shard_of(job.mailbox);
-    let was_put = put_at(rt, &office.lanes[shard], &mut permits[shard], job);
+    let shard = office.directory.shard_of(letter.job().mailbox);
+    let was_put = put_at(rt, &office.lanes[shard], &mut permits[shard], letter);
     if was_put { Some(shard) } else { None }
 }
 
 // Makes a copy, and puts it. The number of its shard, where there was memory and room.
-fn put_next<R: Wait>(
+fn put_next<B: Naming, R: Wait>(
     rt: &R,
-    floor: &Floor,
-    permits: &mut Vec<LanePermit>,
+    floor: &Floor<B>,
+    permits: &mut Vec<LanePermit<Letter<B>>>,
+    dispatch: &mut Dispatch<B>,
     number: u8,
     serial: u8,
 ) -> Option<usize>
@@ -132,34 +142,37 @@ fn put_next<R: Wait>(
     let Ok(job) = job_of(floor.alloc, number, serial) else {
         return None;
     };
-    put_copy(rt, &floor.office, permits, number, job)
+    let Ok(letter) = dispatch.send(job) else {
+        return None;
+    };
+    put_copy(rt, &floor.office, permits, number, letter)
 }
 
 // Whether the next verdict that waits tells that a copy was stored.
-fn hears_stored<R: Wait>(
+fn hears_stored<B: Naming, R: Wait>(
     rt: &R,
-    channel: &ReplyChannel<Noted>,
-    receiver: &mut ReceiverPermit<Noted>,
+    channel: &ReplyChannel<Answer<B>>,
+    receiver: &mut ReceiverPermit<Answer<B>>,
 ) -> bool
     requires { IsReceiver channel.now receiver.old }
     ensures { IsReceiver channel.now receiver.new }
 {
     match channel.recv_as(rt, receiver) {
-        Entry::Item(_, noted) => matches!(noted.verdict, Verdict::Stored { uid: _ }),
+        Entry::Item(_, answer) => matches!(answer.noted().verdict, Verdict::Stored { uid: _ }),
         Entry::End(_) => false,
     }
 }
 
 // Puts each of its copies, helps, and hears the verdict. How many were stored.
-fn put_all<H: Hall, R: Wait>(
+fn put_all<B: Naming, H: Hall, R: Wait>(
     rt: &R,
-    floor: &Floor,
-    clerks: &[Mutex<Clerk<H>>],
-    channel: &ReplyChannel<Noted>,
-    desk: &mut Desk,
+    floor: &Floor<B>,
+    clerks: &[Mutex<Clerk<B, H>>],
+    channel: &ReplyChannel<Answer<B>>,
+    desk: &mut Desk<B>,
 ) -> usize
     requires lanes { H.lanes ≡ Some floor.now.office.lanes.items }
-    requires depot { H.depot ≡ Some floor.now.depot }
+    requires depot { H.depot ≡ Some (parts_of floor.now.depot) }
     requires shards { floor.now.office.directory.shards ≡ length floor.now.office.lanes.items }
     requires permits { ArePermits floor.now.office.lanes.items desk.old.number
         desk.old.permits.items }
@@ -172,7 +185,8 @@ fn put_all<H: Hall, R: Wait>(
     let number = desk.number;
     let mut stored = 0usize;
     for serial in 0..COPIES {
-        if let Some(shard) = put_next(rt, floor, &mut desk.permits, number, serial) {
+        let (permits, dispatch) = (&mut desk.permits, &mut desk.dispatch);
+        if let Some(shard) = put_next(rt, floor, permits, dispatch, number, serial) {
             help.help(rt, shard);
             if hears_stored(rt, channel, &mut desk.receiver) {
                 stored = stored.saturating_add(1);
@@ -183,18 +197,18 @@ fn put_all<H: Hall, R: Wait>(
 }
 
 // A worker's whole life.
-fn labour<H: Hall, R: Wait + Abort>(
+fn labour<B: Naming, H: Hall, R: Wait + Abort>(
     rt: &R,
-    floor: &Floor,
-    clerks: &[Mutex<Clerk<H>>],
-    parcel: ManuallyDrop<Post>,
-) -> ManuallyDrop<Left>
+    floor: &Floor<B>,
+    clerks: &[Mutex<Clerk<B, H>>],
+    parcel: ManuallyDrop<Post<B>>,
+) -> ManuallyDrop<Left<B>>
     requires lanes { H.lanes ≡ Some floor.now.office.lanes.items }
-    requires depot { H.depot ≡ Some floor.now.depot }
+    requires depot { H.depot ≡ Some (parts_of floor.now.depot) }
     requires shards { floor.now.office.directory.shards ≡ length floor.now.office.lanes.items }
     requires post { IsOwnPost floor.now (manually_drop_value parcel) }
     ensures { AreSomeones floor.now.office.lanes.items
-        (manually_drop_value {X = Left} result).ended.items }
+        (manually_drop_value {X = Left B} result).ended.items }
 {
     let Post { mut desk, room } = ManuallyDrop::into_inner(parcel);
     let position = usize::from(desk.number);
@@ -205,6 +219,7 @@ fn labour<H: Hall, R: Wait + Abort>(
         permits,
         receiver,
         ends: _,
+        dispatch: _,
     } = desk;
     let mut pace = Pace::new(&Unhindered, Actor::Worker(number));
     let help = Clerks::new(clerks, &floor.office.lanes, &floor.depot, &Unhindered, 8);
@@ -217,11 +232,11 @@ fn labour<H: Hall, R: Wait + Abort>(
 }
 
 // The posts, for a closure to hold.
-fn pack_all(
-    floor: &Floor,
-    mut posts: Vec<Post>,
-    mut parcels: Vec<ManuallyDrop<Post>>,
-) -> Vec<ManuallyDrop<Post>>
+fn pack_all<B: Naming>(
+    floor: &Floor<B>,
+    mut posts: Vec<Post<B>>,
+    mut parcels: Vec<ManuallyDrop<Post<B>>>,
+) -> Vec<ManuallyDrop<Post<B>>>
     requires posts { AllAt (IsPost floor.now) 0 posts.items }
     requires room { (parcels.items ≡ []) × (vec_len posts ≤ vec_capacity parcels) }
     ensures posts { All (λ p. IsOwnPost floor.now (manually_drop_value p)) result.items }
@@ -236,11 +251,11 @@ fn pack_all(
 
 // The clerks' ends of the lanes, in their order; what is left of their senders is spent with the
 // channels.
-fn part(
-    mut consumed: Vec<Consumed>,
-    mut permits: Vec<ConsumerPermit<Job>>,
-    hands: &mut Vec<Vec<SenderEnded<Noted>>>,
-) -> Vec<ConsumerPermit<Job>>
+fn part<B: Naming>(
+    mut consumed: Vec<Consumed<B>>,
+    mut permits: Vec<ConsumerPermit<Letter<B>>>,
+    hands: &mut Vec<Vec<SenderEnded<Answer<B>>>>,
+) -> Vec<ConsumerPermit<Letter<B>>>
     requires permits { (permits.items ≡ []) × (vec_len consumed ≤ vec_capacity permits) }
     requires hands { vec_len hands.old + vec_len consumed ≤ vec_capacity hands.old }
     ensures permits { result.items ≡ map (λ c. c.permit) consumed.items }
@@ -273,14 +288,14 @@ struct Round {
 }
 
 // Collects what is left of the workers' permits, and how many copies were told as stored.
-fn collect_all(
-    floor: &Floor,
-    mut left: Vec<ManuallyDrop<Left>>,
-    lists: &mut Vec<Vec<Ended<Job>>>,
-    receivers: &mut Vec<ReceiverPermit<Noted>>,
+fn collect_all<B: Naming>(
+    floor: &Floor<B>,
+    mut left: Vec<ManuallyDrop<Left<B>>>,
+    lists: &mut Vec<Vec<Ended<Letter<B>>>>,
+    receivers: &mut Vec<ReceiverPermit<Answer<B>>>,
 ) -> usize
     requires ended { All (λ l.
-        AreSomeones floor.now.office.lanes.items (manually_drop_value {X = Left} l).ended.items)
+        AreSomeones floor.now.office.lanes.items (manually_drop_value {X = Left B} l).ended.items)
         left.items }
     requires lists { EndedRows floor.now.office.lanes.items (map (λ v. v.items) lists.old.items) }
     requires count { vec_len lists.old ≡ length floor.now.office.lanes.items }
@@ -304,11 +319,11 @@ fn collect_all(
 }
 
 // Spends the channels with all that is left of their permits.
-fn spend_channels(
+fn spend_channels<B: Naming>(
     alloc: Global,
-    mut channels: Vec<ReplyChannel<Noted>>,
-    mut hands: Vec<Vec<SenderEnded<Noted>>>,
-    mut receivers: Vec<ReceiverPermit<Noted>>,
+    mut channels: Vec<ReplyChannel<Answer<B>>>,
+    mut hands: Vec<Vec<SenderEnded<Answer<B>>>>,
+    mut receivers: Vec<ReceiverPermit<Answer<B>>>,
 )
     requires hands { vec_len hands ≤ vec_len channels }
     requires receivers { vec_len receivers ≡ vec_len channels }
@@ -323,13 +338,13 @@ fn spend_channels(
 }
 
 // The keys of all copies that the mailboxes accepted.
-fn accepted_by_all(
+fn accepted_by_all<B: Naming>(
     alloc: Global,
-    mailboxes: Vec<Mutex<Mailbox>>,
+    mailboxes: Vec<Mutex<LockedMailbox<B>>>,
 ) -> Result<Vec<CopyKey>, AllocError> {
     let mut keys = Vec::new(alloc);
     for lock in mailboxes {
-        let mailbox = lock.into_inner();
+        let mailbox = lock.into_inner().into_mailbox();
         for entry in mailbox.accepted() {
             keys.push(entry.0)?;
         }
@@ -338,38 +353,38 @@ fn accepted_by_all(
 }
 
 // Each worker's life in a thread of its own.
-fn work_all<H: Hall + Send, T: Threads + Wait + Sync + Abort>(
+fn work_all<B: Naming + Send + Sync, H: Hall + Send, T: Threads + Wait + Sync + Abort>(
     rt: &T,
-    floor: &Floor,
-    clerks: &[Mutex<Clerk<H>>],
-    parcels: Vec<ManuallyDrop<Post>>,
-) -> Vec<ManuallyDrop<Left>>
+    floor: &Floor<B>,
+    clerks: &[Mutex<Clerk<B, H>>],
+    parcels: Vec<ManuallyDrop<Post<B>>>,
+) -> Vec<ManuallyDrop<Left<B>>>
     requires lanes { H.lanes ≡ Some floor.now.office.lanes.items }
-    requires depot { H.depot ≡ Some floor.now.depot }
+    requires depot { H.depot ≡ Some (parts_of floor.now.depot) }
     requires shards { floor.now.office.directory.shards ≡ length floor.now.office.lanes.items }
     requires posts { All (λ p. IsOwnPost floor.now (manually_drop_value p)) parcels.items }
     ensures left { All (λ l.
-        AreSomeones floor.now.office.lanes.items (manually_drop_value {X = Left} l).ended.items)
+        AreSomeones floor.now.office.lanes.items (manually_drop_value {X = Left B} l).ended.items)
         result.items }
     ensures count { vec_len result ≡ vec_len parcels }
 {
     thread::map_vec(
         rt,
         parcels,
-        &|parcel| labour::<H, T>(rt, floor, clerks, parcel),
+        &|parcel| labour::<B, H, T>(rt, floor, clerks, parcel),
     )
     .expect(rt, "memory")
 }
 
 // A clerk is hired for each stand, and each worker's life is led. The clerks, and what the workers leave.
-fn work_off<H: Hall + Send, T: Threads + Wait + Sync + Abort>(
+fn work_off<B: Naming + Send + Sync, H: Hall + Send, T: Threads + Wait + Sync + Abort>(
     rt: &T,
-    floor: &Floor,
-    stands: Vec<Stand>,
-    posts: Vec<Post>,
-) -> (Staff<H>, Vec<ManuallyDrop<Left>>)
+    floor: &Floor<B>,
+    stands: Vec<Stand<B>>,
+    posts: Vec<Post<B>>,
+) -> (Staff<B, H>, Vec<ManuallyDrop<Left<B>>>)
     requires lanes { H.lanes ≡ Some floor.now.office.lanes.items }
-    requires depot { H.depot ≡ Some floor.now.depot }
+    requires depot { H.depot ≡ Some (parts_of floor.now.depot) }
     requires shards { floor.now.office.directory.shards ≡ length floor.now.office.lanes.items }
     requires stands { AllAt (IsStand floor.now) 0 stands.items
         × (vec_len stands ≡ length floor.now.office.lanes.items) }
@@ -379,28 +394,28 @@ fn work_off<H: Hall + Send, T: Threads + Wait + Sync + Abort>(
         (length floor.now.depot.channels.items) result.0.rooms }
     ensures stands { result.0.stands.items ≡ [] }
     ensures left { All (λ l.
-        AreSomeones floor.now.office.lanes.items (manually_drop_value {X = Left} l).ended.items)
+        AreSomeones floor.now.office.lanes.items (manually_drop_value {X = Left B} l).ended.items)
         result.1.items }
     ensures count { vec_len result.1 ≡ vec_len posts }
 {
     let alloc = floor.alloc;
-    let staff = Staff::<H>::with_room(alloc, floor.office.lanes.len()).expect(rt, "memory");
+    let staff = Staff::<B, H>::with_room(alloc, floor.office.lanes.len()).expect(rt, "memory");
     let staff = hire_all(floor, stands, staff);
     let parcels = Vec::with_capacity(alloc, posts.len()).expect(rt, "memory");
     let parcels = pack_all(floor, posts, parcels);
-    let left = work_all::<H, T>(rt, floor, &staff.clerks, parcels);
+    let left = work_all::<B, H, T>(rt, floor, &staff.clerks, parcels);
     (staff, left)
 }
 
 // What the clerks leave, each of whom stood in its place.
-fn dismiss<H: Hall, T: Wait + Abort>(
+fn dismiss<B: Naming, H: Hall, T: Wait + Abort>(
     rt: &T,
-    floor: &Floor,
-    staff: Staff<H>,
-    room: Vec<Consumed>,
-) -> Vec<Consumed>
+    floor: &Floor<B>,
+    staff: Staff<B, H>,
+    room: Vec<Consumed<B>>,
+) -> Vec<Consumed<B>>
     requires lanes { H.lanes ≡ Some floor.now.office.lanes.items }
-    requires depot { H.depot ≡ Some floor.now.depot }
+    requires depot { H.depot ≡ Some (parts_of floor.now.depot) }
     requires clerks { vec_len staff.clerks ≡ length floor.now.office.lanes.items }
     requires rooms { AreRooms (length floor.now.office.lanes.items)
         (length floor.now.depot.channels.items) staff.rooms }
@@ -417,14 +432,14 @@ fn dismiss<H: Hall, T: Wait + Abort>(
 }
 
 // Closes the lanes and spends the channels. Whether all lanes could be closed, and the mailboxes.
-fn close_all(
-    floor: Floor,
-    lists: Vec<Vec<Ended<Job>>>,
-    permits: Vec<ConsumerPermit<Job>>,
-    closed: Vec<Closed<Job>>,
-    hands: Vec<Vec<SenderEnded<Noted>>>,
-    receivers: Vec<ReceiverPermit<Noted>>,
-) -> (bool, Vec<Mutex<Mailbox>>)
+fn close_all<B: Naming>(
+    floor: Floor<B>,
+    lists: Vec<Vec<Ended<Letter<B>>>>,
+    permits: Vec<ConsumerPermit<Letter<B>>>,
+    closed: Vec<Closed<Letter<B>>>,
+    hands: Vec<Vec<SenderEnded<Answer<B>>>>,
+    receivers: Vec<ReceiverPermit<Answer<B>>>,
+) -> (bool, Vec<Mutex<LockedMailbox<B>>>)
     requires lists { EndedRows floor.office.lanes.items (map (λ v. v.items) lists.items) }
     requires permits { AreConsumers floor.office.lanes.items permits.items }
     requires closed { (closed.items ≡ [])
@@ -450,6 +465,7 @@ fn close_all(
         mailboxes,
         channels,
         sessions: _,
+        front: _,
     } = depot;
     let are_closed = close_lanes(alloc, lanes, lists, permits, closed).is_some();
     spend_channels(alloc, channels, hands, receivers);
@@ -457,14 +473,14 @@ fn close_all(
 }
 
 // The whole round over a house that was opened.
-fn run_in<H: Hall + Send, T: Threads + Wait + Sync + Abort>(
+fn run_in<B: Naming + Send + Sync, H: Hall + Send, T: Threads + Wait + Sync + Abort>(
     rt: &T,
-    floor: Floor,
-    crew: Crew,
-    baskets: Baskets,
+    floor: Floor<B>,
+    crew: Crew<B>,
+    baskets: Baskets<B>,
 ) -> Round
     requires lanes { H.lanes ≡ Some floor.office.lanes.items }
-    requires depot { H.depot ≡ Some floor.depot }
+    requires depot { H.depot ≡ Some (parts_of floor.depot) }
     requires shards { floor.office.directory.shards ≡ length floor.office.lanes.items }
     requires few { length floor.office.lanes.items ≤ length floor.depot.channels.items }
     requires crew { IsCrew floor (length floor.depot.channels.items) crew }
@@ -498,7 +514,7 @@ fn run_in<H: Hall + Send, T: Threads + Wait + Sync + Abort>(
     hands.destroy_empty();
     spend_lists(sender_lists);
     spares.spend();
-    let (staff, left) = work_off::<H, T>(rt, &floor, stands, posts);
+    let (staff, left) = work_off::<B, H, T>(rt, &floor, stands, posts);
     let told = collect_all(&floor, left, &mut lists, &mut receivers);
     let consumed = dismiss(rt, &floor, staff, consumed);
     let permits = part(consumed, consumers, &mut sender_hands);
@@ -565,17 +581,30 @@ fn directory(alloc: Global) -> Result<Directory, Fail>
     Ok(directory)
 }
 
-#[test]
-fn each_copy_is_stored_once_and_all_lanes_close(rt: HostRuntime) -> Result<(), Fail> {
-    let alloc = rt.alloc();
-    let directory = directory(alloc)?;
+// A round in a house whose history was just opened.
+fn round_in<B: Naming + Send + Sync, T: Threads + Wait + Sync + Abort + AllocGlobal>(
+    rt: &T,
+    history: house_history::Opened,
+    directory: Directory,
+) -> Result<Round, AllocError>
+    requires history { history ≡ B.book }
+    requires directory { directory.shards ≡ 2 }
+{
     let Opened {
         floor,
         crew,
         baskets,
         sleepers: _,
-    } = open(alloc, directory, sizes(&[]), &[])?;
-    let round = run_in::<Brand, HostRuntime>(&rt, floor, crew, baskets);
+    } = open::<B>(rt.alloc(), history, directory, sizes(&[]), &[])?;
+    Ok(run_in::<B, Brand, T>(rt, floor, crew, baskets))
+}
+
+#[test]
+fn each_copy_is_stored_once_and_all_lanes_close(rt: HostRuntime) -> Result<(), Fail> {
+    let alloc = rt.alloc();
+    let directory = directory(alloc)?;
+    let history = house_history::Opened::new();
+    let round = round_in::<Brand, HostRuntime>(&rt, history, directory)?;
     let copies = usize::from(WORKERS) * usize::from(COPIES);
     assert!(&rt; round.closed);
     assert!(&rt; round.told == copies);
@@ -584,38 +613,43 @@ fn each_copy_is_stored_once_and_all_lanes_close(rt: HostRuntime) -> Result<(), F
     Ok(())
 }
 
-fn help_once<H: Hall, T: Wait>(rt: &T, floor: &Floor, clerks: &[Mutex<Clerk<H>>], shard: usize)
+fn help_once<B: Naming, H: Hall, T: Wait>(
+    rt: &T,
+    floor: &Floor<B>,
+    clerks: &[Mutex<Clerk<B, H>>],
+    shard: usize,
+)
     requires lanes { H.lanes ≡ Some floor.now.office.lanes.items }
-    requires depot { H.depot ≡ Some floor.now.depot }
+    requires depot { H.depot ≡ Some (parts_of floor.now.depot) }
 {
     let help = Clerks::new(clerks, &floor.office.lanes, &floor.depot, &Unhindered, 8);
     help.help(rt, shard);
 }
 
 // Helps on so many shards from the first on, in a thread for each. How many threads there were.
-fn help_each<H: Hall + Send, T: Threads + Wait + Sync>(
+fn help_each<B: Naming + Send + Sync, H: Hall + Send, T: Threads + Wait + Sync>(
     rt: &T,
-    floor: &Floor,
-    clerks: &[Mutex<Clerk<H>>],
+    floor: &Floor<B>,
+    clerks: &[Mutex<Clerk<B, H>>],
     shards: usize,
 ) -> usize
     requires lanes { H.lanes ≡ Some floor.now.office.lanes.items }
-    requires depot { H.depot ≡ Some floor.now.depot }
+    requires depot { H.depot ≡ Some (parts_of floor.now.depot) }
 {
     thread::scope(
         thread::scope_env(),
         rt,
         |scope| -> usize
-            requires { IsSync T.row × (H.lanes ≡ Some floor.now.office.lanes.items)
-                × (H.depot ≡ Some floor.now.depot) }
+            requires { IsSend B.row × IsSync B.row × IsSync T.row × (H.lanes ≡ Some floor.now.office.lanes.items)
+                × (H.depot ≡ Some (parts_of floor.now.depot)) }
         {
             let mut made = 0usize;
             for shard in 0..shards {
                 let started = scope.spawn(
                     move || -> ()
-                        requires { IsSync T.row × (H.lanes ≡ Some floor.now.office.lanes.items)
-                            × (H.depot ≡ Some floor.now.depot) }
-                    { help_once::<H, T>(rt, floor, clerks, shard) },
+                        requires { IsSend B.row × IsSync B.row × IsSync T.row × (H.lanes ≡ Some floor.now.office.lanes.items)
+                            × (H.depot ≡ Some (parts_of floor.now.depot)) }
+                    { help_once::<B, H, T>(rt, floor, clerks, shard) },
                 );
                 if started.is_ok() {
                     made = made.saturating_add(1);
@@ -628,18 +662,18 @@ fn help_each<H: Hall + Send, T: Threads + Wait + Sync>(
 
 // Hires clerks who find nothing to do, and stands them down: the number of the last one's shard, and
 // how many stands there are again.
-fn idle_in<H: Hall + Send, T: Threads + Wait + Sync + Abort>(
+fn idle_in<B: Naming + Send + Sync, H: Hall + Send, T: Threads + Wait + Sync + Abort>(
     rt: &T,
-    floor: &Floor,
-    stands: Vec<Stand>,
-) -> (u8, Vec<Stand>)
+    floor: &Floor<B>,
+    stands: Vec<Stand<B>>,
+) -> (u8, Vec<Stand<B>>)
     requires lanes { H.lanes ≡ Some floor.now.office.lanes.items }
-    requires depot { H.depot ≡ Some floor.now.depot }
+    requires depot { H.depot ≡ Some (parts_of floor.now.depot) }
     requires some { 0 < length floor.now.office.lanes.items }
     requires stands { AllAt (IsStand floor.now) 0 stands.items
         × (vec_len stands ≡ length floor.now.office.lanes.items) }
 {
-    let staff = Staff::<H>::with_room(floor.alloc, stands.len()).expect(rt, "memory");
+    let staff = Staff::<B, H>::with_room(floor.alloc, stands.len()).expect(rt, "memory");
     let staff = hire_all(floor, stands, staff);
     // The third shard isn't there.
     let threads = help_each(rt, floor, &staff.clerks, 3);
@@ -648,21 +682,26 @@ fn idle_in<H: Hall + Send, T: Threads + Wait + Sync + Abort>(
     (shard, stand_down(floor, staff))
 }
 
-fn shard_behind<H: Hall, T: Wait>(rt: &T, lock: &Mutex<Clerk<H>>) -> u8 {
+fn shard_behind<B: Naming, H: Hall, T: Wait>(rt: &T, lock: &Mutex<Clerk<B, H>>) -> u8 {
     let clerk = lock.lock(rt);
     clerk.shard()
 }
 
-#[test]
-fn clerks_with_nothing_to_do_are_stood_down(rt: HostRuntime) -> Result<(), Fail> {
-    let alloc = rt.alloc();
-    let directory = directory(alloc)?;
+// The number of the last clerk's shard, and how many stands there are, in a house whose history was just opened, after nothing was done there.
+fn idle_once<B: Naming + Send + Sync, T: Threads + Wait + Sync + Abort + AllocGlobal>(
+    rt: &T,
+    history: house_history::Opened,
+    directory: Directory,
+) -> Result<(u8, usize), AllocError>
+    requires history { history ≡ B.book }
+    requires directory { directory.shards ≡ 2 }
+{
     let Opened {
         floor,
         crew,
         baskets,
         sleepers: _,
-    } = open(alloc, directory, sizes(&[]), &[])?;
+    } = open::<B>(rt.alloc(), history, directory, sizes(&[]), &[])?;
     let Crew {
         stands,
         posts,
@@ -670,7 +709,7 @@ fn clerks_with_nothing_to_do_are_stood_down(rt: HostRuntime) -> Result<(), Fail>
         worked,
         unmanned,
     } = crew;
-    let (shard, stands) = idle_in::<Brand, HostRuntime>(&rt, &floor, stands);
+    let (shard, stands) = idle_in::<B, Brand, T>(rt, &floor, stands);
     let count = stands.len();
     // A house whose permits haven't ended can't be closed, and is left where it is.
     let _floor = packed(floor);
@@ -678,6 +717,15 @@ fn clerks_with_nothing_to_do_are_stood_down(rt: HostRuntime) -> Result<(), Fail>
     let _stands = packed(stands);
     let _posts = packed(posts);
     let _lists = packed((consumed, worked, unmanned));
-    assert!(&rt; (shard, count) == (1, 2));
+    Ok((shard, count))
+}
+
+#[test]
+fn clerks_with_nothing_to_do_are_stood_down(rt: HostRuntime) -> Result<(), Fail> {
+    let alloc = rt.alloc();
+    let directory = directory(alloc)?;
+    let history = house_history::Opened::new();
+    let found = idle_once::<Brand, HostRuntime>(&rt, history, directory)?;
+    assert!(&rt; found == (1, 2));
     Ok(())
 }

@@ -6,8 +6,8 @@ use crate::plans::{add_session, message_for, two_workers};
 use crate::reports::{
     REPLIES, TEXT, first_key, has_accepted, has_replied, has_stored, has_text, have_said,
 };
-use crate::runs::{Stopped, run};
-use running_house::{Plan, Report};
+use crate::runs::{Reported, Stopped, run};
+use running_house::Plan;
 use std::alloc::{AllocError, Global};
 use std::sync::Wait;
 use std::thread::Threads;
@@ -26,7 +26,7 @@ fn meeting(alloc: Global) -> Result<Turnstile, AllocError> {
 // What the report has of one user that it isn't to have: its number is that of the worker, of the mailbox and of the shard.
 fn unlike_for(
     alloc: Global,
-    report: &Report,
+    report: &Reported,
     user: u8,
 ) -> Result<Option<&'static str>, AllocError> {
     let position = usize::from(user);
@@ -51,7 +51,7 @@ fn unlike_for(
 
 fn unlike(
     alloc: Global,
-    report: &Report,
+    report: &Reported,
     said: &[&[u8]],
 ) -> Result<Option<&'static str>, AllocError> {
     if report.accepted.len() != 2 || report.texts.len() != 2 {

@@ -3,8 +3,11 @@
 ghost use Rattle.std.specs.Prelude.{◌≡◌, ◌<◌, true, length};
 ghost use Rattle.settings.specs.Settings.{IsInRange};
 
+use delivery_token::{CopyKey, Text, WorkerLog};
+use house_history::{Naming, Opened};
 use running_house::{Plan, Report, WorkFault, run_house};
 use std::alloc::{AllocError, Global};
+use std::marker::Brand;
 use std::sync::Wait;
 use std::thread::Threads;
 use workers_sync::Gate;
@@ -40,20 +43,61 @@ fn is_in_range(plan: &Plan) -> bool
     true
 }
 
+/// What of a report is looked at here, whatever its history is called.
+#[derive(Drop)]
+pub struct Reported {
+    pub replies: Vec<Vec<Vec<u8>>>,
+    pub logs: Vec<WorkerLog>,
+    pub accepted: Vec<Vec<(CopyKey, u32)>>,
+    pub texts: Vec<Vec<(u32, Text)>>,
+    pub sessions: Vec<Vec<u8>>,
+}
+
+fn looked_at<B: Naming>(report: Report<B>) -> Reported {
+    let Report {
+        replies,
+        logs,
+        accepted,
+        texts,
+        sessions,
+        closed: _,
+    } = report;
+    Reported {
+        replies,
+        logs,
+        accepted,
+        texts,
+        sessions,
+    }
+}
+
+// The report of a run in a house whose history was just opened, or why there is none.
+fn run_named<B: Naming + Send + Sync, R: Threads + Wait + Sync, G: Gate + Sync>(
+    rt: &R,
+    alloc: Global,
+    history: Opened,
+    plan: &Plan,
+    gate: &G,
+) -> Result<Reported, Stopped>
+    requires history { history ≡ B.book }
+{
+    if !is_in_range(plan) {
+        return Err(Stopped::OutOfRange);
+    }
+    match run_house::<B, R, G>(rt, alloc, history, plan, gate) {
+        Ok(report) => Ok(looked_at(report)),
+        Err(fault) => Err(Stopped::Fault(fault)),
+    }
+}
+
 /// The report of a run, or why there is none.
 pub fn run<R: Threads + Wait + Sync, G: Gate + Sync>(
     rt: &R,
     alloc: Global,
     plan: &Plan,
     gate: &G,
-) -> Result<Report, Stopped> {
-    if !is_in_range(plan) {
-        return Err(Stopped::OutOfRange);
-    }
-    match run_house(rt, alloc, plan, gate) {
-        Ok(report) => Ok(report),
-        Err(fault) => Err(Stopped::Fault(fault)),
-    }
+) -> Result<Reported, Stopped> {
+    run_named::<Brand, R, G>(rt, alloc, Opened::new(), plan, gate)
 }
 
 /// What comes of a run whose report is no matter.

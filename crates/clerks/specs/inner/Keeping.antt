@@ -8,17 +8,16 @@ use Rattle.shard_queue.specs.Permits.{got}
 use Rattle.lane_work.specs.Answering.{is_nobodys}
 use Rattle.lane_work.specs.inner.Answering.{HaveAnswered}
 use Rattle.lane_work.specs.Permits.{AreSenders}
-use Rattle.lane_work.specs.declared.consumer.Depot.{Depot}
 use Rattle.lane_work.specs.declared.consumer.Stall.{Stall}
-use Rattle.clerks.specs.Keeping.{IsOnLane}
+use Rattle.clerks.specs.Keeping.{IsOnLane, Parts}
 
 -- Of a hall with this depot: its senders are of all channels, and what was said on each is the answers to the copies that were taken, and nothing else. It is torn where one of these was nobody's.
-pub record IsAnswering (depot : Depot) (stall : Stall) (is_torn : Bool) : Type 0 where
-  pub senders : AreSenders depot.channels.items stall.shard stall.senders.items
-  pub answered : HaveAnswered (length depot.mailboxes.items) (length depot.channels.items) stall.shard (got stall.permit) [] (map sent_on stall.senders.items)
-  pub torn : is_torn ≡ list_any (is_nobodys (length depot.mailboxes.items) (length depot.channels.items)) (got stall.permit)
+pub record IsAnswering {B : Type 0} (depot : Parts) (stall : Stall B) (is_torn : Bool) : Type 0 where
+  pub senders : AreSenders depot.channels stall.shard stall.senders.items
+  pub answered : HaveAnswered depot.mailboxes (length depot.channels) stall.shard (got stall.permit) [] (map sent_on stall.senders.items)
+  pub torn : is_torn ≡ list_any (is_nobodys depot.mailboxes (length depot.channels)) (got stall.permit)
 
 -- all that, of the hall that the clerk's type names
-pub record Keeps (lanes : Option (List (ShardQueue Job))) (depot : Option Depot) (stall : Stall) (torn : Bool) : Type 0 where
+pub record Keeps {B : Type 0} (lanes : Option (List (ShardQueue Job))) (depot : Option Parts) (stall : Stall B) (torn : Bool) : Type 0 where
   pub on_lane : (ls : List (ShardQueue Job)) → lanes ≡ Some ls → IsOnLane ls stall
-  pub answering : (d : Depot) → depot ≡ Some d → IsAnswering d stall torn
+  pub answering : (d : Parts) → depot ≡ Some d → IsAnswering d stall torn

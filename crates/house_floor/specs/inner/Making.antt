@@ -17,6 +17,7 @@ use Rattle.house_floor.specs.declared.fittings.Fittings.{Fittings}
 use Rattle.house_floor.specs.declared.fittings.Interior.{Interior}
 use Rattle.house_floor.specs.declared.fittings.Papers.{Papers}
 use Rattle.house_floor.specs.declared.opening.Sizes.{Sizes}
+use Rattle.house_floor.specs.declared.seating.Seating.{Seating}
 use Rattle.house_floor.specs.declared.stock.CrewLists.{CrewLists}
 use Rattle.house_floor.specs.declared.stock.Lists.{Lists}
 use Rattle.house_floor.specs.declared.stock.Stock.{Stock}
@@ -30,7 +31,7 @@ pub record AreBells (directory : Directory) (b : Bells) : Type 0 where
   pub mailboxes : vec_len b.sessions ≡ length directory.homes
 
 -- nothing lies there, and there is room for what so many producers and consumers leave
-pub record ArePapers (producers shards : ℕ) (p : Papers) : Type 0 where
+pub record ArePapers {B : Type 0} (producers shards : ℕ) (p : Papers B) : Type 0 where
   pub replies : (p.replies.items ≡ []) × (producers ≤ vec_capacity p.replies)
   pub logs : (p.logs.items ≡ []) × (producers ≤ vec_capacity p.logs)
   pub taken : (p.taken.items ≡ []) × (shards ≤ vec_capacity p.taken)
@@ -38,7 +39,7 @@ pub record ArePapers (producers shards : ℕ) (p : Papers) : Type 0 where
   pub channels : (p.channels.items ≡ []) × (producers ≤ vec_capacity p.channels)
 
 -- what the floor is made of beside the queues, for a house with this directory and of these sizes
-pub record IsHall (directory : Directory) (sizes : Sizes) (h : Interior) : Type 0 where
+pub record IsHall {B : Type 0} (directory : Directory) (sizes : Sizes) (h : Interior B) : Type 0 where
   pub host : h.host.items ≡ sizes.host.now
   pub closings : map (λ c. c.items) h.closings.items ≡ map (λ c. c.items) sizes.closings.now
   pub mailboxes : vec_len h.mailboxes ≡ length directory.homes
@@ -46,13 +47,13 @@ pub record IsHall (directory : Directory) (sizes : Sizes) (h : Interior) : Type 
   pub sessions : vec_len h.sessions ≡ length directory.homes
 
 -- what may be let go of it
-pub record AreFittings (directory : Directory) (sizes : Sizes) (f : Fittings) : Type 0 where
+pub record AreFittings {B : Type 0} (directory : Directory) (sizes : Sizes) (f : Fittings B) : Type 0 where
   pub interior : IsHall directory sizes f.interior
   pub parkers : vec_len f.parkers ≡ directory.shards
   pub papers : ArePapers sizes.producers directory.shards f.papers
 
 -- nothing is in the lists
-pub record AreEmptyLists (l : Lists) : Type 0 where
+pub record AreEmptyLists {B : Type 0} (l : Lists B) : Type 0 where
   pub stands : l.crew.stands.items ≡ []
   pub posts : l.crew.posts.items ≡ []
   pub consumed : l.crew.consumed.items ≡ []
@@ -63,14 +64,14 @@ pub record AreEmptyLists (l : Lists) : Type 0 where
   pub spares : AreNoSpares l.ends.spares
 
 -- nothing is there, and there is room for what so many producers and consumers have to put there
-pub record AreCrewLists (producers shards : ℕ) (l : CrewLists) : Type 0 where
+pub record AreCrewLists {B : Type 0} (producers shards : ℕ) (l : CrewLists B) : Type 0 where
   pub stands : (l.stands.items ≡ []) × (shards ≤ vec_capacity l.stands)
   pub posts : (l.posts.items ≡ []) × (producers ≤ vec_capacity l.posts)
   pub consumed : (l.consumed.items ≡ []) × (shards ≤ vec_capacity l.consumed)
   pub worked : (l.worked.items ≡ []) × (producers ≤ vec_capacity l.worked)
   pub unmanned : (l.unmanned.items ≡ []) × (producers ≤ vec_capacity l.unmanned)
 
-pub record AreLists (producers shards : ℕ) (l : Lists) : Type 0 where
+pub record AreLists {B : Type 0} (producers shards : ℕ) (l : Lists B) : Type 0 where
   pub empty : AreEmptyLists l
   pub crew : AreCrewLists producers shards l.crew
   pub consumers : (l.ends.consumers.items ≡ []) × (shards ≤ vec_capacity l.ends.consumers)
@@ -78,7 +79,7 @@ pub record AreLists (producers shards : ℕ) (l : Lists) : Type 0 where
   pub spares : AreSpares (producers * shards) l.ends.spares
 
 -- a lane for each shard, with all its permits, which have put and taken nothing
-pub record AreNewLanes (producers shards depth : ℕ) (l : Lanes) : Type 0 where
+pub record AreNewLanes {B : Type 0} (producers shards depth : ℕ) (l : Lanes B) : Type 0 where
   pub count : vec_len l.queues ≡ shards
   pub queues : All (λ q. (capacity_of q ≡ depth) × (producers_of q ≡ producers)) l.queues.items
   pub permits : Rows l.queues.items 0 (map (λ v. v.items) l.permits.items)
@@ -86,7 +87,7 @@ pub record AreNewLanes (producers shards depth : ℕ) (l : Lanes) : Type 0 where
   pub fresh : All (λ s. got s ≡ []) l.consumers.items
 
 -- a reply channel for each producer, likewise
-pub record AreNewChannels (producers shards : ℕ) (c : Channels) : Type 0 where
+pub record AreNewChannels {B : Type 0} (producers shards : ℕ) (c : Channels B) : Type 0 where
   pub count : vec_len c.channels ≡ producers
   pub channels : All (λ q. (room_of q ≡ reply_room) × (senders_of q ≡ shards)) c.channels.items
   pub permits : SenderRows c.channels.items 0 (map (λ v. v.items) c.permits.items)
@@ -94,15 +95,19 @@ pub record AreNewChannels (producers shards : ℕ) (c : Channels) : Type 0 where
   pub fresh : All (λ s. received s ≡ []) c.receivers.items
 
 -- all of a house that can't be let go
-pub record AreStock (producers shards depth : ℕ) (s : Stock) : Type 0 where
+pub record AreStock {B : Type 0} (producers shards depth : ℕ) (s : Stock B) : Type 0 where
   pub of_producers : ArePermitRooms producers shards s.rooms.producers
   pub of_consumers : ArePermitRooms shards producers s.rooms.consumers
   pub lists : AreLists producers shards s.lists
   pub lanes : AreNewLanes producers shards depth s.lanes
   pub channels : AreNewChannels producers shards s.channels
 
+-- no seat was dealt yet, and there are tickets for 256 of them
+abbrev pub IsWholeSeating : {B : Type 0} → Seating B → Type 0
+IsWholeSeating seating = (seating.seats ≡ 0) × (281474976710656 ≤ seating.tickets)
+
 -- what is to be dealt to so many producers and consumers over these lanes and channels, and the empty lists that it goes into
-pub record AreUndealt (producers shards : ℕ) (lanes : List (ShardQueue Job)) (channels : List (ReplyChannel Noted)) (u : Undealt) : Type 0 where
+pub record AreUndealt {B : Type 0} (producers shards : ℕ) (lanes : List (ShardQueue Job)) (channels : List (ReplyChannel Noted)) (u : Undealt B) : Type 0 where
   pub lane_permits : Rows lanes 0 (map (λ v. v.items) u.lane_permits.items)
   pub receivers : AreReceivers channels u.receivers.items
   pub unheard : All (λ s. received s ≡ []) u.receivers.items
@@ -110,6 +115,7 @@ pub record AreUndealt (producers shards : ℕ) (lanes : List (ShardQueue Job)) (
   pub consumers : AreConsumers lanes u.consumers.items
   pub fresh : All (λ s. got s ≡ []) u.consumers.items
   pub parkers : vec_len u.parkers ≡ shards
+  pub seating : IsWholeSeating u.seating
   pub hands : AreHandRooms producers (length lanes) u.hands
   pub rooms : AreRooms producers (length lanes) u.rooms
   pub sender_hands : AreHandRooms shards (length channels) u.sender_hands

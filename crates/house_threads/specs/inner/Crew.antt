@@ -29,32 +29,32 @@ use Rattle.reckoning.specs.Produced.{IsProduceOf, SessionAccount}
 -- ---- promises
 
 -- this promise is producer n's, consumer n's
-abbrev pub IsProduces : Floor → Plans → List Guest → ℕ → Produces → Type 0
+abbrev pub IsProduces : {B : Type 0} → Floor B → Plans → List Guest → ℕ → Produces B → Type 0
 IsProduces floor plans guests n p = (p.floor.now ≡ floor) × (p.plans.now ≡ plans) × (p.guests.now ≡ guests) × (p.number ≡ n)
 
-abbrev pub IsServes : Floor → ℕ → Serves → Type 0
+abbrev pub IsServes : {B : Type 0} → Floor B → ℕ → Serves B → Type 0
 IsServes floor n p = (p.floor.now ≡ floor) × (p.shard ≡ n)
 
 -- its thread will leave what producer n is to leave, or that is there
-abbrev pub IsHired : Floor → Plans → List Guest → ℕ → Hired → Type 0
+abbrev pub IsHired : {B : Type 0} → Floor B → Plans → List Guest → ℕ → Hired B → Type 0
 IsHired floor plans guests n (There h) = IsProduces floor plans guests n h.promise
 IsHired floor plans guests n (Here w) = IsProduceOf floor plans guests n (manually_drop_value w)
 
-abbrev pub IsKept : Floor → ℕ → Kept → Type 0
+abbrev pub IsKept : {B : Type 0} → Floor B → ℕ → Kept B → Type 0
 IsKept floor n (kept.There h) = IsServes floor n h.promise
 IsKept floor n (kept.Here c) = IsServiceOf floor n (manually_drop_value c)
 
 -- ---- a session
 
 -- the session that had this selection, of a user with this name, lived through these steps, and said this
-pub record HasLived (floor : Floor) (user : List ℕ) (selection : LockedStore) (guest : Guest) (carried : List Carried) (text : List ℕ) : Type 0 where
+pub record HasLived {B : Type 0} (floor : Floor B) (user : List ℕ) (selection : LockedStore) (guest : Guest) (carried : List Carried) (text : List ℕ) : Type 0 where
   pub last : Moment
   pub lives : Lives floor.turns (greeted_at (Some (most_of floor.office.max_message)) (folders_of floor.office.directory user) selection greeting) guest.steps.items carried last
   pub wrote : text ≡ last.text
 
 -- What a session leaves: its ended permits are its own on each lane, its receiver is of its channel, and where it made all its steps, it heard as many verdicts as it put copies, and
 -- this is its account of them.
-abbrev pub IsAttended : Floor → ReplyChannel Noted → ℕ → Guest → Worked → Type 0
+abbrev pub IsAttended : {B : Type 0} → Floor B → ReplyChannel Noted → ℕ → Guest → Worked B → Type 0
 IsAttended floor channel seat guest w =
     AreEnded floor.office.lanes.items seat w.ended.items × IsReceiver channel w.receiver × (w.log.seat ≡ seat)
     × (w.fate ≡ Whole → verdicts_in (received w.receiver) ≡ copies_in (map said w.ended.items))

@@ -17,11 +17,11 @@ Marks connection closings old new = (new ≡ marked new.shut old) × (length new
     × ((shard : ℕ) → shard < old.shards → is_shut new shard ≡ (is_shut old shard || list_any (is_closed_at connection shard) closings))
 
 -- what the worker of this number closes
-abbrev pub closings_at : Office → ℕ → List Closing
+abbrev pub closings_at : {B : Type 0} → Office B → ℕ → List Closing
 closings_at office number = slice_index_or (map (λ c. c.items) office.closings.items) number []
 
 -- nothing is put, and nothing is changed but which permits are over
-abbrev pub KeepsDesk : Desk → Desk → Type 0
+abbrev pub KeepsDesk : {B : Type 0} → Desk B → Desk B → Type 0
 KeepsDesk old new = (new.number ≡ old.number) × (new.receiver ≡ old.receiver) × (new.ends ≡ old.ends) × (map put_by new.permits.items ≡ map put_by old.permits.items)
 
 -- the shard is closed before an earlier connection

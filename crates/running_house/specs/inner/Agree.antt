@@ -14,7 +14,7 @@ use Rattle.reckoning.specs.Shelves.{AreNumbered, AreToldOnce}
 use Rattle.running_house.specs.inner.Begun.{begins_at}
 use Rattle.running_house.specs.Plan.{premises_for, producers_in}
 use Rattle.running_house.specs.declared.plan.Plan.{Plan}
-use Rattle.running_house.specs.declared.plan.Report.{Report}
+use Rattle.running_house.specs.Report.{Report}
 
 -- ---- the house
 
@@ -31,7 +31,7 @@ pub record AreSizesFor (plan : Plan) (sizes : Sizes) : Type 0 where
   pub closings : map (λ c. c.items) sizes.closings.now ≡ map (λ c. c.items) plan.closings.items
 
 -- this is the floor of this plan's house
-pub record IsFloorFor (plan : Plan) (floor : Floor) : Type 0 where
+pub record IsFloorFor {B : Type 0} (plan : Plan) (floor : Floor B) : Type 0 where
   pub house : IsHouse floor (producers_in plan)
   pub premises : premises_of floor.office ≡ premises_for plan
   pub mailboxes : length floor.depot.mailboxes.items ≡ length (premises_for plan).directory.homes

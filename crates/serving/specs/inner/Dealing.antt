@@ -5,7 +5,7 @@ use Rattle.house_floor.specs.declared.floor.Floor.{Floor}
 use Rattle.serving.specs.declared.run.Dealt.{Dealt}
 
 -- a post for each producer and room for what it leaves; for each worker a buffer, and for each berth one and its end of its bell
-pub record IsDealt (floor : Floor) (workers berths : ℕ) (dealt : Dealt) : Type 0 where
+pub record IsDealt {B : Type 0} (floor : Floor B) (workers berths : ℕ) (dealt : Dealt B) : Type 0 where
   pub posts : AllAt (IsPost floor) 0 dealt.posts.items
   pub each_post : vec_len dealt.posts ≡ length floor.depot.channels.items
   pub served : (dealt.served.items ≡ []) × (length floor.depot.channels.items ≤ vec_capacity dealt.served)

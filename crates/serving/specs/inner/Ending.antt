@@ -19,11 +19,11 @@ use Rattle.reckoning.specs.declared.balancing.Closes.{Closes}
 use Rattle.serving_workers.specs.Leaving.{HasServedClients, HasServedMail}
 
 -- of each shard, all that was taken from its lane
-abbrev pub histories : Closes → List (List (Entry Job))
+abbrev pub histories : {B : Type 0} → Closes B → List (List (Entry Job))
 histories closes = map history closes.lanes.items
 
 -- of each producer, all that came on its reply channel
-abbrev pub answers : Closes → List (List (Entry Noted))
+abbrev pub answers : {B : Type 0} → Closes B → List (List (Entry Noted))
 answers closes = map reply_history closes.channels.items
 
 -- What the clerk of a shard told a producer: of these entries, which it took, one verdict on each copy of that producer, in their order, and then its end.
@@ -48,7 +48,7 @@ WereHeardOut (channel ∷ channels) [] = ⊥
 WereHeardOut (channel ∷ channels) (c ∷ closed) = IsWhole (senders_of channel) 0 (reply_history c) × WereHeardOut channels closed
 
 -- What was taken of the queues of a house, the first of whose producers are so many workers.
-pub record CameTo (floor : Floor) (workers : ℕ) (closes : Closes) : Type 0 where
+pub record CameTo {B : Type 0} (floor : Floor B) (workers : ℕ) (closes : Closes B) : Type 0 where
   -- What was taken of a worker from each lane is what its connections submitted, one after another with the serials from 0 on, and then its end; and the verdict on
   -- each of these copies came on its channel.
   pub mail : (n : ℕ) → n < workers → HasServedMail (premises_of floor.office) n (slice_index_or (answers closes) n []) (map (of n) (histories closes))

@@ -8,7 +8,7 @@ use Rattle.imap_stream.specs.Visits.{IsGreeted, Visit}
 
 -- The client of a visit in this house was greeted as the user of this number, and nothing else was done: it has that user's folders, over all mailboxes of the house, is in
 -- none of them, and may append messages as large as one that a worker takes. `before` is what its output had taken, where that tells it.
-pub record IsVisitOf (floor : Floor) (user : ℕ) (before : Option (List ℕ)) (visit : Visit) : Type 0 where
+pub record IsVisitOf {B : Type 0} (floor : Floor B) (user : ℕ) (before : Option (List ℕ)) (visit : Visit) : Type 0 where
   pub name : List ℕ
   pub named : user_numbered user floor.office.directory.homes ≡ Some name
   pub greeted : IsGreeted (Some (most_of floor.office.max_message)) (folders_of floor.office.directory name) (record { mailboxes = length floor.depot.mailboxes.items; entered = None }) before visit

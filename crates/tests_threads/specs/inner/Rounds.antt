@@ -9,7 +9,7 @@ use Rattle.house_floor.specs.declared.floor.Floor.{Floor}
 use Rattle.house_floor.specs.declared.floor.Post.{Post}
 
 -- the post of the worker whose number stands there
-pub record IsOwnPost (floor : Floor) (post : Post) : Type 0 where
+pub record IsOwnPost {B : Type 0} (floor : Floor B) (post : Post B) : Type 0 where
   pub is : IsPost floor post.desk.number post
 
 -- one producer's ended permits, one on each lane

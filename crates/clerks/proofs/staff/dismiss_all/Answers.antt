@@ -23,8 +23,8 @@ loop-position-preserved g c =
     let room = c.remove-in-loop-position.result in
     let some : 0 < length rooms = (let e = v.1 in let o = c.loop-position.rooms.ok.0 in let under = c.loop-position-test.true in omega (arith, under, e, o)) in
     let P : Vec (SenderEnded Noted) Global → Type 0 = λ r. (r.items ≡ []) × (length channels ≤ vec_capacity r) in
-    let Q : Consumed → Type 0 = λ d. vec_len d.senders ≡ length channels in
-    let N : Consumed → Type 0 = λ d. (d.taken.items ≡ []) × (d.kept ≡ false) in
+    let Q : Consumed _ → Type 0 = λ d. vec_len d.senders ≡ length channels in
+    let N : Consumed _ → Type 0 = λ d. (d.taken.items ≡ []) × (d.kept ≡ false) in
     let split = removed rooms c.remove-in-loop-position.new.self.items room some c.remove-in-loop-position.ensures.value c.remove-in-loop-position.ensures.items in
     let count : n ≡ 0 + length consumed = (let e = v.3 in let o = c.loop-position.consumed.ok.0 in omega (arith, e, o)) in (
       search rules,

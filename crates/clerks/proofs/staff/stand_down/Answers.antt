@@ -4,6 +4,7 @@ use Rattle.delivery_token.specs.declared.log.Noted.{Noted}
 use Rattle.shard_queue.specs.declared.reply.SenderEnded.{SenderEnded}
 use Rattle.lane_work.proofs.StepLaws.{removed}
 use Rattle.house_floor.specs.declared.floor.Stand.{Stand}
+use Rattle.clerks.specs.Keeping.{parts_of}
 use Rattle.clerks.proofs.StaffLaws.{one_more}
 use Rattle.clerks.proofs.staff.stand_down.Goals as goal
 
@@ -15,9 +16,9 @@ loop-done-preserved g c =
     let room = c.remove-in-loop-done.result in
     let some : 0 < length rooms = (let e = v.1 in let o = c.loop-done.rooms.ok.0 in let under = c.loop-done-test.true in omega (arith, under, e, o)) in
     let P : Vec (SenderEnded Noted) Global → Type 0 = λ r. (r.items ≡ []) × (length channels ≤ vec_capacity r) in
-    let S : Stand → Type 0 = λ s. (vec_len s.stall.senders ≡ length channels) × (s.room.items ≡ []) in
+    let S : Stand _ → Type 0 = λ s. (vec_len s.stall.senders ≡ length channels) × (s.room.items ≡ []) in
     let split = removed rooms c.remove-in-loop-done.new.self.items room some c.remove-in-loop-done.ensures.value c.remove-in-loop-done.ensures.items in
-    let senders = c.leave_stand.ensures.senders c.args.floor.now.depot c.requires.depot in (
+    let senders = c.leave_stand.ensures.senders (parts_of c.args.floor.now.depot) c.requires.depot in (
       search rules,
       search rules,
       All-tail P room c.remove-in-loop-done.new.self.items (subst (All P) split v.2),

@@ -11,7 +11,7 @@ pub returns-in-Item-clause-answered : goal.returns-in-Item-clause-answered
 returns-in-Item-clause-answered g c =
     let s = c.args.stall.now in
     let qs = c.args.depot.now.channels.items in
-    answers_item (length c.args.depot.now.mailboxes.items) (length qs) s.shard c.in-Item.producer c.in-Item.job (got s.permit) (got c.take_as.new.permit) [] (map sent_on s.senders.items)
+    answers_item (length c.args.depot.now.mailboxes.items) (length qs) s.shard c.in-Item.producer c.in-Item.letter (got s.permit) (got c.take_as.new.permit) [] (map sent_on s.senders.items)
     (map sent_on c.serve_copy.new.senders.items) (search rules) (length-map s.senders.items sent_on ∙ senders_length qs s.shard s.senders.items c.requires.senders)
     c.serve_copy.ensures.served c.requires.answered
 

@@ -1,4 +1,4 @@
-use Rattle.std.proofs.Common.{rules, refl, ◌≡◌, ◌≤◌, ◌<◌, ◌+◌, [], All, Vec, Global, length, subst, sym, vec_capacity, arith}
+use Rattle.std.proofs.Common.{rules, refl, ◌≡◌, ◌∙◌, ◌≤◌, ◌<◌, ◌+◌, [], All, Vec, Global, length, subst, sym, vec_capacity, arith}
 use Rattle.std.proofs.lemmas.List.Elements.{All-head, All-tail}
 use Rattle.delivery_token.specs.declared.Job.{Job}
 use Rattle.delivery_token.specs.declared.log.Noted.{Noted}
@@ -12,7 +12,7 @@ use Rattle.lane_work.proofs.StepLaws.{removed}
 use Rattle.house_floor.proofs.dealing.set_posts.Goals as goal
 
 pub loop-number-init : goal.loop-number-init
-loop-number-init c =
+loop-number-init g c =
     let floor = c.args.floor.now in
     let lanes = floor.office.lanes.items in
     let channels = floor.depot.channels.items in (
@@ -26,10 +26,12 @@ loop-number-init c =
       c.requires.unheard,
       search rules,
       subst (AllAt (IsPost floor) 0) (sym c.requires.posts.0) tt,
+      c.requires.seating.0,
+      search rules,
     )
 
 pub loop-number-preserved : goal.loop-number-preserved
-loop-number-preserved c =
+loop-number-preserved g c =
     let v = c.loop-number.invariant in
     let floor = c.args.floor.now in
     let lanes = floor.office.lanes.items in
@@ -65,5 +67,7 @@ loop-number-preserved c =
       All-tail Q permit c.remove-in-loop-number.new.self.items unheard,
       All-tail P room c.remove-in-loop-number-2.new.self.items each,
       more_at (IsPost floor) 0 posts c.push_reserved.new.self.items _ n c.push_reserved.ensures.items v.9 count
-          (record { number = refl; permits = hand.0.0; fresh = hand.0.1; receiver = end.0; unheard = (All-head Q permit c.remove-in-loop-number.new.self.items unheard, refl); empty = own.0; room = own.1 }),
+          (record { dispatch = (c.seat_next.ensures.seat.0 ∙ v.10, c.seat_next.ensures.seat.1); number = refl; permits = hand.0.0; fresh = hand.0.1; receiver = end.0; unheard = (All-head Q permit c.remove-in-loop-number.new.self.items unheard, refl); empty = own.0; room = own.1 }),
+      (let e = c.seat_next.ensures.left.0 in let s = v.10 in omega (arith, e, s)),
+      (let e = c.seat_next.ensures.left.1 in let s = v.11 in omega (arith, e, s)),
     )

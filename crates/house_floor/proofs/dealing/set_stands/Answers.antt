@@ -12,7 +12,7 @@ use Rattle.lane_work.proofs.StepLaws.{removed}
 use Rattle.house_floor.proofs.dealing.set_stands.Goals as goal
 
 pub loop-shard-init : goal.loop-shard-init
-loop-shard-init c =
+loop-shard-init g c =
     let floor = c.args.floor.now in
     let lanes = floor.office.lanes.items in
     let channels = floor.depot.channels.items in (
@@ -30,7 +30,7 @@ loop-shard-init c =
     )
 
 pub loop-shard-preserved : goal.loop-shard-preserved
-loop-shard-preserved c =
+loop-shard-preserved g c =
     let v = c.loop-shard.invariant in
     let floor = c.args.floor.now in
     let lanes = floor.office.lanes.items in

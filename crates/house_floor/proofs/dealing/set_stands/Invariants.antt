@@ -5,7 +5,7 @@ use Rattle.house_floor.proofs.DealLaws.{IsConsumerAt, IsSenderHand}
 use Rattle.house_floor.proofs.dealing.set_stands.Given as goal
 
 abbrev pub invariant-loop-shard : goal.invariant-loop-shard
-invariant-loop-shard l =
+invariant-loop-shard g l =
     (vec_len l.hands + l.shard ≡ l.shards) × (vec_len l.consumers + l.shard ≡ l.shards) × (vec_len l.parkers + l.shard ≡ l.shards) × (vec_len l.rooms + l.shard ≡ l.shards)
     × (vec_len l.stands ≡ l.shard) × (l.shards ≤ vec_capacity l.stands)
     × AllAt (IsSenderHand l.floor.depot.channels.items) l.shard l.hands.items × AllAt (IsConsumerAt l.floor.office.lanes.items) l.shard l.consumers.items

@@ -4,7 +4,7 @@ use Rattle.lane_work.proofs.RowLaws.{consumers_length, rows_length}
 use Rattle.house_floor.proofs.stock.make_stock.Goals as goal
 
 pub abandon_lanes-requires : goal.abandon_lanes-requires
-abandon_lanes-requires c =
+abandon_lanes-requires g c =
     let lanes = c.in-Ok-make_lanes.lanes in
     let made = c.in-Ok-make_lanes.ensures in
     let rows = rows_length lanes.queues.items 0 (map (λ v. v.items) lanes.permits.items) made.permits in

@@ -10,7 +10,7 @@ pub loop-done-preserved : goal.loop-done-preserved
 loop-done-preserved g c =
     let v = c.loop-done.invariant in
     let floor = c.args.floor.now in
-    let P : Post → Type 0 = IsPostLeft (length floor.office.lanes.items) in
+    let P : Post _ → Type 0 = IsPostLeft (length floor.office.lanes.items) in
     let some : 0 < length c.loop-done.posts.items = omega (arith, v.1, c.loop-done-test.true, c.len-done-end.ensures, c.loop-done.posts.ok.0) in
     let f = first_at (IsPost floor) c.loop-done.done c.loop-done.posts.items c.remove-post.new.self.items c.remove-post.result some c.remove-post.ensures.value c.remove-post.ensures.items v.0 in (
       f.1,

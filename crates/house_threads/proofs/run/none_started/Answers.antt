@@ -3,7 +3,7 @@ use Rattle.house_floor.proofs.Leaving.{posts_left, stands_left}
 use Rattle.house_threads.proofs.run.none_started.Goals as goal
 
 pub returns-clause-left : goal.returns-clause-left
-returns-clause-left c floor producers same is =
+returns-clause-left g c floor producers same is =
     let crew = c.args.crew in
     let no_work : length crew.worked.items ≡ 0 = ap length is.worked.0 in
     let no_service : length crew.consumed.items ≡ 0 = ap length is.consumed.0 in

@@ -17,7 +17,7 @@ use Rattle.house_threads.proofs.sessions.attend.Goals as goal
 
 pub finish-requires-clause-room : goal.finish-requires-clause-room
 finish-requires-clause-room g c =
-    (c.requires.post.empty, subst (λ (o : Office). length o.lanes.items ≤ vec_capacity c.args.post.room) (sym c.live_through-fate.ensures.same.0) c.requires.post.room)
+    (c.requires.post.empty, subst (λ (o : Office _). length o.lanes.items ≤ vec_capacity c.args.post.room) (sym c.live_through-fate.ensures.same.0) c.requires.post.room)
 
 pub returns : goal.returns
 returns g c =
@@ -31,7 +31,7 @@ returns g c =
     let left = c.finish.result in
     let own : now.desk.number ≡ seat = life.same.2 in
     let begun = books_begin directory (rooms_of office.lanes.items) seat c.new.result.notes (received c.args.post.desk.receiver) c.args.post.desk.permits.items c.new.ensures.notes c.requires.post.fresh in (
-      subst (λ (n : ℕ). AreEnded office.lanes.items n left.ended.items) own (subst (λ (o : Office). AreEnded o.lanes.items now.desk.number left.ended.items) life.same.0 end.ended),
+      subst (λ (n : ℕ). AreEnded office.lanes.items n left.ended.items) own (subst (λ (o : Office _). AreEnded o.lanes.items now.desk.number left.ended.items) life.same.0 end.ended),
       subst (λ (x : ReplyChannel Noted). IsReceiver x left.receiver) life.same.1 end.receiver,
       ap (λ (b : WorkerLog). b.seat) end.kept.0 ∙ life.book ∙ c.new.ensures.seat,
       (λ whole.

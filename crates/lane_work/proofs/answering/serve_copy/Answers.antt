@@ -1,7 +1,8 @@
-use Rattle.std.proofs.Common.{rules, ◌<◌, ◌∙◌, sym, subst, inr, refl, length, arith}
-use Rattle.shard_queue.specs.Reply.{IsSender}
-use Rattle.lane_work.specs.Answering.{IsJudged}
-use Rattle.lane_work.proofs.AnswerLaws.{serves_at}
+use Rattle.std.proofs.Common.{rules, ℕ, map, slice_set, ◌<◌, ◌∙◌, ◌++◌, ◌∷◌, [], ap, sym, subst, inr, refl, length, arith}
+use Rattle.shard_queue.specs.Reply.{IsSender, sender_number, sent_on}
+use Rattle.shard_queue.specs.declared.lane.Entry.TheVariants.{Item}
+use Rattle.lane_work.specs.Answering.{Serves}
+use Rattle.lane_work.proofs.AnswerLaws.{noted_of, serves_at}
 use Rattle.lane_work.proofs.PermitLaws.{sender_here, senders_length, senders_set}
 use Rattle.lane_work.proofs.answering.serve_copy.Goals as goal
 
@@ -13,16 +14,16 @@ index_mut-requires g c =
     let n = senders_length c.args.depot.now.channels.items c.args.shard c.args.senders.now.items c.requires.senders in
     omega (arith, n, c.if-position-len.false, c.len.ensures, c.args.senders.now.ok.0)
 
-pub answer-requires : goal.answer-requires
-answer-requires g c =
+pub tell-requires : goal.tell-requires
+tell-requires g c =
     subst (λ q. IsSender q c.index_mut.result.now) (sym c.index.ensures)
     (sender_here c.args.depot.now.channels.items c.args.shard c.args.senders.now.items c.requires.senders c.from-position.result (search rules) c.index.result.now c.index_mut.result.now c.index_mut.ensures.value).0
 
 pub returns-clause-senders : goal.returns-clause-senders
 returns-clause-senders g c =
     let was = sender_here c.args.depot.now.channels.items c.args.shard c.args.senders.now.items c.requires.senders c.from-position.result (search rules) c.index.result.now c.index_mut.result.now c.index_mut.ensures.value in
-    senders_set c.args.depot.now.channels.items c.args.shard c.args.senders.now.items c.requires.senders c.from-position.result c.index.result.now c.answer.new.permit
-    (subst (λ q. IsSender q c.answer.new.permit) c.index.ensures c.answer.ensures.permit.0) (c.answer.ensures.permit.1 ∙ was.1)
+    senders_set c.args.depot.now.channels.items c.args.shard c.args.senders.now.items c.requires.senders c.from-position.result c.index.result.now c.tell.new.permit
+    (subst (λ q. IsSender q c.tell.new.permit) c.index.ensures c.tell.ensures.permit.0) (c.tell.ensures.permit.1 ∙ was.1)
 
 pub returns-clause-served : goal.returns-clause-served
 returns-clause-served g c =
@@ -31,7 +32,8 @@ returns-clause-served g c =
     let was = sender_here channels c.args.shard senders c.requires.senders c.from-position.result (search rules) c.index.result.now c.index_mut.result.now c.index_mut.ensures.value in
     let n = senders_length channels c.args.shard senders c.requires.senders in
     let at : c.from-position.result < length senders = omega (arith, n, c.if-position-len.false, c.len.ensures) in
-    let judged = subst (λ l. IsJudged (length l) c.args.job.now c.judge-judged.result) c.deref.ensures.value c.judge-judged.ensures in
-    let done = serves_at (length c.args.depot.now.mailboxes.items) (length channels) c.args.shard c.from-position.result senders c.index_mut.result.now c.answer.new.permit c.args.job.now _
-    (search rules) at c.index_mut.ensures.value was.1 c.answer.ensures.sent (record { came = c.judge-judged.result; judged = judged; tells = c.answer_of-delivered.ensures }) in
-    search rules
+    let told = c.judge-answer in
+    let says = c.tell.ensures.sent ∙ ap (λ noted. sent_on c.index_mut.result.now ++ Item (sender_number c.index_mut.result.now) noted ∷ []) (noted_of told.result c.args.letter told.ensures.copy.0 told.ensures.copy.1) in
+    let done = serves_at (length c.args.depot.now.mailboxes.items) (length channels) c.args.shard c.from-position.result senders c.index_mut.result.now c.tell.new.permit c.args.letter told.result.verdict
+    (search rules) at c.index_mut.ensures.value was.1 says told.ensures.verdict in
+    subst (λ (p : ℕ). Serves (length c.args.depot.now.mailboxes.items) (length channels) c.args.shard p c.args.letter (map sent_on senders) (map sent_on (slice_set senders c.from-position.result c.tell.new.permit))) c.from-position.ensures done

@@ -2,6 +2,7 @@ use Rattle.std.proofs.Common.{ap, sym, subst, map, ◌∷◌, [], Vec, IfOk, ari
 use Rattle.std.specs.Global.{Global}
 use Rattle.std.proofs.lemmas.List.{length-map}
 use Rattle.std.proofs.lemmas.Result.{on_ok_weaker}
+use Rattle.delivery_token.specs.declared.Job.{Job}
 use Rattle.lane_work.specs.declared.desk.LanePermit.{LanePermit}
 use Rattle.shard_queue.specs.Reply.{received}
 use Rattle.lane_work.specs.Permits.{AreLive, put_by}
@@ -41,7 +42,7 @@ returns-in-None-clause-judged g c =
     let a = length-map after put_by in
     let s = overs_length after before c.put_copy.ensures.same.3 in
     let w = c.put_copy.ensures.within in
-    subst (λ (v : Vec LanePermit Global). IfOk c.hear_one.result (λ verdict. WasJudged c.args.context.now.office.now.directory (rooms_of lanes) c.args.desk.now.number (record { key = c.args.key; mailbox = c.args.mailbox; text = c.args.text.now; flags = c.args.flags }) verdict (received c.hear_one.new.desk.receiver) (map put_by before) (map put_by v.items))) (sym c.hear_one.ensures.same.1)
+    subst (λ (v : Vec (LanePermit Job) Global). IfOk c.hear_one.result (λ verdict. WasJudged c.args.context.now.office.now.directory (rooms_of lanes) c.args.desk.now.number (record { key = c.args.key; mailbox = c.args.mailbox; text = c.args.text.now; flags = c.args.flags }) verdict (received c.hear_one.new.desk.receiver) (map put_by before) (map put_by v.items))) (sym c.hear_one.ensures.same.1)
     (judged_later c.args.context.now.office.now.directory (rooms_of lanes) c.args.desk.now.number (record { key = c.args.key; mailbox = c.args.mailbox; text = c.args.text.now; flags = c.args.flags }) c.put_copy.result c.hear_one.result
     (received c.hear_one.new.desk.receiver) (map put_by before) (map put_by after) (omega (arith, n, b, w)) (omega (arith, a, b, s)) c.in-None.is (c.put_copy.ensures.put (live_at before (shard_of c.args.context.now.office.now.directory c.args.mailbox) c.requires.live)) c.hear_one.ensures.heard)
 
@@ -50,7 +51,7 @@ returns-in-Some-clause-live g c = live_still c.args.desk.now.permits.items c.put
 
 pub returns-in-None-clause-live : goal.returns-in-None-clause-live
 returns-in-None-clause-live g c =
-    subst (λ (v : Vec LanePermit Global). AreLive v.items) (sym c.hear_one.ensures.same.1) (live_still c.args.desk.now.permits.items c.put_copy.new.desk.permits.items c.put_copy.ensures.same.3 c.requires.live)
+    subst (λ (v : Vec (LanePermit Job) Global). AreLive v.items) (sym c.hear_one.ensures.same.1) (live_still c.args.desk.now.permits.items c.put_copy.new.desk.permits.items c.put_copy.ensures.same.3 c.requires.live)
 
 pub returns-in-Some-clause-only : goal.returns-in-Some-clause-only
 returns-in-Some-clause-only g c =
@@ -74,5 +75,5 @@ returns-in-None-clause-only g c =
     (omega (arith, put.within, lanes, length-map before put_by)) put.put put.over in
     let none = ap (λ o. unknown (o ∷ [])) c.in-None.is in
     let heard = ap (λ (x : ReceiverPermit Noted). verdicts_in (received x)) put.same.1 in
-    let kept = ap (λ (v : Vec LanePermit Global). copies_in (map put_by v.items)) c.hear_one.ensures.same.1 in
+    let kept = ap (λ (v : Vec (LanePermit Job) Global). copies_in (map put_by v.items)) c.hear_one.ensures.same.1 in
     on_ok_weaker c.hear_one.result (λ one. omega (arith, counts, none, heard, kept, one)) c.hear_one.ensures.only

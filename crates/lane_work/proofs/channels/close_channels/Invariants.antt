@@ -6,7 +6,7 @@ use Rattle.lane_work.specs.ChannelClosings.{AreChannelsClosed, AreChannelsTorn}
 use Rattle.lane_work.proofs.channels.close_channels.Given as goal
 
 abbrev pub invariant-loop : goal.invariant-loop
-invariant-loop l =
+invariant-loop g l =
     (vec_len l.channels + l.counter ≡ l.end) × (vec_len l.closed + vec_len l.channels ≤ vec_capacity l.closed)
     × SenderEndedRows l.channels.items (map (λ v. v.items) l.ended.items) × AreReceivers l.channels.items l.receivers.items
     × (l.torn ≡ false → (more : List (ReplyClosed Noted)) → AreChannelsClosed l.channels.items (map (λ v. v.items) l.ended.items) l.receivers.items more

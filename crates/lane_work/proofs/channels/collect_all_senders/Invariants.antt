@@ -7,7 +7,7 @@ use Rattle.lane_work.proofs.StepLaws.{list}
 use Rattle.lane_work.proofs.channels.collect_all_senders.Given as goal
 
 abbrev pub invariant-loop : goal.invariant-loop
-invariant-loop l =
+invariant-loop g l =
     (vec_len l.hands + l.counter ≡ vec_len l.fn.hands) × (vec_len l.lists ≡ vec_len l.fn.lists)
     × All (λ v. vec_len v ≡ vec_len l.fn.lists) l.hands.items
     × All (λ v. vec_len v + vec_len l.hands ≤ vec_capacity v) l.lists.items

@@ -6,7 +6,7 @@ use Rattle.lane_work.proofs.SenderRowLaws.{are_in, stay_ended, still_in}
 use Rattle.lane_work.proofs.channels.collect_senders.Goals as goal
 
 pub push_reserved-requires : goal.push_reserved-requires
-push_reserved-requires c =
+push_reserved-requires g c =
     let i = c.loop-channel.channel in
     let under : i < length c.args.lists.now.items = search rules in
     let v = c.loop-channel.invariant in
@@ -14,7 +14,7 @@ push_reserved-requires c =
     (c.requires.room i c.index_mut.result.now under)
 
 pub loop-channel-preserved : goal.loop-channel-preserved
-loop-channel-preserved c =
+loop-channel-preserved g c =
     let i = c.loop-channel.channel in
     let olds = c.args.lists.now.items in
     let news = c.loop-channel.lists.items in
@@ -32,7 +32,7 @@ loop-channel-preserved c =
     )
 
 pub returns-clause-here : goal.returns-clause-here
-returns-clause-here c =
+returns-clause-here g c =
     let v = c.loop-channel.invariant in
     let e : c.loop-channel.channel ≡ length c.args.lists.now.items = search rules in
     let none : length c.loop-channel.ended.items ≡ 0 = search rules in
@@ -41,7 +41,7 @@ returns-clause-here c =
     (weaker Grows (λ o n e. list n ≡ list o ++ e ∷ []) (λ o n e h. h.0) (length c.args.lists.now.items) c.args.lists.now.items c.loop-channel.lists.items c.args.ended.items all)
 
 pub returns-clause-still : goal.returns-clause-still
-returns-clause-still c =
+returns-clause-still g c =
     let v = c.loop-channel.invariant in
     let e : c.loop-channel.channel ≡ length c.args.lists.now.items = search rules in
     let none : length c.loop-channel.ended.items ≡ 0 = search rules in
@@ -50,7 +50,7 @@ returns-clause-still c =
     (weaker Grows (λ o n e. list n ≡ list o ++ e ∷ []) (λ o n e h. h.0) (length c.args.lists.now.items) c.args.lists.now.items c.loop-channel.lists.items c.args.ended.items all)
 
 pub returns-clause-channels : goal.returns-clause-channels
-returns-clause-channels c =
+returns-clause-channels g c =
     let v = c.loop-channel.invariant in
     let e : c.loop-channel.channel ≡ length c.args.lists.now.items = search rules in
     let none : length c.loop-channel.ended.items ≡ 0 = search rules in
@@ -59,7 +59,7 @@ returns-clause-channels c =
     (weaker Grows (λ o n e. list n ≡ list o ++ e ∷ []) (λ o n e h. h.0) (length c.args.lists.now.items) c.args.lists.now.items c.loop-channel.lists.items c.args.ended.items all)
 
 pub returns-clause-room : goal.returns-clause-room
-returns-clause-room c n room =
+returns-clause-room g c n room =
     let v = c.loop-channel.invariant in
     let e : c.loop-channel.channel ≡ length c.args.lists.now.items = search rules in
     let none : length c.loop-channel.ended.items ≡ 0 = search rules in

@@ -9,7 +9,7 @@ use Rattle.lane_work.proofs.SenderRowLaws.{hands_next, none_left}
 use Rattle.lane_work.proofs.channels.deal_all_senders.Goals as goal
 
 pub loop-number-preserved : goal.loop-number-preserved
-loop-number-preserved c =
+loop-number-preserved g c =
     let v = c.loop-number.invariant in
     let P : Vec (SenderPermit Noted) Global → Type 0 = λ v. (v.items ≡ []) × (length c.args.channels.now ≤ vec_capacity v) in
     let n = c.loop-number.number in
@@ -27,6 +27,6 @@ loop-number-preserved c =
     )
 
 pub spend_lists-requires : goal.spend_lists-requires
-spend_lists-requires c =
+spend_lists-requires g c =
     let e : c.loop-number.number ≡ c.args.senders = search rules in
     none_left list c.args.channels.now c.args.senders c.loop-number.permits.items (subst (λ k. SenderRows c.args.channels.now k (map list c.loop-number.permits.items)) e c.loop-number.invariant.4) c.requires.senders

@@ -5,20 +5,20 @@ use Rattle.lane_work.proofs.SenderRowLaws.{dealt, row_there, rows_length}
 use Rattle.lane_work.proofs.channels.deal_senders.Goals as goal
 
 pub index_mut-requires : goal.index_mut-requires
-index_mut-requires c =
+index_mut-requires g c =
     let n = step_length (λ o n s. list o ≡ s ∷ list n) c.loop-channel.channel c.args.permits.now.items c.loop-channel.permits.items c.loop-channel.hand.items c.loop-channel.invariant.2 in
     let l = rows_length c.args.channels.now c.args.number (map list c.args.permits.now.items) c.requires.left in
     let m = length-map c.args.permits.now.items list in
     omega (arith, n, l, m, c.loop-channel.permits.ok.0, c.loop-channel-test.true)
 
 pub remove-requires : goal.remove-requires
-remove-requires c =
+remove-requires g c =
     let s = row_there list c.args.channels.now c.args.number c.args.permits.now.items c.loop-channel.permits.items c.loop-channel.hand.items c.loop-channel.channel c.loop-channel.invariant.2 c.requires.left c.requires.more
     c.loop-channel-test.true c.index_mut.result.now c.index_mut.ensures.value in
     omega (arith, s, c.index_mut.result.now.ok.0)
 
 pub loop-channel-preserved : goal.loop-channel-preserved
-loop-channel-preserved c =
+loop-channel-preserved g c =
     let olds = c.args.permits.now.items in
     let news = c.loop-channel.permits.items in
     let i = c.loop-channel.channel in
@@ -35,14 +35,14 @@ loop-channel-preserved c =
     )
 
 pub returns-clause-hand : goal.returns-clause-hand
-returns-clause-hand c =
+returns-clause-hand g c =
     let e : c.loop-channel.channel ≡ length c.args.channels.now = search rules in
     let r = dealt list c.args.channels.now c.args.number c.args.permits.now.items c.loop-channel.permits.items c.loop-channel.hand.items
     (subst (λ n. StepTo (λ o n s. list o ≡ s ∷ list n) n c.args.permits.now.items c.loop-channel.permits.items c.loop-channel.hand.items) e c.loop-channel.invariant.2) c.requires.left in
     (r.0, r.1)
 
 pub returns-clause-left : goal.returns-clause-left
-returns-clause-left c =
+returns-clause-left g c =
     let e : c.loop-channel.channel ≡ length c.args.channels.now = search rules in
     (dealt list c.args.channels.now c.args.number c.args.permits.now.items c.loop-channel.permits.items c.loop-channel.hand.items
     (subst (λ n. StepTo (λ o n s. list o ≡ s ∷ list n) n c.args.permits.now.items c.loop-channel.permits.items c.loop-channel.hand.items) e c.loop-channel.invariant.2) c.requires.left).2

@@ -3,6 +3,6 @@ use Rattle.lane_work.proofs.StepLaws.{StepTo}
 use Rattle.lane_work.proofs.channels.deal_senders.Given as goal
 
 abbrev pub invariant-loop-channel : goal.invariant-loop-channel
-invariant-loop-channel l =
+invariant-loop-channel g l =
     (vec_len l.hand ≡ l.channel) × (length l.channels ≤ vec_capacity l.hand)
     × StepTo (λ o n s. o.items ≡ s ∷ n.items) l.channel l.fn.permits.items l.permits.items l.hand.items

@@ -11,7 +11,7 @@ use Rattle.lane_work.proofs.SenderRowLaws.{all_left, receivers_next, rows_next}
 use Rattle.lane_work.proofs.channels.make_channels.Goals as goal
 
 pub loop-preserved : goal.loop-preserved
-loop-preserved c =
+loop-preserved g c =
     let v = c.loop.invariant in
     let made = c.in-Ok.ensures in
     let P : ReplyChannel Noted → Type 0 = λ q. (room_of q ≡ c.args.depth) × (senders_of q ≡ c.args.senders) in

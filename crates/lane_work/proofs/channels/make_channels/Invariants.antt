@@ -4,7 +4,7 @@ use Rattle.lane_work.specs.ChannelPermits.{SenderRows, AreReceivers}
 use Rattle.lane_work.proofs.channels.make_channels.Given as goal
 
 abbrev pub invariant-loop : goal.invariant-loop
-invariant-loop l =
+invariant-loop g l =
     (vec_len l.channels.channels ≡ l.counter) × (vec_len l.channels.permits ≡ l.counter) × (vec_len l.channels.receivers ≡ l.counter)
     × (l.producers ≤ vec_capacity l.channels.channels) × (l.producers ≤ vec_capacity l.channels.permits) × (l.producers ≤ vec_capacity l.channels.receivers)
     × All (λ q. (room_of q ≡ l.depth) × (senders_of q ≡ l.senders)) l.channels.channels.items

@@ -1,4 +1,4 @@
-use Rattle.std.proofs.Common.{rules, ◌≡◌, ◌++◌, ◌∷◌, [], ◌∙◌, arith, sym, refl, subst, length, map, ap, not}
+use Rattle.std.proofs.Common.{rules, ◌≡◌, ◌++◌, ◌∷◌, [], ◌∙◌, arith, sym, refl, subst, length, map, ap, not, true, IfSome}
 use Rattle.std.specs.List.{list_any}
 use Rattle.std.proofs.lemmas.List.{length-map}
 use Rattle.shard_queue.specs.declared.lane.Entry.TheVariants.{Item, End}
@@ -7,7 +7,7 @@ use Rattle.shard_queue.specs.Permits.{got}
 use Rattle.lane_work.specs.Answering.{is_nobodys}
 use Rattle.lane_work.specs.inner.Answering.{HaveAnswered}
 use Rattle.lane_work.specs.Ends.{ends_in}
-use Rattle.lane_work.proofs.AnswerLaws.{answers_begin, answers_end, answers_item, torn_end, torn_next}
+use Rattle.lane_work.proofs.AnswerLaws.{answers_begin, answers_end, answers_item, kept_copy, torn_end, torn_next}
 use Rattle.lane_work.proofs.PermitLaws.{ends_next, kept_next, senders_length}
 use Rattle.lane_work.proofs.consumer.serve_all.Goals as goal
 
@@ -19,13 +19,15 @@ loop-preserved-in-Item g c =
       v.0,
       c.take_as.ensures.permit,
       c.serve_copy-known.ensures.senders,
-      answers_item m n c.args.stall.now.shard c.in-Item.p c.in-Item.job (got c.loop.stall.permit) (got c.take_as.new.permit) (map sent_on c.args.stall.now.senders.items) (map sent_on c.loop.stall.senders.items)
+      answers_item m n c.args.stall.now.shard c.in-Item.p c.in-Item.letter (got c.loop.stall.permit) (got c.take_as.new.permit) (map sent_on c.args.stall.now.senders.items) (map sent_on c.loop.stall.senders.items)
           (map sent_on c.serve_copy-known.new.senders.items) (search rules) (length-map c.loop.stall.senders.items sent_on ∙ senders_length c.args.depot.now.channels.items c.args.stall.now.shard c.loop.stall.senders.items v.2)
           c.serve_copy-known.ensures.served v.3,
-      torn_next m n (got c.loop.stall.permit) (got c.take_as.new.permit) (Item c.in-Item.p c.in-Item.job) c.loop.tally.torn (not c.serve_copy-known.result) (search rules) (ap not c.serve_copy-known.ensures.known) v.4,
-      kept_next (got c.loop.stall.permit) (got c.take_as.new.permit) c.loop.taken.items c.keep.new.taken.items (Item c.in-Item.p c.in-Item.job) c.loop.tally.kept c.keep.result (search rules) v.5 c.keep.ensures,
-      (let grew : got c.take_as.new.permit ≡ got c.loop.stall.permit ++ Item c.in-Item.p c.in-Item.job ∷ [] = search rules in
-          let e = ap ends_in grew ∙ ends_next (got c.loop.stall.permit) (Item c.in-Item.p c.in-Item.job) in omega (arith, e, v.6)),
+      torn_next m n (got c.loop.stall.permit) (got c.take_as.new.permit) (Item c.in-Item.p c.in-Item.letter) c.loop.tally.torn (not c.serve_copy-known.result) (search rules) (ap not c.serve_copy-known.ensures.known) v.4,
+      kept_next (got c.loop.stall.permit) (got c.take_as.new.permit) c.loop.taken.items c.keep_copy.new.taken.items (Item c.in-Item.p c.in-Item.letter) c.loop.tally.kept c.keep_copy.result (search rules) v.5
+          (kept_copy c.entry_of-entry.result (Item c.in-Item.p c.in-Item.letter) c.loop.tally.kept c.keep_copy.result c.loop.taken.items c.keep_copy.new.taken.items
+          (subst (λ job. IfSome c.entry_of-entry.result (λ e. (c.loop.tally.kept ≡ true) × (e ≡ Item c.in-Item.p job))) c.job.ensures c.entry_of-entry.ensures) c.keep_copy.ensures),
+      (let grew : got c.take_as.new.permit ≡ got c.loop.stall.permit ++ Item c.in-Item.p c.in-Item.letter ∷ [] = search rules in
+          let e = ap ends_in grew ∙ ends_next (got c.loop.stall.permit) (Item c.in-Item.p c.in-Item.letter) in omega (arith, e, v.6)),
     )
 
 pub loop-init : goal.loop-init
@@ -54,7 +56,7 @@ loop-preserved-in-End g c =
       v.2,
       answers_end m n c.args.stall.now.shard c.in-End.p old new (map sent_on c.args.stall.now.senders.items) (map sent_on c.loop.stall.senders.items) (search rules) v.3,
       v.4 ∙ torn_end m n old new c.in-End.p (search rules),
-      kept_next old new c.loop.taken.items c.keep-in-End.new.taken.items (End c.in-End.p) c.loop.tally.kept c.keep-in-End.result (search rules) v.5 c.keep-in-End.ensures,
+      kept_next old new c.loop.taken.items c.keep.new.taken.items (End c.in-End.p) c.loop.tally.kept c.keep.result (search rules) v.5 c.keep.ensures,
       (let grew : new ≡ old ++ End c.in-End.p ∷ [] = search rules in
           let e = ap ends_in grew ∙ ends_next old (End c.in-End.p) in search rules),
     )

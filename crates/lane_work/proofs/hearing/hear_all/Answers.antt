@@ -84,24 +84,25 @@ returns-then-not-is_over_at-clause-torn g c =
     let l = ap length c.loop.invariant.4.1 ∙ length-append (received c.args.desk.now.receiver) c.loop.invariant.4.0 in
     omega (arith, n, l)
 
-pub loop-preserved-else-not-hear_awaited : goal.loop-preserved-else-not-hear_awaited
-loop-preserved-else-not-hear_awaited g c =
+pub loop-preserved-in-Item : goal.loop-preserved-in-Item
+loop-preserved-in-Item g c =
     let old = received c.loop.desk.receiver in
     let grew : received c.recv_as.new.permit ≡ old ++ c.recv_as.result ∷ [] = search rules in
-    let came : received c.recv_as.new.permit ≡ old ++ Item c.in-Item.field-0 c.in-Item.noted ∷ [] = search rules in (
+    let came : received c.recv_as.new.permit ≡ old ++ Item c.in-Item.field-0 c.in-Item.answer ∷ [] = search rules in (
       c.recv_as.ensures.permit,
       c.loop.invariant.1,
       (let e = ap ends_in grew ∙ ends_next old c.recv_as.result in omega (arith, e, c.loop.invariant.2)),
       fills_on c.args.verdicts.now.slots c.loop.verdicts.slots c.hear_awaited.new.self.slots c.loop.invariant.3 c.hear_awaited.ensures.fills,
       start_on (received c.args.desk.now.receiver) old (received c.recv_as.new.permit) c.loop.invariant.4 (c.recv_as.result ∷ [], grew),
       (let n = ap length grew ∙ length-append old (c.recv_as.result ∷ []) in
-          let e = ap ends_in came ∙ ends_next old (Item c.in-Item.field-0 c.in-Item.noted) in
+          let e = ap ends_in came ∙ ends_next old (Item c.in-Item.field-0 c.in-Item.answer) in
           let f = c.hear_awaited.ensures.noted (search rules) in omega (arith, n, e, f.awaited, c.loop.invariant.5)),
-      heard_next old (received c.recv_as.new.permit) c.args.message.now.keys.items c.args.message.now.mailboxes.items c.args.message.now.text c.args.verdicts.now.slots c.loop.verdicts.slots c.hear_awaited.new.self.slots c.in-Item.field-0 c.in-Item.noted came
-          (subst (λ (keys : List CopyKey). FillsIn keys c.args.message.now.mailboxes.items c.in-Item.noted c.loop.verdicts.slots c.hear_awaited.new.self.slots) c.as_slice-keys.ensures.value
-          (subst (λ (mailboxes : List ℕ). FillsIn c.as_slice-keys.result.now mailboxes c.in-Item.noted c.loop.verdicts.slots c.hear_awaited.new.self.slots) c.as_slice-mailboxes.ensures.value
-          (c.hear_awaited.ensures.noted (search rules)))) c.loop.invariant.6,
-      (λ live. let e = ap ends_in came ∙ ends_next old (Item c.in-Item.field-0 c.in-Item.noted) in let h = c.loop.invariant.7 live in omega (arith, e, h)),
+      heard_next old (received c.recv_as.new.permit) c.args.message.now.keys.items c.args.message.now.mailboxes.items c.args.message.now.text c.args.verdicts.now.slots c.loop.verdicts.slots c.hear_awaited.new.self.slots c.in-Item.field-0 c.in-Item.answer came
+          (subst (λ (keys : List CopyKey). FillsIn keys c.args.message.now.mailboxes.items c.in-Item.answer c.loop.verdicts.slots c.hear_awaited.new.self.slots) c.as_slice-keys.ensures.value
+          (subst (λ (mailboxes : List ℕ). FillsIn c.as_slice-keys.result.now mailboxes c.in-Item.answer c.loop.verdicts.slots c.hear_awaited.new.self.slots) c.as_slice-mailboxes.ensures.value
+          (subst (λ noted. FillsIn c.as_slice-keys.result.now c.as_slice-mailboxes.result.now noted c.loop.verdicts.slots c.hear_awaited.new.self.slots) c.noted.ensures
+          (c.hear_awaited.ensures.noted (search rules))))) c.loop.invariant.6,
+      (λ live. let e = ap ends_in came ∙ ends_next old (Item c.in-Item.field-0 c.in-Item.answer) in let h = c.loop.invariant.7 live in omega (arith, e, h)),
     )
 
 -- the end of a shard on which the permit is over

@@ -13,33 +13,33 @@ use Rattle.lane_work.proofs.hearing.hear_one.Goals as goal
 pub returns-then-ne-clause-ends : goal.returns-then-ne-clause-ends
 returns-then-ne-clause-ends g c =
     let old = received c.args.desk.now.receiver in
-    let grew : received c.recv_as.new.permit ≡ old ++ Item c.in-Item.field-0 c.in-Item.noted ∷ [] = search rules in
-    let e = ap ends_in grew ∙ ends_next old (Item c.in-Item.field-0 c.in-Item.noted) in
+    let grew : received c.recv_as.new.permit ≡ old ++ Item c.in-Item.field-0 c.in-Item.answer ∷ [] = search rules in
+    let e = ap ends_in grew ∙ ends_next old (Item c.in-Item.field-0 c.in-Item.answer) in
     omega (arith, e)
 
 pub returns-then-noted-mailbox-clause-ends : goal.returns-then-noted-mailbox-clause-ends
 returns-then-noted-mailbox-clause-ends g c =
     let old = received c.args.desk.now.receiver in
-    let grew : received c.recv_as.new.permit ≡ old ++ Item c.in-Item.field-0 c.in-Item.noted ∷ [] = search rules in
-    let e = ap ends_in grew ∙ ends_next old (Item c.in-Item.field-0 c.in-Item.noted) in
+    let grew : received c.recv_as.new.permit ≡ old ++ Item c.in-Item.field-0 c.in-Item.answer ∷ [] = search rules in
+    let e = ap ends_in grew ∙ ends_next old (Item c.in-Item.field-0 c.in-Item.answer) in
     omega (arith, e)
 
 pub returns-else-noted-mailbox-clause-ends : goal.returns-else-noted-mailbox-clause-ends
 returns-else-noted-mailbox-clause-ends g c =
     let old = received c.args.desk.now.receiver in
-    let grew : received c.recv_as.new.permit ≡ old ++ Item c.in-Item.field-0 c.in-Item.noted ∷ [] = search rules in
-    let e = ap ends_in grew ∙ ends_next old (Item c.in-Item.field-0 c.in-Item.noted) in
+    let grew : received c.recv_as.new.permit ≡ old ++ Item c.in-Item.field-0 c.in-Item.answer ∷ [] = search rules in
+    let e = ap ends_in grew ∙ ends_next old (Item c.in-Item.field-0 c.in-Item.answer) in
     omega (arith, e)
 
 pub returns-else-noted-mailbox-clause-heard : goal.returns-else-noted-mailbox-clause-heard
 returns-else-noted-mailbox-clause-heard g c =
     let old = received c.args.desk.now.receiver in
-    let grew : received c.recv_as.new.permit ≡ old ++ Item c.in-Item.field-0 c.in-Item.noted ∷ [] = search rules in
-    let ke : c.in-Item.noted.key ≡ c.args.key = search rules in
-    let me : c.in-Item.noted.mailbox ≡ c.args.mailbox = c.if-noted-mailbox.false in
-    let is : c.in-Item.noted ≡ record { key = c.args.key; mailbox = c.args.mailbox; verdict = c.in-Item.noted.verdict } =
-    ap (λ (z : CopyKey). let x : Noted = record { key = z; mailbox = c.in-Item.noted.mailbox; verdict = c.in-Item.noted.verdict } in x) ke
-    ∙ ap (λ m. let x : Noted = record { key = c.args.key; mailbox = m; verdict = c.in-Item.noted.verdict } in x) me in
+    let grew : received c.recv_as.new.permit ≡ old ++ Item c.in-Item.field-0 c.noted-noted.result ∷ [] = search rules in
+    let ke : c.noted-noted.result.key ≡ c.args.key = search rules in
+    let me : c.noted-noted.result.mailbox ≡ c.args.mailbox = c.if-noted-mailbox.false in
+    let is : c.noted-noted.result ≡ record { key = c.args.key; mailbox = c.args.mailbox; verdict = c.noted-noted.result.verdict } =
+    ap (λ (z : CopyKey). let x : Noted = record { key = z; mailbox = c.noted-noted.result.mailbox; verdict = c.noted-noted.result.verdict } in x) ke
+    ∙ ap (λ m. let x : Noted = record { key = c.args.key; mailbox = m; verdict = c.noted-noted.result.verdict } in x) me in
     subst (IsHeard (received c.recv_as.new.permit)) is (c.in-Item.field-0, old, [], grew)
 
 pub returns-in-End-clause-ends : goal.returns-in-End-clause-ends
@@ -52,5 +52,5 @@ returns-in-End-clause-ends g c =
 pub returns-else-noted-mailbox-clause-only : goal.returns-else-noted-mailbox-clause-only
 returns-else-noted-mailbox-clause-only g c =
     let old = received c.args.desk.now.receiver in
-    let grew : received c.recv_as.new.permit ≡ old ++ Item c.in-Item.field-0 c.in-Item.noted ∷ [] = search rules in
-    ap verdicts_in grew ∙ verdict_more old c.in-Item.field-0 c.in-Item.noted
+    let grew : received c.recv_as.new.permit ≡ old ++ Item c.in-Item.field-0 c.in-Item.answer ∷ [] = search rules in
+    ap verdicts_in grew ∙ verdict_more old c.in-Item.field-0 c.in-Item.answer

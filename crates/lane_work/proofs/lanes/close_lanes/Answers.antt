@@ -10,7 +10,7 @@ use Rattle.lane_work.proofs.lanes.close_lanes.Goals as goal
 use Rattle.lane_work.proofs.lanes.close_lanes.Goals.{in-Ok, in-Err}
 
 pub loop-preserved : goal.loop-preserved
-loop-preserved c =
+loop-preserved g c =
     let v = c.loop.invariant in
     let lanes = c.loop.lanes.items in
     let rows = c.loop.ended.items in
@@ -59,7 +59,7 @@ loop-preserved c =
     ]
 
 pub returns-else-torn : goal.returns-else-torn
-returns-else-torn c =
+returns-else-torn g c =
     let v = c.loop.invariant in
     let none : length c.loop.lanes.items ≡ 0 = search rules in
     all_closed c.loop.lanes.items (map list c.loop.ended.items) c.loop.consumers.items c.args.lanes.items (map list c.args.ended.items) c.args.consumers.items c.loop.closed.items

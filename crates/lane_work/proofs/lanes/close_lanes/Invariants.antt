@@ -6,7 +6,7 @@ use Rattle.lane_work.specs.Closings.{AreClosed, IsTorn}
 use Rattle.lane_work.proofs.lanes.close_lanes.Given as goal
 
 abbrev pub invariant-loop : goal.invariant-loop
-invariant-loop l =
+invariant-loop g l =
     (vec_len l.lanes + l.counter ≡ l.end) × (vec_len l.closed + vec_len l.lanes ≤ vec_capacity l.closed)
     × EndedRows l.lanes.items (map (λ v. v.items) l.ended.items) × AreConsumers l.lanes.items l.consumers.items
     × (l.torn ≡ false → (more : List (Closed Job)) → AreClosed l.lanes.items (map (λ v. v.items) l.ended.items) l.consumers.items more

@@ -6,7 +6,7 @@ use Rattle.lane_work.proofs.RowLaws.{are_in, stay_ended, still_in}
 use Rattle.lane_work.proofs.lanes.collect.Goals as goal
 
 pub push_reserved-requires : goal.push_reserved-requires
-push_reserved-requires c =
+push_reserved-requires g c =
     let i = c.loop-lane.lane in
     let under : i < length c.args.lists.now.items = search rules in
     let v = c.loop-lane.invariant in
@@ -14,7 +14,7 @@ push_reserved-requires c =
     (c.requires.room i c.index_mut.result.now under)
 
 pub loop-lane-preserved : goal.loop-lane-preserved
-loop-lane-preserved c =
+loop-lane-preserved g c =
     let i = c.loop-lane.lane in
     let olds = c.args.lists.now.items in
     let news = c.loop-lane.lists.items in
@@ -32,7 +32,7 @@ loop-lane-preserved c =
     )
 
 pub returns-clause-here : goal.returns-clause-here
-returns-clause-here c =
+returns-clause-here g c =
     let v = c.loop-lane.invariant in
     let e : c.loop-lane.lane ≡ length c.args.lists.now.items = search rules in
     let none : length c.loop-lane.ended.items ≡ 0 = search rules in
@@ -41,7 +41,7 @@ returns-clause-here c =
     (weaker Grows (λ o n e. list n ≡ list o ++ e ∷ []) (λ o n e h. h.0) (length c.args.lists.now.items) c.args.lists.now.items c.loop-lane.lists.items c.args.ended.items all)
 
 pub returns-clause-still : goal.returns-clause-still
-returns-clause-still c =
+returns-clause-still g c =
     let v = c.loop-lane.invariant in
     let e : c.loop-lane.lane ≡ length c.args.lists.now.items = search rules in
     let none : length c.loop-lane.ended.items ≡ 0 = search rules in
@@ -50,7 +50,7 @@ returns-clause-still c =
     (weaker Grows (λ o n e. list n ≡ list o ++ e ∷ []) (λ o n e h. h.0) (length c.args.lists.now.items) c.args.lists.now.items c.loop-lane.lists.items c.args.ended.items all)
 
 pub returns-clause-lanes : goal.returns-clause-lanes
-returns-clause-lanes c =
+returns-clause-lanes g c =
     let v = c.loop-lane.invariant in
     let e : c.loop-lane.lane ≡ length c.args.lists.now.items = search rules in
     let none : length c.loop-lane.ended.items ≡ 0 = search rules in
@@ -59,7 +59,7 @@ returns-clause-lanes c =
     (weaker Grows (λ o n e. list n ≡ list o ++ e ∷ []) (λ o n e h. h.0) (length c.args.lists.now.items) c.args.lists.now.items c.loop-lane.lists.items c.args.ended.items all)
 
 pub returns-clause-room : goal.returns-clause-room
-returns-clause-room c n room =
+returns-clause-room g c n room =
     let v = c.loop-lane.invariant in
     let e : c.loop-lane.lane ≡ length c.args.lists.now.items = search rules in
     let none : length c.loop-lane.ended.items ≡ 0 = search rules in

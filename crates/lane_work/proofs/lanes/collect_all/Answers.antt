@@ -9,7 +9,7 @@ use Rattle.lane_work.proofs.RowLaws.{in_length, in_next, stay_next}
 use Rattle.lane_work.proofs.lanes.collect_all.Goals as goal
 
 pub loop-preserved : goal.loop-preserved
-loop-preserved c =
+loop-preserved g c =
     let v = c.loop.invariant in
     let hands = c.loop.hands.items in
     let rest = c.remove.new.self.items in
@@ -36,9 +36,9 @@ loop-preserved c =
     )
 
 pub returns-clause-here : goal.returns-clause-here
-returns-clause-here c =
+returns-clause-here g c =
     let none : length c.loop.hands.items ≡ 0 = search rules in
     c.loop.invariant.5 (map list c.loop.lists.items) (λ es k. k) (subst (λ l. AllIn (map list l) (map list c.loop.lists.items)) (sym (no_items c.loop.hands.items none)) tt)
 
 pub returns-clause-lanes : goal.returns-clause-lanes
-returns-clause-lanes c lanes p ended rows = (c.loop.invariant.6 lanes p ended rows).1
+returns-clause-lanes g c lanes p ended rows = (c.loop.invariant.6 lanes p ended rows).1

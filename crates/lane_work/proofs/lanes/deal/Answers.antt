@@ -5,20 +5,20 @@ use Rattle.lane_work.proofs.RowLaws.{Dealt, dealt, row_dealt, row_there, rows_le
 use Rattle.lane_work.proofs.lanes.deal.Goals as goal
 
 pub index_mut-requires : goal.index_mut-requires
-index_mut-requires c =
+index_mut-requires g c =
     let n = step_length (Dealt list) c.loop-lane.lane c.args.permits.now.items c.loop-lane.permits.items c.loop-lane.hand.items c.loop-lane.invariant.2 in
     let l = rows_length c.args.lanes.now c.args.number (map list c.args.permits.now.items) c.requires.left in
     let m = length-map c.args.permits.now.items list in
     omega (arith, n, l, m, c.loop-lane.permits.ok.0, c.loop-lane-test.true)
 
 pub remove-requires : goal.remove-requires
-remove-requires c =
+remove-requires g c =
     let s = row_there list c.args.lanes.now c.args.number c.args.permits.now.items c.loop-lane.permits.items c.loop-lane.hand.items c.loop-lane.lane c.loop-lane.invariant.2 c.requires.left c.requires.more
     c.loop-lane-test.true c.index_mut.result.now c.index_mut.ensures.value in
     omega (arith, s, c.index_mut.result.now.ok.0)
 
 pub loop-lane-preserved : goal.loop-lane-preserved
-loop-lane-preserved c =
+loop-lane-preserved g c =
     let olds = c.args.permits.now.items in
     let news = c.loop-lane.permits.items in
     let i = c.loop-lane.lane in
@@ -35,14 +35,14 @@ loop-lane-preserved c =
     )
 
 pub returns-clause-hand : goal.returns-clause-hand
-returns-clause-hand c =
+returns-clause-hand g c =
     let e : c.loop-lane.lane ≡ length c.args.lanes.now = search rules in
     let r = dealt list c.args.lanes.now c.args.number c.args.permits.now.items c.loop-lane.permits.items c.loop-lane.hand.items
     (subst (λ n. StepTo (Dealt list) n c.args.permits.now.items c.loop-lane.permits.items c.loop-lane.hand.items) e c.loop-lane.invariant.2) c.requires.left in
     (r.0, r.1)
 
 pub returns-clause-left : goal.returns-clause-left
-returns-clause-left c =
+returns-clause-left g c =
     let e : c.loop-lane.lane ≡ length c.args.lanes.now = search rules in
     (dealt list c.args.lanes.now c.args.number c.args.permits.now.items c.loop-lane.permits.items c.loop-lane.hand.items
     (subst (λ n. StepTo (Dealt list) n c.args.permits.now.items c.loop-lane.permits.items c.loop-lane.hand.items) e c.loop-lane.invariant.2) c.requires.left).2

@@ -1,6 +1,7 @@
 use Rattle.std.proofs.Common.{rules, ◌≡◌, ◌≤◌, ◌+◌, ◌∷◌, [], ◌∙◌, suc, All, Vec, Global, ap, sym, subst, length, map, vec_capacity, arith}
 use Rattle.std.proofs.lemmas.List.{length-map, map-append}
 use Rattle.std.proofs.lemmas.List.Elements.{All-drop}
+use Rattle.delivery_token.specs.declared.Job.{Job}
 use Rattle.lane_work.specs.declared.desk.LanePermit.{LanePermit}
 use Rattle.lane_work.specs.LanePermits.{AreHands, Rows}
 use Rattle.lane_work.proofs.StepLaws.{list}
@@ -8,9 +9,9 @@ use Rattle.lane_work.proofs.RowLaws.{hands_next, none_left}
 use Rattle.lane_work.proofs.lanes.deal_all.Goals as goal
 
 pub loop-number-preserved : goal.loop-number-preserved
-loop-number-preserved c =
+loop-number-preserved g c =
     let v = c.loop-number.invariant in
-    let P : Vec LanePermit Global → Type 0 = λ v. (v.items ≡ []) × (length c.args.lanes.now ≤ vec_capacity v) in
+    let P : Vec (LanePermit Job) Global → Type 0 = λ v. (v.items ≡ []) × (length c.args.lanes.now ≤ vec_capacity v) in
     let n = c.loop-number.number in
     let hands = c.loop-number.hands.items in
     let e : suc n ≡ n + 1 = omega arith in
@@ -26,6 +27,6 @@ loop-number-preserved c =
     )
 
 pub spend_lists-requires : goal.spend_lists-requires
-spend_lists-requires c =
+spend_lists-requires g c =
     let e : c.loop-number.number ≡ c.args.producers = search rules in
     none_left list c.args.lanes.now c.args.producers c.loop-number.permits.items (subst (λ k. Rows c.args.lanes.now k (map list c.loop-number.permits.items)) e c.loop-number.invariant.4) c.requires.producers

@@ -11,7 +11,7 @@ use Rattle.lane_work.proofs.RowLaws.{all_left, consumers_next, rows_next}
 use Rattle.lane_work.proofs.lanes.make_lanes.Goals as goal
 
 pub loop-preserved : goal.loop-preserved
-loop-preserved c =
+loop-preserved g c =
     let v = c.loop.invariant in
     let made = c.in-Ok.ensures in
     let P : ShardQueue Job → Type 0 = λ q. (capacity_of q ≡ c.args.depth) × (producers_of q ≡ c.args.producers) in

@@ -4,7 +4,7 @@ use Rattle.lane_work.specs.LanePermits.{Rows, AreConsumers}
 use Rattle.lane_work.proofs.lanes.make_lanes.Given as goal
 
 abbrev pub invariant-loop : goal.invariant-loop
-invariant-loop l =
+invariant-loop g l =
     (vec_len l.lanes.queues ≡ l.counter) × (vec_len l.lanes.permits ≡ l.counter) × (vec_len l.lanes.consumers ≡ l.counter)
     × (l.shards ≤ vec_capacity l.lanes.queues) × (l.shards ≤ vec_capacity l.lanes.permits) × (l.shards ≤ vec_capacity l.lanes.consumers)
     × All (λ q. (capacity_of q ≡ l.depth) × (producers_of q ≡ l.producers)) l.lanes.queues.items

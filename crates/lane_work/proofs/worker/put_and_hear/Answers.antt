@@ -2,6 +2,7 @@ use Rattle.std.proofs.Common.{rules, ◌≡◌, ◌+◌, ◌∙◌, ap, sym, sub
 use Rattle.std.specs.Global.{Global}
 use Rattle.std.proofs.lemmas.List.{length-map}
 use Rattle.lmtp_machine.specs.Calls.{submission_of}
+use Rattle.delivery_token.specs.declared.Job.{Job}
 use Rattle.lane_work.specs.declared.desk.LanePermit.{LanePermit}
 use Rattle.delivery_token.specs.declared.log.Noted.{Noted}
 use Rattle.shard_queue.specs.declared.reply.ReceiverPermit.{ReceiverPermit}
@@ -53,7 +54,7 @@ returns-clause-verdicts g c =
 
 pub returns-clause-books : goal.returns-clause-books
 returns-clause-books g c open_to judged books =
-    let kept = ap (λ (v : Vec LanePermit Global). map put_by v.items) (sym c.hear_all.ensures.same.1) in
+    let kept = ap (λ (v : Vec (LanePermit Job) Global). map put_by v.items) (sym c.hear_all.ensures.same.1) in
     let p = c.args.producer.now.desk.number in
     let d = c.args.context.now.office.now.directory in
     let m = submission_of c.args.message.now in
@@ -72,5 +73,5 @@ returns-clause-only g c =
     let awaited : length new + ends_in old ≡ length old + unknown c.put_all.new.verdicts.slots + ends_in new = search rules in
     let heard = heard_counts old new (unknown c.put_all.new.verdicts.slots) awaited in
     let same = ap (λ (x : ReceiverPermit Noted). verdicts_in (received x)) c.put_all.ensures.same.1 in
-    let kept = ap (λ (v : Vec LanePermit Global). copies_in (map put_by v.items)) c.hear_all.ensures.same.1 in
+    let kept = ap (λ (v : Vec (LanePermit Job) Global). copies_in (map put_by v.items)) c.hear_all.ensures.same.1 in
     omega (arith, heard, same, kept, c.put_all.ensures.counts)

@@ -2,7 +2,7 @@ use Rattle.std.proofs.Common.{◌≡◌, vec_len}
 use Rattle.reckoning.proofs.abandoning.abandon_lanes.Given as goal
 
 abbrev pub invariant-loop-lane : goal.invariant-loop-lane
-invariant-loop-lane l = vec_len l.consumers ≡ vec_len l.lanes
+invariant-loop-lane g l = vec_len l.consumers ≡ vec_len l.lanes
 
 abbrev pub decreases-loop-lane : goal.decreases-loop-lane
-decreases-loop-lane l = vec_len l.lanes
+decreases-loop-lane g l = vec_len l.lanes

@@ -5,11 +5,11 @@ use Rattle.reckoning.proofs.Balanced.{at_some, graver_none, gravest_none}
 use Rattle.reckoning.proofs.balancing.balance.Goals as goal
 
 pub returns-clause-balanced : goal.returns-clause-balanced
-returns-clause-balanced c =
+returns-clause-balanced g c =
     let is = c.close_queues-lanes.ensures in
     let each = graver_none _ _ (sym is.worst ∙ c.in_default.is) in
     record {
-      fates = (gravest_none (λ (w : Worked). fault_of_fate w.fate) None c.args.worked.items each.0).1;
+      fates = (gravest_none (λ (w : Worked _). fault_of_fate w.fate) None c.args.worked.items each.0).1;
       services = (gravest_none fault_of_consumer None c.args.consumed.items each.1).1;
       replies = is.replies;
       logs = is.logs;

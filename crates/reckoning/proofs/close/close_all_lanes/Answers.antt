@@ -5,16 +5,16 @@ use Rattle.reckoning.proofs.Hands.{hands_length, is_empty, is_room, match_both}
 use Rattle.reckoning.proofs.close.close_all_lanes.Goals as goal
 
 pub collect_all-requires-clause-each : goal.collect_all-requires-clause-each
-collect_all-requires-clause-each c =
+collect_all-requires-clause-each g c =
     let n = c.requires.lists.0 in
     let same : length c.args.lanes.items ≡ vec_len c.args.lists = omega (arith, n, c.args.lanes.ok.0) in
     hands_length c.args.lanes.items (vec_len c.args.lists) same 0 c.args.hands.items c.requires.hands
 
 pub collect_all-requires-clause-room : goal.collect_all-requires-clause-room
-collect_all-requires-clause-room c = is_room (vec_len c.args.lanes) (vec_len c.args.hands) c.args.lists c.requires.lists
+collect_all-requires-clause-room g c = is_room (vec_len c.args.lanes) (vec_len c.args.hands) c.args.lists c.requires.lists
 
 pub close_lanes-requires-clause-ended : goal.close_lanes-requires-clause-ended
-close_lanes-requires-clause-ended c =
+close_lanes-requires-clause-ended g c =
     let lists = c.args.lists in
     let n = c.requires.lists.0 in
     let m = length-map lists.items (λ v. v.items) in
@@ -23,6 +23,6 @@ close_lanes-requires-clause-ended c =
     (none_ended c.args.lanes.items (map (λ v. v.items) lists.items) count (is_empty (vec_len c.args.lanes) (vec_len c.args.hands) lists c.requires.lists))
 
 pub returns : goal.returns
-returns c =
+returns g c =
     match_both c.close_lanes.result (λ torn. (map (λ v. v.items) c.collect_all.new.lists.items, c.collect_all.ensures.here, torn))
     (λ cs closed. (map (λ v. v.items) c.collect_all.new.lists.items, c.collect_all.ensures.here, closed)) c.close_lanes.ensures

@@ -4,13 +4,13 @@ use Rattle.reckoning.proofs.Laying.{all_laid, gravest_of_none}
 use Rattle.reckoning.proofs.gather.gather_consumers.Goals as goal
 
 pub remove-requires : goal.remove-requires
-remove-requires c = let v = c.loop.invariant in omega (arith, v.10, c.loop-test.true, c.len-end.ensures)
+remove-requires g c = let v = c.loop.invariant in omega (arith, v.10, c.loop-test.true, c.len-end.ensures)
 
 pub destroy_empty-requires : goal.destroy_empty-requires
-destroy_empty-requires c = let v = c.loop.invariant in omega (arith, v.10, c.loop-test.false, c.len-end.ensures, c.loop.auto.counter-end)
+destroy_empty-requires g c = let v = c.loop.invariant in omega (arith, v.10, c.loop-test.false, c.len-end.ensures, c.loop.auto.counter-end)
 
 pub returns-clause-parts : goal.returns-clause-parts
-returns-clause-parts c =
+returns-clause-parts g c =
     let v = c.loop.invariant in
     let none : length c.loop.consumed.items ≡ 0 = omega (arith, v.10, c.loop-test.false, c.len-end.ensures, c.loop.auto.counter-end, c.loop.consumed.ok.0) in
     record {
@@ -20,7 +20,7 @@ returns-clause-parts c =
     }
 
 pub returns-clause-fault : goal.returns-clause-fault
-returns-clause-fault c =
+returns-clause-fault g c =
     let v = c.loop.invariant in
     let none : length c.loop.consumed.items ≡ 0 = omega (arith, v.10, c.loop-test.false, c.len-end.ensures, c.loop.auto.counter-end, c.loop.consumed.ok.0) in
     gravest_of_none fault_of_consumer c.loop.worst _ c.loop.consumed.items none v.3

@@ -3,7 +3,7 @@ use Rattle.reckoning.specs.Gathered.{fault_of_consumer, gravest}
 use Rattle.reckoning.proofs.gather.gather_consumers.Given as goal
 
 abbrev pub invariant-loop : goal.invariant-loop
-invariant-loop l =
+invariant-loop g l =
     (l.into.permits.items ++ map (λ c. c.permit) l.consumed.items ≡ map (λ c. c.permit) l.fn.consumed.items)
     × (map (λ h. h.items) l.into.hands.items ++ map (λ c. c.senders.items) l.consumed.items ≡ map (λ c. c.senders.items) l.fn.consumed.items)
     × (l.into.taken.items ++ map (λ c. c.taken) l.consumed.items ≡ map (λ c. c.taken) l.fn.consumed.items)

@@ -3,7 +3,7 @@ use Rattle.reckoning.specs.Gathered.{fault_of_fate, gravest}
 use Rattle.reckoning.proofs.gather.gather_workers.Given as goal
 
 abbrev pub invariant-loop : goal.invariant-loop
-invariant-loop l =
+invariant-loop g l =
     (map (λ h. h.items) l.into.hands.items ++ map (λ w. w.ended.items) l.worked.items ≡ map (λ w. w.ended.items) l.fn.worked.items)
     × (l.into.receivers.items ++ map (λ w. w.receiver) l.worked.items ≡ map (λ w. w.receiver) l.fn.worked.items)
     × (l.into.replies.items ++ map (λ w. w.replies) l.worked.items ≡ map (λ w. w.replies) l.fn.worked.items)

@@ -8,9 +8,9 @@ use Rattle.reckoning.proofs.Numbered.{kept_numbered}
 use Rattle.reckoning.proofs.shelves.add_to.Goals as goal
 
 pub returns-clause-numbered : goal.returns-clause-numbered
-returns-clause-numbered c =
+returns-clause-numbered g c =
     let Numbered : Vec (CopyKey × ℕ) Global → Type 0 = λ v. AreNumbered v.items in
-    let mailbox = c.into_inner-mailbox.result in
+    let mailbox = c.into_mailbox-mailbox.result in
     let accepted = c.in_ok-kept.kept in
     let is : accepted.items ≡ kept_of mailbox.history mailbox.accepted = search rules in
     let one = subst AreNumbered (sym is) (kept_numbered mailbox.history mailbox c.every_mailbox_keeps.ensures) in
@@ -18,7 +18,7 @@ returns-clause-numbered c =
     (All-append Numbered c.args.shelves.now.accepted.items (accepted ∷ []) c.requires.numbered (All-cons Numbered accepted [] one (All-nil Numbered)))
 
 pub returns-clause-once : goal.returns-clause-once
-returns-clause-once c =
+returns-clause-once g c =
     let Once : Vec (ℕ × List ℕ) Global → Type 0 = λ v. AreToldOnce v.items in
     let texts = c.in_ok-texts.texts in
     subst (All Once) (sym c.in_ok-push-2.ensures.items)

@@ -3,7 +3,7 @@ use Rattle.running_house.specs.Refusals.{MayCome}
 use Rattle.running_house.proofs.report.compare.Goals as goal
 
 pub returns-clause-refusals : goal.returns-clause-refusals
-returns-clause-refusals c =
+returns-clause-refusals g c =
     let all = c.all_may_come.ensures c.if-not-all_may_come.false in
     let config = c.args.config.now in
     let directory = c.args.directory.now in

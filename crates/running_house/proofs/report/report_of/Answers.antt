@@ -16,40 +16,40 @@ use Rattle.running_house.proofs.Reports.{agrees}
 use Rattle.running_house.proofs.report.report_of.Goals as goal
 
 pub balance-requires-clause-hands : goal.balance-requires-clause-hands
-balance-requires-clause-hands c =
+balance-requires-clause-hands g c =
     let ws = c.args.ran.worked in
     let count = c.requires.all.worked in
     let ok = ws.ok.0 in
-    subst (λ v. rows.AreEndedHands v.items 0 (map (λ (w : Worked). w.ended.items) ws.items)) (sym c.remains_of-directory.ensures.lanes)
+    subst (λ v. rows.AreEndedHands v.items 0 (map (λ (w : Worked _). w.ended.items) ws.items)) (sym c.remains_of-directory.ensures.lanes)
     (ended_of c.args.floor c.args.plan.now.workers.items c.args.plan.now.sessions.items 0 ws.items c.requires.worked)
 
 pub balance-requires-clause-receivers : goal.balance-requires-clause-receivers
-balance-requires-clause-receivers c =
+balance-requires-clause-receivers g c =
     let ws = c.args.ran.worked in
     let channels = c.requires.floor.house.channels in
     let count = c.requires.all.worked in
     let ok = ws.ok.0 in
-    subst (λ v. AreReceivers v.items (map (λ (w : Worked). w.receiver) ws.items)) (sym c.remains_of-directory.ensures.channels)
+    subst (λ v. AreReceivers v.items (map (λ (w : Worked _). w.receiver) ws.items)) (sym c.remains_of-directory.ensures.channels)
     (receivers_of c.args.floor c.args.plan.now.workers.items c.args.plan.now.sessions.items 0 ws.items c.requires.worked (omega (arith, count, ok, channels)))
 
 pub balance-requires-clause-consumers : goal.balance-requires-clause-consumers
-balance-requires-clause-consumers c =
+balance-requires-clause-consumers g c =
     let cs = c.args.ran.consumed in
     let count = c.requires.all.consumed in
     let ok = cs.ok.0 in
-    subst (λ v. rows.AreConsumers v.items (map (λ (d : Consumed). d.permit) cs.items)) (sym c.remains_of-directory.ensures.lanes)
+    subst (λ v. rows.AreConsumers v.items (map (λ (d : Consumed _). d.permit) cs.items)) (sym c.remains_of-directory.ensures.lanes)
     (consumers_of c.args.floor 0 cs.items c.requires.consumed (omega (arith, count, ok)))
 
 pub balance-requires-clause-senders : goal.balance-requires-clause-senders
-balance-requires-clause-senders c =
+balance-requires-clause-senders g c =
     let cs = c.args.ran.consumed in
     let count = c.requires.all.consumed in
     let ok = cs.ok.0 in
-    subst (λ v. AreSenderEndedHands v.items 0 (map (λ (d : Consumed). d.senders.items) cs.items)) (sym c.remains_of-directory.ensures.channels)
+    subst (λ v. AreSenderEndedHands v.items 0 (map (λ (d : Consumed _). d.senders.items) cs.items)) (sym c.remains_of-directory.ensures.channels)
     (sender_hands_of c.args.floor 0 cs.items c.requires.consumed (omega (arith, count, ok)))
 
 pub returns-clause-agrees : goal.returns-clause-agrees
-returns-clause-agrees c =
+returns-clause-agrees g c =
     let ws = c.args.ran.worked in
     let cs = c.args.ran.consumed in
     let books = c.in_ok-books.books in
@@ -57,12 +57,12 @@ returns-clause-agrees c =
     let balanced = subst (λ v. IsBalanced v.items c.args.floor.depot.channels.items ws.items cs.items books) c.remains_of-directory.ensures.lanes
     (subst (λ v. IsBalanced c.remains_of-directory.result.lanes.items v.items ws.items cs.items books) c.remains_of-directory.ensures.channels c.in_ok-books.ensures.balanced) in
     let producers = sym ws.ok.0 ∙ c.requires.all.worked in
-    let laid = ap length balanced.replies ∙ length-map ws.items (λ (w : Worked). w.replies) in
+    let laid = ap length balanced.replies ∙ length-map ws.items (λ (w : Worked _). w.replies) in
     if_ok c.report_on.result (both _ _ c.report_on.result c.report_on.ensures.lists (both _ _ c.report_on.result c.report_on.ensures.met (both _ _ c.report_on.result c.report_on.ensures.numbered c.report_on.ensures.refusals))) c.report_on.ensures.parts
     (λ r lists parts. agrees c.args.plan.now c.args.floor c.requires.floor ws.items cs.items c.requires.worked c.requires.consumed
     producers (sym cs.ok.0 ∙ c.requires.all.consumed) books balanced
-    r parts.0 parts.1 parts.2 parts.3
-    (let counted = parts.4 in omega (arith, counted, laid, producers, r.sessions.ok.0, books.replies.ok.0))
+    r parts.0 parts.1 parts.2 parts.3 parts.4
+    (let counted = parts.5 in omega (arith, counted, laid, producers, r.sessions.ok.0, books.replies.ok.0))
     whole refl
     (subst (λ d. ListsAgree d whole (notes_of r) (map (λ t. items_of t.items) books.taken.items) (accepted_of r) (texts_of r)) c.remains_of-directory.ensures.directory lists.0)
     (subst (λ d. ListsMet d whole (notes_of r) (map (λ t. items_of t.items) books.taken.items) (accepted_of r) (texts_of r)) c.remains_of-directory.ensures.directory lists.1.0)

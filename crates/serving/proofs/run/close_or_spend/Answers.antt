@@ -31,7 +31,7 @@ returns-clause-whole g c =
     by_end c.args.over.all_started c.args.over.is_told c.close_all-closes.result c.told.result (λ r. IfOk r (CameTo site.workplace.floor workers))
     c.told.ensures.spawn c.told.ensures.device c.told.ensures.torn c.told.ensures.done (λ all. tt) tt tt (λ taken said is.
     came_to site.workplace.floor workers served.items dismissed taken left.0 each (c.requires.mail c.if-none_started.false) count c.dismiss_all-dismissed.ensures.services
-    (subst (λ (o : Option Closes). IfSome o (WasClosed site.workplace.floor served.items dismissed)) is c.close_all-closes.ensures))
+    (subst (λ (o : Option (Closes _)). IfSome o (WasClosed site.workplace.floor served.items dismissed)) is c.close_all-closes.ensures))
 
 pub returns-clause-told : goal.returns-clause-told
 returns-clause-told g c =

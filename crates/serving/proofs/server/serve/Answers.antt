@@ -1,7 +1,6 @@
-use Rattle.std.proofs.Common.{rules, refl, vec_len}
+use Rattle.std.proofs.Common.{rules, refl}
 use Rattle.serving.proofs.AnnouncingLaws.{nothing_said}
 use Rattle.serving.proofs.Serving.{settings_or_memory}
-use Rattle.serving.proofs.Users.{each_there}
 use Rattle.serving.proofs.server.serve.Goals as goal
 
 pub returns-in_err-directory-clause-refused : goal.returns-in_err-directory-clause-refused
@@ -11,18 +10,11 @@ returns-in_err-directory-clause-refused g c fault is = (
   refl,
 )
 
-pub run_house_in-requires-clause-imap : goal.run_house_in-requires-clause-imap
-run_house_in-requires-clause-imap g c κs lives =
-    each_there c.in_ok-directory.field-0.directory.homes (vec_len c.in_ok-sockets.field-0.sockets.imap) c.in_ok-sockets.ensures.imap c.in_ok-directory.field-0.guests.items c.in_ok-directory.ensures.named
-
 pub returns-in_err-directory-clause-told : goal.returns-in_err-directory-clause-told
 returns-in_err-directory-clause-told g c = nothing_said c.args.config.now c.args.report.status c.args.uidvalidity (g.W.Sink.taken c.args.output.now)
 
 pub returns-in_err-sockets-clause-told : goal.returns-in_err-sockets-clause-told
 returns-in_err-sockets-clause-told g c = nothing_said c.args.config.now c.args.report.status c.args.uidvalidity (g.W.Sink.taken c.args.output.now)
-
-pub returns-in_err-floor-clause-told : goal.returns-in_err-floor-clause-told
-returns-in_err-floor-clause-told g c = nothing_said c.args.config.now c.args.report.status c.args.uidvalidity (g.W.Sink.taken c.args.output.now)
 
 pub returns-in_err-log-clause-told : goal.returns-in_err-log-clause-told
 returns-in_err-log-clause-told g c = nothing_said c.args.config.now c.args.report.status c.args.uidvalidity (g.W.Sink.taken c.args.output.now)

@@ -1,5 +1,5 @@
-use Rattle.std.specs.Prelude.{Some}
 use Rattle.serving.proofs.server.serve.Given as goal
 
-abbrev pub ghosts-run_house_in : goal.ghosts-run_house_in
-ghosts-run_house_in g a = record { lanes = Some a.floor.office.lanes.items; depot = Some a.floor.depot }
+-- the history that was just opened
+abbrev pub ghosts-serve_in : goal.ghosts-serve_in
+ghosts-serve_in g a = record { book = a.history }

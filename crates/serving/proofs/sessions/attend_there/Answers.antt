@@ -34,7 +34,7 @@ leave-requires-clause-room g c =
     let floor = c.args.site.now.workplace.floor in
     let post = c.into_inner-desk.result in
     let is : IsPost floor c.args.number post = subst (IsPost floor c.args.number) (sym c.into_inner-desk.ensures) c.requires.post in
-    (is.empty, subst (λ (o : Office). length o.lanes.items ≤ vec_capacity post.room) (sym c.answer_clients.ensures.same.0) is.room)
+    (is.empty, subst (λ (o : Office _). length o.lanes.items ≤ vec_capacity post.room) (sym c.answer_clients.ensures.same.0) is.room)
 
 pub returns-clause-served : goal.returns-clause-served
 returns-clause-served g c =
@@ -47,7 +47,7 @@ returns-clause-served g c =
     let left = c.leave.result in
     let numbered : now.desk.number ≡ c.args.number = life.same.2 ∙ is.number in
     served_by floor c.from.result c.args.number now.desk.number c.index.result.now left _ same numbered c.packed.ensures
-    (subst (λ (o : Office). AreEnded o.lanes.items now.desk.number left.ended.items) life.same.0 c.leave.ensures.ended)
+    (subst (λ (o : Office _). AreEnded o.lanes.items now.desk.number left.ended.items) life.same.0 c.leave.ensures.ended)
     (subst (λ (x : ReplyChannel Noted). IsReceiver x left.receiver) (life.same.1 ∙ c.index.ensures)
     (subst (λ (r : ReceiverPermit Noted). IsReceiver now.context.channel.now r) (sym c.leave.ensures.receiver) life.ready.1))
     (λ mail whole. absurd (let e : true ≡ false = sym mail ∙ c.leave.ensures.mail in cc))

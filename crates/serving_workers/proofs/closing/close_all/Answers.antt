@@ -16,7 +16,7 @@ spend_house-requires-clause-ended g c = lengths_of c.args.floor 0 c.hear_all_out
 pub close_queues-lanes-requires-clause-hands : goal.close_queues-lanes-requires-clause-hands
 close_queues-lanes-requires-clause-hands g c =
     let ws = c.hear_all_out-worked.result.items in
-    subst (λ v. AreEndedHands v.items 0 (map (λ (w : Worked). w.ended.items) ws)) (sym c.remains_of-lanes.ensures.lanes)
+    subst (λ v. AreEndedHands v.items 0 (map (λ (w : Worked _). w.ended.items) ws)) (sym c.remains_of-lanes.ensures.lanes)
     (ended_of c.args.floor 0 ws c.hear_all_out-worked.ensures.worked)
 
 pub close_queues-lanes-requires-clause-receivers : goal.close_queues-lanes-requires-clause-receivers
@@ -24,7 +24,7 @@ close_queues-lanes-requires-clause-receivers g c =
     let ws = c.hear_all_out-worked.result in
     let count = c.hear_all_out-worked.ensures.count in
     let same = c.requires.house.channels in
-    subst (λ v. AreReceivers v.items (map (λ (w : Worked). w.receiver) ws.items)) (sym c.remains_of-lanes.ensures.channels)
+    subst (λ v. AreReceivers v.items (map (λ (w : Worked _). w.receiver) ws.items)) (sym c.remains_of-lanes.ensures.channels)
     (receivers_of c.args.floor 0 ws.items c.hear_all_out-worked.ensures.worked (omega (arith, count, same, ws.ok.0)))
 
 pub returns : goal.returns
@@ -37,7 +37,7 @@ returns g c =
     let each : c.deref-2.result.now ≡ c.args.dismissed.consumed.items = search rules in
     whole_of c.args.floor c.args.served.items c.args.dismissed ws.items c.remains_of-lanes.result.lanes c.remains_of-lanes.result.channels
     _
-    (search rules) (subst (λ xs. list_any (λ (s : Served). s.torn) xs ≡ false) all (sym c.is_producer_torn-is_producer_torn.ensures ∙ c.if-is_producer_torn.false)) (subst (λ xs. list_any (λ (d : Consumed). d.torn) xs ≡ false) each (sym c.is_clerk_torn-is_clerk_torn.ensures ∙ c.if-is_clerk_torn.false))
+    (search rules) (subst (λ xs. list_any (λ (s : Served _). s.torn) xs ≡ false) all (sym c.is_producer_torn-is_producer_torn.ensures ∙ c.if-is_producer_torn.false)) (subst (λ xs. list_any (λ (d : Consumed _). d.torn) xs ≡ false) each (sym c.is_clerk_torn-is_clerk_torn.ensures ∙ c.if-is_clerk_torn.false))
     c.remains_of-lanes.ensures.lanes c.remains_of-lanes.ensures.channels c.hear_all_out-worked.ensures.ended c.hear_all_out-worked.ensures.grew
     (at_some _ _ _ _ c.in-Some.is is.of_lanes) (at_some _ _ _ _ c.in-Some-channels.is is.of_channels)
     (receivers_of c.args.floor 0 ws.items c.hear_all_out-worked.ensures.worked (omega (arith, count, same, ws.ok.0)))

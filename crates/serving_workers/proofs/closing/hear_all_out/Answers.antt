@@ -32,22 +32,22 @@ pub returns-clause-ended : goal.returns-clause-ended
 returns-clause-ended g c =
     let v = c.loop-number.invariant in
     let none : length c.loop-number.left.items ≡ 0 = omega (arith, v.1, c.loop-number-test.false, c.loop-number.auto.number-end, c.loop-number.left.ok.0) in
-    all_laid (λ (s : Served). s.ended.items) (map (λ (w : Worked). w.ended.items) c.loop-number.worked.items) _ c.loop-number.left.items none v.5
+    all_laid (λ (s : Served _). s.ended.items) (map (λ (w : Worked _). w.ended.items) c.loop-number.worked.items) _ c.loop-number.left.items none v.5
 
 pub returns-clause-grew : goal.returns-clause-grew
 returns-clause-grew g c =
     let v = c.loop-number.invariant in
     let none : length c.loop-number.left.items ≡ 0 = omega (arith, v.1, c.loop-number-test.false, c.loop-number.auto.number-end, c.loop-number.left.ok.0) in
-    all_heard (map (λ (s : Served). received s.receiver) c.args.served.items) c.loop-number.worked.items c.loop-number.left.items none v.6
+    all_heard (map (λ (s : Served _). received s.receiver) c.args.served.items) c.loop-number.worked.items c.loop-number.left.items none v.6
 
 pub loop-number-init : goal.loop-number-init
 loop-number-init g c =
-    let all = map (λ (s : Served). received s.receiver) c.args.served.items in (
+    let all = map (λ (s : Served _). received s.receiver) c.args.served.items in (
       search rules,
       search rules,
       search rules,
       search rules,
       search rules,
       search rules,
-      subst (λ (ws : List Worked). GoOn all (map (λ (w : Worked). received w.receiver) ws ++ all)) (sym c.requires.room.0) (go_on_same all),
+      subst (λ (ws : List (Worked _)). GoOn all (map (λ (w : Worked _). received w.receiver) ws ++ all)) (sym c.requires.room.0) (go_on_same all),
     )

@@ -17,6 +17,6 @@ loop-one-preserved g c =
       search rules,
       search rules,
       more_at (IsServed floor) 0 c.loop-one.served.items c.push_reserved.new.self.items c.join_producer.result (vec_len c.loop-one.served) c.push_reserved.ensures.items v.3 (omega (arith, c.loop-one.served.ok.0)) (c.join_producer.ensures.served (vec_len c.loop-one.served) f.0),
-      laid_items (λ (s : Served). s.mail) serves_mail c.loop-one.served.items c.push_reserved.new.self.items _ (into_iter_items c.loop-one.one-iterator) (into_iter_items c.next.new.self) c.in-Some.one c.join_producer.result
+      laid_items (λ (s : Served _). s.mail) serves_mail c.loop-one.served.items c.push_reserved.new.self.items _ (into_iter_items c.loop-one.one-iterator) (into_iter_items c.next.new.self) c.in-Some.one c.join_producer.result
           v.4 first c.push_reserved.ensures.items c.join_producer.ensures.mail,
     )

@@ -17,6 +17,6 @@ returns-clause-hired g c =
 
 pub returns-clause-mail : goal.returns-clause-mail
 returns-clause-mail g c =
-    let Mail : Hired → Type 0 = λ h. serves_mail h ≡ true in
+    let Mail : Hired _ → Type 0 = λ h. serves_mail h ≡ true in
     let one = All-cons Mail c.start_worker.result [] c.start_worker.ensures.mail (All-nil Mail) in
     subst (All Mail) (sym c.push_reserved.ensures.items) (All-append Mail c.args.hired.now.items (c.start_worker.result ∷ []) c.requires.mail one)

@@ -1,5 +1,5 @@
-use Rattle.std.specs.Prelude.{Some}
 use Rattle.tests_threads.proofs.rounds.each_copy_is_stored_once_and_all_lanes_close.Given as goal
 
-abbrev pub ghosts-run_in : goal.ghosts-run_in
-ghosts-run_in g a = record { lanes = Some a.floor.office.lanes.items; depot = Some a.floor.depot }
+-- the history that was just opened
+abbrev pub ghosts-round_in : goal.ghosts-round_in
+ghosts-round_in g a = record { book = a.history }

@@ -6,10 +6,10 @@ use Rattle.clerks.proofs.StaffLaws.{one_more}
 use Rattle.tests_threads.proofs.rounds.pack_all.Goals as goal
 
 pub loop-post-init : goal.loop-post-init
-loop-post-init c = (own_posts c.args.floor.now 0 c.args.posts.items c.requires.posts, search rules, search rules, search rules)
+loop-post-init g c = (own_posts c.args.floor.now 0 c.args.posts.items c.requires.posts, search rules, search rules, search rules)
 
 pub loop-post-preserved : goal.loop-post-preserved
-loop-post-preserved c =
+loop-post-preserved g c =
     let v = c.loop-post.invariant in
     let floor = c.args.floor.now in
     let own = popped (IsOwnPost floor) c.loop-post.posts.items c.pop.new.self.items c.in-Some.post c.in-Some.ensures.items v.0 in (

@@ -4,7 +4,7 @@ use Rattle.tests_threads.proofs.RoundLaws.{permit_next}
 use Rattle.tests_threads.proofs.rounds.part.Goals as goal
 
 pub loop-done-preserved : goal.loop-done-preserved
-loop-done-preserved c =
+loop-done-preserved g c =
     let v = c.loop-done.invariant in
     let consumed = c.loop-done.consumed in
     let some : 0 < length consumed.items = (let e = v.0 in let o = consumed.ok.0 in let under = c.loop-done-test.true in omega (arith, under, e, o)) in

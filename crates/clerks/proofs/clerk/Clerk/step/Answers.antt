@@ -5,19 +5,20 @@ use Rattle.shard_queue.specs.Permits.{WasEmpty, capacity_of, got, producers_of, 
 use Rattle.lane_work.specs.Answering.{is_nobodys}
 use Rattle.lane_work.proofs.AnswerLaws.{torn_end}
 use Rattle.clerks.specs.Clerk.{Clerk}
+use Rattle.clerks.specs.Keeping.{parts_of}
 use Rattle.clerks.proofs.KeepLaws.{keeps_next, lane_at, one_inside, torn_copy}
 use Rattle.clerks.proofs.clerk.Clerk.step.Goals as goal
 
 pub take_turn-requires-clause-answered : goal.take_turn-requires-clause-answered
-take_turn-requires-clause-answered g c = (c.self.invariant.answering c.args.depot.now c.requires.depot).answered
+take_turn-requires-clause-answered g c = (c.self.invariant.answering (parts_of c.args.depot.now) c.requires.depot).answered
 
 pub invariant_of-self : goal.invariant_of-self
 invariant_of-self g c =
     let old = c.self.inside.stall in
     let new = c.take_turn.new.stall in
-    let d = c.args.depot.now in
-    let m = length d.mailboxes.items in
-    let n = length d.channels.items in
+    let d = parts_of c.args.depot.now in
+    let m = d.mailboxes in
+    let n = length d.channels in
     let took = c.take_turn.ensures in
     let turned = c.in-Copy.ensures.turned in
     let here = lane_at c.args.lanes.now c.from.result old.shard c.index-lanes-from.result c.from.ensures (c.self.invariant.on_lane c.args.lanes.now c.requires.lanes).there c.index-lanes-from.is in
@@ -29,9 +30,9 @@ pub invariant_of-self-in-End : goal.invariant_of-self-in-End
 invariant_of-self-in-End g c =
     let old = c.self.inside.stall in
     let new = c.take_turn.new.stall in
-    let d = c.args.depot.now in
-    let m = length d.mailboxes.items in
-    let n = length d.channels.items in
+    let d = parts_of c.args.depot.now in
+    let m = d.mailboxes in
+    let n = length d.channels in
     let took = c.take_turn.ensures in
     let turned = c.in-End.ensures.turned in
     let here = lane_at c.args.lanes.now c.from.result old.shard c.index-lanes-from.result c.from.ensures (c.self.invariant.on_lane c.args.lanes.now c.requires.lanes).there c.index-lanes-from.is in
@@ -43,9 +44,9 @@ pub invariant_of-self-in-Empty : goal.invariant_of-self-in-Empty
 invariant_of-self-in-Empty g c =
     let old = c.self.inside.stall in
     let new = c.take_turn.new.stall in
-    let d = c.args.depot.now in
-    let m = length d.mailboxes.items in
-    let n = length d.channels.items in
+    let d = parts_of c.args.depot.now in
+    let m = d.mailboxes in
+    let n = length d.channels in
     let took = c.take_turn.ensures in
     let same = c.in-Empty.ensures.turned.0 in
     let here = lane_at c.args.lanes.now c.from.result old.shard c.index-lanes-from.result c.from.ensures (c.self.invariant.on_lane c.args.lanes.now c.requires.lanes).there c.index-lanes-from.is in
@@ -73,3 +74,6 @@ returns-in-Empty-clause-empty g c now lane is =
     subst (λ l. WasEmpty (producers_of lane) (capacity_of lane) l (take_seen new.permit)) (sym turned.0)
     (subst (λ l. WasEmpty (producers_of lane) (capacity_of lane) (got old.permit) l) (sym turned.1)
     (subst (λ q. WasEmpty (producers_of q) (capacity_of q) (got old.permit) (take_seen old.permit)) same turned.2))
+
+pub take_turn-requires-clause-senders : goal.take_turn-requires-clause-senders
+take_turn-requires-clause-senders g c = (c.self.invariant.answering (parts_of c.args.depot.now) c.requires.depot).senders

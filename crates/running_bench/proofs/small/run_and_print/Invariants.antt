@@ -1,0 +1,5 @@
+use Rattle.running_bench.proofs.small.run_and_print.Given as goal
+
+-- the history that was just opened
+abbrev pub ghosts-run_named : goal.ghosts-run_named
+ghosts-run_named g a = record { book = a.history }
