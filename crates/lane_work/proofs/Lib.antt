@@ -11,6 +11,7 @@ pub mod RoundLaws
 pub mod AwaitedLaws
 pub mod FullLaws
 pub mod CarryLaws
+pub mod BackingLaws
 pub mod DispatchLaws
 pub mod StepLaws
 pub mod RowLaws

@@ -6,6 +6,7 @@ pub mod Account
 pub mod Answering
 pub mod Awaiting
 pub mod Consuming
+pub mod Backing
 pub mod Dispatching
 pub mod Ends
 pub mod Speaking

@@ -4,6 +4,7 @@ pub mod Closing
 pub mod Copies
 pub mod Couriers
 pub mod Desk
+pub mod Backing
 pub mod Dispatching
 pub mod Permits
 pub mod Speaking

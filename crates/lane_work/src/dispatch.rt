@@ -70,6 +70,13 @@ impl<B: Naming> Dispatch<B> {
         }
     }
 
+    /// What is known of the history is legal.
+    pub fn is_legal(&self)
+        ensures { Legal self.now.history }
+    {
+        self.front.is_legal();
+    }
+
     /// Says that a copy is sent: it is a letter from then on.
     ///
     /// The copy comes back where it isn't this seat's, or not above all that the seat has sent, or where no ticket is left. Nothing is

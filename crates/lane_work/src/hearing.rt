@@ -9,6 +9,7 @@ ghost use Rattle.shard_queue.specs.Shared.{IsStartOf};
 ghost use Rattle.lmtp_machine.specs.Calls.{submission_of};
 ghost use Rattle.delivery_token.specs.Verdicts.{Fills, unknown};
 ghost use Rattle.lane_work.specs.Copies.{IsHeard, copies_of};
+ghost use Rattle.lane_work.specs.Backing.{KeepsBacked};
 ghost use Rattle.lane_work.specs.inner.Copies.{WereHeard};
 ghost use Rattle.lane_work.specs.inner.Desk.{SameButReceiver};
 ghost use Rattle.lane_work.specs.Awaiting.{verdicts_in};
@@ -68,6 +69,9 @@ pub(crate) fn hear_all<B: Naming, R: Wait, G: Gate, S: Summons>(
         → ends_in (received desk.new.receiver) ≡ ends_in (received desk.old.receiver)) }
     ensures known { OnOk result (list_all is_some verdicts.new.slots ≡ true) }
 
+    // What the history had of the desk it has still, and what was heard as stored too.
+    ensures backed { KeepsBacked desk.old desk.new }
+
     // After an error something was heard.
     ensures torn { OnErr result (length (received desk.old.receiver)
         < length (received desk.new.receiver)) }
@@ -122,6 +126,7 @@ pub(crate) fn hear_one<B: Naming, R: Wait, G: Gate, S: Summons>(
         })) }
     ensures torn { OnErr result (length (received desk.old.receiver)
         < length (received desk.new.receiver)) }
+    ensures backed { KeepsBacked desk.old desk.new }
 {
     pace.pass();
     match context.channel.recv_as(context.rt, &mut desk.receiver) {

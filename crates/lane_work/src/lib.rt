@@ -42,7 +42,7 @@ pub use ending::{end_all, end_one, end_permit, end_sender, end_senders, hear_end
 pub use lanes::{
     Lanes, abandon_lanes, close_lanes, collect, collect_all, deal, deal_all, make_lanes,
 };
-pub use laws::accounts_meet_histories;
+pub use laws::{accounts_meet_histories, books_stand};
 pub use notebook::{Notebook, Unkept};
 pub use outcome::{Ending, TalkFault};
 pub use permit_laws::{closed_channels_tell, closed_lanes_tell};

@@ -6,6 +6,7 @@ ghost use Rattle.shard_queue.specs.Reply.{IsReceiver, received};
 ghost use Rattle.shard_queue.specs.Shared.{IsStartOf};
 ghost use Rattle.lane_work.specs.Talk.{Judged};
 ghost use Rattle.lane_work.specs.Permits.{AreInForce, put_by};
+ghost use Rattle.lane_work.specs.Backing.{KeepsBacked};
 ghost use Rattle.lane_work.specs.Ends.{CountsEnds};
 ghost use Rattle.lane_work.specs.Speaking.{Stands};
 ghost use Rattle.lane_work.specs.Copies.{rooms_of};
@@ -95,6 +96,7 @@ pub(crate) fn take_piece<B: Naming, R: Wait, G: Gate, S: Summons, N: Notebook>(
         (rooms_of context.now.office.now.lanes.items) producer.old.desk.number done bytes piece.now (told
         ++ out.new.items) (N.tells producer.new.book)
         (received producer.new.desk.receiver) (map put_by producer.new.desk.permits.items) }
+    ensures backed { KeepsBacked producer.old.desk producer.new.desk }
 {
     if stop.load(Ordering::SeqCst) {
         return Ok(Next::Shut);

@@ -15,6 +15,8 @@ ghost use Rattle.lane_work.specs.inner.Desk.{SameButPermits};
 ghost use Rattle.delivery_token.specs.Verdicts.{unknown};
 ghost use Rattle.lane_work.specs.Awaiting.{copies_in};
 ghost use Rattle.lane_work.specs.Copies.{FilledAlone, IsAtOnce, copies_of, room_at, room_of, rooms_of};
+ghost use Rattle.lane_work.specs.Backing.{KeepsBacked};
+ghost use Rattle.lane_work.specs.inner.Backing.{GoesOnWith};
 ghost use Rattle.lane_work.specs.inner.Copies.{HavePut, WereTried};
 ghost use Rattle.lane_work.specs.inner.Summoning.{is_last_at};
 
@@ -80,6 +82,7 @@ fn put_letter<B: Naming, R: Wait, S: Summons>(
 
 // Says that a copy is sent, and puts it on a lane: None where it is under way, else what is known of it at once. One that finds no room is
 // taken back.
+#[tactic(auto, using(crate::proofs::BackingLaws::kept_on, crate::proofs::BackingLaws::known_on, crate::proofs::BackingLaws::then_on, crate::proofs::BackingLaws::said_on, crate::proofs::BackingLaws::put_on))]
 fn put_on<B: Naming, R: Wait, S: Summons>(
     context: &Context<'_, B, R, S>,
     lane: &ShardQueue<Letter<B>>,
@@ -99,6 +102,8 @@ fn put_on<B: Naming, R: Wait, S: Summons>(
         }) ∷ [])
         (λ v. (sent permit.new ≡ sent permit.old)
         × IsAtOnce (FilledAlone (room_of lane.now) (number_of permit.old) (sent permit.old)) v) }
+    ensures backed { GoesOnWith dispatch.old.history dispatch.new.history (sent permit.old)
+        (sent permit.new) }
 {
     let Ok(text) = copy.text.copy() else {
         return Some(Verdict::Refused(Refusal::NoMemory));
@@ -143,6 +148,8 @@ fn put_at<B: Naming, R: Wait, S: Summons>(
         v) }
     ensures over { is_over permit.old ≡ true
         → (result ≡ Some (verdicts.Refused refusals.Shut)) × (permit.new ≡ permit.old) }
+    ensures backed { GoesOnWith dispatch.old.history dispatch.new.history (put_by permit.old)
+        (put_by permit.new) }
 {
     match permit {
         LanePermit::Live(live) => put_on(context, lane, live, dispatch, copy),
@@ -195,6 +202,7 @@ fn put_or_make_room<B: Naming, R: Wait, G: Gate, S: Summons>(
         (shard_of context.now.office.now.directory mailbox) false ≡ true
         → (result ≡ Some (verdicts.Refused refusals.Shut))
         × (map put_by desk.new.permits.items ≡ map put_by desk.old.permits.items) }
+    ensures backed { KeepsBacked desk.old desk.new }
 {
     pace.pass();
     let shard = context.office.directory.shard_of(mailbox);
@@ -257,6 +265,7 @@ pub(crate) fn put_copy<B: Naming, R: Wait, G: Gate, S: Summons>(
         (shard_of context.now.office.now.directory mailbox) false ≡ true
         → (result ≡ Some (verdicts.Refused refusals.Shut))
         × (map put_by desk.new.permits.items ≡ map put_by desk.old.permits.items) }
+    ensures backed { KeepsBacked desk.old desk.new }
 {
     let verdict = put_or_make_room(context, pace, desk, key, mailbox, text, flags);
     summon_for(context, mailbox);
@@ -357,6 +366,8 @@ pub(crate) fn put_all<B: Naming, R: Wait, G: Gate, S: Summons>(
         message.now))
         verdicts.new.slots (map put_by desk.old.permits.items)
         (map put_by desk.new.permits.items) }
+    // What the history had of all that was put, it has of what is put now.
+    ensures backed { KeepsBacked desk.old desk.new }
 {
     let mut waiting = [0usize; MOST_SHARDS];
     for i in 0..message.keys.len() {

@@ -11,6 +11,7 @@ ghost use Rattle.shard_queue.specs.Shared.{IsStartOf};
 ghost use Rattle.lane_work.specs.Talk.{Judged};
 ghost use Rattle.lane_work.specs.Permits.{AreInForce, put_by};
 ghost use Rattle.lane_work.specs.Account.{AreBooks, setting_at};
+ghost use Rattle.lane_work.specs.Backing.{KeepsBacked};
 ghost use Rattle.lane_work.specs.Ends.{CountsEnds};
 ghost use Rattle.lane_work.specs.Speaking.{Stands, premises_of};
 ghost use Rattle.lane_work.specs.Copies.{rooms_of};
@@ -106,6 +107,7 @@ fn go_on<B: Naming, R: Wait, G: Gate, S: Summons, N: Notebook, I: Read, O: Sink>
         (I.remaining input.old) (I.remaining input.new)
         (O.taken output.old) (O.taken output.new) (O.failed output.new)
         (N.tells producer.new.book) (received producer.new.desk.receiver) (map put_by producer.new.desk.permits.items) result }
+    ensures backed { KeepsBacked producer.old.desk producer.new.desk }
 {
     for _ in context.rt.forever() {
         let Ok(()) = send(output, out.as_slice()) else {
@@ -204,6 +206,10 @@ pub fn converse<B: Naming, R: Wait, G: Gate, S: Summons, N: Notebook, I: Read, O
         (I.remaining input.old) (I.remaining input.new) (O.taken output.old) (O.taken output.new)
         (O.failed output.new)
         (N.tells producer.new.book) (received producer.new.desk.receiver) (map put_by producer.new.desk.permits.items) result }
+
+    // What the house's history had of all that the desk has put and heard, it has of what was put and heard since: so by `books_stand` each
+    // copy of which the books tell Stored stands there, in the mailbox that its RCPT line named, with the text that came.
+    ensures backed { KeepsBacked producer.old.desk producer.new.desk }
 {
     out.clear();
     let Ok(mut machine) = open(

@@ -17,6 +17,7 @@ ghost use Rattle.lane_work.specs.Account.{AreBooks, HaveEnded, notes_tell, setti
 ghost use Rattle.lane_work.specs.inner.Account.{HasServed};
 ghost use Rattle.lane_work.specs.Awaiting.{HearsItsOwn, copies_in, verdicts_in};
 ghost use Rattle.lane_work.specs.Ends.{CountsEnds, ends_in};
+ghost use Rattle.lane_work.specs.Backing.{KeepsBacked};
 ghost use Rattle.lane_work.specs.Working.{IsWorked};
 ghost use Rattle.lane_work.specs.Speaking.{Stands, is_quit, premises_of};
 ghost use Rattle.lane_work.specs.inner.Speaking.{Spoke};
@@ -117,6 +118,7 @@ fn put_and_hear<B: Naming, R: Wait, G: Gate, S: Summons, N: Notebook>(
         producer.new.desk.receiver) }
     ensures grew { IsStartOf (received producer.old.desk.receiver) (received
         producer.new.desk.receiver) }
+    ensures backed { KeepsBacked producer.old.desk producer.new.desk }
 {
     let count = message.keys.len();
     producer.book.reserve(count)?;
@@ -221,6 +223,9 @@ pub fn turn<B: Naming, R: Wait, G: Gate, S: Summons, N: Notebook>(
         producer.new.desk.receiver) }
     ensures grew { IsStartOf (received producer.old.desk.receiver) (received
         producer.new.desk.receiver) }
+
+    // What the house's history had of all that the desk has put and heard, it has of what was put and heard since.
+    ensures backed { KeepsBacked producer.old.desk producer.new.desk }
 {
     let fed = machine.feed(piece, directory, out)?;
     match fed.what {

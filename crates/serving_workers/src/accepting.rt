@@ -4,6 +4,7 @@
 ghost use Rattle.std.specs.Prelude.{◌≡◌, ◌≢◌, Err, ◌≤◌, ◌<◌, ◌+◌, ℕ, [], true, false, All, length, map, vec_capacity};
 ghost use Rattle.shard_queue.specs.Permits.{said};
 ghost use Rattle.shard_queue.specs.Reply.{IsReceiver, received};
+ghost use Rattle.lane_work.specs.Backing.{IsBacked, KeepsBacked};
 ghost use Rattle.lane_work.specs.Permits.{AreEnded, AreInForce, IsNew, put_by};
 ghost use Rattle.lane_work.specs.Speaking.{premises_of};
 ghost use Rattle.serving_workers.specs.Leaving.{AreServed, HasServedMail};
@@ -91,6 +92,7 @@ fn serve_one<B: Naming, R: Wait, G: Gate, S: Summons>(
         (map put_by producer.old.desk.permits.items)
         → AreServed (premises_of context.now.office.now) producer.old.desk.number (serial
         + 1) (received producer.new.desk.receiver) (map put_by producer.new.desk.permits.items) }
+    ensures backed { KeepsBacked producer.old.desk producer.new.desk }
 {
     if prepare(stream, Patience::Limited).is_err() {
         return false;
@@ -147,6 +149,7 @@ fn attend<B: Naming, R: Wait, G: Gate, S: Summons>(
         (map put_by producer.old.desk.permits.items)
         → AreServed (premises_of context.now.office.now) producer.old.desk.number (serial
         + 1) (received producer.new.desk.receiver) (map put_by producer.new.desk.permits.items) }
+    ensures backed { KeepsBacked producer.old.desk producer.new.desk }
 {
     if !grip.hold(context.rt, stream) {
         return false;
@@ -193,6 +196,7 @@ fn serve_all<B: Naming, R: Wait, G: Gate, S: Summons>(
         × AreServed (premises_of context.now.office.now) producer.old.desk.number connections
         (received producer.new.desk.receiver)
         (map put_by producer.new.desk.permits.items) }
+    ensures backed { KeepsBacked producer.old.desk producer.new.desk }
 {
     door.mark.await_start(context.rt);
     for serial in 0..u64::MAX {
@@ -236,7 +240,11 @@ pub(crate) fn serve_until_stopped<B: Naming, R: Wait, G: Gate, S: Summons>(
     ensures served { All IsNew desk.permits.items → result.torn ≡ false
         → HasServedMail (premises_of context.now.office.now) desk.number (received result.receiver)
         (map said result.ended.items) }
+    ensures backed { All IsNew desk.permits.items → received desk.receiver ≡ []
+        → IsBacked result.dispatch.history (received result.receiver)
+        (map said result.ended.items) }
 {
+    desk.dispatch.is_legal();
     let book = LogBook::new(context.rt, context.alloc, door.log, door.names);
     let mut producer = Producer { pace, desk, book };
     let torn = serve_all(context, &mut producer, door, grip, &mut buffers);

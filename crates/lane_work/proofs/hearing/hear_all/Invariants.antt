@@ -4,6 +4,7 @@ use Rattle.shard_queue.specs.Shared.{IsStartOf}
 use Rattle.lmtp_machine.specs.Calls.{submission_of}
 use Rattle.lane_work.specs.Copies.{copies_of}
 use Rattle.delivery_token.specs.Verdicts.{Fills, unknown}
+use Rattle.lane_work.specs.Backing.{KeepsBacked}
 use Rattle.lane_work.specs.inner.Copies.{WereHeard}
 use Rattle.lane_work.specs.inner.Desk.{SameButReceiver}
 use Rattle.lane_work.specs.Ends.{CountsEnds, ends_in}
@@ -16,3 +17,4 @@ invariant-loop g l = IsReceiver l.context.channel.now l.desk.receiver × SameBut
     × (length (received l.desk.receiver) + unknown l.verdicts.slots + ends_in (received l.fn.desk.receiver) ≡ length (received l.fn.desk.receiver) + unknown l.fn.verdicts.slots + ends_in (received l.desk.receiver))
     × WereHeard (received l.desk.receiver) (copies_of (submission_of l.message)) l.fn.verdicts.slots l.verdicts.slots
     × (AreLive l.fn.desk.permits.items → ends_in (received l.desk.receiver) ≡ ends_in (received l.fn.desk.receiver))
+    × KeepsBacked l.fn.desk l.desk

@@ -1,4 +1,4 @@
-use Rattle.std.proofs.Common.{rules, ◌≡◌, ◌++◌, ◌∷◌, [], ◌∙◌, ap, subst, arith}
+use Rattle.std.proofs.Common.{rules, map, ◌≡◌, ◌++◌, ◌∷◌, [], ◌∙◌, ap, subst, arith}
 use Rattle.delivery_token.specs.declared.CopyKey.{CopyKey}
 use Rattle.delivery_token.specs.declared.log.Noted.{Noted}
 use Rattle.shard_queue.specs.declared.lane.Entry.TheVariants.{Item, End}
@@ -7,6 +7,8 @@ use Rattle.lane_work.specs.Copies.{IsHeard}
 use Rattle.lane_work.specs.Ends.{ends_in}
 use Rattle.lane_work.specs.Awaiting.{verdicts_in}
 use Rattle.lane_work.proofs.AwaitedLaws.{verdict_more}
+use Rattle.lane_work.specs.Permits.{put_by}
+use Rattle.lane_work.proofs.BackingLaws.{backed_heard}
 use Rattle.lane_work.proofs.PermitLaws.{ends_next}
 use Rattle.lane_work.proofs.hearing.hear_one.Goals as goal
 
@@ -54,3 +56,24 @@ returns-else-noted-mailbox-clause-only g c =
     let old = received c.args.desk.now.receiver in
     let grew : received c.recv_as.new.permit ≡ old ++ Item c.in-Item.field-0 c.in-Item.answer ∷ [] = search rules in
     ap verdicts_in grew ∙ verdict_more old c.in-Item.field-0 c.in-Item.answer
+
+pub returns-then-ne-clause-backed : goal.returns-then-ne-clause-backed
+returns-then-ne-clause-backed g c was =
+    let old = received c.args.desk.now.receiver in
+    let grew : received c.recv_as.new.permit ≡ old ++ Item c.in-Item.field-0 c.in-Item.answer ∷ [] = search rules in
+    backed_heard c.args.desk.now.dispatch.history c.learn.new.self.history old (received c.recv_as.new.permit) (Item c.in-Item.field-0 c.in-Item.answer) (map put_by c.args.desk.now.permits.items)
+    c.learn.ensures.learned.goes_on c.learn.ensures.learned.legal (λ uid is. c.learn.ensures.stored uid is) grew was
+
+pub returns-then-noted-mailbox-clause-backed : goal.returns-then-noted-mailbox-clause-backed
+returns-then-noted-mailbox-clause-backed g c was =
+    let old = received c.args.desk.now.receiver in
+    let grew : received c.recv_as.new.permit ≡ old ++ Item c.in-Item.field-0 c.in-Item.answer ∷ [] = search rules in
+    backed_heard c.args.desk.now.dispatch.history c.learn.new.self.history old (received c.recv_as.new.permit) (Item c.in-Item.field-0 c.in-Item.answer) (map put_by c.args.desk.now.permits.items)
+    c.learn.ensures.learned.goes_on c.learn.ensures.learned.legal (λ uid is. c.learn.ensures.stored uid is) grew was
+
+pub returns-else-noted-mailbox-clause-backed : goal.returns-else-noted-mailbox-clause-backed
+returns-else-noted-mailbox-clause-backed g c was =
+    let old = received c.args.desk.now.receiver in
+    let grew : received c.recv_as.new.permit ≡ old ++ Item c.in-Item.field-0 c.in-Item.answer ∷ [] = search rules in
+    backed_heard c.args.desk.now.dispatch.history c.learn.new.self.history old (received c.recv_as.new.permit) (Item c.in-Item.field-0 c.in-Item.answer) (map put_by c.args.desk.now.permits.items)
+    c.learn.ensures.learned.goes_on c.learn.ensures.learned.legal (λ uid is. c.learn.ensures.stored uid is) grew was

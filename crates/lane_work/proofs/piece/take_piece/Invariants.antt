@@ -3,6 +3,7 @@ use Rattle.shard_queue.specs.Reply.{IsReceiver, received}
 use Rattle.shard_queue.specs.Shared.{IsStartOf}
 use Rattle.lane_work.specs.Copies.{rooms_of}
 use Rattle.lane_work.specs.Talk.{Judged}
+use Rattle.lane_work.specs.Backing.{KeepsBacked}
 use Rattle.lane_work.specs.Ends.{CountsEnds}
 use Rattle.lane_work.specs.Permits.{AreInForce, put_by}
 use Rattle.lane_work.specs.Speaking.{Stands}
@@ -22,6 +23,7 @@ invariant-loop-used g l =
     → Stands l.context.office.now.directory l.context.office.now.directory (rooms_of l.context.office.now.lanes.items) l.fn.producer.desk.number done bytes false l.fn.machine (told ++ l.fn.out.items) (g.N.Notebook.tells l.fn.producer.book) (received l.fn.producer.desk.receiver) (map put_by l.fn.producer.desk.permits.items)
     → Stands l.context.office.now.directory l.context.office.now.directory (rooms_of l.context.office.now.lanes.items) l.fn.producer.desk.number done (bytes ++ take l.used l.piece) false l.machine (told ++ l.out.items) (g.N.Notebook.tells l.producer.book) (received l.producer.desk.receiver) (map put_by l.producer.desk.permits.items))
     × IsStartOf (received l.fn.producer.desk.receiver) (received l.producer.desk.receiver)
+    × KeepsBacked l.fn.producer.desk l.producer.desk
 
 abbrev pub decreases-loop-used : goal.decreases-loop-used
 decreases-loop-used g l = length l.piece - l.used

@@ -6,6 +6,7 @@ use Rattle.delivery_token.specs.Verdicts.{unknown}
 use Rattle.lane_work.specs.Awaiting.{copies_in}
 use Rattle.lane_work.specs.inner.Desk.{SameButPermits}
 use Rattle.lane_work.specs.Copies.{copies, rooms_of}
+use Rattle.lane_work.specs.Backing.{KeepsBacked}
 use Rattle.lane_work.specs.inner.Copies.{HavePut, WereTried}
 use Rattle.lane_work.proofs.putting.put_all.Given as goal
 
@@ -20,3 +21,4 @@ invariant-loop-i g l =
     × (copies_in (map put_by l.desk.permits.items) ≡ copies_in (map put_by l.fn.desk.permits.items) + unknown l.verdicts.slots)
     × (AreOpenTo l.context.office.now.directory l.message.mailboxes.items l.fn.desk.permits.items → HavePut l.context.office.now.directory l.fn.desk.number (copies (take l.i l.message.keys.items) (take l.i l.message.mailboxes.items) l.message.text) l.verdicts.slots
     (map put_by l.fn.desk.permits.items) (map put_by l.desk.permits.items))
+    × KeepsBacked l.fn.desk l.desk

@@ -3,6 +3,8 @@ use Rattle.delivery_token.specs.declared.Job.{Job}
 use Rattle.shard_queue.specs.declared.lane.Entry.TheVariants.{Item}
 use Rattle.lane_work.specs.Permits.{IsPermit, overs, put_by}
 use Rattle.lane_work.specs.Copies.{FilledAlone, IsAtOnce, room_at, room_of, rooms_of}
+use Rattle.shard_queue.specs.Reply.{received}
+use Rattle.lane_work.proofs.BackingLaws.{backed_put}
 use Rattle.lane_work.proofs.PermitLaws.{over_at, overs_kept, permit_here, permits_length, permits_set, puts_at, room_here, sent_at, sent_set, set_same}
 use Rattle.lane_work.proofs.putting.put_or_make_room.Goals as goal
 
@@ -76,3 +78,16 @@ returns-clause-put g c live =
     (c.put_at.ensures.put
     (sym (over_at c.args.desk.now.permits.items c.shard_of-shard.result c.index_mut.result.now false at_permit c.index_mut.ensures.value)
     ∙ subst (λ lane. slice_index_or (overs c.args.desk.now.permits.items) lane false ≡ false) (sym c.shard_of-shard.ensures.value) live)))
+
+-- what the history had of the desk, and of the copy that was put
+pub returns-clause-backed : goal.returns-clause-backed
+returns-clause-backed g c was =
+    let w = c.shard_of-shard.ensures.within in
+    let l = c.requires.lanes in
+    let n = permits_length c.args.context.now.office.now.lanes.items c.args.desk.now.number c.args.desk.now.permits.items c.requires.permits in
+    let under : c.shard_of-shard.result < length c.args.desk.now.permits.items = omega (arith, n, w, l) in
+    let on = c.put_at.ensures.backed in
+    let permits = c.args.desk.now.permits.items in
+    backed_put c.args.desk.now.dispatch.history c.put_at.new.dispatch.history (received c.args.desk.now.receiver) (map put_by permits) (map put_by (slice_set permits c.shard_of-shard.result c.put_at.new.permit))
+    c.shard_of-shard.result (put_by c.index_mut.result.now) (put_by c.put_at.new.permit) on.goes_on (on.legal was.legal)
+    (sent_at permits c.shard_of-shard.result c.index_mut.result.now under ∙ ap put_by (sym c.index_mut.ensures.value)) (sent_set permits c.shard_of-shard.result c.put_at.new.permit) on.sent was

@@ -3,6 +3,7 @@ use Rattle.shard_queue.specs.Reply.{IsReceiver, received}
 use Rattle.shard_queue.specs.Shared.{IsStartOf}
 use Rattle.lane_work.specs.Copies.{rooms_of}
 use Rattle.lane_work.specs.Talk.{Judged}
+use Rattle.lane_work.specs.Backing.{KeepsBacked}
 use Rattle.lane_work.specs.Ends.{CountsEnds}
 use Rattle.lane_work.specs.Permits.{AreInForce, put_by}
 use Rattle.lane_work.specs.Speaking.{Stands, premises_of}
@@ -24,3 +25,4 @@ invariant-loop g l =
     → Stands l.context.office.now.directory l.context.office.now.directory (rooms_of l.context.office.now.lanes.items) l.fn.producer.desk.number done [] false l.fn.machine l.fn.out.items (g.N.Notebook.tells l.fn.producer.book) (received l.fn.producer.desk.receiver) (map put_by l.fn.producer.desk.permits.items)
     → Goes (premises_of l.context.office.now) l.fn.producer.desk.number done (g.I.Read.remaining l.fn.input) (g.I.Read.remaining l.input) (g.O.Sink.taken l.fn.output) (g.O.Sink.taken l.output) l.machine l.out.items (g.N.Notebook.tells l.producer.book) (received l.producer.desk.receiver) (map put_by l.producer.desk.permits.items))
     × IsStartOf (received l.fn.producer.desk.receiver) (received l.producer.desk.receiver)
+    × KeepsBacked l.fn.producer.desk l.producer.desk

@@ -1,4 +1,4 @@
-use Rattle.std.proofs.Common.{rules, ◌≡◌, ◌∙◌, ◌++◌, sym, subst, map, List, [], All, length, arith, ℕ}
+use Rattle.std.proofs.Common.{rules, false, ◌≡◌, ◌∙◌, ◌++◌, sym, subst, map, List, [], All, length, arith, ℕ}
 use Rattle.std.proofs.lemmas.List.Elements.{All-head}
 use Rattle.lmtp_machine.specs.Dialogue.{Submission}
 use Rattle.shard_queue.specs.Reply.{received}
@@ -11,8 +11,14 @@ use Rattle.lmtp_machine.specs.Calls.{Happens}
 use Rattle.lmtp_machine.specs.Conversation.{Conversation}
 use Rattle.lmtp_machine.specs.Dialogue as on
 use Rattle.lmtp_machine.specs.LmtpMachine.{StandsFor}
+use Rattle.std.specs.Io.{StartsWith}
+use Rattle.std.proofs.Transfers.{starts_with_of_append}
+use Rattle.lmtp_machine.specs.Replies.{wire}
+use Rattle.lane_work.specs.Talk.{Judged}
+use Rattle.lane_work.specs.Speaking.{Stands}
 use Rattle.lane_work.specs.Copies.{rooms_of}
 use Rattle.lane_work.proofs.ClosedLaws.{open_to}
+use Rattle.lane_work.proofs.BackingLaws.{where_err}
 use Rattle.lane_work.proofs.TalkLaws.{stands_on, stands_judged, follows_behind, happens_behind}
 use Rattle.lane_work.proofs.worker.turn.Goals as goal
 
@@ -47,3 +53,16 @@ returns-in-Quit-clause-stands g c done bytes told stands =
     stands_on c.args.directory.now c.args.context.now.office.now.directory (rooms_of c.args.context.now.office.now.lanes.items) c.args.producer.now.desk.number done bytes c.args.machine.now c.feed.new.self (told ++ c.args.out.now.items) (told ++ c.feed.new.out.items) (g.N.Notebook.tells c.args.producer.now.book)
     (received c.args.producer.now.desk.receiver) (map put_by c.args.producer.now.desk.permits.items) c.args.piece.now c.in_ok-fed.fed c.in_ok-fed.ensures.same.0 c.in_ok-fed.ensures.same.1 (λ e. let x : Quit ≡ Submit = sym c.in-Quit.is ∙ e in cc)
     (λ k h. follows_behind told c.args.machine.now.setting c.args.machine.now.host c.args.directory.now k c.args.piece.now c.in_ok-fed.fed c.args.out.now.items c.feed.new.out.items c.feed.new.self.pending (c.in_ok-fed.ensures.ok k h)) stands
+
+-- what was said before stands in front of what was said until memory or a verdict was wanting
+pub returns-in_err-verdicts-clause-kept : goal.returns-in_err-verdicts-clause-kept
+returns-in_err-verdicts-clause-kept g c =
+    let host = c.args.machine.now.host in
+    where_err c.from_residual-in_err-verdicts.result
+    ((done : List Judged) (bytes told : List ℕ)
+    → Stands c.args.directory.now c.args.context.now.office.now.directory (rooms_of c.args.context.now.office.now.lanes.items) c.args.producer.now.desk.number done bytes false c.args.machine.now (told ++ c.args.out.now.items) (g.N.Notebook.tells c.args.producer.now.book) (received c.args.producer.now.desk.receiver)
+    (map put_by c.args.producer.now.desk.permits.items)
+    → StartsWith c.reserve.new.self.items c.args.out.now.items)
+    (λ done bytes told stands.
+    let f = c.in_ok-fed.ensures.ok stands.at stands.machine in
+    starts_with_of_append c.reserve.new.self.items c.args.out.now.items (wire host f.turn.replies) (c.reserve.ensures.items ∙ f.said))

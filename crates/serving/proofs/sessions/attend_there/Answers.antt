@@ -57,3 +57,4 @@ returns-clause-served g c =
     let mine = subst (λ (n : ℕ). AreAttended (premises_of floor.office) n served.0 (received now.desk.receiver) (map put_by now.desk.permits.items)) (sym life.same.2) served.1 in
     subst (λ (r : ReceiverPermit Noted). HasServedClients (premises_of floor.office) now.desk.number (received r) (map said left.ended.items)) (sym c.leave.ensures.receiver)
     (clients_end (premises_of floor.office) now.desk.number now.desk.number served.0 (received now.desk.receiver) (map put_by now.desk.permits.items) (map said left.ended.items) refl mine c.leave.ensures.said))
+    (λ mail. absurd (let e : true ≡ false = sym mail ∙ c.leave.ensures.mail in cc))

@@ -18,6 +18,7 @@ loop-serial-preserved g c =
       λ begun.
           let before = subst (λ n. AreServed house n c.loop-serial.serial (received c.loop-serial.producer.desk.receiver) (map put_by c.loop-serial.producer.desk.permits.items)) (sym v.2) (v.4 begun) in
           subst (λ n. AreServed house n (c.loop-serial.serial + 1) (received now.receiver) (map put_by now.permits.items)) v.2 (c.attend.ensures.mail (search rules) before),
+      λ was. c.attend.ensures.backed (v.5 was),
     )
 
 pub returns-clause-mail : goal.returns-clause-mail

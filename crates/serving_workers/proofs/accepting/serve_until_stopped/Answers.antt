@@ -3,6 +3,7 @@ use Rattle.shard_queue.specs.Reply.{received}
 use Rattle.shard_queue.specs.Permits.{said}
 use Rattle.lane_work.specs.Permits.{put_by}
 use Rattle.lane_work.specs.Speaking.{premises_of}
+use Rattle.lane_work.proofs.BackingLaws.{backed_begin, backed_end}
 use Rattle.serving_workers.proofs.Mail.{mail_begins, mail_ends}
 use Rattle.serving_workers.proofs.accepting.serve_until_stopped.Goals as goal
 
@@ -13,3 +14,11 @@ returns-clause-served g c fresh is =
     let now = c.serve_all-torn.new.producer.desk in
     let served = c.serve_all-torn.ensures.mail is (mail_begins office number c.args.desk.receiver c.args.desk.permits.items fresh) in
     mail_ends (premises_of office) number now.number served.0 (received now.receiver) (map put_by now.permits.items) (map said c.end_all-ended.result.items) c.serve_all-torn.ensures.number served.1 c.end_all-ended.ensures.said
+
+-- the history has what it put and heard
+pub returns-clause-backed : goal.returns-clause-backed
+returns-clause-backed g c fresh unheard =
+    let desk = c.args.desk in
+    let now = c.serve_all-torn.new.producer.desk in
+    let begun = backed_begin desk.dispatch.history (received desk.receiver) desk.permits.items c.is_legal.ensures unheard fresh in
+    backed_end now.dispatch.history (received now.receiver) now.number (map put_by now.permits.items) (map said c.end_all-ended.result.items) c.end_all-ended.ensures.said (c.serve_all-torn.ensures.backed begun)
