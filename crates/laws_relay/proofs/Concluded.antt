@@ -136,7 +136,7 @@ whose_text g serial messages h mailbox uid text from seat of_serial =
 
 -- ---- of a front
 
-same_text : (a b : Handed) (text : List ℕ) → IsSame a b → IsTextOf b text → IsTextOf a text
+pub same_text : (a b : Handed) (text : List ℕ) → IsSame a b → IsTextOf b text → IsTextOf a text
 same_text a b text s t = record {
   sender = t.sender;
   from = subst (λ (m : List ℕ). IsSender m t.sender) (sym s.mail) t.from;

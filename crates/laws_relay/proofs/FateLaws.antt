@@ -156,7 +156,7 @@ taken_there [] k i e = absurd (false≢true e)
 taken_there (m ∷ ms) zero i e = omega arith
 taken_there (m ∷ ms) (suc k) i e = let u : k < length ms = taken_there ms k i e in omega (arith, u)
 
-reply_there : (replies : List (List ℕ)) (i : ℕ) → is_code (codes "250") (slice_index_or replies i []) ≡ true → i < length replies
+pub reply_there : (replies : List (List ℕ)) (i : ℕ) → is_code (codes "250") (slice_index_or replies i []) ≡ true → i < length replies
 reply_there [] i e = absurd (false≢true e)
 reply_there (r ∷ rs) zero e = omega arith
 reply_there (r ∷ rs) (suc i) e = let u : i < length rs = reply_there rs i e in omega (arith, u)

@@ -127,7 +127,7 @@ full_at house seat connections replies judged notes d v c n j there =
 -- ---- what stands at a copy's position in the log
 
 -- the key of the i-th copy of a message
-copy_key_at : (setting : Setting) (homes n i mailbox : ℕ) (j : Judged) → IsMessage setting homes n j.message → slice_get j.message.mailboxes i ≡ Some mailbox
+pub copy_key_at : (setting : Setting) (homes n i mailbox : ℕ) (j : Judged) → IsMessage setting homes n j.message → slice_get j.message.mailboxes i ≡ Some mailbox
     → slice_get j.message.keys i ≡ Some (key_at setting.seat setting.serial n i)
 copy_key_at setting homes n i mailbox j is there =
     let z : 0 + i ≡ i = omega arith in

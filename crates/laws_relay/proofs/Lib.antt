@@ -39,3 +39,4 @@ mod Put
 mod AccountRefuted
 mod Worked
 mod Reported
+mod Served

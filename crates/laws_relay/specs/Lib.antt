@@ -13,4 +13,5 @@ pub mod Entries
 pub mod Concluding
 pub mod AccountLaws
 pub mod Reports
+pub mod Served
 pub mod rows

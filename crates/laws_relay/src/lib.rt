@@ -7,7 +7,8 @@ mod record_laws;
 mod reply_laws;
 
 pub use account_laws::{
-    accounts_conclude, connections_of_accounts_are_known, reports_conclude, uids_are_alone,
+    accounts_conclude, connections_of_accounts_are_known, reports_conclude, served_relays_conclude,
+    uids_are_alone,
 };
 pub use record_laws::relays_may_conclude;
 pub use reply_laws::{connections_are_known, messages_are_known, replies_are_read};
