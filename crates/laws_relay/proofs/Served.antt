@@ -29,7 +29,7 @@ use Rattle.laws_relay.specs.Handed.{handed_over}
 use Rattle.laws_relay.specs.Numbers.{MessagesAreNumbered}
 use Rattle.laws_relay.specs.Served.{ServedRelaysConclude}
 use Rattle.laws_relay.proofs.Concluded.{same_text}
-use Rattle.laws_relay.proofs.FateLaws.{front_same, front_taken, knows, named_at, reply_there, stored_at, taken_there}
+use Rattle.laws_relay.proofs.FateLaws.{front_same, front_taken, knows, named_at, one_number, reply_there, stored_at, taken_there}
 use Rattle.laws_relay.proofs.Ledger.{connection_message, copy_key_at}
 use Rattle.laws_relay.proofs.Positions.{at_map, at_unmap, none_at, same_some, within_at}
 
@@ -87,7 +87,7 @@ unmarked house seat serial none_closed = record {
 -- ---- the connection
 
 pub served_relays_conclude : ConnectionsAreKnown → TalkIsOfLines → FrontsAreCut → WhatIsReadStays → TakenAreStored → MessagesAreNumbered → ServedRelaysConclude
-served_relays_conclude known lines fronts stays taken numbers house seat serial bytes said judged at history in_line none_closed talk legal stood more front untold whole k i t =
+served_relays_conclude known lines fronts stays taken numbers house seat serial bytes said judged at history in_line none_closed talk legal stood more front untold whole =
     let d = house.directory in
     let replied = wire house.host said in
     let submissions = map (λ (j : Judged). j.message) judged in
@@ -99,25 +99,35 @@ served_relays_conclude known lines fronts stays taken numbers house seat serial 
     let h = knows numbers taken house.host d all all submissions answers (length-map judged (λ (j : Judged). j.verdicts) ∙ sym (length-map judged (λ (j : Judged). j.message)))
     (known house seat serial bytes replied judged in_line connection more replied [] (append-nil replied)) in
     let c : AreCut part all = subst (λ (r : List ℕ). AreCut part (handed_over (bytes ++ more) r)) whole (fronts (bytes ++ more) front untold) in
-    let t_all = front_taken stays part all c k i t in
-    let n = h.taken k i t_all in
-    let s = h.submitted k n.0 n.1 in
-    let j = at_unmap (λ (x : Judged). x.message) judged n.0 s.0 s.1 in
-    let v = stored_at j.0.verdicts i (sym (h.verdict k n.0 i j.0.verdicts n.1 (at_map (λ (x : Judged). x.verdicts) judged n.0 j.0 j.1)) ∙ t_all) in
-    let is : IsSubmitted d (message_at all k) j.0.message = subst (λ (x : Submission). IsSubmitted d (message_at all k) x) (sym j.2) s.2 in
-    let replies = reply_there (message_at all k).replies i t_all in
-    let m = within_at j.0.message.mailboxes i (let a = h.answered k n.0 n.1 in let b = named_length d (message_at all k).recipients j.0.message.mailboxes is.names in omega (arith, replies, a, b)) in
-    let message = connection_message house seat serial bytes replied judged connection n.0 j.0 j.1 in
-    let key = copy_key_at (setting_at house seat serial) (length d.homes) n.0 i m.0 j.0 message m.1 in
-    let copy : Job = record { key = key_at seat serial n.0 i; mailbox = m.0; text = j.0.message.text; flags = no_flags } in
-    let P : Job × Verdict → Type 0 = λ one. (uid : ℕ) → one.1 ≡ Stored uid → WasJudged history one.0 (Stored uid) in
-    let stands = of_copy P j.0.message.keys j.0.message.mailboxes j.0.message.text j.0.verdicts i (key_at seat serial n.0 i) m.0 (Stored v.0) key m.1 v.1 (of_message P judged n.0 j.0 j.1 stood) v.0 refl in
-    let same = front_same c k (taken_there part k i t) in
     record {
-      copy = copy;
-      uid = v.0;
-      names = subst (λ (rs : List (List ℕ)). Names d (slice_index_or rs i []) m.0) (sym same.recipients) (named_at d (message_at all k).recipients j.0.message.mailboxes is.names i m.0 m.1);
-      text = same_text (message_at part k) (message_at all k) j.0.message.text same (record { sender = is.sender; from = is.from; is = is.text });
-      stands = stands;
-      once = alone_there history copy v.0 legal stands;
+      number = h.number;
+      rises = h.rises;
+      different = λ k m a b i j ea eb same. (one_number d all submissions answers h k m a b ea eb (ap (λ (x : CopyKey). x.message) same), ap (λ (x : CopyKey). x.recipient) same);
+      taken = λ k i t.
+          let t_all = front_taken stays part all c k i t in
+          let n = h.taken k i t_all in
+          let s = h.submitted k n.0 n.1 in
+          let j = at_unmap (λ (x : Judged). x.message) judged n.0 s.0 s.1 in
+          let v = stored_at j.0.verdicts i (sym (h.verdict k n.0 i j.0.verdicts n.1 (at_map (λ (x : Judged). x.verdicts) judged n.0 j.0 j.1)) ∙ t_all) in
+          let is : IsSubmitted d (message_at all k) j.0.message = subst (λ (x : Submission). IsSubmitted d (message_at all k) x) (sym j.2) s.2 in
+          let replies = reply_there (message_at all k).replies i t_all in
+          let m = within_at j.0.message.mailboxes i (let a = h.answered k n.0 n.1 in let b = named_length d (message_at all k).recipients j.0.message.mailboxes is.names in omega (arith, replies, a, b)) in
+          let message = connection_message house seat serial bytes replied judged connection n.0 j.0 j.1 in
+          let key = copy_key_at (setting_at house seat serial) (length d.homes) n.0 i m.0 j.0 message m.1 in
+          let copy : Job = record { key = key_at seat serial n.0 i; mailbox = m.0; text = j.0.message.text; flags = no_flags } in
+          let P : Job × Verdict → Type 0 = λ one. (uid : ℕ) → one.1 ≡ Stored uid → WasJudged history one.0 (Stored uid) in
+          let stands = of_copy P j.0.message.keys j.0.message.mailboxes j.0.message.text j.0.verdicts i (key_at seat serial n.0 i) m.0 (Stored v.0) key m.1 v.1 (of_message P judged n.0 j.0 j.1 stood) v.0 refl in
+          let same = front_same c k (taken_there part k i t) in (
+            n.0,
+            n.1,
+            record {
+              copy = copy;
+              keyed = refl;
+              uid = v.0;
+              names = subst (λ (rs : List (List ℕ)). Names d (slice_index_or rs i []) m.0) (sym same.recipients) (named_at d (message_at all k).recipients j.0.message.mailboxes is.names i m.0 m.1);
+              text = same_text (message_at part k) (message_at all k) j.0.message.text same (record { sender = is.sender; from = is.from; is = is.text });
+              stands = stands;
+              once = alone_there history copy v.0 legal stands;
+            },
+          );
     }
