@@ -1,5 +1,5 @@
 -- Of a connection of a server a relay may conclude by the history.
-use Rattle.std.proofs.Common.{◌≡◌, inl, ℕ, zero, suc, ◌<◌, true, false, List, [], ◌∷◌, ◌++◌, length, map, zip, Some, refl, ap, sym, subst, ◌∙◌, append-nil, arith}
+use Rattle.std.proofs.Common.{◌≡◌, inl, ℕ, zero, suc, true, false, List, [], ◌∷◌, ◌++◌, length, map, zip, Some, refl, ap, sym, subst, ◌∙◌, append-nil, arith}
 use Rattle.std.specs.Prelude.{◌||◌, All, Bool, slice_get, slice_index_or}
 use Rattle.std.specs.List.{list_any}
 use Rattle.std.proofs.lemmas.List.{length-map}
@@ -10,7 +10,6 @@ use Rattle.delivery_token.specs.declared.Job.{Job}
 use Rattle.delivery_token.specs.declared.Verdict.{Verdict}
 use Rattle.delivery_token.specs.declared.Verdict.TheVariants.{Stored}
 use Rattle.envelope.specs.Directory.{Directory, is_shut}
-use Rattle.house_history.specs.declared.event.Event.{Event}
 use Rattle.house_history.specs.Legal.{WasJudged}
 use Rattle.house_history.proofs.Standing.{alone_there}
 use Rattle.lane_work.specs.Account.{IsMarkedBy, Premises, closings_of, is_closed_by, setting_at}
