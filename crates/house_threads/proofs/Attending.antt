@@ -6,6 +6,7 @@ use Rattle.delivery_token.specs.declared.log.Noted.{Noted}
 use Rattle.house_floor.specs.Users.{user_numbered}
 use Rattle.house_floor.specs.declared.floor.Floor.{Floor}
 use Rattle.house_floor.specs.declared.floor.Guest.{Guest}
+use Rattle.house_history.specs.declared.event.Event.{Event}
 use Rattle.imap_session.specs.Folders.{folders_of}
 use Rattle.imap_session.specs.Commands.{greeting}
 use Rattle.lane_work.specs.Account.{AreAccountedFor, AreBooksOf, HaveEnded, notes_tell}
@@ -34,19 +35,20 @@ same_books office now desk seat serial notes carried there own first books =
     (subst (λ (n : ℕ). AreBooksOf now.directory (rooms_of now.lanes.items) n (map (judged_of n 0) carried) (notes_tell notes) (received desk.receiver) (map put_by desk.permits.items)) own
     (subst (λ (s : ℕ). AreBooksOf now.directory (rooms_of now.lanes.items) desk.number (map (judged_of desk.number s) carried) (notes_tell notes) (received desk.receiver) (map put_by desk.permits.items)) first books))
 
-pub session_account : {B : Type 0} (floor : Floor B) (now : Office B) (desk : Desk B) (seat serial : ℕ) (guest : Guest) (user : List ℕ) (selection : LockedStore) (carried : List Carried) (text : List ℕ) (replies : List (List ℕ)) (notes kept : List Noted)
+pub session_account : {B : Type 0} (floor : Floor B) (now : Office B) (desk : Desk B) (seat serial : ℕ) (guest : Guest) (user : List ℕ) (selection : LockedStore) (began : List Event) (carried : List Carried) (text : List ℕ) (replies : List (List ℕ)) (notes kept : List Noted)
     (hears : List (Entry Noted)) (after : List (List (Entry Job)))
     → now ≡ floor.office → desk.number ≡ seat → serial ≡ 0 → kept ≡ notes
-    → user_numbered guest.user floor.office.directory.homes ≡ Some user → selection ≡ record { mailboxes = length floor.depot.mailboxes.items; entered = None }
+    → user_numbered guest.user floor.office.directory.homes ≡ Some user → selection ≡ record { mailboxes = length floor.depot.mailboxes.items; entered = None; history = began }
     → HasLived floor user selection guest carried text → replies ≡ text ∷ []
     → HasCarried now desk serial (notes_tell notes) carried → IsStartOf (received desk.receiver) hears → HaveEnded desk.number (map put_by desk.permits.items) after
     → SessionAccount (premises_of floor.office) (length floor.depot.mailboxes.items) floor.turns seat guest replies kept hears after
-session_account floor now desk seat serial guest user selection carried text replies notes kept hears after there own first same named outside lived one books grew ended = record {
+session_account floor now desk seat serial guest user selection began carried text replies notes kept hears after there own first same named outside lived one books grew ended = record {
   carried = carried;
   text = text;
   stayed = record {
     user = user;
     named = named;
+    began = began;
     last = lived.last;
     lives = subst (λ (p : LockedStore). Lives floor.turns (greeted_at (Some (most_of floor.office.max_message)) (folders_of floor.office.directory user) p greeting) guest.steps.items carried lived.last) outside lived.lives;
     wrote = lived.wrote;

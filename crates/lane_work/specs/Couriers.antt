@@ -9,6 +9,7 @@ use Rattle.shard_queue.specs.Reply.{IsReceiver, received}
 use Rattle.lane_work.specs.declared.desk.Desk.{Desk}
 use Rattle.lane_work.specs.declared.desk.Office.{Office}
 use Rattle.lane_work.specs.Account.{AreBooksOf}
+use Rattle.lane_work.specs.Backing.{KeepsBacked}
 use Rattle.lane_work.specs.Copies.{rooms_of}
 use Rattle.lane_work.specs.Ends.{CountsEnds}
 use Rattle.lane_work.specs.Permits.{AreLive, ArePermits, put_by}
@@ -17,9 +18,10 @@ use Rattle.lane_work.specs.Permits.{AreLive, ArePermits, put_by}
 abbrev pub IsReady : {B : Type 0} → Office B → ReplyChannel Noted → Desk B → Type 0
 IsReady office channel desk = ArePermits office.lanes.items desk.number desk.permits.items × IsReceiver channel desk.receiver × (office.directory.shards ≡ length office.lanes.items) × AreLive desk.permits.items
 
--- it is the same producer's desk, over the same lanes and channel, and it counted no end that it didn't hear
+-- It is the same producer's desk, over the same lanes and channel, it counted no end that it didn't hear, and the house's history has what it put and heard since as it had
+-- what was before.
 abbrev pub IsSameDesk : {B : Type 0} → Office B → Office B → ReplyChannel Noted → ReplyChannel Noted → Desk B → Desk B → Type 0
-IsSameDesk office then channel later first now = (then ≡ office) × (later ≡ channel) × (now.number ≡ first.number) × CountsEnds first now
+IsSameDesk office then channel later first now = (then ≡ office) × (later ≡ channel) × (now.number ≡ first.number) × CountsEnds first now × KeepsBacked first now
 
 -- the books of the desk, and what is kept, tell of just these messages of this session, and of the verdicts on them
 abbrev pub HasCarried : {B : Type 0} → Office B → Desk B → ℕ → (List (Job × Verdict) → Type 0) → List Carried → Type 0

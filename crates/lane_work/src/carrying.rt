@@ -10,6 +10,7 @@ ghost use Rattle.lane_work.specs.Couriers.{HasCarried, IsReady, IsSameDesk};
 ghost use Rattle.lane_work.specs.inner.Copies.{WasJudged};
 ghost use Rattle.lane_work.specs.inner.Couriers.{CarriesOn};
 ghost use Rattle.lane_work.specs.Awaiting.{HearsItsOwn};
+ghost use Rattle.lane_work.specs.Backing.{KeepsBacked};
 ghost use Rattle.lane_work.specs.Ends.{CountsEnds};
 ghost use Rattle.lane_work.specs.Permits.{AreLive, ArePermits, put_by};
 
@@ -64,6 +65,7 @@ fn judge<B: Naming, R: Wait, G: Gate, S: Summons>(
     ensures ends { CountsEnds desk.old desk.new }
     ensures grew { IsStartOf (received desk.old.receiver) (received desk.new.receiver) }
     ensures only { OnOk result (HearsItsOwn desk.old desk.new) }
+    ensures backed { KeepsBacked desk.old desk.new }
     ensures judged { IfOk result (λ verdict.
         WasJudged context.now.office.now.directory (rooms_of context.now.office.now.lanes.items)
         desk.old.number
@@ -84,8 +86,9 @@ impl<'a, B: Naming, R: Wait, S: Summons, N: Notebook> Courier for LaneCourier<'a
     // Its books tell of just these messages of its session, and of the verdicts on them.
     ghost carried = { λ c done. HasCarried c.context.office.now c.desk c.serial (N.tells c.book) done };
 
-    // Office, channel, number, serial and the book's owner are the same, and no end was counted that wasn't heard. Unless it is torn, as
-    // many verdicts were heard as copies were put, and these were of some messages of its session, which it carried behind those before.
+    // Office, channel, number, serial and the book's owner are the same, no end was counted that wasn't heard, and the house's history has
+    // what was put and heard since, as it had what was before. Unless it is torn, as many verdicts were heard as copies were put, and these
+    // were of some messages of its session, which it carried behind those before.
     ghost kept = { λ first now. IsSameDesk first.context.office.now now.context.office.now first.context.channel.now now.context.channel.now first.desk now.desk
         × (now.serial ≡ first.serial) × (N.owner now.book ≡ N.owner first.book)
         × (now.is_torn ≡ false → (first.is_torn ≡ false) × HearsItsOwn first.desk now.desk

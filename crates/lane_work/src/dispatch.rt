@@ -108,6 +108,15 @@ impl<B: Naming> Dispatch<B> {
         ticket.withdraw(&mut self.front);
     }
 
+    /// A front has then what is known of the history here, too.
+    pub fn teach(&self, front: &mut Front<B>)
+        ensures mine { IsPrefix self.now.history front.new }
+        ensures before { IsPrefix front.old front.new }
+        ensures legal { Legal front.new }
+    {
+        front.learn(&self.front);
+    }
+
     /// Learns what an answer brings. Of a copy that was stored, and where this answers true, the history has the verdict.
     pub fn learn(&mut self, answer: &Answer<B>) -> bool
         ensures learned { HasLearned self.old self.new }

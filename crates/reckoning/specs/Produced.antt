@@ -8,6 +8,7 @@ use Rattle.imap_session.specs.Folders.{folders_of}
 use Rattle.shard_queue.specs.declared.lane.Entry.{Entry}
 use Rattle.shard_queue.specs.declared.ends.ReplyChannel.{ReplyChannel}
 use Rattle.imap_session.specs.Commands.{greeting}
+use Rattle.house_history.specs.declared.event.Event.{Event}
 use Rattle.session_thread.specs.Life.{Lives, Moment, greeted_at}
 use Rattle.lane_work.specs.declared.worker.Worked.{Worked}
 use Rattle.lane_work.specs.declared.worker.Fate.TheVariants.{Whole}
@@ -23,12 +24,13 @@ use Rattle.house_floor.specs.declared.floor.Floor.{Floor}
 use Rattle.house_floor.specs.declared.floor.Guest.{Guest}
 
 -- A session of this user with these steps said this: it was greeted in no mailbox, and lived through its steps, over so many mailboxes. These messages of its
--- client were carried on the way, in this order.
+-- client were carried on the way, in this order. `began` is how the house's history begins, as far as it had seen it when it came.
 pub record WasGuest (house : Premises) (mailboxes turns : ℕ) (guest : Guest) (carried : List Carried) (text : List ℕ) : Type 0 where
   pub user : List ℕ
   pub named : user_numbered guest.user house.directory.homes ≡ Some user
+  pub began : List Event
   pub last : Moment
-  pub lives : Lives turns (greeted_at (Some (most_of house.max_message)) (folders_of house.directory user) (record { mailboxes = mailboxes; entered = None }) greeting) guest.steps.items carried last
+  pub lives : Lives turns (greeted_at (Some (most_of house.max_message)) (folders_of house.directory user) (record { mailboxes = mailboxes; entered = None; history = began }) greeting) guest.steps.items carried last
   pub wrote : text ≡ last.text
 
 -- The account of a session that made its steps, as that of a worker: what it said, and of the messages that its client appended what its log has and what it

@@ -1,4 +1,4 @@
 pub mod Shown
 pub mod Living
 pub mod Spoken
-pub mod Abutting
+pub mod SinceSelect

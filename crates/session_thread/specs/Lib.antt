@@ -1,4 +1,4 @@
 pub mod Locks
 pub mod Life
-pub mod Abut
+pub mod SinceSelect
 pub mod inner

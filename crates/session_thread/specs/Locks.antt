@@ -1,5 +1,6 @@
--- What a session does to mailboxes behind locks: each call takes the lock of one mailbox, does one thing to it, and lets go.
-use Rattle.std.specs.Prelude.{◌≡◌, ◌≢◌, ℕ, ◌-◌, ◌<◌, ◌≤◌, ◌⊎◌, Bool, true, List, length, drop, min, Option, Some, None, IsSome, Result, Ok, Err}
+-- What a session does to mailboxes behind locks: each call takes the lock of one mailbox, does one thing to it, says in the house's history what it did,
+-- and lets go.
+use Rattle.std.specs.Prelude.{◌≡◌, ◌≢◌, ℕ, ◌-◌, ◌<◌, ◌≤◌, ◌⊎◌, Bool, true, List, [], ◌∷◌, length, drop, min, Option, Some, None, IfSome, IsSome, Result, Ok, Err}
 use Rattle.change_ring.specs.declared.change.Change.{Change}
 use Rattle.change_ring.specs.Log.{view_at}
 use Rattle.change_ring.specs.Logged.{flags_logged, removals, removals_if, seen_logged}
@@ -12,27 +13,61 @@ use Rattle.mailbox.specs.Mailbox.{Mailbox, message_with, rows}
 use Rattle.mailbox.specs.Stands.{IsKept, Stands, next_of}
 use Rattle.mailbox.specs.declared.clients.MailFault.{MailFault}
 use Rattle.mailbox.specs.declared.clients.MailFault.TheVariants.{Stranger, Lapped, Spent, NoMemory}
+use Rattle.mailbox.specs.declared.clients.Row.{Row}
 use Rattle.mailbox.specs.declared.mailbox.Status.{Status}
+use Rattle.house_history.specs.declared.event.Event.{Event}
+use Rattle.house_history.specs.declared.event.Event.TheVariants.{Changed}
+use Rattle.house_history.specs.declared.event.Step.{Step}
+use Rattle.house_history.specs.declared.event.Step.TheVariants as steps
+use Rattle.house_history.specs.Legal.{HasText}
+use Rattle.locked_mailbox.specs.Locking.{Knows, LockedMailbox}
 use Rattle.workers_sync.specs.Holds.{Alters, Counts, Enters, EntersNot, Expunges, Feeds, IsRefused, HasCursor, Leaves, LeavesNot, Reads, UnderLock}
 use Rattle.imap_session.specs.Exchange.{Call, Answer, Enter, Look, Read, Count, Alter, Expunge, Feed, Leave, Entered, Looked, Found, Counted, Altered, Expunged, Fed, Left, Refused}
 use Rattle.session_thread.specs.declared.locked_store.Entry.{Entry}
 
--- What a session knows between two calls: how many mailboxes there are, and the handle that it has in one of them.
+-- What a session knows between two calls: how many mailboxes there are, the handle that it has in one of them, and how the house's history begins, as
+-- far as it has seen it.
 pub record LockedStore : Type 0 where
   pub mailboxes : ℕ
   pub entered : Option Entry
+  pub history : List Event
 
 -- The session is in a mailbox, and this holds of its handle there.
 abbrev pub In : LockedStore → (Entry → Type 0) → Type 0
 In selection P = (here : Entry) × (selection.entered ≡ Some here) × P here
 
+-- the session where it is, when it has seen so much of the history
+abbrev pub seeing : LockedStore → List Event → LockedStore
+seeing selection history = record { mailboxes = selection.mailboxes; entered = selection.entered; history = history }
+
 -- the session with this handle, in the mailbox that it had entered
-abbrev pub entered_at : LockedStore → Entry → CursorHandle → LockedStore
-entered_at selection here handle = record { mailboxes = selection.mailboxes; entered = Some (record { mailbox = here.mailbox; start = here.start; handle = handle }) }
+abbrev pub entered_at : LockedStore → Entry → CursorHandle → List Event → LockedStore
+entered_at selection here handle history =
+    record { mailboxes = selection.mailboxes; entered = Some (record { mailbox = here.mailbox; start = here.start; handle = handle }); history = history }
 
 -- the session in no mailbox
-abbrev pub outside : LockedStore → LockedStore
-outside selection = record { mailboxes = selection.mailboxes; entered = None }
+abbrev pub outside : LockedStore → List Event → LockedStore
+outside selection history = record { mailboxes = selection.mailboxes; entered = None; history = history }
+
+-- ---- one hold
+
+-- what is said of a mailbox in the history: that a client did this there, or nothing
+abbrev pub says : Step → ℕ → List Event
+says step mailbox = Changed mailbox step ∷ []
+
+abbrev pub says_nothing : ℕ → List Event
+says_nothing mailbox = []
+
+-- A lock was taken by a session that had seen so much of the history: this mailbox was found, this was done to it, it was left like that, and just this was
+-- said of it. Then the lock was let go, and the session has seen so much more of the history: all that has happened to that mailbox.
+abbrev pub Held : List Event → List Event → (ℕ → List Event) → (Mailbox → Mailbox → Type 0) → Type 0
+Held before after said P = (found : LockedMailbox) × (left : LockedMailbox) × P found.mailbox left.mailbox × Knows found left (said found.mailbox.number) before after
+
+-- the text of the message that was read is that of the copy which was stored there under its UID
+abbrev pub HasItsText : List Event → ℕ → Option Row → Type 0
+HasItsText history mailbox found = IfSome found (λ row. HasText history mailbox row.uid row.text)
+
+-- ---- calls
 
 -- What a client was shown is the log's, for each log for which the mailbox that was found stood: what it counted is what the log's first changes
 -- leave, and the changes are those that were due.
@@ -67,34 +102,47 @@ LooksNot by_uid set Lapped found handle = ⊥
 LooksNot by_uid set Spent found handle = ⊥
 LooksNot by_uid set NoMemory found handle = IsKept found × (view : List ℕ) × HasCursor found handle view × (names_one by_uid set view ≡ true)
 
--- One call of a session over locks, with its answer. Of the mailbox nothing is known but what the call finds, and its number: the one that was asked
--- for, and in a mailbox that was entered the handle's, which is that one.
+-- One call of a session over locks, with its answer. Of the mailbox nothing is known but what the call finds, and what the history says of it by then; and its
+-- number: the one that was asked for, and in a mailbox that was entered the handle's, which is that one. A call that is refused leaves the session as it was.
 abbrev pub Holds : LockedStore → Call → Answer → LockedStore → Type 0
 Holds old (Enter m) (Entered opening) new =
     (old.entered ≡ None) × (m < old.mailboxes)
-    × ((handle : CursorHandle) × UnderLock (λ found left. (found.number ≡ m) × Enters found opening left handle) × (new ≡ record { mailboxes = old.mailboxes; entered = Some (record { mailbox = m; start = handle.at; handle = handle }) }))
+    × ((handle : CursorHandle) × Held old.history new.history says_nothing (λ found left. (found.number ≡ m) × Enters found opening left handle)
+    × (new ≡ record { mailboxes = old.mailboxes; entered = Some (record { mailbox = m; start = handle.at; handle = handle }); history = new.history }))
 Holds old (Enter m) (Refused fault) new = (new ≡ old) × StaysOut old m fault
--- a look at the view, which is no event: nothing is changed
-Holds old (Look by_uid set) (Looked view) new = (new ≡ old) × In old (λ here. UnderLock (λ found left. (left ≡ found) × IsKept found × HasCursor found here.handle view))
+-- A look at the view, which is no event: nothing is changed. What it saw of the history is forgotten again.
+Holds old (Look by_uid set) (Looked view) new =
+    (new ≡ old) × In old (λ here. (seen : List Event) × Held old.history seen says_nothing (λ found left. (left ≡ found) × IsKept found × HasCursor found here.handle view))
 Holds old (Look by_uid set) (Refused fault) new =
     (new ≡ old) × ((old.entered ≡ None) × (fault ≡ Stranger) ⊎ In old (λ here. UnderLock (λ found left. (left ≡ found) × LooksNot by_uid set fault found here.handle)))
-Holds old (Read uid mark) (Found row) new = (new ≡ old) × In old (λ here. UnderLock (λ found left. Reads found here.handle uid mark row left))
+Holds old (Read uid mark) (Found row) new =
+    (new ≡ seeing old new.history)
+    × In old (λ here. Held old.history new.history (says (steps.Read uid mark)) (λ found left. Reads found here.handle uid mark row left × HasItsText new.history found.number row))
 Holds old (Read uid mark) (Refused fault) new =
     (new ≡ old) × TurnsAway old (λ found handle. IsTooMany found (seen_logged mark (rows found) uid)) (λ found handle. IsSome (message_with uid found.messages)) fault
 -- nor is a count
-Holds old (Count m) (Counted status) new = (new ≡ old) × (m < old.mailboxes) × UnderLock (λ found left. DoesCountAt m found (Ok status) left)
+Holds old (Count m) (Counted status) new =
+    (new ≡ seeing old new.history) × (m < old.mailboxes) × Held old.history new.history says_nothing (λ found left. DoesCountAt m found (Ok status) left)
 Holds old (Count m) (Refused fault) new =
     (new ≡ old) × ((old.mailboxes ≤ m) × (fault ≡ Stranger) ⊎ (m < old.mailboxes) × UnderLock (λ found left. DoesCountAt m found (Err fault) left))
-Holds old (Alter uid op) (Altered flags) new = (new ≡ old) × In old (λ here. UnderLock (λ found left. Alters found here.handle uid op flags left))
+Holds old (Alter uid op) (Altered flags) new =
+    (new ≡ seeing old new.history) × In old (λ here. Held old.history new.history (says (steps.Alter uid op)) (λ found left. Alters found here.handle uid op flags left))
 Holds old (Alter uid op) (Refused fault) new = (new ≡ old) × TurnsAway old (λ found handle. IsTooMany found (flags_logged (rows found) uid op)) (λ found handle. ⊥) fault
 Holds old (Expunge uids) (Expunged view changes gone) new =
-    In old (λ here. (next : CursorHandle) × UnderLock (λ found left. Expunges found here.handle uids view changes gone left next × ShowsOf found here.handle view changes (drop here.handle.at)) × (new ≡ entered_at old here next))
+    In old (λ here. (next : CursorHandle)
+    × Held old.history new.history (says (steps.Expunge uids))
+    (λ found left. Expunges found here.handle uids view changes gone left next × ShowsOf found here.handle view changes (drop here.handle.at))
+    × (new ≡ entered_at old here next new.history))
 Holds old (Expunge uids) (Refused fault) new =
     (new ≡ old) × TurnsAway old (λ found handle. IsTooMany found (removals (in_set uids) (rows found))) (λ found handle. handle.at < total found.window) fault
 Holds old (Feed limit) (Fed view changes) new =
-    In old (λ here. (next : CursorHandle) × UnderLock (λ found left. Feeds found here.handle limit view changes left next × ShowsOf found here.handle view changes (λ log. next_of log here.handle.at (length changes))) × (new ≡ entered_at old here next))
+    In old (λ here. (next : CursorHandle)
+    × Held old.history new.history says_nothing
+    (λ found left. Feeds found here.handle limit view changes left next × ShowsOf found here.handle view changes (λ log. next_of log here.handle.at (length changes)))
+    × (new ≡ entered_at old here next new.history))
 Holds old (Feed limit) (Refused fault) new = (new ≡ old) × TurnsAway old (λ found handle. ⊥) (λ found handle. 0 < min limit (total found.window - handle.at)) fault
-Holds old (Leave remove) (Left gone) new = In old (λ here. UnderLock (λ found left. Leaves found here.handle remove gone left)) × (new ≡ outside old)
+Holds old (Leave remove) (Left gone) new =
+    In old (λ here. Held old.history new.history (says (steps.Leave remove)) (λ found left. Leaves found here.handle remove gone left)) × (new ≡ outside old new.history)
 Holds old (Leave remove) (Refused fault) new =
     (new ≡ old)
     × ((old.entered ≡ None) × (fault ≡ Stranger)

@@ -1,10 +1,15 @@
 //! What holds of every session over locks, as the contract of a function that anybody may call. No
 //! code of a session stands here.
 
-ghost use Rattle.session_thread.specs.Abut.{Abut};
+ghost use Rattle.session_thread.specs.SinceSelect.{ShownByCall, ShownSinceSelect};
 
-/// The pieces of the log that a session is shown abut: each begins at the number at which the one
-/// before ended, whatever others do between two holds.
-pub fn pieces_abut()
-    ensures { Abut }
+/// What a session was shown since its SELECT is exactly its mailbox's changes in the house's history, up to its cursor, in order,
+/// whatever others do between two holds of a lock: nothing is left out, and nothing is shown twice. What it is told of the mailbox
+/// is what the history says: how many messages SELECT found, the view that each call met, and the text under a UID.
+pub fn shown_since_select()
+    // Each call of the store tells what the history says, and goes on from where the cursor was.
+    ensures call { ShownByCall }
+
+    // So behind any calls, one after another, what was shown is up to the cursor.
+    ensures since { ShownSinceSelect }
 {}

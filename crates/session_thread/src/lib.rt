@@ -10,7 +10,7 @@ mod locked_store;
 mod speaking;
 mod turns;
 
-pub use laws::pieces_abut;
+pub use laws::shown_since_select;
 pub use life::{depart, live, takes_more};
 pub use locked_store::LockedStore;
 pub use speaking::answer;

@@ -1,12 +1,16 @@
 //! One hold of a mailbox's lock for each call: through the door of `locked_mailbox` one thing is done to the mailbox that is found, and the
 //! house's history is told of it. Which lock, and for whose handle, is told above.
 
-ghost use Rattle.std.specs.Prelude.{◌≡◌, ◌≢◌, ◌≤◌, ◌⊎◌, ℕ, List, None, Some, Ok, Err, IfErr, IfOk, option_map};
+ghost use Rattle.std.specs.Prelude.{◌≡◌, ◌≢◌, ◌≤◌, ◌⊎◌, ℕ, List, [], None, Some, Ok, Err, IfErr, IfOk, option_map};
 ghost use Rattle.imap_grammar.specs.Sets.{messages_in};
 ghost use Rattle.std.specs.Option.{option_copied};
 ghost use Rattle.std.specs.Vec.{vec_capacity};
+ghost use Rattle.house_history.specs.declared.event.Event.TheVariants as events;
+ghost use Rattle.house_history.specs.declared.event.Event.{Event};
+ghost use Rattle.house_history.specs.declared.event.Step.TheVariants as steps;
+ghost use Rattle.locked_mailbox.specs.Locking.{Knows, on_ok};
 ghost use Rattle.workers_sync.specs.Holds.{DoesAlter, DoesExpunge, DoesFeed, DoesLeave, DoesLook, DoesRead, UnderLock};
-ghost use Rattle.session_thread.specs.Locks.{DoesCountAt, LooksNot};
+ghost use Rattle.session_thread.specs.Locks.{DoesCountAt, HasItsText, Held, LooksNot, says_nothing};
 ghost use Rattle.session_thread.specs.inner.Entering.{DoesEnterAt};
 
 use change_ring::{FlagOp, Flags};
@@ -24,9 +28,11 @@ fn enter_at<B: Naming>(
     front: &mut Front<B>,
     number: u8,
 ) -> Result<(CursorHandle, Opening), MailFault>
-    ensures { DoesEnterAt number locked.old.mailbox result locked.new.mailbox }
+    ensures event { DoesEnterAt number locked.old.mailbox result locked.new.mailbox }
+    ensures history { Knows locked.old locked.new [] front.old front.new }
 {
     if locked.mailbox().number() != number {
+        locked.look(front);
         return Err(MailFault::Stranger);
     }
     locked.enter(front)
@@ -38,7 +44,8 @@ pub(crate) fn enter<B: Naming, R: Wait>(
     front: &mut Front<B>,
     number: u8,
 ) -> Result<(CursorHandle, Opening), MailFault>
-    ensures { UnderLock (λ found left. DoesEnterAt number found result left) }
+    ensures { Held front.old front.new says_nothing
+        (λ found left. DoesEnterAt number found result left) }
 {
     let mut seen = front.again();
     let (entered, seen) = under(
@@ -48,7 +55,8 @@ pub(crate) fn enter<B: Naming, R: Wait>(
             Result<(CursorHandle, Opening), MailFault>,
             Front<B>,
         )
-            ensures { DoesEnterAt number locked.old.mailbox result.0 locked.new.mailbox }
+            ensures event { DoesEnterAt number locked.old.mailbox result.0 locked.new.mailbox }
+            ensures history { Knows locked.old locked.new [] seen result.1 }
         {
             let entered = enter_at(locked, &mut seen, number);
             (entered, seen)
@@ -58,21 +66,25 @@ pub(crate) fn enter<B: Naming, R: Wait>(
     entered
 }
 
-// The messages that a set names, as the handle's client counts them. Memory is wanted only where there is one.
+// The messages that a set names, as the handle's client counts them, and what is seen of the history. Memory is wanted only where there is one.
 fn choose_in<B: Naming>(
     alloc: Global,
-    locked: &LockedMailbox<B>,
+    locked: &mut LockedMailbox<B>,
+    front: &mut Front<B>,
     handle: &CursorHandle,
     set: &SeqSet<'_>,
     by_uid: bool,
 ) -> Result<Option<Vec<Named>>, MailFault>
+    ensures same { locked.new.mailbox ≡ locked.old.mailbox }
+    ensures history { Knows locked.old locked.new [] front.old front.new }
     ensures chosen { IfOk result (λ chosen. (view : List ℕ)
-        × DoesLook locked.now.mailbox handle.now (Ok view)
+        × DoesLook locked.old.mailbox handle.now (Ok view)
         × (option_map (λ named. named.items) chosen ≡ messages_in by_uid set.now view)) }
     ensures not { IfErr result (λ fault.
-        LooksNot by_uid set.now fault locked.now.mailbox handle.now) }
+        LooksNot by_uid set.now fault locked.old.mailbox handle.now) }
     ensures faults { IfErr result (λ f. (f ≡ MailFault.Stranger) ⊎ (f ≡ MailFault.NoMemory)) }
 {
+    locked.look(front);
     let view = locked.view(handle)?;
     match set.resolve(alloc, &view, by_uid) {
         Err(SetFault::TooHigh) => Ok(None),
@@ -85,12 +97,14 @@ pub(crate) fn choose<B: Naming, R: Wait>(
     rt: &R,
     alloc: Global,
     lock: &Mutex<LockedMailbox<B>>,
+    front: &Front<B>,
     handle: &CursorHandle,
     set: &SeqSet<'_>,
     by_uid: bool,
 ) -> Result<Option<Vec<Named>>, MailFault>
-    ensures chosen { IfOk result (λ chosen. (view : List ℕ)
-        × UnderLock (λ found left. (left ≡ found) × DoesLook found handle.now (Ok view))
+    ensures chosen { IfOk result (λ chosen. (view : List ℕ) × (seen : List Event)
+        × Held front.now seen says_nothing
+        (λ found left. (left ≡ found) × DoesLook found handle.now (Ok view))
         × (option_map (λ named. named.items) chosen ≡ messages_in by_uid set.now view)) }
     ensures not { IfErr result (λ fault.
         UnderLock (λ found left. (left ≡ found) × LooksNot by_uid set.now fault found handle.now)) }
@@ -98,25 +112,31 @@ pub(crate) fn choose<B: Naming, R: Wait>(
 {
     // The set is lent, since a closure that captured it would lose its clauses.
     let mut set = set;
-    under_with(
+    let mut seen = front.again();
+    let (chosen, _) = under_with(
         rt,
         lock,
         &mut set,
-        |locked: &mut LockedMailbox<B>, set: &mut &SeqSet<'_>| -> Result<
-            Option<Vec<Named>>,
-            MailFault,
-        >
-            ensures same { locked.new ≡ locked.old }
-            ensures chosen { IfOk result (λ chosen. (view : List ℕ)
+        move |locked: &mut LockedMailbox<B>, set: &mut &SeqSet<'_>| -> (
+            Result<Option<Vec<Named>>, MailFault>,
+            Front<B>,
+        )
+            ensures same { locked.new.mailbox ≡ locked.old.mailbox }
+            ensures history { Knows locked.old locked.new [] seen result.1 }
+            ensures chosen { IfOk result.0 (λ chosen. (view : List ℕ)
                 × DoesLook locked.old.mailbox handle.entry.now (Ok view)
                 × (option_map (λ named. named.items) chosen
                 ≡ messages_in by_uid set.old.now view)) }
-            ensures not { IfErr result (λ fault.
+            ensures not { IfErr result.0 (λ fault.
                 LooksNot by_uid set.old.now fault locked.old.mailbox handle.entry.now) }
-            ensures faults { IfErr result (λ f. (f ≡ MailFault.Stranger)
+            ensures faults { IfErr result.0 (λ f. (f ≡ MailFault.Stranger)
                 ⊎ (f ≡ MailFault.NoMemory)) }
-        { choose_in(alloc, locked, handle, set, by_uid) },
-    )
+        {
+            let chosen = choose_in(alloc, locked, &mut seen, handle, set, by_uid);
+            (chosen, seen)
+        },
+    );
+    chosen
 }
 
 pub(crate) fn read<B: Naming, R: Wait>(
@@ -127,15 +147,23 @@ pub(crate) fn read<B: Naming, R: Wait>(
     uid: u32,
     mark_seen: bool,
 ) -> Result<Option<Row>, MailFault>
-    ensures { UnderLock (λ found left. DoesRead found handle.now uid mark_seen result left) }
+    ensures { Held front.old front.new
+        (λ m. on_ok result (events.Changed m (steps.Read uid mark_seen)))
+        (λ found left. DoesRead found handle.now uid mark_seen result left
+        × IfOk result (HasItsText front.new found.number)) }
 {
     let mut seen = front.again();
     let (row, seen) = under(
         rt,
         lock,
         move |locked: &mut LockedMailbox<B>| -> (Result<Option<Row>, MailFault>, Front<B>)
-            ensures { DoesRead locked.old.mailbox handle.entry.now uid mark_seen result.0
+            ensures event { DoesRead locked.old.mailbox handle.entry.now uid mark_seen result.0
                 locked.new.mailbox }
+            ensures text { IfOk result.0 (HasItsText result.1 locked.old.mailbox.number) }
+            ensures history { Knows locked.old locked.new
+                (on_ok result.0
+                (events.Changed locked.old.mailbox.number (steps.Read uid mark_seen)))
+                seen result.1 }
         {
             let row = locked.read(&mut seen, handle, uid, mark_seen);
             (row, seen)
@@ -146,9 +174,15 @@ pub(crate) fn read<B: Naming, R: Wait>(
 }
 
 // Counts the mailbox that is held, where it has this number.
-fn count_at<B: Naming>(locked: &LockedMailbox<B>, number: u8) -> Result<Status, MailFault>
-    ensures { DoesCountAt number locked.now.mailbox result locked.now.mailbox }
+fn count_at<B: Naming>(
+    locked: &mut LockedMailbox<B>,
+    front: &mut Front<B>,
+    number: u8,
+) -> Result<Status, MailFault>
+    ensures event { DoesCountAt number locked.old.mailbox result locked.new.mailbox }
+    ensures history { Knows locked.old locked.new [] front.old front.new }
 {
+    locked.look(front);
     if locked.mailbox().number() != number {
         return Err(MailFault::Stranger);
     }
@@ -158,17 +192,26 @@ fn count_at<B: Naming>(locked: &LockedMailbox<B>, number: u8) -> Result<Status, 
 pub(crate) fn count<B: Naming, R: Wait>(
     rt: &R,
     lock: &Mutex<LockedMailbox<B>>,
+    front: &mut Front<B>,
     number: u8,
 ) -> Result<Status, MailFault>
-    ensures { UnderLock (λ found left. DoesCountAt number found result left) }
+    ensures { Held front.old front.new says_nothing
+        (λ found left. DoesCountAt number found result left) }
 {
-    under(
+    let mut seen = front.again();
+    let (status, seen) = under(
         rt,
         lock,
-        |locked: &mut LockedMailbox<B>| -> Result<Status, MailFault>
-            ensures { DoesCountAt number locked.old.mailbox result locked.new.mailbox }
-        { count_at(locked, number) },
-    )
+        move |locked: &mut LockedMailbox<B>| -> (Result<Status, MailFault>, Front<B>)
+            ensures event { DoesCountAt number locked.old.mailbox result.0 locked.new.mailbox }
+            ensures history { Knows locked.old locked.new [] seen result.1 }
+        {
+            let status = count_at(locked, &mut seen, number);
+            (status, seen)
+        },
+    );
+    *front = seen;
+    status
 }
 
 pub(crate) fn alter<B: Naming, R: Wait>(
@@ -179,15 +222,19 @@ pub(crate) fn alter<B: Naming, R: Wait>(
     uid: u32,
     op: FlagOp,
 ) -> Result<Option<Flags>, MailFault>
-    ensures { UnderLock (λ found left. DoesAlter found handle.now uid op result left) }
+    ensures { Held front.old front.new (λ m. on_ok result (events.Changed m (steps.Alter uid op)))
+        (λ found left. DoesAlter found handle.now uid op result left) }
 {
     let mut seen = front.again();
     let (flags, seen) = under(
         rt,
         lock,
         move |locked: &mut LockedMailbox<B>| -> (Result<Option<Flags>, MailFault>, Front<B>)
-            ensures { DoesAlter locked.old.mailbox handle.entry.now uid op result.0
+            ensures event { DoesAlter locked.old.mailbox handle.entry.now uid op result.0
                 locked.new.mailbox }
+            ensures history { Knows locked.old locked.new
+                (on_ok result.0 (events.Changed locked.old.mailbox.number (steps.Alter uid op)))
+                seen result.1 }
         {
             let flags = locked.alter(&mut seen, handle, uid, op);
             (flags, seen)
@@ -205,7 +252,9 @@ fn expunge_all<B: Naming, R: Wait>(
     mut handle: CursorHandle,
     out: &mut Vec<u8>,
 ) -> (Result<usize, MailFault>, CursorHandle)
-    ensures event { UnderLock (λ found left.
+    ensures event { Held front.old front.new
+        (λ m. on_ok result.0 (events.Changed m (steps.Expunge None)))
+        (λ found left.
         DoesExpunge found handle None out.old.items out.new.items result.0 left result.1) }
     ensures room { vec_capacity out.old ≤ vec_capacity out.new }
 {
@@ -221,6 +270,9 @@ fn expunge_all<B: Naming, R: Wait>(
         )
             ensures event { DoesExpunge locked.old.mailbox handle None out.old.items
                 out.new.items result.0 locked.new.mailbox result.1 }
+            ensures history { Knows locked.old locked.new
+                (on_ok result.0 (events.Changed locked.old.mailbox.number (steps.Expunge None)))
+                seen result.2 }
             ensures room { vec_capacity out.old ≤ vec_capacity out.new }
         {
             let gone = locked.expunge(&mut seen, &mut handle, None, out);
@@ -240,9 +292,10 @@ fn expunge_named<B: Naming, R: Wait>(
     uids: &[u32],
     out: &mut Vec<u8>,
 ) -> (Result<usize, MailFault>, CursorHandle)
-    ensures event { UnderLock (λ found left.
-        DoesExpunge found handle (Some uids.now) out.old.items out.new.items result.0
-        left result.1) }
+    ensures event { Held front.old front.new
+        (λ m. on_ok result.0 (events.Changed m (steps.Expunge (Some uids.now))))
+        (λ found left. DoesExpunge found handle (Some uids.now) out.old.items out.new.items
+        result.0 left result.1) }
     ensures room { vec_capacity out.old ≤ vec_capacity out.new }
 {
     let mut seen = front.again();
@@ -257,6 +310,10 @@ fn expunge_named<B: Naming, R: Wait>(
         )
             ensures event { DoesExpunge locked.old.mailbox handle (Some uids.entry.now)
                 out.old.items out.new.items result.0 locked.new.mailbox result.1 }
+            ensures history { Knows locked.old locked.new
+                (on_ok result.0
+                (events.Changed locked.old.mailbox.number (steps.Expunge (Some uids.entry.now))))
+                seen result.2 }
             ensures room { vec_capacity out.old ≤ vec_capacity out.new }
         {
             let gone = locked.expunge(&mut seen, &mut handle, Some(uids), out);
@@ -275,9 +332,10 @@ pub(crate) fn expunge<B: Naming, R: Wait>(
     uids: Option<&[u32]>,
     out: &mut Vec<u8>,
 ) -> (Result<usize, MailFault>, CursorHandle)
-    ensures event { UnderLock (λ found left.
-        DoesExpunge found handle (option_copied uids.entry) out.old.items out.new.items result.0
-        left result.1) }
+    ensures event { Held front.old front.new
+        (λ m. on_ok result.0 (events.Changed m (steps.Expunge (option_copied uids.entry))))
+        (λ found left. DoesExpunge found handle (option_copied uids.entry) out.old.items
+        out.new.items result.0 left result.1) }
     ensures room { vec_capacity out.old ≤ vec_capacity out.new }
 {
     match uids {
@@ -294,7 +352,7 @@ pub(crate) fn feed<B: Naming, R: Wait>(
     limit: usize,
     out: &mut Vec<u8>,
 ) -> (Result<usize, MailFault>, CursorHandle)
-    ensures event { UnderLock (λ found left.
+    ensures event { Held front.old front.new says_nothing (λ found left.
         DoesFeed found handle limit out.old.items out.new.items result.0 left result.1) }
     ensures few { IfOk result.0 (λ n. n ≤ limit) }
     ensures faults { IfErr result.0 (λ f. f ≢ MailFault.Spent) }
@@ -315,6 +373,7 @@ pub(crate) fn feed<B: Naming, R: Wait>(
             ensures few { IfOk result.0 (λ n. n ≤ limit) }
             ensures faults { IfErr result.0 (λ f. f ≢ MailFault.Spent) }
             ensures room { vec_capacity out.old ≤ vec_capacity out.new }
+            ensures history { Knows locked.old locked.new [] seen result.2 }
         {
             let fed = locked.feed(&mut seen, &mut handle, limit, out);
             (fed, handle, seen)
@@ -331,14 +390,19 @@ pub(crate) fn leave<B: Naming, R: Wait>(
     handle: CursorHandle,
     remove: bool,
 ) -> Result<usize, (CursorHandle, MailFault)>
-    ensures { UnderLock (λ found left. DoesLeave found handle remove result left) }
+    ensures { Held front.old front.new
+        (λ m. on_ok result (events.Changed m (steps.Leave remove)))
+        (λ found left. DoesLeave found handle remove result left) }
 {
     let mut seen = front.again();
     let (left, seen) = under(
         rt,
         lock,
         move |locked: &mut LockedMailbox<B>| -> (Result<usize, (CursorHandle, MailFault)>, Front<B>)
-            ensures { DoesLeave locked.old.mailbox handle remove result.0 locked.new.mailbox }
+            ensures event { DoesLeave locked.old.mailbox handle remove result.0 locked.new.mailbox }
+            ensures history { Knows locked.old locked.new
+                (on_ok result.0 (events.Changed locked.old.mailbox.number (steps.Leave remove)))
+                seen result.1 }
         {
             let left = locked.leave(&mut seen, handle, remove);
             (left, seen)

@@ -5,6 +5,7 @@ ghost use Rattle.std.specs.Prelude.{◌≡◌, ◌∷◌, ◌++◌, [], List, If
 ghost use Rattle.workers_sync.specs.Carried.{Carried};
 ghost use Rattle.session_thread.specs.Life.{carried_of};
 ghost use Rattle.session_thread.specs.Locks.{Holds, shown_in};
+ghost use Rattle.session_thread.specs.inner.Entering.{seen_behind};
 
 use crate::locked;
 use change_ring::{FlagOp, Flags};
@@ -44,6 +45,20 @@ fn has_removed(gone: &Result<usize, MailFault>) -> bool {
     }
 }
 
+// What a session has seen of the history behind a hold: a call that is refused leaves it as it was.
+fn seen_behind<B: Naming, T>(
+    answer: &Result<T, MailFault>,
+    before: Front<B>,
+    after: Front<B>,
+) -> Front<B>
+    ensures { result ≡ seen_behind answer.now before after }
+{
+    match answer {
+        Ok(_) => after,
+        Err(_) => before,
+    }
+}
+
 // The mailbox that a session entered, the number of the log's next change when it did, and its handle
 // there.
 #[derive(Drop)]
@@ -55,7 +70,7 @@ struct Entry {
 
 /// The mailboxes of the house as one session gets at them: each call takes the lock of one mailbox,
 /// makes one event of it, or looks at the view, and lets go. Between two calls nothing is known of a
-/// mailbox, but the session's handle.
+/// mailbox, but the session's handle, and how the house's history begins.
 ///
 /// The session asks its gate to pass before each hold that is an event, also one that is refused under
 /// the lock; a look at the view is none, and a call that takes no lock doesn't ask. Behind a hold that
@@ -78,7 +93,11 @@ impl<'a, B: Naming, R: Wait, G: Gate> Model for LockedStore<'a, B, R, G> {
 
     ghost Value = { LockedStore };
 
-    ghost view = { λ d. record { mailboxes = length d.mailboxes.now; entered = d.entered } };
+    ghost view = { λ d. record {
+      mailboxes = length d.mailboxes.now;
+      entered = d.entered;
+      history = d.front;
+    } };
 
     ghost invariant = { λ d. IfSome d.entered (λ here. here.mailbox < length d.mailboxes.now) };
 }
@@ -95,7 +114,11 @@ impl<'a, B: Naming, R: Wait, G: Gate> LockedStore<'a, B, R, G> {
         front: Front<B>,
         bells: &'a [SessionBell],
     ) -> LockedStore<'a, B, R, G>
-        ensures { result ≡ record { mailboxes = length mailboxes.now; entered = None } }
+        ensures { result ≡ record {
+          mailboxes = length mailboxes.now;
+          entered = None;
+          history = front;
+        } }
     {
         LockedStore {
             rt,
@@ -176,7 +199,9 @@ impl<'a, B: Naming, R: Wait, G: Gate> Store for LockedStore<'a, B, R, G> {
         }
         self.pace.pass();
         let lock = &self.mailboxes[usize::from(mailbox)];
-        let (handle, opening) = locked::enter(self.rt, lock, &mut self.front, mailbox)?;
+        let mut front = self.front.again();
+        let (handle, opening) = locked::enter(self.rt, lock, &mut front, mailbox)?;
+        self.front = front;
         self.entered = Some(Entry {
             mailbox,
             start: handle.at(),
@@ -195,7 +220,7 @@ impl<'a, B: Naming, R: Wait, G: Gate> Store for LockedStore<'a, B, R, G> {
             return Err(MailFault::Stranger);
         };
         let lock = &self.mailboxes[usize::from(here.mailbox)];
-        locked::choose(self.rt, alloc, lock, &here.handle, set, by_uid)
+        locked::choose(self.rt, alloc, lock, &self.front, &here.handle, set, by_uid)
     }
 
     fn read(&mut self, uid: u32, mark_seen: bool) -> Result<Option<Row>, MailFault> {
@@ -205,7 +230,9 @@ impl<'a, B: Naming, R: Wait, G: Gate> Store for LockedStore<'a, B, R, G> {
         };
         self.pace.pass();
         let lock = &mailboxes[usize::from(here.mailbox)];
-        let row = locked::read(self.rt, lock, &mut self.front, &here.handle, uid, mark_seen);
+        let mut front = self.front.again();
+        let row = locked::read(self.rt, lock, &mut front, &here.handle, uid, mark_seen);
+        self.front = seen_behind(&row, self.front.again(), front);
         if has_marked(&row) {
             ring_each(self.bells);
         }
@@ -218,7 +245,10 @@ impl<'a, B: Naming, R: Wait, G: Gate> Store for LockedStore<'a, B, R, G> {
         }
         self.pace.pass();
         let lock = &self.mailboxes[usize::from(mailbox)];
-        locked::count(self.rt, lock, mailbox)
+        let mut front = self.front.again();
+        let status = locked::count(self.rt, lock, &mut front, mailbox);
+        self.front = seen_behind(&status, self.front.again(), front);
+        status
     }
 
     fn store(&mut self, uid: u32, op: FlagOp) -> Result<Option<Flags>, MailFault> {
@@ -228,7 +258,9 @@ impl<'a, B: Naming, R: Wait, G: Gate> Store for LockedStore<'a, B, R, G> {
         };
         self.pace.pass();
         let lock = &mailboxes[usize::from(here.mailbox)];
-        let flags = locked::alter(self.rt, lock, &mut self.front, &here.handle, uid, op);
+        let mut front = self.front.again();
+        let flags = locked::alter(self.rt, lock, &mut front, &here.handle, uid, op);
+        self.front = seen_behind(&flags, self.front.again(), front);
         // Also where the flags were so before: the mailbox doesn't tell, and a ring too many costs
         // a turn.
         if has_stored(&flags) {
@@ -243,19 +275,14 @@ impl<'a, B: Naming, R: Wait, G: Gate> Store for LockedStore<'a, B, R, G> {
         };
         self.pace.pass();
         let lock = &self.mailboxes[usize::from(here.mailbox)];
-        let (gone, handle) = locked::expunge(
-            self.rt,
-            lock,
-            &mut self.front,
-            here.handle,
-            uids,
-            out,
-        );
+        let mut front = self.front.again();
+        let (gone, handle) = locked::expunge(self.rt, lock, &mut front, here.handle, uids, out);
         self.entered = Some(Entry {
             mailbox: here.mailbox,
             start: here.start,
             handle,
         });
+        self.front = seen_behind(&gone, self.front.again(), front);
         if has_removed(&gone) {
             ring_each(self.bells);
         }
@@ -268,12 +295,14 @@ impl<'a, B: Naming, R: Wait, G: Gate> Store for LockedStore<'a, B, R, G> {
         };
         self.pace.pass();
         let lock = &self.mailboxes[usize::from(here.mailbox)];
-        let (fed, handle) = locked::feed(self.rt, lock, &mut self.front, here.handle, limit, out);
+        let mut front = self.front.again();
+        let (fed, handle) = locked::feed(self.rt, lock, &mut front, here.handle, limit, out);
         self.entered = Some(Entry {
             mailbox: here.mailbox,
             start: here.start,
             handle,
         });
+        self.front = seen_behind(&fed, self.front.again(), front);
         fed
     }
 
@@ -283,8 +312,10 @@ impl<'a, B: Naming, R: Wait, G: Gate> Store for LockedStore<'a, B, R, G> {
         };
         self.pace.pass();
         let lock = &self.mailboxes[usize::from(here.mailbox)];
-        match locked::leave(self.rt, lock, &mut self.front, here.handle, remove) {
+        let mut front = self.front.again();
+        match locked::leave(self.rt, lock, &mut front, here.handle, remove) {
             Ok(gone) => {
+                self.front = front;
                 if gone > 0 {
                     ring_each(self.bells);
                 }

@@ -1,5 +1,6 @@
--- What bodies and proofs say besides: what a hold does by which a client is to be let in.
-use Rattle.std.specs.Prelude.{◌≡◌, ◌≢◌, ℕ, ◌⊎◌, Result, Ok, Err}
+-- What bodies and proofs say besides: what a hold does by which a client is to be let in, and what a session has seen behind a hold.
+use Rattle.std.specs.Prelude.{◌≡◌, ◌≢◌, ℕ, ◌⊎◌, List, Result, Ok, Err}
+use Rattle.house_history.specs.declared.event.Event.{Event}
 use Rattle.cursor_set.specs.Cursors.{CursorHandle}
 use Rattle.mailbox.specs.Mailbox.{Mailbox}
 use Rattle.mailbox.specs.Stands.{IsKept}
@@ -12,3 +13,8 @@ use Rattle.workers_sync.specs.Holds.{Enters, EntersNot}
 abbrev pub DoesEnterAt : ℕ → Mailbox → Result (CursorHandle × Opening) MailFault → Mailbox → Type 0
 DoesEnterAt number found (Ok entered) left = (found.number ≡ number) × Enters found entered.1 left entered.0
 DoesEnterAt number found (Err fault) left = (left ≡ found) × ((found.number ≡ number) × IsKept found × EntersNot fault found ⊎ (found.number ≢ number) × (fault ≡ Stranger))
+
+-- What was seen of the history behind a hold that was answered so: a call that is refused leaves it as it was.
+abbrev pub seen_behind : {A F : Type 0} → Result A F → List Event → List Event → List Event
+seen_behind (Ok x) before after = after
+seen_behind (Err fault) before after = before

@@ -45,7 +45,7 @@ returns g c =
           let lived = life.whole (c.unless_torn-fate.ensures.whole (end.whole whole)).0 in
           let named = user_named directory.homes c.in-Some.inbox c.args.guest.now.user c.user_of-user.result.now (search rules) c.in-Some.ensures.inbox.1 c.user_of-user.ensures in
           let said_alone = ap (λ (v : Vec (Vec ℕ Global) Global). map (λ b. b.items) v.items) end.kept.1 ∙ lived.2.2 in
-          session_account floor now.context.office.now now.desk seat now.serial c.args.guest.now c.user_of-user.result.now c.new-locked.result lived.0 lived.2.0 (map (λ b. b.items) left.replies.items) now.book.notes left.log.notes
+          session_account floor now.context.office.now now.desk seat now.serial c.args.guest.now c.user_of-user.result.now c.new-locked.result c.args.floor.now.depot.front lived.0 lived.2.0 (map (λ b. b.items) left.replies.items) now.book.notes left.log.notes
           (received left.receiver) (map said left.ended.items) life.same.0 own life.serial (ap (λ (b : WorkerLog). b.notes) end.kept.0) named (search rules) lived.2.1 said_alone
           (lived.1 [] begun) end.grew end.said,
     )

@@ -27,7 +27,7 @@ returns-clause-kept g c first k =
     let self = c.args.self.now in
     let one : Carried = record { message = c.args.message; mailbox = c.args.mailbox; text = c.args.text.now; flags = c.args.flags; verdict = c.in-Ok.verdict } in
     let same = k.0 in (
-      (same.0, same.1, c.judge.ensures.number ∙ same.2, (let a = same.3 in let b = c.judge.ensures.ends in omega (arith, a, b))),
+      (same.0, same.1, c.judge.ensures.number ∙ same.2, (let a = same.3 in let b = c.judge.ensures.ends in omega (arith, a, b)), λ was. c.judge.ensures.backed (same.4 was)),
       k.1,
       c.note_one.ensures.owner ∙ c.reserve.ensures.owner ∙ k.2,
       λ whole.

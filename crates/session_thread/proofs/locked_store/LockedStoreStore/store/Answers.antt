@@ -1,8 +1,12 @@
 use Rattle.std.proofs.Common.{ap, sym, ◌∙◌}
 use Rattle.session_thread.specs.Locks.{LockedStore}
+use Rattle.session_thread.specs.Locks.{seeing}
 use Rattle.session_thread.proofs.Shown.{alters}
 use Rattle.session_thread.proofs.locked_store.LockedStoreStore.store.Goals as goal
 
 pub returns : goal.returns
 returns g c =
-    alters c.args.self.now _ c.in-Some.here c.args.uid c.args.op c.alter-flags.result (ap (λ (p : LockedStore). p.entered) (sym c.self.view_is) ∙ c.in-Some.is) c.self.view_is c.alter-flags.ensures
+    let v = c.self.view_is in
+    let h = ap (λ (p : LockedStore). p.history) v in
+    alters c.args.self.now _ c.in-Some.here c.args.uid c.args.op c.alter-flags.result c.again-front.result c.again.result c.alter-flags.new.front c.seen_behind.result (ap (λ (p : LockedStore). p.entered) (sym v) ∙ c.in-Some.is)
+    (c.again-front.ensures ∙ h) (c.again.ensures ∙ h) c.seen_behind.ensures (ap (λ (p : LockedStore). seeing p c.seen_behind.result) v) c.alter-flags.ensures
