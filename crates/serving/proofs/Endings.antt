@@ -1,5 +1,6 @@
 -- What a house came to, from what its producers and its clerks left and how it was closed.
-use Rattle.std.proofs.Common.{◌≡◌, ◌<◌, ◌≤◌, ◌+◌, ◌++◌, ◌∙◌, ◌||◌, ℕ, zero, suc, Bool, true, false, List, [], ◌∷◌, All, Some, length, map, slice_get, slice_index_or, ap, refl, sym, subst, arith}
+use Rattle.std.proofs.Common.{◌≡◌, ◌<◌, ◌≤◌, ◌+◌, ◌++◌, ◌∙◌, ◌||◌, ℕ, zero, suc, Bool, true, false, List, [], ◌∷◌, All, Some, length, map, slice_get, slice_index_or, ap, refl, sym, subst, arith, Result, Ok, Err}
+use Rattle.std.specs.Prelude.{IfOk}
 use Rattle.std.specs.List.{list_any}
 use Rattle.std.proofs.lemmas.List.{map-append}
 use Rattle.std.proofs.lemmas.List.Elements.{All-cons, All-head, All-nil, All-tail}
@@ -19,7 +20,9 @@ use Rattle.shard_queue.specs.declared.queue.ShardQueue.{ShardQueue}
 use Rattle.shard_queue.specs.declared.reply.ReceiverPermit.{ReceiverPermit}
 use Rattle.shard_queue.specs.declared.reply.ReplyClosed.{ReplyClosed}
 use Rattle.shard_queue.specs.declared.reply.SenderEnded.{SenderEnded}
+use Rattle.house_history.specs.declared.event.Event.{Event}
 use Rattle.lane_work.specs.Account.{Premises}
+use Rattle.lane_work.specs.Backing.{IsBacked}
 use Rattle.lane_work.specs.Copies.{room_at}
 use Rattle.lane_work.specs.Speaking.{premises_of}
 use Rattle.lane_work.specs.declared.consumer.Consumed.{Consumed}
@@ -32,16 +35,23 @@ use Rattle.lane_work.specs.Closings as lane_closings
 use Rattle.lane_work.proofs.CloseLaws.{are_heard}
 use Rattle.clerks.specs.Staff.{IsService}
 use Rattle.clerks.specs.declared.staff.Dismissed.{Dismissed}
+use Rattle.envelope.specs.Directory.{Directory}
+use Rattle.settings.specs.Settings.{directory_for}
+use Rattle.settings.specs.declared.config.Config.{Config}
 use Rattle.house_floor.specs.Crew.{AllAt}
+use Rattle.house_floor.specs.Opening.{IsFloor}
+use Rattle.house_floor.specs.declared.opening.Sizes.{Sizes}
 use Rattle.house_floor.specs.declared.floor.Floor.{Floor}
 use Rattle.house_floor.specs.Left.{IsServiceOf}
 use Rattle.reckoning.proofs.Accounts.{answers_of, at_position, in_at}
 use Rattle.reckoning.proofs.Parts.{some_at}
-use Rattle.reckoning.specs.declared.balancing.Closes.{Closes}
-use Rattle.serving_workers.specs.Closing.{GoOn, WasClosed}
+use Rattle.serving_workers.specs.Closing.{AreBacked, GoOn, WasClosed}
 use Rattle.serving_workers.specs.Leaving.{HasServedClients, HasServedMail, IsServed}
 use Rattle.serving_workers.specs.declared.accepting.Served.{Served}
-use Rattle.serving.specs.inner.Ending.{CameTo, FirstTakeMail, WereEmptied, WereHeardOut, answers, histories}
+use Rattle.serving_workers.specs.Finished.{Finished}
+use Rattle.serving.specs.Left.{HasLeft, WasAnswered, answers, histories}
+use Rattle.serving.specs.declared.fault.ServeFault.{ServeFault}
+use Rattle.serving.specs.inner.Ending.{CameTo, FirstTakeMail, WereEmptied, WereHeardOut}
 
 -- ---- who takes mail
 
@@ -109,6 +119,13 @@ heard_at (x ∷ served) [] n s go at = absurd go
 heard_at (x ∷ served) (list ∷ all) zero s go at = (let same : x ≡ s = cc in subst (λ (y : Served _). IsStartOf (received y.receiver) list) same go.0)
 heard_at (x ∷ served) (list ∷ all) (suc n) s go at = heard_at served all n s go.1 at
 
+backed_at : {B : Type 0} (served : List (Served B)) (front : List Event) (all : List (List (Entry Noted))) (n : ℕ) (s : Served B) → AreBacked front (map (λ s. s.ended.items) served) all → slice_get served n ≡ Some s
+    → IsBacked front (slice_index_or all n []) (map said s.ended.items)
+backed_at [] front all n s are at = absurd (cc)
+backed_at (x ∷ served) front [] n s are at = absurd are
+backed_at (x ∷ served) front (list ∷ all) zero s are at = (let same : x ≡ s = cc in subst (λ (y : Served _). IsBacked front list (map said y.ended.items)) same are.0)
+backed_at (x ∷ served) front (list ∷ all) (suc n) s are at = backed_at served front all n s are.1 at
+
 -- ---- what a worker's connections came to
 
 -- more was heard since
@@ -159,6 +176,19 @@ heard_out : {qs : List (ReplyChannel Noted)} {rows : List (List (SenderEnded Not
 heard_out channel_closings.none = tt
 heard_out (channel_closings.next q row permit c is others) = (no_room _ _ (reply_history c) is.whole, heard_out others)
 
+-- as many were closed as there were
+closed_count : (lanes : List (ShardQueue Job)) (closed : List (Closed Job)) → WereEmptied lanes closed → length closed ≡ length lanes
+closed_count [] [] were = refl
+closed_count [] (c ∷ closed) were = absurd were
+closed_count (lane ∷ lanes) [] were = absurd were
+closed_count (lane ∷ lanes) (c ∷ closed) were = ap suc (closed_count lanes closed were.1)
+
+heard_count : (channels : List (ReplyChannel Noted)) (closed : List (ReplyClosed Noted)) → WereHeardOut channels closed → length closed ≡ length channels
+heard_count [] [] were = refl
+heard_count [] (c ∷ closed) were = absurd were
+heard_count (channel ∷ channels) [] were = absurd were
+heard_count (channel ∷ channels) (c ∷ closed) were = ap suc (heard_count channels closed were.1)
+
 -- ---- all of it
 
 services_of : {B : Type 0} (floor : Floor B) (n : ℕ) (cs : List (Consumed B)) → AllAt (IsService floor.office.lanes.items floor.depot) n cs → AllAt (IsServiceOf floor) n cs
@@ -166,39 +196,75 @@ services_of floor n [] all = tt
 services_of floor n (c ∷ cs) all =
     (record { each = λ lane at. ([], All-nil (λ (e : List (Entry Noted)). e ≡ []), all.0.each lane at) }, services_of floor (suc n) cs all.1)
 
-module _ {B : Type 0} (floor : Floor B) (workers : ℕ) (served : List (Served B)) (d : Dismissed B) (closes : Closes B) (all : AllAt (IsServed floor) 0 served)
+module _ {B : Type 0} (floor : Floor B) (workers : ℕ) (served : List (Served B)) (d : Dismissed B) (finished : Finished) (all : AllAt (IsServed floor) 0 served)
     (each : length served ≡ length floor.depot.channels.items) (first : FirstTakeMail workers (map (λ s. s.mail) served)) (count : length d.consumed.items ≡ length floor.office.lanes.items)
-    (services : d.in_order ≡ true → AllAt (IsService floor.office.lanes.items floor.depot) 0 d.consumed.items) (was : WasClosed floor served d closes) where
+    (services : d.in_order ≡ true → AllAt (IsService floor.office.lanes.items floor.depot) 0 d.consumed.items) (was : WasClosed floor served d finished) where
   -- what producer n left, and that what it said is what was taken
-  left_by : (n : ℕ) → n < length served → (s : Served B) × (slice_get served n ≡ Some s) × IsServed floor n s × (map said s.ended.items ≡ map (of n) (histories closes))
+  left_by : (n : ℕ) → n < length served → (s : Served B) × (slice_get served n ≡ Some s) × IsServed floor n s × (map said s.ended.items ≡ map (of n) (histories finished))
   left_by n under =
       let s = some_at served n under in
       let e : 0 + n ≡ n = omega arith in
       let is : IsServed floor n s.0 = subst (λ (i : ℕ). IsServed floor i s.0) e (at_position (IsServed floor) 0 n served s.0 all s.1) in
       let within = in_at (λ (x : Served B). x.ended.items) served was.lanes.0 n s.0 was.lanes.1 s.1 in
-      (s.0, s.1, is, said_is_taken floor.office.lanes.items n s.0.ended.items (histories closes) is.ended (are_heard was.lanes.2 s.0.ended.items within))
+      (s.0, s.1, is, said_is_taken floor.office.lanes.items n s.0.ended.items (histories finished) is.ended (are_heard was.lanes.2 s.0.ended.items within))
 
-  clients_of : (n : ℕ) → workers ≤ n → n < length served → HasServedClients (premises_of floor.office) n (slice_index_or (answers closes) n []) (map (of n) (histories closes))
+  clients_of : (n : ℕ) → workers ≤ n → n < length served → HasServedClients (premises_of floor.office) n (slice_index_or (answers finished) n []) (map (of n) (histories finished))
   clients_of n past under =
       let s = left_by n under in
       let clients = s.2.clients (takes_none workers n served s.0 first past s.1) (untorn served n s.0 was.producers s.1) in
-      clients_later (premises_of floor.office) n (received s.0.receiver) (slice_index_or (answers closes) n []) (map (of n) (histories closes)) (heard_at served (answers closes) n s.0 was.heard s.1)
+      clients_later (premises_of floor.office) n (received s.0.receiver) (slice_index_or (answers finished) n []) (map (of n) (histories finished)) (heard_at served (answers finished) n s.0 was.heard s.1)
       (subst (λ (words : List (List (Entry Job))). HasServedClients (premises_of floor.office) n (received s.0.receiver) words) s.3 clients)
 
-  mail_of : (n : ℕ) → n < workers → HasServedMail (premises_of floor.office) n (slice_index_or (answers closes) n []) (map (of n) (histories closes))
+  mail_of : (n : ℕ) → n < workers → HasServedMail (premises_of floor.office) n (slice_index_or (answers finished) n []) (map (of n) (histories finished))
   mail_of n under =
       let s = left_by n (there workers n served first under) in
       let mail = s.2.mail (takes_mail workers n served s.0 first under s.1) (untorn served n s.0 was.producers s.1) in
-      mail_later (premises_of floor.office) n (received s.0.receiver) (slice_index_or (answers closes) n []) (map (of n) (histories closes)) (heard_at served (answers closes) n s.0 was.heard s.1)
+      mail_later (premises_of floor.office) n (received s.0.receiver) (slice_index_or (answers finished) n []) (map (of n) (histories finished)) (heard_at served (answers finished) n s.0 was.heard s.1)
       (subst (λ (words : List (List (Entry Job))). HasServedMail (premises_of floor.office) n (received s.0.receiver) words) s.3 mail)
 
-  pub came_to : CameTo floor workers closes
+  -- what it put and heard the history has
+  backed_by : (n : ℕ) → n < length served → IsBacked finished.front (slice_index_or (answers finished) n []) (map (of n) (histories finished))
+  backed_by n under =
+      let s = left_by n under in
+      subst (IsBacked finished.front (slice_index_or (answers finished) n [])) s.3 (backed_at served finished.front (answers finished) n s.0 was.backed s.1)
+
+  pub came_to : CameTo floor workers finished
   came_to = record {
     mail = mail_of;
     clients = λ n past under. clients_of n past (omega (arith, under, each));
     answered = λ s p lane channel.
-        let a = answers_of floor d.consumed.items closes.lanes.items _ closes.channels.items _ (services_of floor 0 d.consumed.items (services was.in_order)) count was.lanes was.channels.2 s p lane channel in
+        let a = answers_of floor d.consumed.items finished.lanes.items _ finished.channels.items _ (services_of floor 0 d.consumed.items (services was.in_order)) count was.lanes was.channels.2 s p lane channel in
         record { told = a.0; each = a.1; ended = a.2 };
     lanes = emptied was.lanes.2;
     channels = heard_out was.channels.2.2;
+    legal = was.legal;
+    backed = λ n under. backed_by n (omega (arith, under, each));
   }
+
+-- what a house on this floor has left is what these settings ask for
+pub has_left : {B : Type 0} (config : Config) (sizes : Sizes) (floor : Floor B) (workers guests : ℕ) (finished : Finished) → IsFloor (directory_for config) sizes floor → sizes.host.now ≡ config.host.items
+    → sizes.max_message ≡ config.max_message → workers ≡ config.workers → sizes.producers ≡ config.workers + guests → CameTo floor workers finished → HasLeft config finished
+has_left config sizes floor workers guests finished is host most same producers came =
+    let lanes = closed_count floor.office.lanes.items finished.lanes.items came.lanes in
+    let channels = heard_count floor.depot.channels.items finished.channels.items came.channels in
+    let shards = ap (λ (d : Directory). d.shards) is.is in
+    let house = is.house in
+    let of_lanes = house.shards in
+    let of_channels = house.channels in
+    let homes = is.mailboxes in record {
+      house = premises_of floor.office;
+      set = record { directory = is.is; host = is.host ∙ host; max_message = is.max_message ∙ most };
+      shards = omega (arith, lanes, shards, of_lanes);
+      workers = omega (arith, channels, of_channels, producers);
+      legal = came.legal;
+      backed = λ n under. came.backed n (omega (arith, channels, under));
+      mail = λ n under. came.mail n (omega (arith, under, same));
+      clients = λ n past under. came.clients n (omega (arith, past, same)) (omega (arith, channels, under));
+      answered = λ s p lane channel. subst (λ (m : ℕ). WasAnswered m s p (slice_index_or (histories finished) s []) (slice_index_or (answers finished) p [])) homes
+          (came.answered s p (omega (arith, lane, lanes)) (omega (arith, channel, channels)));
+    }
+
+pub left_ok : {B : Type 0} (config : Config) (sizes : Sizes) (floor : Floor B) (workers guests : ℕ) (r : Result Finished ServeFault) → IsFloor (directory_for config) sizes floor → sizes.host.now ≡ config.host.items
+    → sizes.max_message ≡ config.max_message → workers ≡ config.workers → sizes.producers ≡ config.workers + guests → IfOk r (CameTo floor workers) → IfOk r (HasLeft config)
+left_ok config sizes floor workers guests (Ok finished) is host most same producers came = has_left config sizes floor workers guests finished is host most same producers came
+left_ok config sizes floor workers guests (Err fault) is host most same producers came = tt

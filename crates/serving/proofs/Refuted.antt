@@ -7,7 +7,7 @@ use Rattle.shard_queue.specs.declared.reply.ReplyClosed.{ReplyClosed}
 use Rattle.delivery_token.specs.declared.Job.{Job}
 use Rattle.delivery_token.specs.declared.log.Noted.{Noted}
 use Rattle.house_floor.specs.declared.floor.Floor.{Floor}
-use Rattle.reckoning.specs.declared.balancing.Closes.{Closes}
+use Rattle.serving_workers.specs.Finished.{Finished}
 use Rattle.serving.specs.inner.Ending.{CameTo, WereEmptied, WereHeardOut}
 
 no_lanes : (lanes : List (ShardQueue Job)) → 0 < length lanes → WereEmptied lanes [] → ⊥
@@ -15,8 +15,8 @@ no_lanes [] some emptied = omega (arith, some)
 no_lanes (lane ∷ lanes) some emptied = emptied
 
 -- it has lanes, and nothing was taken of any
-nothing_taken : {B : Type 0} (floor : Floor B) (workers : ℕ) (closes : Closes B) → 0 < length floor.office.lanes.items → closes.lanes.items ≡ [] → CameTo floor workers closes → ⊥
-nothing_taken floor workers closes some none came =
+nothing_taken : {B : Type 0} (floor : Floor B) (workers : ℕ) (finished : Finished) → 0 < length floor.office.lanes.items → finished.lanes.items ≡ [] → CameTo floor workers finished → ⊥
+nothing_taken floor workers finished some none came =
     no_lanes floor.office.lanes.items some (subst (λ (cs : List (Closed Job)). WereEmptied floor.office.lanes.items cs) none came.lanes)
 
 no_channels : (channels : List (ReplyChannel Noted)) → 0 < length channels → WereHeardOut channels [] → ⊥
@@ -24,6 +24,6 @@ no_channels [] some heard = omega (arith, some)
 no_channels (channel ∷ channels) some heard = heard
 
 -- it has producers, and nothing came to any
-nothing_heard : {B : Type 0} (floor : Floor B) (workers : ℕ) (closes : Closes B) → 0 < length floor.depot.channels.items → closes.channels.items ≡ [] → CameTo floor workers closes → ⊥
-nothing_heard floor workers closes some none came =
+nothing_heard : {B : Type 0} (floor : Floor B) (workers : ℕ) (finished : Finished) → 0 < length floor.depot.channels.items → finished.channels.items ≡ [] → CameTo floor workers finished → ⊥
+nothing_heard floor workers finished some none came =
     no_channels floor.depot.channels.items some (subst (λ (cs : List (ReplyClosed Noted)). WereHeardOut floor.depot.channels.items cs) none came.channels)

@@ -1,4 +1,5 @@
 pub mod Announcing
 pub mod Faults
 pub mod inner
+pub mod Left
 pub mod Producers

@@ -21,4 +21,4 @@ mod visiting;
 
 pub use fault::ServeFault;
 pub use reporting::Reporting;
-pub use server::{Uidvalidity, serve};
+pub use server::{Beginning, Uidvalidity, serve, serve_house};

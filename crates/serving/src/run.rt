@@ -1,7 +1,7 @@
 //! The threads of a server: workers first, then two for each berth of a session; it is waited for the end, all are stopped and joined, and
 //! the house is closed. What the threads do stands in `serving_workers` and `sessions`.
 
-ghost use Rattle.std.specs.Prelude.{ℕ, ◌≡◌, ◌≢◌, ◌≤◌, ◌<◌, ◌+◌, All, Err, None, Ok, OnOk, Option, Some, IfOk, [], false, true, length, map, take, vec_len, vec_capacity};
+ghost use Rattle.std.specs.Prelude.{ℕ, ◌≡◌, ◌≢◌, ◌≤◌, ◌<◌, ◌+◌, All, Err, None, Ok, OnOk, Option, Some, IfOk, IfSome, [], false, true, length, map, take, vec_len, vec_capacity};
 ghost use Rattle.std.specs.Io.KnownBytes.{Appends};
 ghost use Rattle.std.specs.List.{list_all};
 ghost use Rattle.settings.specs.declared.config.ConfigFault.{ConfigFault};
@@ -30,10 +30,10 @@ use house_floor::{Baskets, Crew, Floor, Guest, Post, Ran, Stand, Started};
 use house_history::{Answer, Naming};
 use lane_work::{Consumed, Worked};
 use line_io::Sink;
-use reckoning::{Closes, abandon};
+use reckoning::abandon;
 use server_report::{Held, Log};
 use serving_workers::{
-    Begun, Buffers, Hired, Mark, Served, Workplace, close_all, join_producers, packed,
+    Begun, Buffers, Finished, Hired, Mark, Served, Workplace, close_all, join_producers, packed,
     start_workers,
 };
 use shard_queue::SenderEnded;
@@ -512,18 +512,18 @@ fn give_up<B: Naming>(
     ServeFault::NoMemory
 }
 
-// What the end of a house comes to: what was taken of its queues, where nothing was amiss.
+// What the end of a house comes to: what it has left, where nothing was amiss.
 fn told<B: Naming>(
     all_started: bool,
     is_told: bool,
-    closes: Option<Closes<B>>,
-) -> Result<Closes<B>, ServeFault>
+    finished: Option<Finished<B>>,
+) -> Result<Finished<B>, ServeFault>
     ensures spawn { all_started ≡ false → result ≡ Err ServeFault.Spawn }
     ensures device { all_started ≡ true → is_told ≡ false → result ≡ Err ServeFault.Device }
-    ensures torn { all_started ≡ true → is_told ≡ true → closes ≡ None
+    ensures torn { all_started ≡ true → is_told ≡ true → finished ≡ None
         → result ≡ Err ServeFault.Torn }
-    ensures done { (taken : Closes B) → all_started ≡ true → is_told ≡ true → closes ≡ Some taken
-        → result ≡ Ok taken }
+    ensures done { IfSome finished (λ left. all_started ≡ true → is_told ≡ true
+        → result ≡ Ok left) }
 {
     if !all_started {
         return Err(ServeFault::Spawn);
@@ -531,14 +531,14 @@ fn told<B: Naming>(
     if !is_told {
         return Err(ServeFault::Device);
     }
-    let Some(taken) = closes else {
+    let Some(left) = finished else {
         return Err(ServeFault::Torn);
     };
-    Ok(taken)
+    Ok(left)
 }
 
-// Closes the house that the threads have left, and hands out what was taken of its queues, or spends it where none was started. Ok says that
-// nothing was amiss.
+// Closes the house that the threads have left, and hands out what it has left, or spends it where none was started. Ok says that nothing was
+// amiss.
 fn close_or_spend<B: Naming, H: Hall, R: Wait>(
     rt: &R,
     site: Site<B, H>,
@@ -548,7 +548,7 @@ fn close_or_spend<B: Naming, H: Hall, R: Wait>(
     worked: Vec<Worked<B>>,
     consumed: Vec<Consumed<B>>,
     baskets: Baskets<B>,
-) -> Result<Closes<B>, ServeFault>
+) -> Result<Finished<B>, ServeFault>
     requires lanes { H.lanes ≡ Some site.workplace.floor.office.lanes.items }
     requires depot { H.depot ≡ Some (parts_of site.workplace.floor.depot) }
     requires house { IsHouse site.workplace.floor
@@ -626,8 +626,8 @@ fn close_or_spend<B: Naming, H: Hall, R: Wait>(
     }
     posts.destroy_empty();
     let dismissed = dismiss_all(rt, &gate, &floor, staff, consumed);
-    let closes = close_all(rt, floor, served, worked, dismissed, baskets);
-    told(all_started, is_told, closes)
+    let finished = close_all(rt, floor, served, worked, dismissed, baskets);
+    told(all_started, is_told, finished)
 }
 
 /// Who is to serve in a house.
@@ -648,7 +648,7 @@ pub(crate) struct Manning<F> {
     pub(crate) writing: Writing<F>,
 }
 
-/// Serves the house until `stop` is at its end, closes it, and hands out what was taken of its queues. Its producers are
+/// Serves the house until `stop` is at its end, closes it, and hands out what it has left. Its producers are
 /// those of `manning`. Once each thread stands the lines are written to `output`, and nobody is served before.
 ///
 /// Errors, the first that holds: `NoMemory` where memory is refused before the first thread, and `Spawn` where a thread can't be made: then
@@ -671,7 +671,7 @@ pub(crate) fn run_house_in<
     stop: I,
     lines: Vec<u8>,
     output: &mut W,
-) -> Result<Closes<B>, ServeFault>
+) -> Result<Finished<B>, ServeFault>
     requires lanes { H.lanes ≡ Some floor.office.lanes.items }
     requires depot { H.depot ≡ Some (parts_of floor.depot) }
     requires house { IsHouse floor (length floor.depot.channels.items) }

@@ -7,6 +7,7 @@ ghost use Rattle.serving.specs.Producers.{server_fault};
 ghost use Rattle.mailbox.specs.declared.history.History.{History};
 ghost use Rattle.settings.specs.declared.config.ConfigFault.{ConfigFault};
 ghost use Rattle.serving.specs.Announcing.{HasAnnounced, HasBegun, IsAnnouncement, users_of};
+ghost use Rattle.serving.specs.Left.{HasLeft};
 ghost use Rattle.serving.specs.inner.Faults.{IsOfSettings, IsOfSocket};
 ghost use Rattle.house_floor.specs.Users.{user_numbered};
 
@@ -23,6 +24,7 @@ use house_history::Naming;
 use line_io::Sink;
 use mailbox::{History, Limits};
 use server_report::Log;
+use serving_workers::Finished;
 use settings::{Config, ConfigFault, directory_of};
 use std::alloc::Global;
 use std::io::{Read, Write};
@@ -44,6 +46,7 @@ pub enum Uidvalidity {
 fn sizes_of(config: &Config, berths: usize) -> Sizes<'_>
     requires few { config.now.workers + berths ≤ 255 }
     ensures host { result.host.now ≡ config.now.host.items }
+    ensures max_message { result.max_message ≡ config.now.max_message }
     ensures depth { result.depth ≡ config.now.depth }
     ensures ring { result.limits.ring ≡ config.now.ring }
     ensures producers { result.producers ≡ config.now.workers + berths }
@@ -139,7 +142,8 @@ struct Ready<F> {
     writing: Writing<F>,
 }
 
-// Serves a house of these settings, whose history was just opened, until `stop` is at its end. Errors: those of `run_house_in`.
+// Serves a house of these settings, whose history was just opened, until `stop` is at its end, and hands out what it has left. Errors: those of
+// `run_house_in`.
 fn serve_in<
     B: Naming + Send + Sync,
     R: Threads + Wait + Sync,
@@ -154,7 +158,7 @@ fn serve_in<
     ready: Ready<F>,
     stop: I,
     output: &mut W,
-) -> Result<(), ServeFault>
+) -> Result<Finished<B>, ServeFault>
     requires history { history ≡ B.book }
     requires range { IsInRange config.now }
     requires directory { ready.layout.directory ≡ directory_for config.now }
@@ -165,6 +169,7 @@ fn serve_in<
     requires imap { vec_len ready.listeners.sockets.imap
         ≡ length (users_of ready.layout.directory.homes) }
     requires live { W.failed output.old ≡ false }
+    ensures left { IfOk result (HasLeft config.now) }
     ensures setting { (fault : ConfigFault) → result ≢ Err (ServeFault.Config fault) }
     ensures untried { result ≡ Err ServeFault.NoMemory → output.new ≡ output.old }
     ensures unsaid { result ≡ Err ServeFault.Spawn → output.new ≡ output.old }
@@ -199,11 +204,139 @@ fn serve_in<
         log,
         writing,
     };
-    // Over sockets nothing can be named that what was taken could be compared with.
-    let _taken = run_house_in::<B, Brand, R, I, W, F>(
+    run_house_in::<B, Brand, R, I, W, F>(
         rt, floor, manning, crew, baskets, sockets, stop, lines, output,
+    )
+}
+
+/// What a server begins with.
+pub struct Beginning {
+    /// The history of its house, which was just opened.
+    pub history: house_history::Opened,
+    /// Whether it was said which UIDVALIDITY its mailboxes have.
+    pub uidvalidity: Uidvalidity,
+    /// What is told of what happens.
+    pub report: Reporting,
+}
+
+/// Serves a house of these settings as `serve` does, and hands out what it has left: what was taken of its queues, to their end, and how the
+/// history begins that all its threads shared.
+///
+/// Errors: those of `serve`.
+pub fn serve_house<
+    B: Naming + Send + Sync,
+    R: Net<Listener = TcpListener, Stream = TcpStream> + Threads + Wait + Sync,
+    I: Read + Drop,
+    W: Sink,
+    F: Write + Drop + Send,
+>(
+    rt: &R,
+    alloc: Global,
+    config: &Config,
+    beginning: Beginning,
+    stop: I,
+    output: &mut W,
+    errors: F,
+) -> Result<Finished<B>, ServeFault>
+    // The history goes by this name, the settings are within their ranges, and the output hasn't failed.
+    requires history { beginning.history ≡ B.book }
+    requires range { IsInRange config.now }
+    requires live { W.failed output.old ≡ false }
+
+    // Without an error all stopped in order: the one history has what each producer put and heard, and that is what its connections brought and were told.
+    ensures left { IfOk result (HasLeft config.now) }
+
+    // `Config` tells the settings' first fault, and then nothing was written. Without an error there is no fault.
+    ensures wrong { (fault : ConfigFault) → result ≡ Err (ServeFault.Config fault)
+        → server_fault config.now ≡ Some fault }
+    ensures not_set { (fault : ConfigFault) → result ≡ Err (ServeFault.Config fault)
+        → output.new ≡ output.old }
+    ensures right { OnOk result (server_fault config.now ≡ None) }
+
+    // Wrong settings are told, or want of memory is, and nothing is written.
+    ensures refused { (fault : ConfigFault) → server_fault config.now ≡ Some fault →
+        ((result ≡ Err (ServeFault.Config fault)) ⊎ (result ≡ Err ServeFault.NoMemory))
+        × (output.new ≡ output.old) }
+
+    // Where memory or a thread was refused nothing was written.
+    ensures untried { result ≡ Err ServeFault.NoMemory → output.new ≡ output.old }
+    ensures unsaid { result ≡ Err ServeFault.Spawn → output.new ≡ output.old }
+
+    // Nothing but a beginning of the lines was written, and all of them where it served.
+    ensures told { HasBegun config.now beginning.report.status beginning.uidvalidity
+        (W.taken output.old) (W.taken output.new) }
+    ensures all { OnOk result (HasAnnounced config.now beginning.report.status beginning.uidvalidity
+        (W.taken output.old) (W.taken output.new)) }
+{
+    let Beginning {
+        history,
+        uidvalidity,
+        report,
+    } = beginning;
+    let Layout { directory, guests } = lay_out(alloc, config)?;
+    let Listeners { sockets, lines } = listen(
+        rt,
+        alloc,
+        config,
+        &directory,
+        report.status,
+        uidvalidity,
     )?;
-    Ok(())
+    let Records { log, scribe } = records_for(rt, alloc, report)?;
+    serve_in::<B, R, I, W, F>(
+        rt,
+        alloc,
+        history,
+        config,
+        Ready {
+            layout: Layout { directory, guests },
+            listeners: Listeners { sockets, lines },
+            log,
+            writing: Writing { scribe, errors },
+        },
+        stop,
+        output,
+    )
+}
+
+// Serves as `serve_house` does, and lets go of what that hands out: over sockets nothing can be named that it could be compared with.
+fn serve_named<
+    B: Naming + Send + Sync,
+    R: Net<Listener = TcpListener, Stream = TcpStream> + Threads + Wait + Sync,
+    I: Read + Drop,
+    W: Sink,
+    F: Write + Drop + Send,
+>(
+    rt: &R,
+    alloc: Global,
+    config: &Config,
+    beginning: Beginning,
+    stop: I,
+    output: &mut W,
+    errors: F,
+) -> Result<(), ServeFault>
+    requires history { beginning.history ≡ B.book }
+    requires range { IsInRange config.now }
+    requires live { W.failed output.old ≡ false }
+    ensures wrong { (fault : ConfigFault) → result ≡ Err (ServeFault.Config fault)
+        → server_fault config.now ≡ Some fault }
+    ensures not_set { (fault : ConfigFault) → result ≡ Err (ServeFault.Config fault)
+        → output.new ≡ output.old }
+    ensures right { OnOk result (server_fault config.now ≡ None) }
+    ensures refused { (fault : ConfigFault) → server_fault config.now ≡ Some fault →
+        ((result ≡ Err (ServeFault.Config fault)) ⊎ (result ≡ Err ServeFault.NoMemory))
+        × (output.new ≡ output.old) }
+    ensures untried { result ≡ Err ServeFault.NoMemory → output.new ≡ output.old }
+    ensures unsaid { result ≡ Err ServeFault.Spawn → output.new ≡ output.old }
+    ensures told { HasBegun config.now beginning.report.status beginning.uidvalidity
+        (W.taken output.old) (W.taken output.new) }
+    ensures all { OnOk result (HasAnnounced config.now beginning.report.status beginning.uidvalidity
+        (W.taken output.old) (W.taken output.new)) }
+{
+    match serve_house::<B, R, I, W, F>(rt, alloc, config, beginning, stop, output, errors) {
+        Ok(_left) => Ok(()),
+        Err(fault) => Err(fault),
+    }
 }
 
 /// Serves a house of these settings on the loopback address until `stop` is at its end: mail on `lmtp_port` to so many connections at a
@@ -270,29 +403,10 @@ pub fn serve<
     ensures all { OnOk result (HasAnnounced config.now report.status uidvalidity
         (W.taken output.old) (W.taken output.new)) }
 {
-    let Layout { directory, guests } = lay_out(alloc, config)?;
-    let Listeners { sockets, lines } = listen(
-        rt,
-        alloc,
-        config,
-        &directory,
-        report.status,
+    let beginning = Beginning {
+        history: house_history::Opened::new(),
         uidvalidity,
-    )?;
-    let Records { log, scribe } = records_for(rt, alloc, report)?;
-    serve_in::<Brand, R, &mut I, W, F>(
-        rt,
-        alloc,
-        house_history::Opened::new(),
-        config,
-        Ready {
-            layout: Layout { directory, guests },
-            listeners: Listeners { sockets, lines },
-            log,
-            writing: Writing { scribe, errors },
-        },
-        stop,
-        output,
-    )?;
-    Ok(())
+        report,
+    };
+    serve_named::<Brand, R, &mut I, W, F>(rt, alloc, config, beginning, stop, output, errors)
 }

@@ -324,6 +324,7 @@ fn leave<B: Naming, R: Wait, S: Summons>(
     ensures said { HaveEnded courier.entry.desk.number (map put_by courier.entry.desk.permits.items)
         (map said result.ended.items) }
     ensures receiver { result.receiver ≡ courier.entry.desk.receiver }
+    ensures dispatch { result.dispatch ≡ courier.entry.desk.dispatch }
     ensures torn { result.torn ≡ courier.entry.is_torn }
     ensures mail { result.mail ≡ false }
 {
@@ -385,6 +386,7 @@ fn attend_there<'a, B: Naming, H: Hall, R: Wait>(
 {
     let (floor, gate) = (&site.workplace.floor, &site.gate);
     let Post { desk, room } = ManuallyDrop::into_inner(post);
+    desk.dispatch.is_legal();
     let summons = site.workplace.summons(gate);
     let context = Context {
         rt,

@@ -1,7 +1,10 @@
 -- What the workers leave, said of its parts in lists of their own.
-use Rattle.std.proofs.Common.{◌≡◌, ◌<◌, ◌+◌, ◌++◌, ◌∙◌, ℕ, suc, append-nil, append_assoc, List, [], ◌∷◌, All, length, map, drop, sym, ap, refl, slice_index_or, subst, Vec, vec_len, arith}
+use Rattle.std.proofs.Common.{◌≡◌, ◌<◌, ◌≤◌, ◌+◌, ◌++◌, ◌∙◌, ◌&&◌, ℕ, suc, Bool, true, false, append-nil, append_assoc, List, [], ◌∷◌, All, length, length-append, map, drop, take, sym, ap, refl, slice_index_or, subst, Vec, vec_len, arith}
+use Rattle.std.specs.List.{list_all}
+use mathlib.Core.List.{IsPrefix}
 use Rattle.std.specs.Global.{Global}
-use Rattle.std.proofs.lemmas.List.Elements.{All-cons, All-nil}
+use Rattle.std.proofs.lemmas.List.{take_all, take_more}
+use Rattle.std.proofs.lemmas.List.Elements.{All-append, All-cons, All-head, All-nil, All-tail, All-weaker}
 use Rattle.shard_queue.specs.declared.queue.Ended.{Ended}
 use Rattle.shard_queue.specs.declared.queue.ShardQueue.{ShardQueue}
 use Rattle.delivery_token.specs.declared.Job.{Job}
@@ -9,9 +12,18 @@ use Rattle.delivery_token.specs.declared.log.Noted.{Noted}
 use Rattle.std.proofs.lemmas.List.{map-append}
 use Rattle.shard_queue.specs.Reply.{received}
 use Rattle.shard_queue.specs.Shared.{IsStartOf}
+use Rattle.shard_queue.specs.Permits.{said}
 use Rattle.shard_queue.specs.declared.lane.Entry.{Entry}
+use Rattle.shard_queue.specs.declared.lane.Entry.TheVariants.{Item, End}
+use Rattle.house_history.specs.declared.event.Event.{Event}
+use Rattle.house_history.specs.Legal.{Legal}
+use Rattle.lane_work.specs.Backing.{IsBacked, IsShown}
+use Rattle.lane_work.specs.Ends.{ends_in}
+use Rattle.lane_work.proofs.BackingLaws.{backed_later, goes_farther}
 use Rattle.lane_work.proofs.SlotLaws.{start_on, start_same}
 use Rattle.lane_work.specs.Permits.{AreEnded}
+use Rattle.lane_work.specs.declared.worker.Fate.{Fate}
+use Rattle.lane_work.specs.declared.worker.Fate.TheVariants.{Whole, NotBegun, NoMemory, Torn}
 use Rattle.lane_work.specs.declared.worker.Worked.{Worked}
 use Rattle.lane_work.specs.LanePermits.{AreEndedHands}
 use Rattle.lane_work.specs.ChannelPermits.{AreReceivers}
@@ -19,9 +31,9 @@ use Rattle.house_floor.specs.Crew.{AllAt}
 use Rattle.house_floor.specs.declared.floor.Floor.{Floor}
 use Rattle.reckoning.proofs.Laying.{laid_items}
 use Rattle.reckoning.proofs.Parts.{from_here, past_all, some_at}
-use Rattle.serving_workers.specs.Closing.{GoOn}
+use Rattle.serving_workers.specs.Closing.{AreBacked, GoOn}
 use Rattle.serving_workers.specs.declared.accepting.Served.{Served}
-use Rattle.serving_workers.specs.inner.Leaving.{HasHeard}
+use Rattle.serving_workers.specs.inner.Leaving.{HasHeard, is_whole}
 
 ended_length : (qs : List (ShardQueue Job)) (p : ℕ) (es : List (Ended Job)) → AreEnded qs p es → length es ≡ length qs
 ended_length [] p [] h = refl
@@ -74,6 +86,70 @@ one_heard done new w left rest s all before some is less more grew =
 pub all_heard : {B : Type 0} (all : List (List (Entry Noted))) (done : List (Worked B)) (left : List (Served B)) → length left ≡ 0 → GoOn all (map of_worked done ++ map of_served left) → GoOn all (map of_worked done)
 all_heard all done [] none are = subst (GoOn all) (append-nil (map of_worked done)) are
 all_heard all done (s ∷ left) none are = absurd (omega (arith, none))
+
+-- ---- what the history has
+
+few : (more : List (Entry Noted)) → ends_in more ≤ length more
+few [] = omega arith
+few (Item shard noted ∷ more) = let f = few more in omega (arith, f)
+few (End shard ∷ more) = let f = few more in omega (arith, f)
+
+all_ends : (history : List Event) (more : List (Entry Noted)) → ends_in more ≡ length more → All (IsShown history) more
+all_ends history [] same = All-nil (IsShown history)
+all_ends history (Item shard noted ∷ more) same = absurd (let f = few more in omega (arith, same, f))
+all_ends history (End shard ∷ more) same = All-cons (IsShown history) (End shard) more tt (all_ends history more (omega (arith, same)))
+
+ends_both : (old more : List (Entry Noted)) → ends_in (old ++ more) ≡ ends_in old + ends_in more
+ends_both [] more = omega arith
+ends_both (Item shard noted ∷ old) more = ends_both old more
+ends_both (End shard ∷ old) more = let h = ends_both old more in omega (arith, h)
+
+-- where nothing but ends was heard since, the history has what was heard as it had what was heard before
+pub ends_backed : (history : List Event) (old new : List (Entry Noted)) (put : List (List (Entry Job))) → IsStartOf old new → length new + ends_in old ≡ length old + ends_in new → IsBacked history old put → IsBacked history new put
+ends_backed history old new put grew quiet was =
+    let ends = ap ends_in grew.1 ∙ ends_both old grew.0 in
+    let long = ap length grew.1 ∙ length-append old grew.0 in
+    subst (λ (l : List (Entry Noted)). IsBacked history l put) (sym grew.1) (record {
+      legal = was.legal;
+      sent = was.sent;
+      shown = All-append (IsShown history) old grew.0 was.shown (all_ends history grew.0 (omega (arith, ends, long, quiet)));
+    })
+
+pub whole_is : (fate : Fate) → is_whole fate ≡ true → fate ≡ Whole
+whole_is Whole is = refl
+whole_is NotBegun is = cc
+whole_is NoMemory is = cc
+whole_is Torn is = cc
+
+both : (a b : Bool) → (a && b) ≡ true → (a ≡ true) × (b ≡ true)
+both true b e = (refl, e)
+both false b e = cc
+
+abbrev pub Known : {B : Type 0} → List Event → Worked B → Type 0
+Known front w = IsPrefix w.dispatch.history front
+
+-- one producer more has taught a front
+pub taught : {B : Type 0} (worked : List (Worked B)) (number : ℕ) (one : Worked B) (before now : List Event) → number < length worked → one ≡ slice_index_or worked number one → IsPrefix before now → IsPrefix one.dispatch.history now
+    → All (Known before) (take number worked) → All (Known now) (take (number + 1) worked)
+taught {B} worked number one before now within is grew mine all =
+    let e : take (number + 1) worked ≡ take number worked ++ one ∷ [] = take_more worked number one within ∙ ap (λ (w : Worked B). take number worked ++ w ∷ []) (sym is) in
+    subst (All (Known now)) (sym e)
+    (All-append (Known now) (take number worked) (one ∷ [])
+    (All-weaker (Known before) (Known now) (λ w known. goes_farther w.dispatch.history before now known grew) (take number worked) all)
+    (All-cons (Known now) one [] mine (All-nil (Known now))))
+
+pub all_taught : {B : Type 0} (worked : List (Worked B)) (number : ℕ) (front : List Event) → length worked ≤ number → All (Known front) (take number worked) → All (Known front) worked
+all_taught worked number front past all = subst (All (Known front)) (take_all number worked past) all
+
+-- each producer's front has grown to one that all share
+pub backed_of : {B : Type 0} (floor : Floor B) (history : List Event) (n : ℕ) (ws : List (Worked B)) → AllAt (HasHeard floor) n ws → list_all (λ w. is_whole w.fate) ws ≡ true → All (λ (w : Worked B). IsPrefix w.dispatch.history history) ws → Legal history
+    → AreBacked history (map (λ w. w.ended.items) ws) (map (λ w. received w.receiver) ws)
+backed_of floor history n [] all whole fronts legal = tt
+backed_of floor history n (w ∷ ws) all whole fronts legal =
+    let b = both (is_whole w.fate) (list_all (λ v. is_whole v.fate) ws) whole in (
+      backed_later w.dispatch.history history (received w.receiver) (map said w.ended.items) (All-head (λ (v : Worked _). IsPrefix v.dispatch.history history) w ws fronts) legal (all.0.backed b.0),
+      backed_of floor history (suc n) ws all.1 b.1 (All-tail (λ (v : Worked _). IsPrefix v.dispatch.history history) w ws fronts) legal,
+    )
 
 module _ {B : Type 0} (floor : Floor B) where
   pub ended_of : (n : ℕ) (ws : List (Worked B)) → AllAt (HasHeard floor) n ws → AreEndedHands floor.office.lanes.items n (map (λ w. w.ended.items) ws)

@@ -1,3 +1,4 @@
 pub mod Closing
 pub mod Leaving
 pub mod inner
+pub mod Finished

@@ -2,7 +2,9 @@
 //! left. No thread runs any more.
 
 ghost use Rattle.std.specs.Prelude.{◌≡◌, ◌<◌, ◌≤◌, [], All, IfSome, length, map, true, vec_len, vec_capacity};
-ghost use Rattle.std.specs.List.{list_any};
+ghost use Rattle.std.specs.List.{list_all, list_any};
+ghost use mathlib.Core.List.{IsPrefix};
+ghost use Rattle.house_history.specs.Legal.{Legal};
 ghost use Rattle.shard_queue.specs.Reply.{received};
 ghost use Rattle.shard_queue.specs.Shared.{IsStartOf};
 ghost use Rattle.lane_work.specs.LanePermits.{AreConsumers};
@@ -11,20 +13,44 @@ ghost use Rattle.house_floor.specs.Crew.{AllAt, IsHouse};
 ghost use Rattle.house_floor.specs.Opening.{AreBaskets};
 ghost use Rattle.serving_workers.specs.Closing.{GoOn, WasClosed};
 ghost use Rattle.serving_workers.specs.Leaving.{IsServed};
-ghost use Rattle.serving_workers.specs.inner.Leaving.{HasHeard};
+ghost use Rattle.serving_workers.specs.inner.Leaving.{HasHeard, is_whole};
 
 use crate::accepting::Served;
 use clerks::{Dismissed, Unhindered};
 use delivery_token::WorkerLog;
 use house_floor::{Baskets, Floor, Ran, Started};
-use house_history::Naming;
+use house_history::{Front, Naming};
 use lane_work::{Consumed, Fate, Worked, hear_ends};
 use reckoning::{Closes, Closings, Remains, abandon, close_queues, remains_of};
+use std::marker::Model;
 use std::sync::Wait;
 use workers_sync::{Actor, Pace};
 
+/// What a house came to in which nothing went amiss.
+#[derive(Drop)]
+pub struct Finished<B: Naming> {
+    /// What was taken of each queue, to its end.
+    pub closes: Closes<B>,
+    /// How the house's history begins, with all that a producer put and heard.
+    pub front: Front<B>,
+}
+
+impl<B: Naming> Model for Finished<B> {
+    ghost use Rattle.serving_workers.specs.Finished.{Finished};
+
+    ghost Value = { Finished };
+
+    ghost view = { λ f. record {
+      lanes = f.closes.lanes;
+      channels = f.closes.channels;
+      front = f.front;
+    } };
+}
+
 // How it went for a producer that heard the shards' ends.
-fn fate_of(quiet: bool) -> Fate {
+fn fate_of(quiet: bool) -> Fate
+    ensures { result ≡ Fate.Whole → quiet ≡ true }
+{
     if quiet { Fate::Whole } else { Fate::Torn }
 }
 
@@ -104,9 +130,30 @@ fn is_clerk_torn<B: Naming>(consumed: &[Consumed<B>]) -> bool
     consumed.iter().any(|one| one.torn)
 }
 
-// Whether nobody heard anything but the shards' ends at last.
-fn are_quiet<B: Naming>(worked: &[Worked<B>]) -> bool {
-    worked.iter().all(|one| one.fate == Fate::Whole)
+// Whether a producer heard nothing but the shards' ends at last.
+fn is_quiet<B: Naming>(worked: &Worked<B>) -> bool
+    ensures { result ≡ is_whole worked.now.fate }
+{
+    matches!(worked.fate, Fate::Whole)
+}
+
+// Whether each of them did.
+fn are_quiet<B: Naming>(worked: &[Worked<B>]) -> bool
+    ensures { result ≡ list_all (λ w. is_whole w.fate) worked.now }
+{
+    worked.iter().all(|one| is_quiet(one))
+}
+
+// The front has then what each producer knows of the history.
+fn learn_all<B: Naming>(worked: &[Worked<B>], front: &mut Front<B>)
+    ensures before { IsPrefix front.old front.new }
+    ensures each { All (λ w. IsPrefix w.dispatch.history front.new) worked.now }
+    ensures legal { Legal front.new }
+{
+    front.is_legal();
+    for number in 0..worked.len() {
+        worked[number].dispatch.teach(front);
+    }
 }
 
 // Spends a house of which a clerk stood at another's position, so that no lane and no channel can be closed.
@@ -139,7 +186,8 @@ fn spend_house<B: Naming>(
 
 /// Closes the house that the producers and the clerks have left: each producer hears the end of each shard, and each queue is closed with what
 /// is left of all permits. What was taken of each queue is handed out where all went well: each clerk stood in its place, nobody met what he
-/// didn't await, and each queue could be closed. Where it didn't, all of the house is spent all the same.
+/// didn't await, and each queue could be closed; and with it how the house's history begins, which has what each producer put and heard. Where it
+/// didn't, all of the house is spent all the same.
 ///
 /// `worked`, which is empty, has room for all producers.
 pub fn close_all<B: Naming, R: Wait>(
@@ -149,7 +197,7 @@ pub fn close_all<B: Naming, R: Wait>(
     worked: Vec<Worked<B>>,
     dismissed: Dismissed<B>,
     baskets: Baskets<B>,
-) -> Option<Closes<B>>
+) -> Option<Finished<B>>
     requires house { IsHouse floor (vec_len served) }
     requires some { (0 < vec_len served) × (0 < length floor.office.lanes.items) }
     requires served { AllAt (IsServed floor) 0 served.items }
@@ -167,6 +215,8 @@ pub fn close_all<B: Naming, R: Wait>(
     let alloc = floor.alloc;
     let is_producer_torn = is_producer_torn(&served);
     let worked = hear_all_out(rt, &floor, served, worked);
+    let mut front = floor.depot.front.again();
+    learn_all(&worked, &mut front);
     let Dismissed { consumed, in_order } = dismissed;
     if !in_order {
         spend_house(floor, worked, consumed, baskets);
@@ -203,5 +253,8 @@ pub fn close_all<B: Naming, R: Wait>(
     let Some(channels) = channels else {
         return None;
     };
-    Some(Closes { lanes, channels })
+    Some(Finished {
+        closes: Closes { lanes, channels },
+        front,
+    })
 }

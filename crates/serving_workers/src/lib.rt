@@ -11,7 +11,7 @@ mod threads;
 mod workplace;
 
 pub use accepting::{Buffers, Served};
-pub use closing::close_all;
+pub use closing::{Finished, close_all};
 pub use door::Door;
 pub use mark::Mark;
 pub use parcels::packed;

@@ -15,23 +15,11 @@ use Rattle.shard_queue.specs.declared.reply.ReplyClosed.{ReplyClosed}
 use Rattle.lane_work.specs.Answering.{WereAnswered}
 use Rattle.lane_work.specs.Speaking.{premises_of}
 use Rattle.house_floor.specs.declared.floor.Floor.{Floor}
-use Rattle.reckoning.specs.declared.balancing.Closes.{Closes}
+use Rattle.house_history.specs.Legal.{Legal}
+use Rattle.lane_work.specs.Backing.{IsBacked}
 use Rattle.serving_workers.specs.Leaving.{HasServedClients, HasServedMail}
-
--- of each shard, all that was taken from its lane
-abbrev pub histories : {B : Type 0} → Closes B → List (List (Entry Job))
-histories closes = map history closes.lanes.items
-
--- of each producer, all that came on its reply channel
-abbrev pub answers : {B : Type 0} → Closes B → List (List (Entry Noted))
-answers closes = map reply_history closes.channels.items
-
--- What the clerk of a shard told a producer: of these entries, which it took, one verdict on each copy of that producer, in their order, and then its end.
--- `heard`: all that came on the producer's reply channel
-pub record WasAnswered (mailboxes shard producer : ℕ) (taken : List (Entry Job)) (heard : List (Entry Noted)) : Type 0 where
-  pub told : List (Entry Noted)
-  pub each : WereAnswered mailboxes shard producer taken told
-  pub ended : of shard heard ≡ told ++ End shard ∷ []
+use Rattle.serving_workers.specs.Finished.{Finished}
+use Rattle.serving.specs.Left.{WasAnswered, answers, histories}
 
 -- All that was put on each of these lanes was taken, each of its producers has put its end, and nobody else put anything.
 abbrev pub WereEmptied : List (ShardQueue Job) → List (Closed Job) → Type 0
@@ -47,20 +35,23 @@ WereHeardOut [] (c ∷ closed) = ⊥
 WereHeardOut (channel ∷ channels) [] = ⊥
 WereHeardOut (channel ∷ channels) (c ∷ closed) = IsWhole (senders_of channel) 0 (reply_history c) × WereHeardOut channels closed
 
--- What was taken of the queues of a house, the first of whose producers are so many workers.
-pub record CameTo {B : Type 0} (floor : Floor B) (workers : ℕ) (closes : Closes B) : Type 0 where
+-- What a house has left, the first of whose producers are so many workers.
+pub record CameTo {B : Type 0} (floor : Floor B) (workers : ℕ) (finished : Finished) : Type 0 where
   -- What was taken of a worker from each lane is what its connections submitted, one after another with the serials from 0 on, and then its end; and the verdict on
   -- each of these copies came on its channel.
-  pub mail : (n : ℕ) → n < workers → HasServedMail (premises_of floor.office) n (slice_index_or (answers closes) n []) (map (of n) (histories closes))
+  pub mail : (n : ℕ) → n < workers → HasServedMail (premises_of floor.office) n (slice_index_or (answers finished) n []) (map (of n) (histories finished))
   -- So it is of each berth: what was taken of it is what its clients appended, one client after another with the serials from 0 on.
   pub clients : (n : ℕ) → workers ≤ n → n < length floor.depot.channels.items
-      → HasServedClients (premises_of floor.office) n (slice_index_or (answers closes) n []) (map (of n) (histories closes))
+      → HasServedClients (premises_of floor.office) n (slice_index_or (answers finished) n []) (map (of n) (histories finished))
   -- Each copy that was taken of a producer, a worker or another, was answered once, by its shard's clerk and to that producer, in the order in which they were taken.
   pub answered : (s p : ℕ) → s < length floor.office.lanes.items → p < length floor.depot.channels.items
-      → WasAnswered (length floor.depot.mailboxes.items) s p (slice_index_or (histories closes) s []) (slice_index_or (answers closes) p [])
+      → WasAnswered (length floor.depot.mailboxes.items) s p (slice_index_or (histories finished) s []) (slice_index_or (answers finished) p [])
   -- Nothing else was on a lane or on a channel, and nothing was left there.
-  pub lanes : WereEmptied floor.office.lanes.items closes.lanes.items
-  pub channels : WereHeardOut floor.depot.channels.items closes.channels.items
+  pub lanes : WereEmptied floor.office.lanes.items finished.lanes.items
+  pub channels : WereHeardOut floor.depot.channels.items finished.channels.items
+  -- The house's history is legal, and has what each producer put and heard.
+  pub legal : Legal finished.front
+  pub backed : (n : ℕ) → n < length floor.depot.channels.items → IsBacked finished.front (slice_index_or (answers finished) n []) (map (of n) (histories finished))
 
 -- ---- on the way there
 

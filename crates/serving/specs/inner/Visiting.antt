@@ -11,4 +11,4 @@ use Rattle.imap_stream.specs.Visits.{IsGreeted, Visit}
 pub record IsVisitOf {B : Type 0} (floor : Floor B) (user : ℕ) (before : Option (List ℕ)) (visit : Visit) : Type 0 where
   pub name : List ℕ
   pub named : user_numbered user floor.office.directory.homes ≡ Some name
-  pub greeted : IsGreeted (Some (most_of floor.office.max_message)) (folders_of floor.office.directory name) (record { mailboxes = length floor.depot.mailboxes.items; entered = None }) before visit
+  pub greeted : IsGreeted (Some (most_of floor.office.max_message)) (folders_of floor.office.directory name) (record { mailboxes = length floor.depot.mailboxes.items; entered = None; history = floor.depot.front }) before visit

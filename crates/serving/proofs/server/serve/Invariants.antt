@@ -1,5 +1,5 @@
 use Rattle.serving.proofs.server.serve.Given as goal
 
 -- the history that was just opened
-abbrev pub ghosts-serve_in : goal.ghosts-serve_in
-ghosts-serve_in g a = record { book = a.history }
+abbrev pub ghosts-serve_named : goal.ghosts-serve_named
+ghosts-serve_named g a = record { book = a.beginning.history }

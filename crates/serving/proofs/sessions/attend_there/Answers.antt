@@ -7,6 +7,9 @@ use Rattle.shard_queue.specs.Reply.{IsReceiver, received}
 use Rattle.lane_work.specs.Permits.{AreEnded, ArePermits, put_by}
 use Rattle.lane_work.specs.Speaking.{premises_of}
 use Rattle.lane_work.specs.declared.desk.Office.{Office}
+use Rattle.lane_work.specs.Backing.{IsBacked}
+use Rattle.lane_work.specs.Dispatching.{Dispatch}
+use Rattle.lane_work.proofs.BackingLaws.{backed_begin, backed_end}
 use Rattle.lane_work.proofs.PermitLaws.{new_live}
 use Rattle.house_floor.specs.Crew.{IsPost}
 use Rattle.serving_workers.specs.Leaving.{AreAttended, HasServedClients}
@@ -57,4 +60,7 @@ returns-clause-served g c =
     let mine = subst (λ (n : ℕ). AreAttended (premises_of floor.office) n served.0 (received now.desk.receiver) (map put_by now.desk.permits.items)) (sym life.same.2) served.1 in
     subst (λ (r : ReceiverPermit Noted). HasServedClients (premises_of floor.office) now.desk.number (received r) (map said left.ended.items)) (sym c.leave.ensures.receiver)
     (clients_end (premises_of floor.office) now.desk.number now.desk.number served.0 (received now.desk.receiver) (map put_by now.desk.permits.items) (map said left.ended.items) refl mine c.leave.ensures.said))
-    (λ mail. absurd (let e : true ≡ false = sym mail ∙ c.leave.ensures.mail in cc))
+    (let begun = backed_begin post.desk.dispatch.history (received post.desk.receiver) post.desk.permits.items c.is_legal.ensures is.unheard.0 is.fresh in
+    let backed = backed_end now.desk.dispatch.history (received now.desk.receiver) now.desk.number (map put_by now.desk.permits.items) (map said left.ended.items) c.leave.ensures.said (life.same.4 begun) in
+    subst (λ (d : Dispatch). IsBacked d.history (received left.receiver) (map said left.ended.items)) (sym c.leave.ensures.dispatch)
+    (subst (λ (r : ReceiverPermit Noted). IsBacked now.desk.dispatch.history (received r) (map said left.ended.items)) (sym c.leave.ensures.receiver) backed))

@@ -1,12 +1,13 @@
-use Rattle.std.proofs.Common.{rules, ◌≡◌, ◌∙◌, false, map, sym, subst, arith}
-use Rattle.std.specs.List.{list_any}
+use Rattle.std.proofs.Common.{rules, ◌≡◌, ◌∙◌, false, true, map, sym, subst, arith, All, List}
+use Rattle.std.specs.List.{list_all, list_any}
 use Rattle.lane_work.specs.declared.consumer.Consumed.{Consumed}
 use Rattle.lane_work.specs.declared.worker.Worked.{Worked}
 use Rattle.lane_work.specs.LanePermits.{AreEndedHands}
 use Rattle.lane_work.specs.ChannelPermits.{AreReceivers}
 use Rattle.reckoning.proofs.Balanced.{at_some}
 use Rattle.serving_workers.specs.declared.accepting.Served.{Served}
-use Rattle.serving_workers.proofs.Heard.{ended_of, lengths_of, receivers_of}
+use Rattle.serving_workers.proofs.Heard.{Known, backed_of, ended_of, lengths_of, receivers_of}
+use Rattle.serving_workers.specs.inner.Leaving.{is_whole}
 use Rattle.serving_workers.proofs.Wholes.{whole_of}
 use Rattle.serving_workers.proofs.closing.close_all.Goals as goal
 
@@ -34,10 +35,17 @@ returns g c =
     let count = c.hear_all_out-worked.ensures.count in
     let same = c.requires.house.channels in
     let all : c.deref.result.now ≡ c.args.served.items = search rules in
-    let each : c.deref-2.result.now ≡ c.args.dismissed.consumed.items = search rules in
+    let each : c.deref-3.result.now ≡ c.args.dismissed.consumed.items = search rules in
+    let taught : c.deref-2.result.now ≡ ws.items = search rules in
+    let heard : c.deref-4.result.now ≡ ws.items = search rules in
+    let quiet : c.are_quiet-are_quiet.result ≡ true = search rules in
     whole_of c.args.floor c.args.served.items c.args.dismissed ws.items c.remains_of-lanes.result.lanes c.remains_of-lanes.result.channels
     _
     (search rules) (subst (λ xs. list_any (λ (s : Served _). s.torn) xs ≡ false) all (sym c.is_producer_torn-is_producer_torn.ensures ∙ c.if-is_producer_torn.false)) (subst (λ xs. list_any (λ (d : Consumed _). d.torn) xs ≡ false) each (sym c.is_clerk_torn-is_clerk_torn.ensures ∙ c.if-is_clerk_torn.false))
     c.remains_of-lanes.ensures.lanes c.remains_of-lanes.ensures.channels c.hear_all_out-worked.ensures.ended c.hear_all_out-worked.ensures.grew
     (at_some _ _ _ _ c.in-Some.is is.of_lanes) (at_some _ _ _ _ c.in-Some-channels.is is.of_channels)
     (receivers_of c.args.floor 0 ws.items c.hear_all_out-worked.ensures.worked (omega (arith, count, same, ws.ok.0)))
+    c.learn_all.ensures.legal
+    (backed_of c.args.floor c.learn_all.new.front 0 ws.items c.hear_all_out-worked.ensures.worked
+    (subst (λ (xs : List (Worked _)). list_all (λ (w : Worked _). is_whole w.fate) xs ≡ true) heard (sym c.are_quiet-are_quiet.ensures ∙ quiet))
+    (subst (λ (xs : List (Worked _)). All (Known c.learn_all.new.front) xs) taught c.learn_all.ensures.each) c.learn_all.ensures.legal)

@@ -33,4 +33,4 @@ returns-clause-served g c =
     c.serve_until_stopped.ensures.ended (subst (λ (x : ReplyChannel Noted). IsReceiver x c.serve_until_stopped.result.receiver) c.index.ensures c.serve_until_stopped.ensures.receiver)
     (λ mail whole. c.serve_until_stopped.ensures.served is.fresh whole)
     (λ none whole. absurd (let e : true ≡ false = sym c.serve_until_stopped.ensures.mail ∙ none in cc))
-    (λ mail. c.serve_until_stopped.ensures.backed is.fresh is.unheard.0)
+    (c.serve_until_stopped.ensures.backed is.fresh is.unheard.0)

@@ -1,7 +1,7 @@
 use Rattle.std.proofs.Common.{rules, refl}
 use Rattle.serving.proofs.AnnouncingLaws.{nothing_said}
 use Rattle.serving.proofs.Serving.{settings_or_memory}
-use Rattle.serving.proofs.server.serve.Goals as goal
+use Rattle.serving.proofs.server.serve_house.Goals as goal
 
 pub returns-in_err-directory-clause-refused : goal.returns-in_err-directory-clause-refused
 returns-in_err-directory-clause-refused g c fault is = (
@@ -11,10 +11,10 @@ returns-in_err-directory-clause-refused g c fault is = (
 )
 
 pub returns-in_err-directory-clause-told : goal.returns-in_err-directory-clause-told
-returns-in_err-directory-clause-told g c = nothing_said c.args.config.now c.args.report.status c.args.uidvalidity (g.W.Sink.taken c.args.output.now)
+returns-in_err-directory-clause-told g c = nothing_said c.args.config.now c.args.beginning.report.status c.args.beginning.uidvalidity (g.W.Sink.taken c.args.output.now)
 
 pub returns-in_err-sockets-clause-told : goal.returns-in_err-sockets-clause-told
-returns-in_err-sockets-clause-told g c = nothing_said c.args.config.now c.args.report.status c.args.uidvalidity (g.W.Sink.taken c.args.output.now)
+returns-in_err-sockets-clause-told g c = nothing_said c.args.config.now c.args.beginning.report.status c.args.beginning.uidvalidity (g.W.Sink.taken c.args.output.now)
 
 pub returns-in_err-log-clause-told : goal.returns-in_err-log-clause-told
-returns-in_err-log-clause-told g c = nothing_said c.args.config.now c.args.report.status c.args.uidvalidity (g.W.Sink.taken c.args.output.now)
+returns-in_err-log-clause-told g c = nothing_said c.args.config.now c.args.beginning.report.status c.args.beginning.uidvalidity (g.W.Sink.taken c.args.output.now)

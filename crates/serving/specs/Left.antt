@@ -1,0 +1,57 @@
+-- What a server has left that stopped in order: what was taken of its queues, to their end, and the one history that all its threads shared.
+use Rattle.std.specs.Prelude.{◌≡◌, ◌<◌, ◌≤◌, ◌++◌, ℕ, List, [], ◌∷◌, length, map, slice_index_or}
+use Rattle.delivery_token.specs.declared.Job.{Job}
+use Rattle.delivery_token.specs.declared.log.Noted.{Noted}
+use Rattle.house_history.specs.Legal.{Legal}
+use Rattle.shard_queue.specs.Lane.{of}
+use Rattle.shard_queue.specs.Permits.{history}
+use Rattle.shard_queue.specs.Reply.{reply_history}
+use Rattle.shard_queue.specs.declared.lane.Entry.{Entry}
+use Rattle.shard_queue.specs.declared.lane.Entry.TheVariants.{End}
+use Rattle.lane_work.specs.Account.{Premises}
+use Rattle.lane_work.specs.Answering.{WereAnswered}
+use Rattle.lane_work.specs.Backing.{IsBacked}
+use Rattle.settings.specs.Settings.{directory_for}
+use Rattle.settings.specs.declared.config.Config.{Config}
+use Rattle.serving_workers.specs.Leaving.{HasServedClients, HasServedMail}
+use Rattle.serving_workers.specs.Finished.{Finished}
+
+-- of each shard, all that was taken from its lane
+abbrev pub histories : Finished → List (List (Entry Job))
+histories finished = map history finished.lanes.items
+
+-- of each producer, all that came on its reply channel
+abbrev pub answers : Finished → List (List (Entry Noted))
+answers finished = map reply_history finished.channels.items
+
+-- What the clerk of a shard told a producer: of these entries, which it took, one verdict on each copy of that producer, in their order, and then its end.
+-- `heard`: all that came on the producer's reply channel
+pub record WasAnswered (mailboxes shard producer : ℕ) (taken : List (Entry Job)) (heard : List (Entry Noted)) : Type 0 where
+  pub told : List (Entry Noted)
+  pub each : WereAnswered mailboxes shard producer taken told
+  pub ended : of shard heard ≡ told ++ End shard ∷ []
+
+-- What its connections were told of is these settings': whose mail is taken, the name that is said, and how large a message may be.
+pub record IsSetAs (config : Config) (house : Premises) : Type 0 where
+  pub directory : house.directory ≡ directory_for config
+  pub host : house.host ≡ config.host.items
+  pub max_message : house.max_message ≡ config.max_message
+
+pub record HasLeft (config : Config) (finished : Finished) : Type 0 where
+  pub house : Premises
+  pub set : IsSetAs config house
+  -- There was a lane for each shard, and the first of the producers were the workers.
+  pub shards : length finished.lanes.items ≡ (directory_for config).shards
+  pub workers : config.workers ≤ length finished.channels.items
+  -- The one history of all threads is legal, and has what each producer put and heard.
+  pub legal : Legal finished.front
+  pub backed : (n : ℕ) → n < length finished.channels.items → IsBacked finished.front (slice_index_or (answers finished) n []) (map (of n) (histories finished))
+  -- What was taken of a worker from each lane is what its connections submitted, one after another with the serials from 0 on, and then its end; and the verdict on
+  -- each of these copies came on its channel.
+  pub mail : (n : ℕ) → n < config.workers → HasServedMail house n (slice_index_or (answers finished) n []) (map (of n) (histories finished))
+  -- So it is of each berth: what was taken of it is what its clients appended, one client after another with the serials from 0 on.
+  pub clients : (n : ℕ) → config.workers ≤ n → n < length finished.channels.items
+      → HasServedClients house n (slice_index_or (answers finished) n []) (map (of n) (histories finished))
+  -- Each copy that was taken of a producer was answered once, by its shard's clerk and to that producer, in the order in which they were taken.
+  pub answered : (s p : ℕ) → s < length finished.lanes.items → p < length finished.channels.items
+      → WasAnswered (length (directory_for config).homes) s p (slice_index_or (histories finished) s []) (slice_index_or (answers finished) p [])
