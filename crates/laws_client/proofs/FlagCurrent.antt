@@ -21,7 +21,7 @@ use Rattle.imap_grammar.specs.declared.command.ImapFault.{ImapFault}
 use Rattle.imap_session.specs.declared.standing.After.{After}
 use Rattle.imap_session.specs.declared.standing.After.TheVariants.{Go}
 use Rattle.imap_session.specs.declared.standing.Selected.{Selected}
-use Rattle.imap_session.specs.Exchange.{Answer, Entered, Looked, Found, Counted, Altered, Expunged, Fed, Left, Refused, Starved, Appending, Event as Happened, Done, Feed, Standing, Turn, having, kept_behind, kept_tag, played, refused, saying}
+use Rattle.imap_session.specs.Exchange.{Answer, Fed, Refused, Appending, Event as Happened, Done, Feed, Standing, Turn, having, kept_behind, kept_tag, played, refused, saying}
 use Rattle.imap_session.specs.Commands.{completed, on_idle_line, on_read, says, showing, turn_behind, turn_while, unlimited}
 use Rattle.imap_session.specs.Store.{Met}
 use Rattle.house.specs.Meets.{Meets}
@@ -122,15 +122,7 @@ shown_at_end k n tag words how now w (Refused fault ∷ []) turn v K t e met ok 
     let m = mapped (having (Feed unlimited) (Refused fault)) (Some (refused tag now fault)) turn e in
     let only = only_refused tag now fault m.more m.is in
     absurd (false≢true (sym (refusal_has_none tag fault t) ∙ ap (has_ok true tag) (sym only.bytes ∙ ap (λ (x : Turn). x.bytes) m.makes) ∙ ok))
-shown_at_end k n tag words how now w (Refused fault ∷ b ∷ more) turn v K t e met ok = absurd (none-some turn e)
-shown_at_end k n tag words how now w (Entered a ∷ more) turn v K t e met ok = absurd (none-some turn e)
-shown_at_end k n tag words how now w (Looked a ∷ more) turn v K t e met ok = absurd (none-some turn e)
-shown_at_end k n tag words how now w (Found a ∷ more) turn v K t e met ok = absurd (none-some turn e)
-shown_at_end k n tag words how now w (Counted a ∷ more) turn v K t e met ok = absurd (none-some turn e)
-shown_at_end k n tag words how now w (Altered a ∷ more) turn v K t e met ok = absurd (none-some turn e)
-shown_at_end k n tag words how now w (Expunged a b c ∷ more) turn v K t e met ok = absurd (none-some turn e)
-shown_at_end k n tag words how now w (Left a ∷ more) turn v K t e met ok = absurd (none-some turn e)
-shown_at_end k n tag words how now w (Starved a ∷ more) turn v K t e met ok = absurd (none-some turn e)
+shown_at_end k n tag words how now w (_ ∷ more) turn v K t e met ok = absurd (none-some turn e)
 
 noop_at_end : (k : Config) (n : ℕ) (now : Standing) (line tag : List ℕ) (w : World) (turn : Turn) (v : World) → Kept k w → IsAnswered k n now line w turn v
     → kept_tag now ≡ None → read line ≡ Ok (tag, commands.Noop) → has_ok true tag turn.bytes ≡ true → IsAtEnd v n

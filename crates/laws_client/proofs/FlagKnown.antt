@@ -26,16 +26,19 @@ use Rattle.laws_client.proofs.Boxes.{box_goes}
 use Rattle.laws_client.proofs.RecordEntering.{tagged_has}
 use Rattle.laws_client.proofs.RecordKnown.{may_ask, stands_still}
 use Rattle.laws_client.proofs.Living.{hears_last}
-use Rattle.laws_client.proofs.Moved.{Calls, short_before, short_met, sound_met, sound_step}
+use Rattle.laws_client.proofs.Moved.{Calls, hears_world, short_before, short_met, sound_met, sound_step}
 use Rattle.laws_client.proofs.Names.{goes_extends}
 use Rattle.laws_client.proofs.Parts.{HasTold, read_told}
 use Rattle.laws_client.proofs.RecordWorlds.{Sound, numbered_view, sound_always}
 use Rattle.laws_client.specs.Flags.{Point, counted}
-use Rattle.laws_client.specs.FlagTurns.{LeadsFlags, SeesAllFlags}
+use Rattle.laws_client.specs.FlagTurns.{LeadsFlags}
+use Rattle.laws_client.specs.Views.{view_of}
+use Rattle.laws_client.proofs.FlagMoments.{SeesAllMoments, at_moments}
+use Rattle.laws_client.proofs.ToldAll.{HearsAll}
 use Rattle.laws_client.specs.Worlds.{IsRightOnFlags, LivesTellFlags, TurnsTellFlags, point_of}
 use Rattle.laws_client.proofs.FlagEntering.{closes_right, reads_right, selects_right}
-use Rattle.laws_client.proofs.Idling.{idle_tells_flags}
-use Rattle.laws_client.proofs.Saying.{answer_tells_flags, verdict_tells_flags}
+use Rattle.laws_client.proofs.Idling.{idle_tells}
+use Rattle.laws_client.proofs.Saying.{answer_tells, verdict_tells}
 use Rattle.laws_client.proofs.Turning.{leaves, rests_in}
 use Rattle.laws_client.proofs.FlagWorlds.{counted_of, others_flags, sees_all_flags}
 use Rattle.imap_session.specs.declared.texts.ResponseText.TheVariants as texts
@@ -44,71 +47,82 @@ use Rattle.imap_grammar.specs.declared.command.Verb.TheVariants as verbs
 
 -- ---- what may happen
 
-long_tells : (now : Standing) (p : Point) (turn : Turn) (q : Point) → AreTags now → Some (turn_of_long_line now) ≡ Some turn → SeesAllFlags p turn.events q → LeadsFlags p turn.bytes q
+long_tells : (now : Standing) (p : Point) (turn : Turn) (q : Point) → AreTags now → Some (turn_of_long_line now) ≡ Some turn → SeesAllMoments p turn.events q → LeadsFlags p turn.bytes q
 long_tells now p turn q k e sees =
     let same : turn_of_long_line now ≡ turn = ap (the_turn turn) e in
-    let s : q ≡ p = subst (λ (t : Turn). SeesAllFlags p t.events q) (sym same) sees in
+    let s : q ≡ p = subst (λ (t : Turn). SeesAllMoments p t.events q) (sym same) sees in
     subst (λ (t : Turn). LeadsFlags p t.bytes q) same
     (subst (λ (r : Point). LeadsFlags p (turn_of_long_line now).bytes r) (sym s) (leaves p (turn_of_long_line now).bytes (long_line_tells_nothing now (kept_is_tag now.mailing.begun now.idling k.1 k.0))))
 
 happening_tells : (now : Standing) (p : Point) (happening : Happening) (turn : Turn) (q : Point) → AreTags now → MayHappen now (counted p) happening → leads_to now happening ≡ Some turn
-    → SeesAllFlags p turn.events q → LeadsFlags p turn.bytes q
-happening_tells now p (Line line answers) turn q k may e sees = answer_tells_flags now line p answers turn q (may_follow (kept_tag now) now (counted p) line (kept_is_tag now.mailing.begun now.idling k.1 k.0) may) e sees
+    → SeesAllMoments p turn.events q → LeadsFlags p turn.bytes q
+happening_tells now p (Line line answers) turn q k may e sees = answer_tells now line p answers turn q (may_follow (kept_tag now) now (counted p) line (kept_is_tag now.mailing.begun now.idling k.1 k.0) may) e sees
 happening_tells now p LongLine turn q k may e sees = long_tells now p turn q k e sees
-happening_tells now p (Turned answers) turn q k may e sees = idle_tells_flags now p answers turn q e sees
+happening_tells now p (Turned answers) turn q k may e sees = idle_tells now p answers turn q e sees
 happening_tells now p (Literal kept bytes) turn q k may e sees = rests_in p (may_send (with_bytes kept bytes now)) (with_bytes kept bytes now) turn q e sees
-happening_tells now p (Heard verdict answers) turn q k may e sees = verdict_tells_flags now verdict p answers turn q k.2 may e sees
+happening_tells now p (Heard verdict answers) turn q k may e sees = verdict_tells now verdict p answers turn q k.2 may e sees
 
-command_flags : (k : Config) (n : ℕ) (now : Standing) (w : World) (tag : List ℕ) (command : Command) (answers : List StoreAnswer) (turn : Turn) (v : World) (client : Option Client)
-    → HasSmallNumbers k → Sound k w → Stands now → IsTag tag → played tag now (on_command now command) answers ≡ Some turn → Met (Calls k n) w turn.events v → IsRightOnFlags (point_of w n) client
-    → (stays command ≡ true → IsRightOnFlags (point_of v n) (reads_on turn.bytes client)) → IsRightOnFlags (point_of v n) (answered (asked_by tag command) turn.bytes client)
-command_flags k n now w tag (commands.Select name) answers turn v client h S stands t e met right more =
-    selects_right k n tag now w false name answers turn v h S t stands.names e met
-command_flags k n now w tag (commands.Examine name) answers turn v client h S stands t e met right more =
-    selects_right k n tag now w true name answers turn v h S t stands.names e met
-command_flags k n now w tag commands.Close answers turn v client h S stands t e met right more =
-    closes_right k n tag (response_text (texts.Completed verbs.Close)) now w (λ s. not s.read_only) now.selected answers turn v client t (tagged_has tag (response_text (texts.Completed verbs.Close)) t) e met right
-command_flags k n now w tag commands.Unselect answers turn v client h S stands t e met right more =
-    closes_right k n tag (response_text (texts.Completed verbs.Unselect)) now w (λ s. false) now.selected answers turn v client t (tagged_has tag (response_text (texts.Completed verbs.Unselect)) t) e met right
-command_flags k n now w tag _ answers turn v client h S stands t e met right more = more refl
+command_flags : (now : Standing) (p : Point) (tag : List ℕ) (command : Command) (answers : List StoreAnswer) (turn : Turn) (q : Point) (client : Option Client)
+    → Stands now → IsTag tag → played tag now (on_command now command) answers ≡ Some turn → SeesAllMoments p turn.events q → HearsAll (counted p) turn.events (counted q) → IsRightOnFlags p client
+    → (stays command ≡ true → IsRightOnFlags q (reads_on turn.bytes client)) → IsRightOnFlags q (answered (asked_by tag command) turn.bytes client)
+command_flags now p tag (commands.Select name) answers turn q client stands t e sees met right more =
+    selects_right tag now (counted p) false name answers turn q t stands.names e met
+command_flags now p tag (commands.Examine name) answers turn q client stands t e sees met right more =
+    selects_right tag now (counted p) true name answers turn q t stands.names e met
+command_flags now p tag commands.Close answers turn q client stands t e sees met right more =
+    closes_right tag (response_text (texts.Completed verbs.Close)) now p (λ s. not s.read_only) now.selected answers turn q client t (tagged_has tag (response_text (texts.Completed verbs.Close)) t) e sees right
+command_flags now p tag commands.Unselect answers turn q client stands t e sees met right more =
+    closes_right tag (response_text (texts.Completed verbs.Unselect)) now p (λ s. false) now.selected answers turn q client t (tagged_has tag (response_text (texts.Completed verbs.Unselect)) t) e sees right
+command_flags now p tag _ answers turn q client stands t e sees met right more = more refl
 
-read_flags : (k : Config) (n : ℕ) (now : Standing) (w : World) (r : Result (List ℕ × Command) ImapFault) (answers : List StoreAnswer) (turn : Turn) (v : World) (client : Option Client)
-    → HasSmallNumbers k → Sound k w → Stands now → IsNumbered (counted (point_of w n)) → Tagged r → HasTold r → on_read now r answers ≡ Some turn → Met (Calls k n) w turn.events v → IsRightOnFlags (point_of w n) client
-    → (MayAnswer now (counted (point_of w n)) r → IsRightOnFlags (point_of v n) (reads_on turn.bytes client)) → IsRightOnFlags (point_of v n) (answered (asked r) turn.bytes client)
-read_flags k n now w (Ok line) answers turn v client h S stands numbered t told e met right more =
-    command_flags k n now w line.0 line.1 answers turn v client h S stands t e met right (λ stay. more (may_ask now (counted (point_of w n)) line.1 stands numbered told stay))
-read_flags k n now w (Err fault) answers turn v client h S stands numbered t told e met right more = more tt
+read_flags : (now : Standing) (p : Point) (r : Result (List ℕ × Command) ImapFault) (answers : List StoreAnswer) (turn : Turn) (q : Point) (client : Option Client)
+    → Stands now → IsNumbered (counted p) → Tagged r → HasTold r → on_read now r answers ≡ Some turn → SeesAllMoments p turn.events q → HearsAll (counted p) turn.events (counted q) → IsRightOnFlags p client
+    → (MayAnswer now (counted p) r → IsRightOnFlags q (reads_on turn.bytes client)) → IsRightOnFlags q (answered (asked r) turn.bytes client)
+read_flags now p (Ok line) answers turn q client stands numbered t told e sees met right more =
+    command_flags now p line.0 line.1 answers turn q client stands t e sees met right (λ stay. more (may_ask now (counted p) line.1 stands numbered told stay))
+read_flags now p (Err fault) answers turn q client stands numbered t told e sees met right more = more tt
 
 -- ---- turns
 
-happening_flags : (k : Config) (n : ℕ) (now : Standing) (w : World) (happening : Happening) (turn : Turn) (v : World) (client : Option Client) → HasSmallNumbers k → Sound k w → HasShortTexts v → Stands now
-    → leads_to now happening ≡ Some turn → Met (Calls k n) w turn.events v → IsRightOnFlags (point_of w n) client → MayHappen now (counted (point_of w n)) happening → IsRightOnFlags (point_of v n) (reads_on turn.bytes client)
-happening_flags k n now w happening turn v client h S short stands e met right may =
-    reads_right (point_of w n) turn.bytes (point_of v n) client (happening_tells now (point_of w n) happening turn (point_of v n) stands.tags may e (sees_all_flags k n w turn.events v h S short met)) right
+happening_flags : (now : Standing) (p : Point) (happening : Happening) (turn : Turn) (q : Point) (client : Option Client) → Stands now
+    → leads_to now happening ≡ Some turn → SeesAllMoments p turn.events q → HearsAll (counted p) turn.events (counted q) → IsRightOnFlags p client → MayHappen now (counted p) happening → IsRightOnFlags q (reads_on turn.bytes client)
+happening_flags now p happening turn q client stands e sees met right may =
+    reads_right p turn.bytes q client (happening_tells now p happening turn q stands.tags may e sees) right
 
-line_flags : (k : Config) (n : ℕ) (now : Standing) (w : World) (line : List ℕ) (answers : List StoreAnswer) (turn : Turn) (v : World) (client : Option Client) → HasSmallNumbers k → Sound k w → HasShortTexts v → Stands now
-    → turn_of now line answers ≡ Some turn → Met (Calls k n) w turn.events v → IsRightOnFlags (point_of w n) client → IsRightOnFlags (point_of v n) (hears client (told_line (kept_tag now) line turn.bytes))
-line_flags k n now w line answers turn v client h S short stands e met right = by now.mailing.begun now.idling refl refl
+line_flags : (now : Standing) (p : Point) (line : List ℕ) (answers : List StoreAnswer) (turn : Turn) (q : Point) (client : Option Client) → Stands now → IsNumbered (counted p)
+    → turn_of now line answers ≡ Some turn → SeesAllMoments p turn.events q → HearsAll (counted p) turn.events (counted q) → IsRightOnFlags p client → IsRightOnFlags q (hears client (told_line (kept_tag now) line turn.bytes))
+line_flags now p line answers turn q client stands numbered e sees met right = by now.mailing.begun now.idling refl refl
   where
-    more : MayCome (kept_tag now) now (counted (point_of w n)) line → IsRightOnFlags (point_of v n) (reads_on turn.bytes client)
-    more may = happening_flags k n now w (Line line answers) turn v client h S short stands e met right may
+    more : MayCome (kept_tag now) now (counted p) line → IsRightOnFlags q (reads_on turn.bytes client)
+    more may = happening_flags now p (Line line answers) turn q client stands e sees met right may
 
-    by : (begun : Option Appending) (idling : Option (List ℕ)) → begun ≡ now.mailing.begun → idling ≡ now.idling → IsRightOnFlags (point_of v n) (hears client (told_line (kept_behind begun idling) line turn.bytes))
-    by (Some a) idling b i = more (subst (λ (o : Option (List ℕ)). MayCome o now (counted (point_of w n)) line) (ap₂ kept_behind b i) tt)
-    by None (Some tag) b i = more (subst (λ (o : Option (List ℕ)). MayCome o now (counted (point_of w n)) line) (ap₂ kept_behind b i) tt)
+    by : (begun : Option Appending) (idling : Option (List ℕ)) → begun ≡ now.mailing.begun → idling ≡ now.idling → IsRightOnFlags q (hears client (told_line (kept_behind begun idling) line turn.bytes))
+    by (Some a) idling b i = more (subst (λ (o : Option (List ℕ)). MayCome o now (counted p) line) (ap₂ kept_behind b i) tt)
+    by None (Some tag) b i = more (subst (λ (o : Option (List ℕ)). MayCome o now (counted p) line) (ap₂ kept_behind b i) tt)
     by None None b i =
         let first : turn_while now.idling now line answers ≡ Some turn = subst (λ (o : Option Appending). turn_behind o now line answers ≡ Some turn) (sym b) e in
         let second : on_read now (read line) answers ≡ Some turn = subst (λ (o : Option (List ℕ)). turn_while o now line answers ≡ Some turn) (sym i) first in
-        read_flags k n now w (read line) answers turn v client h S stands (subst IsNumbered (counted_of w n) (numbered_view k w n S)) (read_tagged line) (read_told line) second met right
-        (λ may. more (subst (λ (o : Option (List ℕ)). MayCome o now (counted (point_of w n)) line) (ap₂ kept_behind b i) may))
+        read_flags now p (read line) answers turn q client stands numbered (read_tagged line) (read_told line) second sees met right
+        (λ may. more (subst (λ (o : Option (List ℕ)). MayCome o now (counted p) line) (ap₂ kept_behind b i) may))
+
+pub turn_moments : (now : Standing) (p : Point) (happening : Happening) (turn : Turn) (q : Point) (client : Option Client) → Stands now → IsNumbered (counted p)
+    → VerdictsArePrinted happening → leads_to now happening ≡ Some turn → SeesAllMoments p turn.events q → HearsAll (counted p) turn.events (counted q) → IsRightOnFlags p client → IsRightOnFlags q (hears client (told_of now happening turn.bytes))
+turn_moments now p (Line line answers) turn q client stands numbered printed e sees met right = line_flags now p line answers turn q client stands numbered e sees met right
+turn_moments now p LongLine turn q client stands numbered printed e sees met right = happening_flags now p LongLine turn q client stands e sees met right tt
+turn_moments now p (Turned answers) turn q client stands numbered printed e sees met right = happening_flags now p (Turned answers) turn q client stands e sees met right tt
+turn_moments now p (Literal kept bytes) turn q client stands numbered printed e sees met right = happening_flags now p (Literal kept bytes) turn q client stands e sees met right tt
+turn_moments now p (Heard verdict answers) turn q client stands numbered printed e sees met right = happening_flags now p (Heard verdict answers) turn q client stands e sees met right printed
+
+-- ---- over a world
 
 turn_flags : (k : Config) (n : ℕ) (now : Standing) (w : World) (happening : Happening) (turn : Turn) (v : World) (client : Option Client) → HasSmallNumbers k → Sound k w → HasShortTexts v → Stands now
     → VerdictsArePrinted happening → leads_to now happening ≡ Some turn → Met (Calls k n) w turn.events v → IsRightOnFlags (point_of w n) client → IsRightOnFlags (point_of v n) (hears client (told_of now happening turn.bytes))
-turn_flags k n now w (Line line answers) turn v client h S short stands printed e met right = line_flags k n now w line answers turn v client h S short stands e met right
-turn_flags k n now w LongLine turn v client h S short stands printed e met right = happening_flags k n now w LongLine turn v client h S short stands e met right tt
-turn_flags k n now w (Turned answers) turn v client h S short stands printed e met right = happening_flags k n now w (Turned answers) turn v client h S short stands e met right tt
-turn_flags k n now w (Literal kept bytes) turn v client h S short stands printed e met right = happening_flags k n now w (Literal kept bytes) turn v client h S short stands e met right tt
-turn_flags k n now w (Heard verdict answers) turn v client h S short stands printed e met right = happening_flags k n now w (Heard verdict answers) turn v client h S short stands e met right printed
+turn_flags k n now w happening turn v client h S short stands printed e met right =
+    turn_moments now (point_of w n) happening turn (point_of v n) client stands (subst IsNumbered (counted_of w n) (numbered_view k w n S)) printed e
+    (at_moments (point_of w n) turn.events (point_of v n) (sees_all_flags k n w turn.events v h S short met))
+    (subst (λ (new : List ℕ). HearsAll (counted (point_of w n)) turn.events new) (counted_of v n)
+    (subst (λ (old : List ℕ). HearsAll old turn.events (view_of v n)) (counted_of w n) (hears_world k n w turn.events v h S short met)))
+    right
 
 pub turns_tell_flags : TurnsTellFlags
 turns_tell_flags k events w n now happening turn v client h is short stands printed e met right =

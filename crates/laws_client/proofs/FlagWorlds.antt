@@ -15,7 +15,7 @@ use Rattle.world.specs.World.{Box, Config, Event, Session, Step, World, shows}
 use Rattle.world.proofs.Always.{legal}
 use Rattle.world.proofs.Kept.{Kept, SessionOk}
 use Rattle.delivery_core.specs.Clients.{Done, row_with, rows_then}
-use Rattle.imap_session.specs.Exchange.{Call, Answer, Event as Happened, Look, Read as ReadCall, Count, Alter, Expunge as ExpungeCall, Feed as FeedCall, Leave as LeaveCall, Enter as EnterCall, Entered, Looked, Found, Counted, Altered, Expunged, Fed, Left, Refused, Starved}
+use Rattle.imap_session.specs.Exchange.{Call, Answer, Event as Happened, Look, Read as ReadCall, Count, Alter, Expunge as ExpungeCall, Feed as FeedCall, Leave as LeaveCall, Enter as EnterCall, Entered, Looked, Found, Counted, Altered, Expunged, Fed, Left, Refused}
 use Rattle.imap_session.specs.Store.{Met}
 use Rattle.house.specs.Meets.{Meets}
 use Rattle.laws_client.specs.Beliefs.{Each}
@@ -156,85 +156,29 @@ feed_flags k w n limit met changes v S sees (step, (s, is, (D, shown))) =
 pub call_seen : (k : Config) (w : World) (n : ℕ) (call : Call) (answer : Answer) (v : World) → Sound k w → HasSmallNumbers k → HasShortTexts w → Meets k n w call answer v
     → IfInside answer (SeesFlags (point_of w n) (record { call = call; answer = answer }) (point_of v n))
 call_seen k w n (EnterCall i) (Entered opening) v S h short m = tt
-call_seen k w n (EnterCall i) (Looked copied) v S h short m = absurd m
-call_seen k w n (EnterCall i) (Found row) v S h short m = absurd m
-call_seen k w n (EnterCall i) (Counted status) v S h short m = absurd m
-call_seen k w n (EnterCall i) (Altered flags) v S h short m = absurd m
-call_seen k w n (EnterCall i) (Expunged met changes gone) v S h short m = absurd m
-call_seen k w n (EnterCall i) (Fed met changes) v S h short m = absurd m
-call_seen k w n (EnterCall i) (Left gone) v S h short m = absurd m
 call_seen k w n (EnterCall i) (Refused fault) v S h short m = still_seen k w n (EnterCall i) (Refused fault) v S (turned_away k n i w fault v m) (seen k w n (EnterCall i) (Refused fault) v S h short m) refl (λ q. tt)
-call_seen k w n (EnterCall i) (Starved j) v S h short m = absurd m
-call_seen k w n (Look by_uid set) (Entered opening) v S h short m = absurd m
+call_seen k w n (EnterCall i) _ v S h short m = absurd m
 call_seen k w n (Look by_uid set) (Looked copied) v S h short m = still_seen k w n (Look by_uid set) (Looked copied) v S m.0 (seen k w n (Look by_uid set) (Looked copied) v S h short m) refl (λ q. tt)
-call_seen k w n (Look by_uid set) (Found row) v S h short m = absurd m
-call_seen k w n (Look by_uid set) (Counted status) v S h short m = absurd m
-call_seen k w n (Look by_uid set) (Altered flags) v S h short m = absurd m
-call_seen k w n (Look by_uid set) (Expunged met changes gone) v S h short m = absurd m
-call_seen k w n (Look by_uid set) (Fed met changes) v S h short m = absurd m
-call_seen k w n (Look by_uid set) (Left gone) v S h short m = absurd m
 call_seen k w n (Look by_uid set) (Refused fault) v S h short m = still_seen k w n (Look by_uid set) (Refused fault) v S (was_refused n w fault _ v m) (seen k w n (Look by_uid set) (Refused fault) v S h short m) refl (λ q. tt)
-call_seen k w n (Look by_uid set) (Starved j) v S h short m = absurd m
-call_seen k w n (ReadCall uid mark) (Entered opening) v S h short m = absurd m
-call_seen k w n (ReadCall uid mark) (Looked copied) v S h short m = absurd m
+call_seen k w n (Look by_uid set) _ v S h short m = absurd m
 call_seen k w n (ReadCall uid mark) (Found row) v S h short m = read_flags k w n uid mark row v S (seen k w n (ReadCall uid mark) (Found row) v S h short m) m
-call_seen k w n (ReadCall uid mark) (Counted status) v S h short m = absurd m
-call_seen k w n (ReadCall uid mark) (Altered flags) v S h short m = absurd m
-call_seen k w n (ReadCall uid mark) (Expunged met changes gone) v S h short m = absurd m
-call_seen k w n (ReadCall uid mark) (Fed met changes) v S h short m = absurd m
-call_seen k w n (ReadCall uid mark) (Left gone) v S h short m = absurd m
 call_seen k w n (ReadCall uid mark) (Refused fault) v S h short m = still_seen k w n (ReadCall uid mark) (Refused fault) v S (was_refused n w fault _ v m) (seen k w n (ReadCall uid mark) (Refused fault) v S h short m) refl (λ q. tt)
-call_seen k w n (ReadCall uid mark) (Starved j) v S h short m = absurd m
-call_seen k w n (Count i) (Entered opening) v S h short m = absurd m
-call_seen k w n (Count i) (Looked copied) v S h short m = absurd m
-call_seen k w n (Count i) (Found row) v S h short m = absurd m
+call_seen k w n (ReadCall uid mark) _ v S h short m = absurd m
 call_seen k w n (Count i) (Counted status) v S h short m = still_seen k w n (Count i) (Counted status) v S m.0 (seen k w n (Count i) (Counted status) v S h short m) refl (λ q. tt)
-call_seen k w n (Count i) (Altered flags) v S h short m = absurd m
-call_seen k w n (Count i) (Expunged met changes gone) v S h short m = absurd m
-call_seen k w n (Count i) (Fed met changes) v S h short m = absurd m
-call_seen k w n (Count i) (Left gone) v S h short m = absurd m
 call_seen k w n (Count i) (Refused fault) v S h short m = still_seen k w n (Count i) (Refused fault) v S m.0 (seen k w n (Count i) (Refused fault) v S h short m) refl (λ q. tt)
-call_seen k w n (Count i) (Starved j) v S h short m = absurd m
-call_seen k w n (Alter uid op) (Entered opening) v S h short m = absurd m
-call_seen k w n (Alter uid op) (Looked copied) v S h short m = absurd m
-call_seen k w n (Alter uid op) (Found row) v S h short m = absurd m
-call_seen k w n (Alter uid op) (Counted status) v S h short m = absurd m
+call_seen k w n (Count i) _ v S h short m = absurd m
 call_seen k w n (Alter uid op) (Altered flags) v S h short m = alter_flags k w n uid op flags v S (seen k w n (Alter uid op) (Altered flags) v S h short m) m
-call_seen k w n (Alter uid op) (Expunged met changes gone) v S h short m = absurd m
-call_seen k w n (Alter uid op) (Fed met changes) v S h short m = absurd m
-call_seen k w n (Alter uid op) (Left gone) v S h short m = absurd m
 call_seen k w n (Alter uid op) (Refused fault) v S h short m = still_seen k w n (Alter uid op) (Refused fault) v S (was_refused n w fault _ v m) (seen k w n (Alter uid op) (Refused fault) v S h short m) refl (λ q. tt)
-call_seen k w n (Alter uid op) (Starved j) v S h short m = absurd m
-call_seen k w n (ExpungeCall uids) (Entered opening) v S h short m = absurd m
-call_seen k w n (ExpungeCall uids) (Looked copied) v S h short m = absurd m
-call_seen k w n (ExpungeCall uids) (Found row) v S h short m = absurd m
-call_seen k w n (ExpungeCall uids) (Counted status) v S h short m = absurd m
-call_seen k w n (ExpungeCall uids) (Altered flags) v S h short m = absurd m
+call_seen k w n (Alter uid op) _ v S h short m = absurd m
 call_seen k w n (ExpungeCall uids) (Expunged met changes gone) v S h short m = expunge_flags k w n uids met changes gone v S (seen k w n (ExpungeCall uids) (Expunged met changes gone) v S h short m) m
-call_seen k w n (ExpungeCall uids) (Fed met changes) v S h short m = absurd m
-call_seen k w n (ExpungeCall uids) (Left gone) v S h short m = absurd m
 call_seen k w n (ExpungeCall uids) (Refused fault) v S h short m = still_seen k w n (ExpungeCall uids) (Refused fault) v S (was_refused n w fault _ v m) (seen k w n (ExpungeCall uids) (Refused fault) v S h short m) refl (λ q. tt)
-call_seen k w n (ExpungeCall uids) (Starved j) v S h short m = absurd m
-call_seen k w n (FeedCall limit) (Entered opening) v S h short m = absurd m
-call_seen k w n (FeedCall limit) (Looked copied) v S h short m = absurd m
-call_seen k w n (FeedCall limit) (Found row) v S h short m = absurd m
-call_seen k w n (FeedCall limit) (Counted status) v S h short m = absurd m
-call_seen k w n (FeedCall limit) (Altered flags) v S h short m = absurd m
-call_seen k w n (FeedCall limit) (Expunged met changes gone) v S h short m = absurd m
+call_seen k w n (ExpungeCall uids) _ v S h short m = absurd m
 call_seen k w n (FeedCall limit) (Fed met changes) v S h short m = feed_flags k w n limit met changes v S (seen k w n (FeedCall limit) (Fed met changes) v S h short m) m
-call_seen k w n (FeedCall limit) (Left gone) v S h short m = absurd m
 call_seen k w n (FeedCall limit) (Refused fault) v S h short m = still_seen k w n (FeedCall limit) (Refused fault) v S (was_refused n w fault _ v m) (seen k w n (FeedCall limit) (Refused fault) v S h short m) refl (λ q. tt)
-call_seen k w n (FeedCall limit) (Starved j) v S h short m = absurd m
-call_seen k w n (LeaveCall remove) (Entered opening) v S h short m = absurd m
-call_seen k w n (LeaveCall remove) (Looked copied) v S h short m = absurd m
-call_seen k w n (LeaveCall remove) (Found row) v S h short m = absurd m
-call_seen k w n (LeaveCall remove) (Counted status) v S h short m = absurd m
-call_seen k w n (LeaveCall remove) (Altered flags) v S h short m = absurd m
-call_seen k w n (LeaveCall remove) (Expunged met changes gone) v S h short m = absurd m
-call_seen k w n (LeaveCall remove) (Fed met changes) v S h short m = absurd m
+call_seen k w n (FeedCall limit) _ v S h short m = absurd m
 call_seen k w n (LeaveCall remove) (Left gone) v S h short m = tt
 call_seen k w n (LeaveCall remove) (Refused fault) v S h short m = still_seen k w n (LeaveCall remove) (Refused fault) v S (was_refused n w fault _ v m) (seen k w n (LeaveCall remove) (Refused fault) v S h short m) refl (λ q. tt)
-call_seen k w n (LeaveCall remove) (Starved j) v S h short m = absurd m
+call_seen k w n (LeaveCall remove) _ v S h short m = absurd m
 
 pub calls_tell_flags : CallsTellFlags
 calls_tell_flags k events w n call answer v h is short m = call_seen k w n call answer v (sound_always k events w h is) h short m

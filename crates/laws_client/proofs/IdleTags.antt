@@ -1,6 +1,6 @@
 -- What stays so of a session while it answers, by induction over the exchange, a clause for each answer that there is; and so the tags that it keeps are tags.
-use Rattle.std.proofs.Common.{zero, suc, ◌≡◌, ℕ, Bool, true, false, List, [], ◌∷◌, length, ap, refl, subst, sym}
-use Rattle.std.specs.Prelude.{Option, Some, None, IfSome, Result, Ok, Err, nat_lt, ◌==◌, ◌&&◌, if◌then◌else◌}
+use Rattle.std.proofs.Common.{zero, suc, ◌≡◌, ℕ, Bool, true, List, [], ◌∷◌, length, ap, refl, subst, sym}
+use Rattle.std.specs.Prelude.{Option, Some, None, IfSome, Result, Ok, Err, ◌==◌}
 use Rattle.std.specs.Option.{option_map}
 use Rattle.std.proofs.lemmas.Option.{none-some}
 use Rattle.cursor_set.specs.Lines.{lines}
@@ -19,7 +19,7 @@ use Rattle.imap_session.specs.Exchange.{Answer, Entered, Looked, Found, Counted,
 use Rattle.imap_session.proofs.Unkept.{unkept_by}
 use Rattle.imap_session.specs.Commands.{fault_text, on_command, on_idle_line, on_read, on_rest, on_verdict, only_says, taking, turn_behind, turn_of, turn_of_verdict, turn_while, turn_with, with_bytes, without_begun, without_sent}
 use Rattle.delivery_token.specs.declared.Verdict.{Verdict}
-use Rattle.laws_client.specs.ListTurns.{AreTags, IsTag}
+use Rattle.laws_client.specs.ListTurns.{IsTag}
 use Rattle.laws_client.specs.ListLaws.{KeptTagsAreTags}
 use Rattle.laws_client.proofs.Tags.{TaggedOf, read_tagged_so, word_is_tag}
 use Rattle.laws_client.proofs.Turns.{the_turn}
@@ -65,128 +65,45 @@ pub played_keeps : (Q : Standing → Type 0) (tag : List ℕ) → Keeps Q tag �
 played_keeps Q tag K now (Done words how) [] turn k e = told Q tag K now (saying (tagged tag words)) (λ s. refl) how turn k e
 played_keeps Q tag K now (Done words how) (a ∷ more) turn k e = absurd (none-some turn e)
 played_keeps Q tag K now (Wait bytes w) [] turn k e = subst (λ (s : Turn). Kept Q s) (ap (the_turn turn) e) (K.waits now w k)
-played_keeps Q tag K now (Wait bytes w) (Entered a ∷ more) turn k e = absurd (none-some turn e)
-played_keeps Q tag K now (Wait bytes w) (Looked a ∷ more) turn k e = absurd (none-some turn e)
-played_keeps Q tag K now (Wait bytes w) (Found a ∷ more) turn k e = absurd (none-some turn e)
-played_keeps Q tag K now (Wait bytes w) (Counted a ∷ more) turn k e = absurd (none-some turn e)
-played_keeps Q tag K now (Wait bytes w) (Altered a ∷ more) turn k e = absurd (none-some turn e)
-played_keeps Q tag K now (Wait bytes w) (Expunged a b c ∷ more) turn k e = absurd (none-some turn e)
-played_keeps Q tag K now (Wait bytes w) (Fed a b ∷ more) turn k e = absurd (none-some turn e)
-played_keeps Q tag K now (Wait bytes w) (Left a ∷ more) turn k e = absurd (none-some turn e)
-played_keeps Q tag K now (Wait bytes w) (Refused a ∷ more) turn k e = absurd (none-some turn e)
 played_keeps Q tag K now (Wait bytes w) (Starved n ∷ []) turn k e = goes_without Q tag K now w n turn k e
-played_keeps Q tag K now (Wait bytes w) (Starved n ∷ b ∷ more) turn k e = absurd (none-some turn e)
+played_keeps Q tag K now (Wait bytes w) (_ ∷ more) turn k e = absurd (none-some turn e)
 played_keeps Q tag K now (Write bytes x) [] turn k e = maps Q (saying bytes) (λ s. refl) (played tag now x []) turn e (λ s d. played_keeps Q tag K now x [] s k d)
-played_keeps Q tag K now (Write bytes x) (Entered a ∷ more) turn k e = maps Q (saying bytes) (λ s. refl) (played tag now x (Entered a ∷ more)) turn e (λ s d. played_keeps Q tag K now x (Entered a ∷ more) s k d)
-played_keeps Q tag K now (Write bytes x) (Looked a ∷ more) turn k e = maps Q (saying bytes) (λ s. refl) (played tag now x (Looked a ∷ more)) turn e (λ s d. played_keeps Q tag K now x (Looked a ∷ more) s k d)
-played_keeps Q tag K now (Write bytes x) (Found a ∷ more) turn k e = maps Q (saying bytes) (λ s. refl) (played tag now x (Found a ∷ more)) turn e (λ s d. played_keeps Q tag K now x (Found a ∷ more) s k d)
-played_keeps Q tag K now (Write bytes x) (Counted a ∷ more) turn k e = maps Q (saying bytes) (λ s. refl) (played tag now x (Counted a ∷ more)) turn e (λ s d. played_keeps Q tag K now x (Counted a ∷ more) s k d)
-played_keeps Q tag K now (Write bytes x) (Altered a ∷ more) turn k e = maps Q (saying bytes) (λ s. refl) (played tag now x (Altered a ∷ more)) turn e (λ s d. played_keeps Q tag K now x (Altered a ∷ more) s k d)
-played_keeps Q tag K now (Write bytes x) (Expunged a b c ∷ more) turn k e = maps Q (saying bytes) (λ s. refl) (played tag now x (Expunged a b c ∷ more)) turn e (λ s d. played_keeps Q tag K now x (Expunged a b c ∷ more) s k d)
-played_keeps Q tag K now (Write bytes x) (Fed a b ∷ more) turn k e = maps Q (saying bytes) (λ s. refl) (played tag now x (Fed a b ∷ more)) turn e (λ s d. played_keeps Q tag K now x (Fed a b ∷ more) s k d)
-played_keeps Q tag K now (Write bytes x) (Left a ∷ more) turn k e = maps Q (saying bytes) (λ s. refl) (played tag now x (Left a ∷ more)) turn e (λ s d. played_keeps Q tag K now x (Left a ∷ more) s k d)
-played_keeps Q tag K now (Write bytes x) (Refused a ∷ more) turn k e = maps Q (saying bytes) (λ s. refl) (played tag now x (Refused a ∷ more)) turn e (λ s d. played_keeps Q tag K now x (Refused a ∷ more) s k d)
 played_keeps Q tag K now (Write bytes x) (Starved zero ∷ []) turn k e = given_up Q tag K now NoMemory turn k e
 played_keeps Q tag K now (Write bytes x) (Starved (suc n) ∷ []) turn k e = maps Q (saying bytes) (λ s. refl) (played tag now x (Starved n ∷ [])) turn e (λ s d. played_keeps Q tag K now x (Starved n ∷ []) s k d)
-played_keeps Q tag K now (Write bytes x) (Starved zero ∷ b ∷ more) turn k e = maps Q (saying bytes) (λ s. refl) (played tag now x (Starved zero ∷ b ∷ more)) turn e (λ s d. played_keeps Q tag K now x (Starved zero ∷ b ∷ more) s k d)
-played_keeps Q tag K now (Write bytes x) (Starved (suc n) ∷ b ∷ more) turn k e = maps Q (saying bytes) (λ s. refl) (played tag now x (Starved (suc n) ∷ b ∷ more)) turn e (λ s d. played_keeps Q tag K now x (Starved (suc n) ∷ b ∷ more) s k d)
+played_keeps Q tag K now (Write bytes x) (given ∷ more) turn k e = maps Q (saying bytes) (λ s. refl) (played tag now x (given ∷ more)) turn e (λ s d. played_keeps Q tag K now x (given ∷ more) s k d)
 played_keeps Q tag K now (Put bytes x) answers turn k e = maps Q (saying bytes) (λ s. refl) (played tag now x answers) turn e (λ s d. played_keeps Q tag K now x answers s k d)
 played_keeps Q tag K now (Enter selected next) [] turn k e = absurd (none-some turn e)
 played_keeps Q tag K now (Enter selected next) (Entered a ∷ more) turn k e = maps Q (having (Enter selected.mailbox) (Entered a)) (λ s. refl) (played tag (record now { selected = Some selected }) (next a) more) turn e (λ s d. played_keeps Q tag K (record now { selected = Some selected }) (next a) more s (K.enters now (Some selected) k) d)
-played_keeps Q tag K now (Enter selected next) (Looked a ∷ more) turn k e = absurd (none-some turn e)
-played_keeps Q tag K now (Enter selected next) (Found a ∷ more) turn k e = absurd (none-some turn e)
-played_keeps Q tag K now (Enter selected next) (Counted a ∷ more) turn k e = absurd (none-some turn e)
-played_keeps Q tag K now (Enter selected next) (Altered a ∷ more) turn k e = absurd (none-some turn e)
-played_keeps Q tag K now (Enter selected next) (Expunged a b c ∷ more) turn k e = absurd (none-some turn e)
-played_keeps Q tag K now (Enter selected next) (Fed a b ∷ more) turn k e = absurd (none-some turn e)
-played_keeps Q tag K now (Enter selected next) (Left a ∷ more) turn k e = absurd (none-some turn e)
 played_keeps Q tag K now (Enter selected next) (Refused a ∷ []) turn k e = told Q tag K now (λ s. having (Enter selected.mailbox) (Refused a) (saying (refusal_text tag a) s)) (λ s. refl) (refusal_after a) turn k e
-played_keeps Q tag K now (Enter selected next) (Refused a ∷ b ∷ more) turn k e = absurd (none-some turn e)
-played_keeps Q tag K now (Enter selected next) (Starved a ∷ more) turn k e = absurd (none-some turn e)
+played_keeps Q tag K now (Enter selected next) (_ ∷ more) turn k e = absurd (none-some turn e)
 played_keeps Q tag K now (Look by_uid set next) [] turn k e = absurd (none-some turn e)
-played_keeps Q tag K now (Look by_uid set next) (Entered a ∷ more) turn k e = absurd (none-some turn e)
 played_keeps Q tag K now (Look by_uid set next) (Looked a ∷ more) turn k e = maps Q (having (Look by_uid set) (Looked a)) (λ s. refl) (played tag now (next a) more) turn e (λ s d. played_keeps Q tag K now (next a) more s k d)
-played_keeps Q tag K now (Look by_uid set next) (Found a ∷ more) turn k e = absurd (none-some turn e)
-played_keeps Q tag K now (Look by_uid set next) (Counted a ∷ more) turn k e = absurd (none-some turn e)
-played_keeps Q tag K now (Look by_uid set next) (Altered a ∷ more) turn k e = absurd (none-some turn e)
-played_keeps Q tag K now (Look by_uid set next) (Expunged a b c ∷ more) turn k e = absurd (none-some turn e)
-played_keeps Q tag K now (Look by_uid set next) (Fed a b ∷ more) turn k e = absurd (none-some turn e)
-played_keeps Q tag K now (Look by_uid set next) (Left a ∷ more) turn k e = absurd (none-some turn e)
 played_keeps Q tag K now (Look by_uid set next) (Refused a ∷ []) turn k e = told Q tag K now (λ s. having (Look by_uid set) (Refused a) (saying (refusal_text tag a) s)) (λ s. refl) (refusal_after a) turn k e
-played_keeps Q tag K now (Look by_uid set next) (Refused a ∷ b ∷ more) turn k e = absurd (none-some turn e)
-played_keeps Q tag K now (Look by_uid set next) (Starved n ∷ more) turn k e = absurd (none-some turn e)
+played_keeps Q tag K now (Look by_uid set next) (_ ∷ more) turn k e = absurd (none-some turn e)
 played_keeps Q tag K now (Read uid mark next) [] turn k e = absurd (none-some turn e)
-played_keeps Q tag K now (Read uid mark next) (Entered a ∷ more) turn k e = absurd (none-some turn e)
-played_keeps Q tag K now (Read uid mark next) (Looked a ∷ more) turn k e = absurd (none-some turn e)
 played_keeps Q tag K now (Read uid mark next) (Found a ∷ more) turn k e = maps Q (having (Read uid mark) (Found a)) (λ s. refl) (played tag now (next a) more) turn e (λ s d. played_keeps Q tag K now (next a) more s k d)
-played_keeps Q tag K now (Read uid mark next) (Counted a ∷ more) turn k e = absurd (none-some turn e)
-played_keeps Q tag K now (Read uid mark next) (Altered a ∷ more) turn k e = absurd (none-some turn e)
-played_keeps Q tag K now (Read uid mark next) (Expunged a b c ∷ more) turn k e = absurd (none-some turn e)
-played_keeps Q tag K now (Read uid mark next) (Fed a b ∷ more) turn k e = absurd (none-some turn e)
-played_keeps Q tag K now (Read uid mark next) (Left a ∷ more) turn k e = absurd (none-some turn e)
 played_keeps Q tag K now (Read uid mark next) (Refused a ∷ []) turn k e = told Q tag K now (λ s. having (Read uid mark) (Refused a) (saying (refusal_text tag a) s)) (λ s. refl) (refusal_after a) turn k e
-played_keeps Q tag K now (Read uid mark next) (Refused a ∷ b ∷ more) turn k e = absurd (none-some turn e)
-played_keeps Q tag K now (Read uid mark next) (Starved a ∷ more) turn k e = absurd (none-some turn e)
+played_keeps Q tag K now (Read uid mark next) (_ ∷ more) turn k e = absurd (none-some turn e)
 played_keeps Q tag K now (Count mailbox next) [] turn k e = absurd (none-some turn e)
-played_keeps Q tag K now (Count mailbox next) (Entered a ∷ more) turn k e = absurd (none-some turn e)
-played_keeps Q tag K now (Count mailbox next) (Looked a ∷ more) turn k e = absurd (none-some turn e)
-played_keeps Q tag K now (Count mailbox next) (Found a ∷ more) turn k e = absurd (none-some turn e)
 played_keeps Q tag K now (Count mailbox next) (Counted a ∷ more) turn k e = maps Q (having (Count mailbox) (Counted a)) (λ s. refl) (played tag now (next a) more) turn e (λ s d. played_keeps Q tag K now (next a) more s k d)
-played_keeps Q tag K now (Count mailbox next) (Altered a ∷ more) turn k e = absurd (none-some turn e)
-played_keeps Q tag K now (Count mailbox next) (Expunged a b c ∷ more) turn k e = absurd (none-some turn e)
-played_keeps Q tag K now (Count mailbox next) (Fed a b ∷ more) turn k e = absurd (none-some turn e)
-played_keeps Q tag K now (Count mailbox next) (Left a ∷ more) turn k e = absurd (none-some turn e)
 played_keeps Q tag K now (Count mailbox next) (Refused a ∷ []) turn k e = told Q tag K now (λ s. having (Count mailbox) (Refused a) (saying (refusal_text tag a) s)) (λ s. refl) (refusal_after a) turn k e
-played_keeps Q tag K now (Count mailbox next) (Refused a ∷ b ∷ more) turn k e = absurd (none-some turn e)
-played_keeps Q tag K now (Count mailbox next) (Starved a ∷ more) turn k e = absurd (none-some turn e)
+played_keeps Q tag K now (Count mailbox next) (_ ∷ more) turn k e = absurd (none-some turn e)
 played_keeps Q tag K now (Alter uid op next) [] turn k e = absurd (none-some turn e)
-played_keeps Q tag K now (Alter uid op next) (Entered a ∷ more) turn k e = absurd (none-some turn e)
-played_keeps Q tag K now (Alter uid op next) (Looked a ∷ more) turn k e = absurd (none-some turn e)
-played_keeps Q tag K now (Alter uid op next) (Found a ∷ more) turn k e = absurd (none-some turn e)
-played_keeps Q tag K now (Alter uid op next) (Counted a ∷ more) turn k e = absurd (none-some turn e)
 played_keeps Q tag K now (Alter uid op next) (Altered a ∷ more) turn k e = maps Q (having (Alter uid op) (Altered a)) (λ s. refl) (played tag now (next a) more) turn e (λ s d. played_keeps Q tag K now (next a) more s k d)
-played_keeps Q tag K now (Alter uid op next) (Expunged a b c ∷ more) turn k e = absurd (none-some turn e)
-played_keeps Q tag K now (Alter uid op next) (Fed a b ∷ more) turn k e = absurd (none-some turn e)
-played_keeps Q tag K now (Alter uid op next) (Left a ∷ more) turn k e = absurd (none-some turn e)
 played_keeps Q tag K now (Alter uid op next) (Refused a ∷ []) turn k e = told Q tag K now (λ s. having (Alter uid op) (Refused a) (saying (refusal_text tag a) s)) (λ s. refl) (refusal_after a) turn k e
-played_keeps Q tag K now (Alter uid op next) (Refused a ∷ b ∷ more) turn k e = absurd (none-some turn e)
-played_keeps Q tag K now (Alter uid op next) (Starved a ∷ more) turn k e = absurd (none-some turn e)
+played_keeps Q tag K now (Alter uid op next) (_ ∷ more) turn k e = absurd (none-some turn e)
 played_keeps Q tag K now (Expunge uids x) [] turn k e = absurd (none-some turn e)
-played_keeps Q tag K now (Expunge uids x) (Entered a ∷ more) turn k e = absurd (none-some turn e)
-played_keeps Q tag K now (Expunge uids x) (Looked a ∷ more) turn k e = absurd (none-some turn e)
-played_keeps Q tag K now (Expunge uids x) (Found a ∷ more) turn k e = absurd (none-some turn e)
-played_keeps Q tag K now (Expunge uids x) (Counted a ∷ more) turn k e = absurd (none-some turn e)
-played_keeps Q tag K now (Expunge uids x) (Altered a ∷ more) turn k e = absurd (none-some turn e)
 played_keeps Q tag K now (Expunge uids x) (Expunged a b c ∷ more) turn k e = maps Q (λ s. having (Expunge uids) (Expunged a b c) (saying (lines a b) s)) (λ s. refl) (played tag now x more) turn e (λ s d. played_keeps Q tag K now x more s k d)
-played_keeps Q tag K now (Expunge uids x) (Fed a b ∷ more) turn k e = absurd (none-some turn e)
-played_keeps Q tag K now (Expunge uids x) (Left a ∷ more) turn k e = absurd (none-some turn e)
 played_keeps Q tag K now (Expunge uids x) (Refused a ∷ []) turn k e = told Q tag K now (λ s. having (Expunge uids) (Refused a) (saying (refusal_text tag a) s)) (λ s. refl) (refusal_after a) turn k e
-played_keeps Q tag K now (Expunge uids x) (Refused a ∷ b ∷ more) turn k e = absurd (none-some turn e)
-played_keeps Q tag K now (Expunge uids x) (Starved a ∷ more) turn k e = absurd (none-some turn e)
+played_keeps Q tag K now (Expunge uids x) (_ ∷ more) turn k e = absurd (none-some turn e)
 played_keeps Q tag K now (Feed limit x) [] turn k e = absurd (none-some turn e)
-played_keeps Q tag K now (Feed limit x) (Entered a ∷ more) turn k e = absurd (none-some turn e)
-played_keeps Q tag K now (Feed limit x) (Looked a ∷ more) turn k e = absurd (none-some turn e)
-played_keeps Q tag K now (Feed limit x) (Found a ∷ more) turn k e = absurd (none-some turn e)
-played_keeps Q tag K now (Feed limit x) (Counted a ∷ more) turn k e = absurd (none-some turn e)
-played_keeps Q tag K now (Feed limit x) (Altered a ∷ more) turn k e = absurd (none-some turn e)
-played_keeps Q tag K now (Feed limit x) (Expunged a b c ∷ more) turn k e = absurd (none-some turn e)
 played_keeps Q tag K now (Feed limit x) (Fed a b ∷ more) turn k e = maps Q (λ s. having (Feed limit) (Fed a b) (saying (lines a b) s)) (λ s. refl) (played tag now x more) turn e (λ s d. played_keeps Q tag K now x more s k d)
-played_keeps Q tag K now (Feed limit x) (Left a ∷ more) turn k e = absurd (none-some turn e)
 played_keeps Q tag K now (Feed limit x) (Refused a ∷ []) turn k e = told Q tag K now (λ s. having (Feed limit) (Refused a) (saying (refusal_text tag a) s)) (λ s. refl) (refusal_after a) turn k e
-played_keeps Q tag K now (Feed limit x) (Refused a ∷ b ∷ more) turn k e = absurd (none-some turn e)
-played_keeps Q tag K now (Feed limit x) (Starved a ∷ more) turn k e = absurd (none-some turn e)
+played_keeps Q tag K now (Feed limit x) (_ ∷ more) turn k e = absurd (none-some turn e)
 played_keeps Q tag K now (Leave remove x) [] turn k e = absurd (none-some turn e)
-played_keeps Q tag K now (Leave remove x) (Entered a ∷ more) turn k e = absurd (none-some turn e)
-played_keeps Q tag K now (Leave remove x) (Looked a ∷ more) turn k e = absurd (none-some turn e)
-played_keeps Q tag K now (Leave remove x) (Found a ∷ more) turn k e = absurd (none-some turn e)
-played_keeps Q tag K now (Leave remove x) (Counted a ∷ more) turn k e = absurd (none-some turn e)
-played_keeps Q tag K now (Leave remove x) (Altered a ∷ more) turn k e = absurd (none-some turn e)
-played_keeps Q tag K now (Leave remove x) (Expunged a b c ∷ more) turn k e = absurd (none-some turn e)
-played_keeps Q tag K now (Leave remove x) (Fed a b ∷ more) turn k e = absurd (none-some turn e)
 played_keeps Q tag K now (Leave remove x) (Left a ∷ more) turn k e = maps Q (having (Leave remove) (Left a)) (λ s. refl) (played tag (record now { selected = None }) x more) turn e (λ s d. played_keeps Q tag K (record now { selected = None }) x more s (K.enters now None k) d)
 played_keeps Q tag K now (Leave remove x) (Refused a ∷ []) turn k e = told Q tag K now (λ s. having (Leave remove) (Refused a) (saying (refusal_text tag a) s)) (λ s. refl) (refusal_after a) turn k e
-played_keeps Q tag K now (Leave remove x) (Refused a ∷ b ∷ more) turn k e = absurd (none-some turn e)
-played_keeps Q tag K now (Leave remove x) (Starved a ∷ more) turn k e = absurd (none-some turn e)
+played_keeps Q tag K now (Leave remove x) (_ ∷ more) turn k e = absurd (none-some turn e)
 
 -- ---- tags
 

@@ -5,7 +5,7 @@ use Rattle.std.proofs.lemmas.Option.{none-some}
 use Rattle.mailbox.specs.declared.clients.MailFault.TheVariants.{Stranger, Lapped, Spent, NoMemory}
 use Rattle.imap_session.specs.declared.standing.Selected.{Selected}
 use Rattle.imap_session.specs.declared.standing.After.TheVariants as afters
-use Rattle.imap_session.specs.Exchange.{Answer, Entered, Looked, Found, Counted, Altered, Expunged, Fed, Left, Refused, Starved, Feed, Standing, Turn, is_idling, nothing_more, refusal_text, refusal_after, refused}
+use Rattle.imap_session.specs.Exchange.{Answer, Fed, Refused, Feed, Standing, Turn, is_idling, nothing_more, refusal_text, refusal_after, refused}
 use Rattle.imap_session.specs.Commands.{idle_turn_in, most_changes}
 use Rattle.laws_client.specs.Beliefs.{Leads}
 use Rattle.laws_client.specs.ListTurns.{SeesAll}
@@ -26,19 +26,7 @@ follows_in (Some selected) true view now (Refused Stranger ∷ []) turn new e se
     (λ t mid after fits d s. ends view now (refusal_text [] Stranger) (refusal_after Stranger) t new d (leaves view (refusal_text [] Stranger) (λ messages. refl)) s)
 follows_in (Some selected) true view now (Refused Spent ∷ []) turn new e sees = absurd (none-some turn e)
 follows_in (Some selected) true view now (Refused NoMemory ∷ []) turn new e sees = absurd (none-some turn e)
-follows_in (Some selected) true view now (Refused Lapped ∷ b ∷ more) turn new e sees = absurd (none-some turn e)
-follows_in (Some selected) true view now (Refused Stranger ∷ b ∷ more) turn new e sees = absurd (none-some turn e)
-follows_in (Some selected) true view now (Refused Spent ∷ b ∷ more) turn new e sees = absurd (none-some turn e)
-follows_in (Some selected) true view now (Refused NoMemory ∷ b ∷ more) turn new e sees = absurd (none-some turn e)
-follows_in (Some selected) true view now (Fed met changes ∷ b ∷ more) turn new e sees = absurd (none-some turn e)
-follows_in (Some selected) true view now (Entered a ∷ more) turn new e sees = absurd (none-some turn e)
-follows_in (Some selected) true view now (Looked a ∷ more) turn new e sees = absurd (none-some turn e)
-follows_in (Some selected) true view now (Found a ∷ more) turn new e sees = absurd (none-some turn e)
-follows_in (Some selected) true view now (Counted a ∷ more) turn new e sees = absurd (none-some turn e)
-follows_in (Some selected) true view now (Altered a ∷ more) turn new e sees = absurd (none-some turn e)
-follows_in (Some selected) true view now (Expunged a b c ∷ more) turn new e sees = absurd (none-some turn e)
-follows_in (Some selected) true view now (Left a ∷ more) turn new e sees = absurd (none-some turn e)
-follows_in (Some selected) true view now (Starved a ∷ more) turn new e sees = absurd (none-some turn e)
+follows_in (Some selected) true view now (_ ∷ more) turn new e sees = absurd (none-some turn e)
 follows_in (Some selected) false view now [] turn new e sees = rests view now turn new e sees
 follows_in (Some selected) false view now (a ∷ more) turn new e sees = absurd (none-some turn e)
 follows_in None true view now [] turn new e sees = rests view now turn new e sees

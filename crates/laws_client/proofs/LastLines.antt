@@ -22,7 +22,7 @@ use Rattle.imap_session.specs.declared.standing.After.{After}
 use Rattle.imap_session.specs.declared.standing.After.TheVariants.{Go, Bye}
 use Rattle.imap_session.specs.declared.standing.After.TheVariants as afters
 use Rattle.imap_session.specs.Exchange as ex
-use Rattle.imap_session.specs.Exchange.{Answer, Call, Coming, Entered, Looked, Found, Counted, Altered, Expunged, Fed, Left, Refused, Starved, Exchange, Standing, Turn, Waiting, Asked, Unasked, Dropped, ForDone, ForLiteral, ForVerdict, ForNothing, played, refused, refusal_text, refusal_after, saying, having, closed, tagged, bye, unkept, where_long, waits_so, continuing, untagged}
+use Rattle.imap_session.specs.Exchange.{Answer, Call, Entered, Looked, Found, Counted, Altered, Expunged, Fed, Left, Refused, Starved, Exchange, Standing, Turn, Waiting, Asked, Unasked, Dropped, ForDone, ForLiteral, ForVerdict, ForNothing, played, refused, refusal_text, refusal_after, saying, having, closed, tagged, bye, unkept, where_long, continuing, untagged}
 use Rattle.imap_session.proofs.Unkept.{unkept_by}
 use Rattle.exactly_once.proofs.Whole.{IsWhole, lines_whole, whole_append}
 use Rattle.laws_client.specs.ListTurns.{is_inner}
@@ -450,16 +450,8 @@ nothing_said tells (Some turn) p = p
 
 pub fine_wanting : (tells : List ℕ → Bool) → Spares tells → (tag : List ℕ) → IsWord tag → (now : Standing) (x : Exchange) → ((answers : List Answer) → TurnFine tells (played tag now x answers)) → (answers : List Answer) → TurnFine tells (played tag now (ex.Write [] x) answers)
 fine_wanting tells spares tag t now x p [] = nothing_said tells _ (p [])
-fine_wanting tells spares tag t now x p (Entered a ∷ more) = nothing_said tells _ (p (Entered a ∷ more))
-fine_wanting tells spares tag t now x p (Looked a ∷ more) = nothing_said tells _ (p (Looked a ∷ more))
-fine_wanting tells spares tag t now x p (Found a ∷ more) = nothing_said tells _ (p (Found a ∷ more))
-fine_wanting tells spares tag t now x p (Counted a ∷ more) = nothing_said tells _ (p (Counted a ∷ more))
-fine_wanting tells spares tag t now x p (Altered a ∷ more) = nothing_said tells _ (p (Altered a ∷ more))
-fine_wanting tells spares tag t now x p (Expunged a b c ∷ more) = nothing_said tells _ (p (Expunged a b c ∷ more))
-fine_wanting tells spares tag t now x p (Fed a b ∷ more) = nothing_said tells _ (p (Fed a b ∷ more))
-fine_wanting tells spares tag t now x p (Left a ∷ more) = nothing_said tells _ (p (Left a ∷ more))
-fine_wanting tells spares tag t now x p (Refused a ∷ more) = nothing_said tells _ (p (Refused a ∷ more))
 fine_wanting tells spares tag t now x p (Starved zero ∷ []) = inr (refused_apart tells spares tag t now NoMemory)
 fine_wanting tells spares tag t now x p (Starved zero ∷ d ∷ more) = nothing_said tells _ (p (Starved zero ∷ d ∷ more))
 fine_wanting tells spares tag t now x p (Starved (suc n) ∷ []) = nothing_said tells _ (p (Starved n ∷ []))
 fine_wanting tells spares tag t now x p (Starved (suc n) ∷ d ∷ more) = nothing_said tells _ (p (Starved (suc n) ∷ d ∷ more))
+fine_wanting tells spares tag t now x p (given ∷ more) = nothing_said tells _ (p (given ∷ more))

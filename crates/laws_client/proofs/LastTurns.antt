@@ -19,7 +19,7 @@ use Rattle.world.specs.World.{Config, World}
 use Rattle.imap_session.specs.declared.standing.After.TheVariants.{Go}
 use Rattle.imap_session.specs.declared.standing.Selected.{Selected}
 use Rattle.imap_session.specs.Exchange as ex
-use Rattle.imap_session.specs.Exchange.{Answer, Entered, Looked, Found, Counted, Altered, Expunged, Fed, Left, Refused, Starved, Count, Done, Event as Happened, Feed, Sent, Standing, Turn, bye, having, is_idling, played, refused, refusal_text, saying, tagged}
+use Rattle.imap_session.specs.Exchange.{Answer, Entered, Looked, Found, Counted, Altered, Expunged, Fed, Left, Refused, Starved, Count, Feed, Sent, Standing, Turn, bye, having, is_idling, played, refused, saying}
 use Rattle.imap_session.specs.Commands.{appended_words, idle_turn_in, on_verdict, refused_text, says, showing, turn_of, turn_with, unlimited, without_sent}
 use Rattle.imap_session.specs.Store.{Met}
 use Rattle.exactly_once.proofs.Whole.{line_whole, lines_whole}
@@ -162,15 +162,7 @@ shows_then v uid tag t (Some s) now (Fed view changes ∷ more) turn e =
     inl (subst (EndsWith tag (appended_words v uid)) (sym (ap (λ (b : List ℕ). lines view changes ++ b) d.bytes) ∙ ap (λ (x : Turn). x.bytes) m.makes)
     (ends_tagged (lines view changes) tag (appended_words v uid) (lines_whole view changes) t (appended_inner v uid)))
 shows_then v uid tag t (Some s) now (Refused fault ∷ []) turn e = refused_says v uid tag (Feed unlimited) now fault turn e
-shows_then v uid tag t (Some s) now (Refused fault ∷ b ∷ more) turn e = absurd (none-some turn e)
-shows_then v uid tag t (Some s) now (Entered a ∷ more) turn e = absurd (none-some turn e)
-shows_then v uid tag t (Some s) now (Looked a ∷ more) turn e = absurd (none-some turn e)
-shows_then v uid tag t (Some s) now (Found a ∷ more) turn e = absurd (none-some turn e)
-shows_then v uid tag t (Some s) now (Counted a ∷ more) turn e = absurd (none-some turn e)
-shows_then v uid tag t (Some s) now (Altered a ∷ more) turn e = absurd (none-some turn e)
-shows_then v uid tag t (Some s) now (Expunged a b c ∷ more) turn e = absurd (none-some turn e)
-shows_then v uid tag t (Some s) now (Left a ∷ more) turn e = absurd (none-some turn e)
-shows_then v uid tag t (Some s) now (Starved a ∷ more) turn e = absurd (none-some turn e)
+shows_then v uid tag t (Some s) now (_ ∷ more) turn e = absurd (none-some turn e)
 
 -- the mailbox is counted first, for the house's UIDVALIDITY
 stored_says : (k : Config) (n mailbox uid : ℕ) (tag : List ℕ) → IsWord tag → (selected : Option Selected) (now : Standing) (w : World) (answers : List Answer) (turn : Turn) (v : World)
@@ -183,15 +175,7 @@ stored_says k n mailbox uid tag t selected now w (Counted status ∷ more) turn 
     subst (λ (x : Turn). SaysVerdict k.uidvalidity tag (verdicts.Stored uid) x.bytes) m.makes
     (subst (λ (x : ℕ). SaysVerdict x tag (verdicts.Stored uid) m.more.bytes) validity (shows_then status.uidvalidity uid tag t selected now more m.more m.is))
 stored_says k n mailbox uid tag t selected now w (Refused fault ∷ []) turn v e met = refused_says k.uidvalidity uid tag (Count mailbox) now fault turn e
-stored_says k n mailbox uid tag t selected now w (Refused fault ∷ b ∷ more) turn v e met = absurd (none-some turn e)
-stored_says k n mailbox uid tag t selected now w (Entered a ∷ more) turn v e met = absurd (none-some turn e)
-stored_says k n mailbox uid tag t selected now w (Looked a ∷ more) turn v e met = absurd (none-some turn e)
-stored_says k n mailbox uid tag t selected now w (Found a ∷ more) turn v e met = absurd (none-some turn e)
-stored_says k n mailbox uid tag t selected now w (Altered a ∷ more) turn v e met = absurd (none-some turn e)
-stored_says k n mailbox uid tag t selected now w (Expunged a b c ∷ more) turn v e met = absurd (none-some turn e)
-stored_says k n mailbox uid tag t selected now w (Fed a b ∷ more) turn v e met = absurd (none-some turn e)
-stored_says k n mailbox uid tag t selected now w (Left a ∷ more) turn v e met = absurd (none-some turn e)
-stored_says k n mailbox uid tag t selected now w (Starved a ∷ more) turn v e met = absurd (none-some turn e)
+stored_says k n mailbox uid tag t selected now w (_ ∷ more) turn v e met = absurd (none-some turn e)
 
 verdict_says : (k : Config) (n mailbox : ℕ) (verdict : Verdict) (tag : List ℕ) → IsWord tag → (selected : Option Selected) (now : Standing) (w : World) (answers : List Answer) (turn : Turn) (v : World)
     → played tag now (on_verdict selected mailbox verdict) answers ≡ Some turn → Met (Calls k n) w turn.events v → SaysVerdict k.uidvalidity tag verdict turn.bytes

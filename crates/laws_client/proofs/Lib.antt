@@ -24,6 +24,7 @@ mod Logs
 pub mod RecordWorlds
 pub mod Names
 pub mod Seen
+pub mod ToldAll
 pub mod Moved
 mod Folders
 pub mod Parts
@@ -70,6 +71,7 @@ mod Moments
 mod Distinct
 mod Following
 mod Telling
+mod FlagMoments
 mod Turning
 mod FlagPlayed
 mod Saying
@@ -84,3 +86,6 @@ mod ByUid
 mod FlagOneLife
 mod Hearing
 mod TextRows
+mod Served
+mod ServedCurrent
+mod ServedFlags

@@ -1,12 +1,13 @@
 -- A session's call comes to one event of that session in the world, or to none.
 use Rattle.std.proofs.Common.{◌≡◌, ◌≢◌, ℕ, ◌<◌, ◌^◌, List, [], ◌∷◌, length, subst, ap}
 use Rattle.delivery_token.specs.declared.Job.{Job}
+use Rattle.mailbox.specs.declared.clients.Opening.{Opening}
 use Rattle.mailbox.specs.Events.{in_set}
 use Rattle.world.specs.World as world
 use Rattle.world.specs.World.{Config, World, Event, Step}
 use Rattle.world.proofs.Base.{Every, all_of_every, every_of_all}
 use Rattle.world.proofs.Always.{kept_step, every_front}
-use Rattle.imap_session.specs.Exchange.{Call, Answer, Event as Happened, Look, Read as ReadCall, Count, Alter, Expunge as ExpungeCall, Feed as FeedCall, Leave as LeaveCall, Enter as EnterCall, Entered, Looked, Found, Counted, Altered, Expunged, Fed, Left, Refused, Starved}
+use Rattle.imap_session.specs.Exchange.{Call, Answer, Event as Happened, Look, Read as ReadCall, Count, Alter, Expunge as ExpungeCall, Feed as FeedCall, Leave as LeaveCall, Enter as EnterCall, Entered, Looked, Found, Counted, Altered, Expunged, Fed, Left, Refused}
 use Rattle.imap_session.specs.Store.{Met}
 use Rattle.house.specs.Meets.{Meets}
 use Rattle.laws_client.specs.ListTurns.{SeesAll}
@@ -14,7 +15,8 @@ use Rattle.laws_client.specs.Sizes.{HasShortTexts, HasSmallNumbers}
 use Rattle.laws_client.specs.Views.{IsOfOthers, view_of}
 use Rattle.laws_client.proofs.Boxes.{box_goes, goes_small}
 use Rattle.laws_client.proofs.Names.{Extends, extends_none, goes_extends}
-use Rattle.laws_client.proofs.Seen.{seen, turned_away, was_refused}
+use Rattle.laws_client.proofs.Seen.{opened, seen, turned_away, was_refused}
+use Rattle.laws_client.proofs.ToldAll.{HearsAll, IsTold, OpensSo, sees_of}
 use Rattle.laws_client.proofs.Texts.{PutsShort}
 use Rattle.laws_client.proofs.RecordWorlds.{Sound}
 
@@ -24,85 +26,29 @@ pub data Moved (k : Config) (n : ℕ) (w v : World) : Type 0 where
 
 pub moved : (k : Config) (n : ℕ) (w : World) (call : Call) (answer : Answer) (v : World) → Meets k n w call answer v → Moved k n w v
 moved k n w (EnterCall i) (Entered opening) v m = stepped (world.Enter n i) m.0 (λ j o. o) tt
-moved k n w (EnterCall i) (Looked copied) v m = absurd m
-moved k n w (EnterCall i) (Found row) v m = absurd m
-moved k n w (EnterCall i) (Counted status) v m = absurd m
-moved k n w (EnterCall i) (Altered flags) v m = absurd m
-moved k n w (EnterCall i) (Expunged met changes gone) v m = absurd m
-moved k n w (EnterCall i) (Fed met changes) v m = absurd m
-moved k n w (EnterCall i) (Left gone) v m = absurd m
 moved k n w (EnterCall i) (Refused fault) v m = rested (turned_away k n i w fault v m)
-moved k n w (EnterCall i) (Starved j) v m = absurd m
-moved k n w (Look by_uid set) (Entered opening) v m = absurd m
+moved k n w (EnterCall i) _ v m = absurd m
 moved k n w (Look by_uid set) (Looked copied) v m = rested m.0
-moved k n w (Look by_uid set) (Found row) v m = absurd m
-moved k n w (Look by_uid set) (Counted status) v m = absurd m
-moved k n w (Look by_uid set) (Altered flags) v m = absurd m
-moved k n w (Look by_uid set) (Expunged met changes gone) v m = absurd m
-moved k n w (Look by_uid set) (Fed met changes) v m = absurd m
-moved k n w (Look by_uid set) (Left gone) v m = absurd m
 moved k n w (Look by_uid set) (Refused fault) v m = rested (was_refused n w fault _ v m)
-moved k n w (Look by_uid set) (Starved j) v m = absurd m
-moved k n w (ReadCall uid mark) (Entered opening) v m = absurd m
-moved k n w (ReadCall uid mark) (Looked copied) v m = absurd m
+moved k n w (Look by_uid set) _ v m = absurd m
 moved k n w (ReadCall uid mark) (Found row) v m = stepped (world.Read n uid mark) m.0 (λ j o. o) tt
-moved k n w (ReadCall uid mark) (Counted status) v m = absurd m
-moved k n w (ReadCall uid mark) (Altered flags) v m = absurd m
-moved k n w (ReadCall uid mark) (Expunged met changes gone) v m = absurd m
-moved k n w (ReadCall uid mark) (Fed met changes) v m = absurd m
-moved k n w (ReadCall uid mark) (Left gone) v m = absurd m
 moved k n w (ReadCall uid mark) (Refused fault) v m = rested (was_refused n w fault _ v m)
-moved k n w (ReadCall uid mark) (Starved j) v m = absurd m
-moved k n w (Count i) (Entered opening) v m = absurd m
-moved k n w (Count i) (Looked copied) v m = absurd m
-moved k n w (Count i) (Found row) v m = absurd m
+moved k n w (ReadCall uid mark) _ v m = absurd m
 moved k n w (Count i) (Counted status) v m = rested m.0
-moved k n w (Count i) (Altered flags) v m = absurd m
-moved k n w (Count i) (Expunged met changes gone) v m = absurd m
-moved k n w (Count i) (Fed met changes) v m = absurd m
-moved k n w (Count i) (Left gone) v m = absurd m
 moved k n w (Count i) (Refused fault) v m = rested m.0
-moved k n w (Count i) (Starved j) v m = absurd m
-moved k n w (Alter uid op) (Entered opening) v m = absurd m
-moved k n w (Alter uid op) (Looked copied) v m = absurd m
-moved k n w (Alter uid op) (Found row) v m = absurd m
-moved k n w (Alter uid op) (Counted status) v m = absurd m
+moved k n w (Count i) _ v m = absurd m
 moved k n w (Alter uid op) (Altered flags) v m = stepped (world.Store n uid op) m.0 (λ j o. o) tt
-moved k n w (Alter uid op) (Expunged met changes gone) v m = absurd m
-moved k n w (Alter uid op) (Fed met changes) v m = absurd m
-moved k n w (Alter uid op) (Left gone) v m = absurd m
 moved k n w (Alter uid op) (Refused fault) v m = rested (was_refused n w fault _ v m)
-moved k n w (Alter uid op) (Starved j) v m = absurd m
-moved k n w (ExpungeCall uids) (Entered opening) v m = absurd m
-moved k n w (ExpungeCall uids) (Looked copied) v m = absurd m
-moved k n w (ExpungeCall uids) (Found row) v m = absurd m
-moved k n w (ExpungeCall uids) (Counted status) v m = absurd m
-moved k n w (ExpungeCall uids) (Altered flags) v m = absurd m
+moved k n w (Alter uid op) _ v m = absurd m
 moved k n w (ExpungeCall uids) (Expunged met changes gone) v m = stepped (world.Expunge n (in_set uids)) m.0 (λ j o. o) tt
-moved k n w (ExpungeCall uids) (Fed met changes) v m = absurd m
-moved k n w (ExpungeCall uids) (Left gone) v m = absurd m
 moved k n w (ExpungeCall uids) (Refused fault) v m = rested (was_refused n w fault _ v m)
-moved k n w (ExpungeCall uids) (Starved j) v m = absurd m
-moved k n w (FeedCall limit) (Entered opening) v m = absurd m
-moved k n w (FeedCall limit) (Looked copied) v m = absurd m
-moved k n w (FeedCall limit) (Found row) v m = absurd m
-moved k n w (FeedCall limit) (Counted status) v m = absurd m
-moved k n w (FeedCall limit) (Altered flags) v m = absurd m
-moved k n w (FeedCall limit) (Expunged met changes gone) v m = absurd m
+moved k n w (ExpungeCall uids) _ v m = absurd m
 moved k n w (FeedCall limit) (Fed met changes) v m = stepped (world.Feed n limit) m.0 (λ j o. o) tt
-moved k n w (FeedCall limit) (Left gone) v m = absurd m
 moved k n w (FeedCall limit) (Refused fault) v m = rested (was_refused n w fault _ v m)
-moved k n w (FeedCall limit) (Starved j) v m = absurd m
-moved k n w (LeaveCall remove) (Entered opening) v m = absurd m
-moved k n w (LeaveCall remove) (Looked copied) v m = absurd m
-moved k n w (LeaveCall remove) (Found row) v m = absurd m
-moved k n w (LeaveCall remove) (Counted status) v m = absurd m
-moved k n w (LeaveCall remove) (Altered flags) v m = absurd m
-moved k n w (LeaveCall remove) (Expunged met changes gone) v m = absurd m
-moved k n w (LeaveCall remove) (Fed met changes) v m = absurd m
+moved k n w (FeedCall limit) _ v m = absurd m
 moved k n w (LeaveCall remove) (Left gone) v m = stepped (world.Leave n remove) m.0.0 (λ j o. o) tt
 moved k n w (LeaveCall remove) (Refused fault) v m = rested (was_refused n w fault _ v m)
-moved k n w (LeaveCall remove) (Starved j) v m = absurd m
+moved k n w (LeaveCall remove) _ v m = absurd m
 
 -- ---- what stays
 
@@ -137,9 +83,27 @@ pub short_met : (k : Config) (n : ℕ) (w : World) (events : List Happened) (v :
 short_met k n w [] v met short = subst (λ (u : World). HasShortTexts u) met short
 short_met k n w (e ∷ events) v (mid, one, more) short = short_before w mid (moved_extends k n w mid (moved k n w e.call e.answer mid one)) (short_met k n mid events v more short)
 
-pub sees_all : (k : Config) (n : ℕ) (w : World) (events : List Happened) (v : World) → HasSmallNumbers k → Sound k w → HasShortTexts v → Met (Calls k n) w events v → SeesAll (view_of w n) events (view_of v n)
-sees_all k n w [] v h S short met = ap (λ (u : World). view_of u n) met
-sees_all k n w (e ∷ events) v h S short (mid, one, more) =
+-- ---- and what SELECT tells
+
+entry_told : (k : Config) (w : World) (n : ℕ) (call : Call) (opening : Opening) (v : World) → HasSmallNumbers k → Sound k w → Meets k n w call (Entered opening) v → IsTold opening (view_of v n)
+entry_told k w n (EnterCall i) opening v h S m =
+    let is = opened k w n i opening v h S m in record { count = is.count; few = is.few; uidvalidity = is.uidvalidity; uidnext = is.uidnext }
+entry_told k w n _ opening v h S m = absurd m
+
+opens_told : (k : Config) (w : World) (n : ℕ) (call : Call) (answer : Answer) (v : World) → HasSmallNumbers k → Sound k w → Meets k n w call answer v → OpensSo answer (view_of v n)
+opens_told k w n call (Entered opening) v h S m = entry_told k w n call opening v h S m
+opens_told k w n call _ v h S m = tt
+
+pub hears_world : (k : Config) (n : ℕ) (w : World) (events : List Happened) (v : World) → HasSmallNumbers k → Sound k w → HasShortTexts v → Met (Calls k n) w events v → HearsAll (view_of w n) events (view_of v n)
+hears_world k n w [] v h S short met = ap (λ (u : World). view_of u n) met
+hears_world k n w (e ∷ events) v h S short (mid, one, more) =
     let moves = moved k n w e.call e.answer mid one in
-    let short_mid = short_met k n mid events v more short in
-    (view_of mid n, seen k w n e.call e.answer mid S h (short_before w mid (moved_extends k n w mid moves) short_mid) one, sees_all k n mid events v h (sound_moved k n w mid moves S) short more)
+    let short_mid = short_met k n mid events v more short in (
+      view_of mid n,
+      seen k w n e.call e.answer mid S h (short_before w mid (moved_extends k n w mid moves) short_mid) one,
+      opens_told k w n e.call e.answer mid h S one,
+      hears_world k n mid events v h (sound_moved k n w mid moves S) short more,
+    )
+
+pub sees_all : (k : Config) (n : ℕ) (w : World) (events : List Happened) (v : World) → HasSmallNumbers k → Sound k w → HasShortTexts v → Met (Calls k n) w events v → SeesAll (view_of w n) events (view_of v n)
+sees_all k n w events v h S short met = sees_of (view_of w n) events (view_of v n) (hears_world k n w events v h S short met)

@@ -1,12 +1,11 @@
 -- After a command that shows all that is pending last, what the session counts is what is there, where it is answered OK: by induction over the exchange, a clause for each answer that there is.
-use Rattle.std.proofs.Common.{zero, suc, ◌≡◌, ℕ, ◌⊎◌, inl, inr, Bool, true, false, ◌==◌, List, [], ◌∷◌, ◌++◌, take, ap, refl, subst, sym, ◌∙◌, append_assoc}
-use Rattle.std.specs.Prelude.{Option, Some, None, Result, Ok, codes, get_or, reverse, ◌&&◌, not, if◌then◌else◌}
+use Rattle.std.proofs.Common.{zero, suc, ◌≡◌, ℕ, ◌⊎◌, inl, inr, Bool, true, false, List, [], ◌∷◌, ◌++◌, take, ap, refl, subst, sym, ◌∙◌, append_assoc}
+use Rattle.std.specs.Prelude.{Option, Some, None, Result, Ok, codes, reverse, ◌&&◌, not, if◌then◌else◌}
 use Rattle.std.specs.List.{list_any}
 use Rattle.std.specs.Option.{option_map}
-use Rattle.std.proofs.lemmas.Bool.{eq-eqb, false≢true}
+use Rattle.std.proofs.lemmas.Bool.{false≢true}
 use Rattle.std.proofs.lemmas.List.{reverse-append}
 use Rattle.std.proofs.lemmas.Option.{none-some}
-use Rattle.change_ring.specs.declared.change.Change.{Change}
 use Rattle.change_ring.specs.declared.change.Flags.{Flags}
 use Rattle.cursor_set.specs.Lines.{lines}
 use Rattle.mailbox.specs.declared.clients.MailFault.{MailFault}
@@ -28,16 +27,14 @@ use Rattle.imap_grammar.specs.declared.command.Fetch.{Fetch}
 use Rattle.imap_grammar.specs.declared.command.Store.{Store}
 use Rattle.imap_session.specs.declared.standing.After.{After}
 use Rattle.imap_session.specs.declared.standing.Selected.{Selected}
-use Rattle.imap_session.specs.Exchange.{Appending, kept_behind, kept_tag, Call, Answer, Event, Entered, Looked, Found, Counted, Altered, Expunged, Fed, Left, Refused, Starved, Exchange, Done, Wait, Write, Put, Enter, Look, Read, Count, Alter, Expunge, Feed, Leave, Standing, Turn, having, played, refusal_text, refused, saying, tagged}
-use Rattle.imap_session.specs.Commands.{completed, counting, expunge_set, fetch_messages, fetched, fetching, folder_of, if_writable, in_writable, messages_done, on_chosen, on_command, on_found, on_read, on_set, turn_behind, turn_while, says, showing, store_messages, stored, storing, unlimited, wrong_state, wanting, wanting_for}
-use Rattle.imap_session.specs.Store.{Met}
-use Rattle.house.specs.Meets.{Meets}
+use Rattle.imap_session.specs.Exchange.{Appending, kept_behind, kept_tag, Call, Answer, Event, Looked, Found, Counted, Altered, Expunged, Fed, Refused, Starved, Exchange, Done, Wait, Write, Put, Enter, Look, Read, Count, Alter, Expunge, Feed, Leave, Standing, Turn, having, played, refusal_text, refused, saying, tagged}
+use Rattle.imap_session.specs.Commands.{completed, counting, expunge_set, fetch_messages, fetched, fetching, folder_of, if_writable, in_writable, messages_done, on_chosen, on_command, on_found, on_read, on_set, turn_behind, turn_of, turn_while, says, showing, store_messages, stored, storing, unlimited, wrong_state, wanting_for}
 use Rattle.laws_client.specs.ListTurns.{IsTag}
 use Rattle.line_io.specs.Wire.{crlf}
 use Rattle.laws_client.specs.Talks.{Line}
 use Rattle.laws_client.proofs.Tags.{tags_are_tags}
 use Rattle.laws_client.specs.Current.{DoneCommandsMakeCurrent, IsAnswered, IsCurrent, ListsAreCurrent, shows_all}
-use Rattle.laws_client.proofs.RecordCurrent.{fed_current, kept_moved}
+use Rattle.laws_client.proofs.RecordCurrent.{FedAll, LastFed, fed_all, last_current, last_weaker}
 use Rattle.laws_client.proofs.RecordEntering.{mapped, only_done, only_refused}
 use Rattle.laws_client.specs.Clients.{Answer as Answer_to, Asked, Neither, IsRightAbout, Told, answered, asked, asked_by, hears, hears_all}
 use Rattle.laws_client.specs.Beliefs.{IsRight}
@@ -48,7 +45,7 @@ use Rattle.laws_client.specs.Lives.{turns}
 use Rattle.laws_client.specs.RecordTurns.{told_line, told_of}
 use Rattle.laws_client.specs.Views.{messages_of, view_of}
 use Rattle.laws_client.proofs.Living.{hears_last, lives_known}
-use Rattle.laws_client.proofs.Moved.{Calls, moved, short_met}
+use Rattle.laws_client.proofs.Moved.{short_met}
 use Rattle.laws_client.proofs.RecordWorlds.{sound_always}
 use Rattle.imap_session.specs.declared.texts.ResponseText.TheVariants as texts
 use Rattle.imap_session.specs.Texts.{response_text}
@@ -122,175 +119,81 @@ ShowsLast fed (Leave remove x) = ⊥
 never : {A : Type 0} → false ≡ true → A
 never e = absurd (false≢true e)
 
-given_up : (tag front : List ℕ) (now : Standing) (fault : MailFault) (turn : Turn) (v : World) (n : ℕ) → IsTag tag → Some (refused tag now fault) ≡ Some turn → last_of (front ++ turn.bytes) ≡ the_end → IsCurrent v n
-given_up tag front now fault turn v n t e ends =
+given_up : (tag front : List ℕ) (now : Standing) (fault : MailFault) (turn : Turn) (P : Type 0) → IsTag tag → Some (refused tag now fault) ≡ Some turn → last_of (front ++ turn.bytes) ≡ the_end → P
+given_up tag front now fault turn P t e ends =
     let only = only_refused tag now fault turn e in
     absurd (no_refusal tag fault front (ap (λ (b : List ℕ). last_of (front ++ b)) (sym only.bytes) ∙ ends))
 
-was_given_up : (tag front : List ℕ) (now : Standing) (call : Call) (fault : MailFault) (turn : Turn) (v : World) (n : ℕ) → IsTag tag → Some (having call (Refused fault) (refused tag now fault)) ≡ Some turn
-    → last_of (front ++ turn.bytes) ≡ the_end → IsCurrent v n
-was_given_up tag front now call fault turn v n t e ends =
+was_given_up : (tag front : List ℕ) (now : Standing) (call : Call) (fault : MailFault) (turn : Turn) (P : Type 0) → IsTag tag → Some (having call (Refused fault) (refused tag now fault)) ≡ Some turn
+    → last_of (front ++ turn.bytes) ≡ the_end → P
+was_given_up tag front now call fault turn P t e ends =
     let m = mapped (having call (Refused fault)) (Some (refused tag now fault)) turn e in
-    given_up tag front now fault m.more v n t m.is (ap (λ (s : Turn). last_of (front ++ s.bytes)) m.makes ∙ ends)
+    given_up tag front now fault m.more P t m.is (ap (λ (s : Turn). last_of (front ++ s.bytes)) m.makes ∙ ends)
 
-done_current : (k : Config) (n : ℕ) (tag words : List ℕ) (how : After) (front : List ℕ) (fed : Bool) (now : Standing) (w : World) (turn : Turn) (v : World) → IsTag tag → (fed ≡ true → IsCurrent w n) → (fed ≡ true) ⊎ NotDone words
-    → played tag now (Done words how) [] ≡ Some turn → Met (Calls k n) w turn.events v → last_of (front ++ turn.bytes) ≡ the_end → IsCurrent v n
-done_current k n tag words how front fed now w turn v t c (inl is) e met ends =
+done_current : (tag words : List ℕ) (how : After) (front : List ℕ) (fed : Bool) (now : Standing) (turn : Turn) → IsTag tag → (fed ≡ true) ⊎ NotDone words
+    → played tag now (Done words how) [] ≡ Some turn → last_of (front ++ turn.bytes) ≡ the_end → LastFed (fed ≡ true) turn.events
+done_current tag words how front fed now turn t (inl is) e ends =
     let d = only_done tag words how now [] turn e in
-    let last : v ≡ w = subst (λ (es : List Event). Met (Calls k n) w es v) d.events met in
-    subst (λ (u : World). IsCurrent u n) (sym last) (c is)
-done_current k n tag words how front fed now w turn v t c (inr unlike) e met ends =
+    subst (λ (es : List Event). LastFed (fed ≡ true) es) (sym d.events) is
+done_current tag words how front fed now turn t (inr unlike) e ends =
     let d = only_done tag words how now [] turn e in
     absurd (no_tagged tag words unlike front (ap (λ (b : List ℕ). last_of (front ++ b)) (sym d.bytes) ∙ ends))
 
 -- a text, and what comes behind it
-said : (tag front bytes : List ℕ) (rest : Option Turn) (turn : Turn) (v : World) (k : Config) (n : ℕ) (w : World) → option_map (saying bytes) rest ≡ Some turn → Met (Calls k n) w turn.events v → last_of (front ++ turn.bytes) ≡ the_end
-    → ((more : Turn) → rest ≡ Some more → Met (Calls k n) w more.events v → last_of ((front ++ bytes) ++ more.bytes) ≡ the_end → IsCurrent v n) → IsCurrent v n
-said tag front bytes rest turn v k n w e met ends behind =
+said : (tag front bytes : List ℕ) (rest : Option Turn) (turn : Turn) (P : Type 0) → option_map (saying bytes) rest ≡ Some turn → last_of (front ++ turn.bytes) ≡ the_end
+    → ((more : Turn) → rest ≡ Some more → last_of ((front ++ bytes) ++ more.bytes) ≡ the_end → LastFed P more.events) → LastFed P turn.events
+said tag front bytes rest turn P e ends behind =
     let m = mapped (saying bytes) rest turn e in
-    behind m.more m.is (subst (λ (s : Turn). Met (Calls k n) w s.events v) (sym m.makes) met)
-    (ap last_of (append_assoc front bytes m.more.bytes) ∙ ap (λ (s : Turn). last_of (front ++ s.bytes)) m.makes ∙ ends)
+    subst (λ (s : Turn). LastFed P s.events) m.makes
+    (behind m.more m.is (ap last_of (append_assoc front bytes m.more.bytes) ∙ ap (λ (s : Turn). last_of (front ++ s.bytes)) m.makes ∙ ends))
 
 -- a call that was answered, with a text, and what comes behind it
-called : (tag front text : List ℕ) (call : Call) (answer : Answer) (f : Turn → Turn) (rest : Option Turn) (turn : Turn) (v : World) (k : Config) (n : ℕ) (w : World) → option_map f rest ≡ Some turn → Met (Calls k n) w turn.events v
-    → last_of (front ++ turn.bytes) ≡ the_end → Kept k w → ((s : Turn) → (f s).events ≡ record { call = call; answer = answer } ∷ s.events) → ((s : Turn) → (f s).bytes ≡ text ++ s.bytes)
-    → ((more : Turn) (mid : World) → Meets k n w call answer mid → rest ≡ Some more → Met (Calls k n) mid more.events v → last_of ((front ++ text) ++ more.bytes) ≡ the_end → Kept k mid → IsCurrent v n) → IsCurrent v n
-called tag front text call answer f rest turn v k n w e met ends K events bytes behind =
+called : (tag front text : List ℕ) (call : Call) (answer : Answer) (f : Turn → Turn) (rest : Option Turn) (turn : Turn) (P Q : Type 0) → option_map f rest ≡ Some turn
+    → last_of (front ++ turn.bytes) ≡ the_end → ((s : Turn) → (f s).events ≡ record { call = call; answer = answer } ∷ s.events) → ((s : Turn) → (f s).bytes ≡ text ++ s.bytes)
+    → (Q → FedAll (record { call = call; answer = answer })) → ((more : Turn) → rest ≡ Some more → last_of ((front ++ text) ++ more.bytes) ≡ the_end → LastFed Q more.events) → LastFed P turn.events
+called tag front text call answer f rest turn P Q e ends events bytes fed behind =
     let m = mapped f rest turn e in
-    let met1 : Met (Calls k n) w (record { call = call; answer = answer } ∷ m.more.events) v = subst (λ (es : List Event). Met (Calls k n) w es v) (ap (λ (s : Turn). s.events) (sym m.makes) ∙ events m.more) met in
-    behind m.more met1.0 met1.1 m.is met1.2
-    (ap last_of (append_assoc front text m.more.bytes) ∙ ap (λ (b : List ℕ). last_of (front ++ b)) (sym (bytes m.more)) ∙ ap (λ (s : Turn). last_of (front ++ s.bytes)) m.makes ∙ ends)
-    (kept_moved k n w met1.0 (moved k n w call answer met1.0 met1.1) K)
+    subst (λ (es : List Event). LastFed P es) (sym (events m.more) ∙ ap (λ (s : Turn). s.events) m.makes)
+    (last_weaker Q (FedAll (record { call = call; answer = answer })) m.more.events fed
+    (behind m.more m.is
+    (ap last_of (append_assoc front text m.more.bytes) ∙ ap (λ (b : List ℕ). last_of (front ++ b)) (sym (bytes m.more)) ∙ ap (λ (s : Turn). last_of (front ++ s.bytes)) m.makes ∙ ends)))
 
-fed_now : (k : Config) (n : ℕ) (w : World) (limit : ℕ) (met : List ℕ) (changes : List Change) (v : World) → Kept k w → limit ≡ unlimited → Meets k n w (Feed limit) (Fed met changes) v → IsCurrent v n
-fed_now k n w limit met changes v K e m = fed_current k w n met changes v K (subst (λ (l : ℕ). Meets k n w (Feed l) (Fed met changes) v) e m)
-
-ok_current : (k : Config) (n : ℕ) (tag front : List ℕ) (fed : Bool) (now : Standing) (w : World) (x : Exchange) (answers : List Answer) (turn : Turn) (v : World) → Kept k w → IsTag tag → (fed ≡ true → IsCurrent w n) → ShowsLast fed x
-    → played tag now x answers ≡ Some turn → Met (Calls k n) w turn.events v → last_of (front ++ turn.bytes) ≡ the_end → IsCurrent v n
-ok_current k n tag front fed now w (Done words how) [] turn v K t c p e met ends = done_current k n tag words how front fed now w turn v t c p e met ends
-ok_current k n tag front fed now w (Done words how) (a ∷ more) turn v K t c p e met ends = absurd (none-some turn e)
-ok_current k n tag front fed now w (Wait bytes how) [] turn v K t c p e met ends = absurd p
-ok_current k n tag front fed now w (Wait bytes how) (Entered a ∷ more) turn v K t c p e met ends = absurd (none-some turn e)
-ok_current k n tag front fed now w (Wait bytes how) (Looked a ∷ more) turn v K t c p e met ends = absurd (none-some turn e)
-ok_current k n tag front fed now w (Wait bytes how) (Found a ∷ more) turn v K t c p e met ends = absurd (none-some turn e)
-ok_current k n tag front fed now w (Wait bytes how) (Counted a ∷ more) turn v K t c p e met ends = absurd (none-some turn e)
-ok_current k n tag front fed now w (Wait bytes how) (Altered a ∷ more) turn v K t c p e met ends = absurd (none-some turn e)
-ok_current k n tag front fed now w (Wait bytes how) (Expunged a b c0 ∷ more) turn v K t c p e met ends = absurd (none-some turn e)
-ok_current k n tag front fed now w (Wait bytes how) (Fed a b ∷ more) turn v K t c p e met ends = absurd (none-some turn e)
-ok_current k n tag front fed now w (Wait bytes how) (Left a ∷ more) turn v K t c p e met ends = absurd (none-some turn e)
-ok_current k n tag front fed now w (Wait bytes how) (Refused a ∷ more) turn v K t c p e met ends = absurd (none-some turn e)
-ok_current k n tag front fed now w (Wait bytes how) (Starved j ∷ more) turn v K t c p e met ends = absurd p
-ok_current k n tag front fed now w (Write bytes x) [] turn v K t c p e met ends = said tag front bytes (played tag now x []) turn v k n w e met ends (λ s d m f. ok_current k n tag (front ++ bytes) fed now w x [] s v K t c p d m f)
-ok_current k n tag front fed now w (Write bytes x) (Entered a ∷ more) turn v K t c p e met ends = said tag front bytes (played tag now x (Entered a ∷ more)) turn v k n w e met ends (λ s d m f. ok_current k n tag (front ++ bytes) fed now w x (Entered a ∷ more) s v K t c p d m f)
-ok_current k n tag front fed now w (Write bytes x) (Looked a ∷ more) turn v K t c p e met ends = said tag front bytes (played tag now x (Looked a ∷ more)) turn v k n w e met ends (λ s d m f. ok_current k n tag (front ++ bytes) fed now w x (Looked a ∷ more) s v K t c p d m f)
-ok_current k n tag front fed now w (Write bytes x) (Found a ∷ more) turn v K t c p e met ends = said tag front bytes (played tag now x (Found a ∷ more)) turn v k n w e met ends (λ s d m f. ok_current k n tag (front ++ bytes) fed now w x (Found a ∷ more) s v K t c p d m f)
-ok_current k n tag front fed now w (Write bytes x) (Counted a ∷ more) turn v K t c p e met ends = said tag front bytes (played tag now x (Counted a ∷ more)) turn v k n w e met ends (λ s d m f. ok_current k n tag (front ++ bytes) fed now w x (Counted a ∷ more) s v K t c p d m f)
-ok_current k n tag front fed now w (Write bytes x) (Altered a ∷ more) turn v K t c p e met ends = said tag front bytes (played tag now x (Altered a ∷ more)) turn v k n w e met ends (λ s d m f. ok_current k n tag (front ++ bytes) fed now w x (Altered a ∷ more) s v K t c p d m f)
-ok_current k n tag front fed now w (Write bytes x) (Expunged a b c0 ∷ more) turn v K t c p e met ends = said tag front bytes (played tag now x (Expunged a b c0 ∷ more)) turn v k n w e met ends (λ s d m f. ok_current k n tag (front ++ bytes) fed now w x (Expunged a b c0 ∷ more) s v K t c p d m f)
-ok_current k n tag front fed now w (Write bytes x) (Fed a b ∷ more) turn v K t c p e met ends = said tag front bytes (played tag now x (Fed a b ∷ more)) turn v k n w e met ends (λ s d m f. ok_current k n tag (front ++ bytes) fed now w x (Fed a b ∷ more) s v K t c p d m f)
-ok_current k n tag front fed now w (Write bytes x) (Left a ∷ more) turn v K t c p e met ends = said tag front bytes (played tag now x (Left a ∷ more)) turn v k n w e met ends (λ s d m f. ok_current k n tag (front ++ bytes) fed now w x (Left a ∷ more) s v K t c p d m f)
-ok_current k n tag front fed now w (Write bytes x) (Refused a ∷ more) turn v K t c p e met ends = said tag front bytes (played tag now x (Refused a ∷ more)) turn v k n w e met ends (λ s d m f. ok_current k n tag (front ++ bytes) fed now w x (Refused a ∷ more) s v K t c p d m f)
-ok_current k n tag front fed now w (Write bytes x) (Starved zero ∷ []) turn v K t c p e met ends = given_up tag front now NoMemory turn v n t e ends
-ok_current k n tag front fed now w (Write bytes x) (Starved (suc j) ∷ []) turn v K t c p e met ends = said tag front bytes (played tag now x (Starved j ∷ [])) turn v k n w e met ends (λ s d m f. ok_current k n tag (front ++ bytes) fed now w x (Starved j ∷ []) s v K t c p d m f)
-ok_current k n tag front fed now w (Write bytes x) (Starved zero ∷ b ∷ more) turn v K t c p e met ends = said tag front bytes (played tag now x (Starved zero ∷ b ∷ more)) turn v k n w e met ends (λ s d m f. ok_current k n tag (front ++ bytes) fed now w x (Starved zero ∷ b ∷ more) s v K t c p d m f)
-ok_current k n tag front fed now w (Write bytes x) (Starved (suc j) ∷ b ∷ more) turn v K t c p e met ends = said tag front bytes (played tag now x (Starved (suc j) ∷ b ∷ more)) turn v k n w e met ends (λ s d m f. ok_current k n tag (front ++ bytes) fed now w x (Starved (suc j) ∷ b ∷ more) s v K t c p d m f)
-ok_current k n tag front fed now w (Put bytes x) answers turn v K t c p e met ends = said tag front bytes (played tag now x answers) turn v k n w e met ends (λ s d m f. ok_current k n tag (front ++ bytes) fed now w x answers s v K t c p d m f)
-ok_current k n tag front fed now w (Enter selected next) [] turn v K t c p e met ends = absurd (none-some turn e)
-ok_current k n tag front fed now w (Enter selected next) (Entered a ∷ more) turn v K t c p e met ends = absurd p
-ok_current k n tag front fed now w (Enter selected next) (Looked a ∷ more) turn v K t c p e met ends = absurd (none-some turn e)
-ok_current k n tag front fed now w (Enter selected next) (Found a ∷ more) turn v K t c p e met ends = absurd (none-some turn e)
-ok_current k n tag front fed now w (Enter selected next) (Counted a ∷ more) turn v K t c p e met ends = absurd (none-some turn e)
-ok_current k n tag front fed now w (Enter selected next) (Altered a ∷ more) turn v K t c p e met ends = absurd (none-some turn e)
-ok_current k n tag front fed now w (Enter selected next) (Expunged a b c0 ∷ more) turn v K t c p e met ends = absurd (none-some turn e)
-ok_current k n tag front fed now w (Enter selected next) (Fed a b ∷ more) turn v K t c p e met ends = absurd (none-some turn e)
-ok_current k n tag front fed now w (Enter selected next) (Left a ∷ more) turn v K t c p e met ends = absurd (none-some turn e)
-ok_current k n tag front fed now w (Enter selected next) (Refused a ∷ []) turn v K t c p e met ends = absurd p
-ok_current k n tag front fed now w (Enter selected next) (Refused a ∷ b ∷ more) turn v K t c p e met ends = absurd (none-some turn e)
-ok_current k n tag front fed now w (Enter selected next) (Starved a ∷ more) turn v K t c p e met ends = absurd (none-some turn e)
-ok_current k n tag front fed now w (Look by_uid set next) [] turn v K t c p e met ends = absurd (none-some turn e)
-ok_current k n tag front fed now w (Look by_uid set next) (Entered a ∷ more) turn v K t c p e met ends = absurd (none-some turn e)
-ok_current k n tag front fed now w (Look by_uid set next) (Looked a ∷ more) turn v K t c p e met ends = called tag front [] (Look by_uid set) (Looked a) (having (Look by_uid set) (Looked a)) (played tag now (next a) more) turn v k n w e met ends K (λ s. refl) (λ s. refl) (λ s mid one d m f J. ok_current k n tag (front ++ []) false now mid (next a) more s v J t never (p a) d m f)
-ok_current k n tag front fed now w (Look by_uid set next) (Found a ∷ more) turn v K t c p e met ends = absurd (none-some turn e)
-ok_current k n tag front fed now w (Look by_uid set next) (Counted a ∷ more) turn v K t c p e met ends = absurd (none-some turn e)
-ok_current k n tag front fed now w (Look by_uid set next) (Altered a ∷ more) turn v K t c p e met ends = absurd (none-some turn e)
-ok_current k n tag front fed now w (Look by_uid set next) (Expunged a b c0 ∷ more) turn v K t c p e met ends = absurd (none-some turn e)
-ok_current k n tag front fed now w (Look by_uid set next) (Fed a b ∷ more) turn v K t c p e met ends = absurd (none-some turn e)
-ok_current k n tag front fed now w (Look by_uid set next) (Left a ∷ more) turn v K t c p e met ends = absurd (none-some turn e)
-ok_current k n tag front fed now w (Look by_uid set next) (Refused a ∷ []) turn v K t c p e met ends = was_given_up tag front now (Look by_uid set) a turn v n t e ends
-ok_current k n tag front fed now w (Look by_uid set next) (Refused a ∷ b ∷ more) turn v K t c p e met ends = absurd (none-some turn e)
-ok_current k n tag front fed now w (Look by_uid set next) (Starved j ∷ more) turn v K t c p e met ends = absurd (none-some turn e)
-ok_current k n tag front fed now w (Read uid mark next) [] turn v K t c p e met ends = absurd (none-some turn e)
-ok_current k n tag front fed now w (Read uid mark next) (Entered a ∷ more) turn v K t c p e met ends = absurd (none-some turn e)
-ok_current k n tag front fed now w (Read uid mark next) (Looked a ∷ more) turn v K t c p e met ends = absurd (none-some turn e)
-ok_current k n tag front fed now w (Read uid mark next) (Found a ∷ more) turn v K t c p e met ends = called tag front [] (Read uid mark) (Found a) (having (Read uid mark) (Found a)) (played tag now (next a) more) turn v k n w e met ends K (λ s. refl) (λ s. refl) (λ s mid one d m f J. ok_current k n tag (front ++ []) false now mid (next a) more s v J t never (p a) d m f)
-ok_current k n tag front fed now w (Read uid mark next) (Counted a ∷ more) turn v K t c p e met ends = absurd (none-some turn e)
-ok_current k n tag front fed now w (Read uid mark next) (Altered a ∷ more) turn v K t c p e met ends = absurd (none-some turn e)
-ok_current k n tag front fed now w (Read uid mark next) (Expunged a b c0 ∷ more) turn v K t c p e met ends = absurd (none-some turn e)
-ok_current k n tag front fed now w (Read uid mark next) (Fed a b ∷ more) turn v K t c p e met ends = absurd (none-some turn e)
-ok_current k n tag front fed now w (Read uid mark next) (Left a ∷ more) turn v K t c p e met ends = absurd (none-some turn e)
-ok_current k n tag front fed now w (Read uid mark next) (Refused a ∷ []) turn v K t c p e met ends = was_given_up tag front now (Read uid mark) a turn v n t e ends
-ok_current k n tag front fed now w (Read uid mark next) (Refused a ∷ b ∷ more) turn v K t c p e met ends = absurd (none-some turn e)
-ok_current k n tag front fed now w (Read uid mark next) (Starved a ∷ more) turn v K t c p e met ends = absurd (none-some turn e)
-ok_current k n tag front fed now w (Count mailbox next) [] turn v K t c p e met ends = absurd (none-some turn e)
-ok_current k n tag front fed now w (Count mailbox next) (Entered a ∷ more) turn v K t c p e met ends = absurd (none-some turn e)
-ok_current k n tag front fed now w (Count mailbox next) (Looked a ∷ more) turn v K t c p e met ends = absurd (none-some turn e)
-ok_current k n tag front fed now w (Count mailbox next) (Found a ∷ more) turn v K t c p e met ends = absurd (none-some turn e)
-ok_current k n tag front fed now w (Count mailbox next) (Counted a ∷ more) turn v K t c p e met ends = called tag front [] (Count mailbox) (Counted a) (having (Count mailbox) (Counted a)) (played tag now (next a) more) turn v k n w e met ends K (λ s. refl) (λ s. refl) (λ s mid one d m f J. ok_current k n tag (front ++ []) false now mid (next a) more s v J t never (p a) d m f)
-ok_current k n tag front fed now w (Count mailbox next) (Altered a ∷ more) turn v K t c p e met ends = absurd (none-some turn e)
-ok_current k n tag front fed now w (Count mailbox next) (Expunged a b c0 ∷ more) turn v K t c p e met ends = absurd (none-some turn e)
-ok_current k n tag front fed now w (Count mailbox next) (Fed a b ∷ more) turn v K t c p e met ends = absurd (none-some turn e)
-ok_current k n tag front fed now w (Count mailbox next) (Left a ∷ more) turn v K t c p e met ends = absurd (none-some turn e)
-ok_current k n tag front fed now w (Count mailbox next) (Refused a ∷ []) turn v K t c p e met ends = was_given_up tag front now (Count mailbox) a turn v n t e ends
-ok_current k n tag front fed now w (Count mailbox next) (Refused a ∷ b ∷ more) turn v K t c p e met ends = absurd (none-some turn e)
-ok_current k n tag front fed now w (Count mailbox next) (Starved a ∷ more) turn v K t c p e met ends = absurd (none-some turn e)
-ok_current k n tag front fed now w (Alter uid op next) [] turn v K t c p e met ends = absurd (none-some turn e)
-ok_current k n tag front fed now w (Alter uid op next) (Entered a ∷ more) turn v K t c p e met ends = absurd (none-some turn e)
-ok_current k n tag front fed now w (Alter uid op next) (Looked a ∷ more) turn v K t c p e met ends = absurd (none-some turn e)
-ok_current k n tag front fed now w (Alter uid op next) (Found a ∷ more) turn v K t c p e met ends = absurd (none-some turn e)
-ok_current k n tag front fed now w (Alter uid op next) (Counted a ∷ more) turn v K t c p e met ends = absurd (none-some turn e)
-ok_current k n tag front fed now w (Alter uid op next) (Altered a ∷ more) turn v K t c p e met ends = called tag front [] (Alter uid op) (Altered a) (having (Alter uid op) (Altered a)) (played tag now (next a) more) turn v k n w e met ends K (λ s. refl) (λ s. refl) (λ s mid one d m f J. ok_current k n tag (front ++ []) false now mid (next a) more s v J t never (p a) d m f)
-ok_current k n tag front fed now w (Alter uid op next) (Expunged a b c0 ∷ more) turn v K t c p e met ends = absurd (none-some turn e)
-ok_current k n tag front fed now w (Alter uid op next) (Fed a b ∷ more) turn v K t c p e met ends = absurd (none-some turn e)
-ok_current k n tag front fed now w (Alter uid op next) (Left a ∷ more) turn v K t c p e met ends = absurd (none-some turn e)
-ok_current k n tag front fed now w (Alter uid op next) (Refused a ∷ []) turn v K t c p e met ends = was_given_up tag front now (Alter uid op) a turn v n t e ends
-ok_current k n tag front fed now w (Alter uid op next) (Refused a ∷ b ∷ more) turn v K t c p e met ends = absurd (none-some turn e)
-ok_current k n tag front fed now w (Alter uid op next) (Starved a ∷ more) turn v K t c p e met ends = absurd (none-some turn e)
-ok_current k n tag front fed now w (Expunge uids x) [] turn v K t c p e met ends = absurd (none-some turn e)
-ok_current k n tag front fed now w (Expunge uids x) (Entered a ∷ more) turn v K t c p e met ends = absurd (none-some turn e)
-ok_current k n tag front fed now w (Expunge uids x) (Looked a ∷ more) turn v K t c p e met ends = absurd (none-some turn e)
-ok_current k n tag front fed now w (Expunge uids x) (Found a ∷ more) turn v K t c p e met ends = absurd (none-some turn e)
-ok_current k n tag front fed now w (Expunge uids x) (Counted a ∷ more) turn v K t c p e met ends = absurd (none-some turn e)
-ok_current k n tag front fed now w (Expunge uids x) (Altered a ∷ more) turn v K t c p e met ends = absurd (none-some turn e)
-ok_current k n tag front fed now w (Expunge uids x) (Expunged a b c0 ∷ more) turn v K t c p e met ends = called tag front (lines a b) (Expunge uids) (Expunged a b c0) (λ s. having (Expunge uids) (Expunged a b c0) (saying (lines a b) s)) (played tag now x more) turn v k n w e met ends K (λ s. refl) (λ s. refl) (λ s mid one d m f J. ok_current k n tag (front ++ lines a b) false now mid x more s v J t never p d m f)
-ok_current k n tag front fed now w (Expunge uids x) (Fed a b ∷ more) turn v K t c p e met ends = absurd (none-some turn e)
-ok_current k n tag front fed now w (Expunge uids x) (Left a ∷ more) turn v K t c p e met ends = absurd (none-some turn e)
-ok_current k n tag front fed now w (Expunge uids x) (Refused a ∷ []) turn v K t c p e met ends = was_given_up tag front now (Expunge uids) a turn v n t e ends
-ok_current k n tag front fed now w (Expunge uids x) (Refused a ∷ b ∷ more) turn v K t c p e met ends = absurd (none-some turn e)
-ok_current k n tag front fed now w (Expunge uids x) (Starved a ∷ more) turn v K t c p e met ends = absurd (none-some turn e)
-ok_current k n tag front fed now w (Feed limit x) [] turn v K t c p e met ends = absurd (none-some turn e)
-ok_current k n tag front fed now w (Feed limit x) (Entered a ∷ more) turn v K t c p e met ends = absurd (none-some turn e)
-ok_current k n tag front fed now w (Feed limit x) (Looked a ∷ more) turn v K t c p e met ends = absurd (none-some turn e)
-ok_current k n tag front fed now w (Feed limit x) (Found a ∷ more) turn v K t c p e met ends = absurd (none-some turn e)
-ok_current k n tag front fed now w (Feed limit x) (Counted a ∷ more) turn v K t c p e met ends = absurd (none-some turn e)
-ok_current k n tag front fed now w (Feed limit x) (Altered a ∷ more) turn v K t c p e met ends = absurd (none-some turn e)
-ok_current k n tag front fed now w (Feed limit x) (Expunged a b c0 ∷ more) turn v K t c p e met ends = absurd (none-some turn e)
-ok_current k n tag front fed now w (Feed limit x) (Fed a b ∷ more) turn v K t c p e met ends = called tag front (lines a b) (Feed limit) (Fed a b) (λ s. having (Feed limit) (Fed a b) (saying (lines a b) s)) (played tag now x more) turn v k n w e met ends K (λ s. refl) (λ s. refl) (λ s mid one d m f J. ok_current k n tag (front ++ lines a b) true now mid x more s v J t (λ is. fed_now k n w limit a b mid K p.0 one) p.1 d m f)
-ok_current k n tag front fed now w (Feed limit x) (Left a ∷ more) turn v K t c p e met ends = absurd (none-some turn e)
-ok_current k n tag front fed now w (Feed limit x) (Refused a ∷ []) turn v K t c p e met ends = was_given_up tag front now (Feed limit) a turn v n t e ends
-ok_current k n tag front fed now w (Feed limit x) (Refused a ∷ b ∷ more) turn v K t c p e met ends = absurd (none-some turn e)
-ok_current k n tag front fed now w (Feed limit x) (Starved a ∷ more) turn v K t c p e met ends = absurd (none-some turn e)
-ok_current k n tag front fed now w (Leave remove x) [] turn v K t c p e met ends = absurd (none-some turn e)
-ok_current k n tag front fed now w (Leave remove x) (Entered a ∷ more) turn v K t c p e met ends = absurd (none-some turn e)
-ok_current k n tag front fed now w (Leave remove x) (Looked a ∷ more) turn v K t c p e met ends = absurd (none-some turn e)
-ok_current k n tag front fed now w (Leave remove x) (Found a ∷ more) turn v K t c p e met ends = absurd (none-some turn e)
-ok_current k n tag front fed now w (Leave remove x) (Counted a ∷ more) turn v K t c p e met ends = absurd (none-some turn e)
-ok_current k n tag front fed now w (Leave remove x) (Altered a ∷ more) turn v K t c p e met ends = absurd (none-some turn e)
-ok_current k n tag front fed now w (Leave remove x) (Expunged a b c0 ∷ more) turn v K t c p e met ends = absurd (none-some turn e)
-ok_current k n tag front fed now w (Leave remove x) (Fed a b ∷ more) turn v K t c p e met ends = absurd (none-some turn e)
-ok_current k n tag front fed now w (Leave remove x) (Left a ∷ more) turn v K t c p e met ends = absurd p
-ok_current k n tag front fed now w (Leave remove x) (Refused a ∷ []) turn v K t c p e met ends = absurd p
-ok_current k n tag front fed now w (Leave remove x) (Refused a ∷ b ∷ more) turn v K t c p e met ends = absurd (none-some turn e)
-ok_current k n tag front fed now w (Leave remove x) (Starved a ∷ more) turn v K t c p e met ends = absurd (none-some turn e)
+ok_current : (tag front : List ℕ) (fed : Bool) (now : Standing) (x : Exchange) (answers : List Answer) (turn : Turn) → IsTag tag → ShowsLast fed x
+    → played tag now x answers ≡ Some turn → last_of (front ++ turn.bytes) ≡ the_end → LastFed (fed ≡ true) turn.events
+ok_current tag front fed now (Done words how) [] turn t p e ends = done_current tag words how front fed now turn t p e ends
+ok_current tag front fed now (Done words how) (a ∷ more) turn t p e ends = absurd (none-some turn e)
+ok_current tag front fed now (Wait bytes how) answers turn t p e ends = absurd p
+ok_current tag front fed now (Write bytes x) [] turn t p e ends = said tag front bytes (played tag now x []) turn (fed ≡ true) e ends (λ s d f. ok_current tag (front ++ bytes) fed now x [] s t p d f)
+ok_current tag front fed now (Write bytes x) (Starved zero ∷ []) turn t p e ends = given_up tag front now NoMemory turn _ t e ends
+ok_current tag front fed now (Write bytes x) (Starved (suc j) ∷ []) turn t p e ends = said tag front bytes (played tag now x (Starved j ∷ [])) turn (fed ≡ true) e ends (λ s d f. ok_current tag (front ++ bytes) fed now x (Starved j ∷ []) s t p d f)
+ok_current tag front fed now (Write bytes x) (given ∷ more) turn t p e ends = said tag front bytes (played tag now x (given ∷ more)) turn (fed ≡ true) e ends (λ s d f. ok_current tag (front ++ bytes) fed now x (given ∷ more) s t p d f)
+ok_current tag front fed now (Put bytes x) answers turn t p e ends = said tag front bytes (played tag now x answers) turn (fed ≡ true) e ends (λ s d f. ok_current tag (front ++ bytes) fed now x answers s t p d f)
+ok_current tag front fed now (Enter selected next) answers turn t p e ends = absurd p
+ok_current tag front fed now (Look by_uid set next) [] turn t p e ends = absurd (none-some turn e)
+ok_current tag front fed now (Look by_uid set next) (Looked a ∷ more) turn t p e ends = called tag front [] (Look by_uid set) (Looked a) (having (Look by_uid set) (Looked a)) (played tag now (next a) more) turn (fed ≡ true) (false ≡ true) e ends (λ s. refl) (λ s. refl) never (λ s d f. ok_current tag (front ++ []) false now (next a) more s t (p a) d f)
+ok_current tag front fed now (Look by_uid set next) (Refused a ∷ []) turn t p e ends = was_given_up tag front now (Look by_uid set) a turn _ t e ends
+ok_current tag front fed now (Look by_uid set next) (_ ∷ more) turn t p e ends = absurd (none-some turn e)
+ok_current tag front fed now (Read uid mark next) [] turn t p e ends = absurd (none-some turn e)
+ok_current tag front fed now (Read uid mark next) (Found a ∷ more) turn t p e ends = called tag front [] (Read uid mark) (Found a) (having (Read uid mark) (Found a)) (played tag now (next a) more) turn (fed ≡ true) (false ≡ true) e ends (λ s. refl) (λ s. refl) never (λ s d f. ok_current tag (front ++ []) false now (next a) more s t (p a) d f)
+ok_current tag front fed now (Read uid mark next) (Refused a ∷ []) turn t p e ends = was_given_up tag front now (Read uid mark) a turn _ t e ends
+ok_current tag front fed now (Read uid mark next) (_ ∷ more) turn t p e ends = absurd (none-some turn e)
+ok_current tag front fed now (Count mailbox next) [] turn t p e ends = absurd (none-some turn e)
+ok_current tag front fed now (Count mailbox next) (Counted a ∷ more) turn t p e ends = called tag front [] (Count mailbox) (Counted a) (having (Count mailbox) (Counted a)) (played tag now (next a) more) turn (fed ≡ true) (false ≡ true) e ends (λ s. refl) (λ s. refl) never (λ s d f. ok_current tag (front ++ []) false now (next a) more s t (p a) d f)
+ok_current tag front fed now (Count mailbox next) (Refused a ∷ []) turn t p e ends = was_given_up tag front now (Count mailbox) a turn _ t e ends
+ok_current tag front fed now (Count mailbox next) (_ ∷ more) turn t p e ends = absurd (none-some turn e)
+ok_current tag front fed now (Alter uid op next) [] turn t p e ends = absurd (none-some turn e)
+ok_current tag front fed now (Alter uid op next) (Altered a ∷ more) turn t p e ends = called tag front [] (Alter uid op) (Altered a) (having (Alter uid op) (Altered a)) (played tag now (next a) more) turn (fed ≡ true) (false ≡ true) e ends (λ s. refl) (λ s. refl) never (λ s d f. ok_current tag (front ++ []) false now (next a) more s t (p a) d f)
+ok_current tag front fed now (Alter uid op next) (Refused a ∷ []) turn t p e ends = was_given_up tag front now (Alter uid op) a turn _ t e ends
+ok_current tag front fed now (Alter uid op next) (_ ∷ more) turn t p e ends = absurd (none-some turn e)
+ok_current tag front fed now (Expunge uids x) [] turn t p e ends = absurd (none-some turn e)
+ok_current tag front fed now (Expunge uids x) (Expunged a b c0 ∷ more) turn t p e ends = called tag front (lines a b) (Expunge uids) (Expunged a b c0) (λ s. having (Expunge uids) (Expunged a b c0) (saying (lines a b) s)) (played tag now x more) turn (fed ≡ true) (false ≡ true) e ends (λ s. refl) (λ s. refl) never (λ s d f. ok_current tag (front ++ lines a b) false now x more s t p d f)
+ok_current tag front fed now (Expunge uids x) (Refused a ∷ []) turn t p e ends = was_given_up tag front now (Expunge uids) a turn _ t e ends
+ok_current tag front fed now (Expunge uids x) (_ ∷ more) turn t p e ends = absurd (none-some turn e)
+ok_current tag front fed now (Feed limit x) [] turn t p e ends = absurd (none-some turn e)
+ok_current tag front fed now (Feed limit x) (Fed a b ∷ more) turn t p e ends = called tag front (lines a b) (Feed limit) (Fed a b) (λ s. having (Feed limit) (Fed a b) (saying (lines a b) s)) (played tag now x more) turn (fed ≡ true) (true ≡ true) e ends (λ s. refl) (λ s. refl) (λ is. fed_all limit a b p.0) (λ s d f. ok_current tag (front ++ lines a b) true now x more s t p.1 d f)
+ok_current tag front fed now (Feed limit x) (Refused a ∷ []) turn t p e ends = was_given_up tag front now (Feed limit) a turn _ t e ends
+ok_current tag front fed now (Feed limit x) (_ ∷ more) turn t p e ends = absurd (none-some turn e)
+ok_current tag front fed now (Leave remove x) answers turn t p e ends = absurd p
 
 -- ---- commands
 
@@ -372,22 +275,28 @@ ends_done front tag verb =
     last_done verbs.Noop before = refl
     last_done _ before = refl
 
-done_current_in : (k : Config) (n : ℕ) (now : Standing) (line tag : List ℕ) (command : Command) (w : World) (turn : Turn) (v : World) (front : List ℕ) → Kept k w → IsAnswered k n now line w turn v → kept_tag now ≡ None → read line ≡ Ok (tag, command)
-    → shows_all command ≡ true → turn.bytes ≡ front ++ tagged tag (response_text (texts.Completed (verb_of command))) → IsCurrent v n
-done_current_in k n now line tag command w turn v front K a kept reads shows bytes = by now.mailing.begun now.idling refl refl
+-- the last call of its turn was for all that is pending, and was answered
+pub last_was_fed : (now : Standing) (line tag : List ℕ) (command : Command) (selected : Selected) (answers : List Answer) (turn : Turn) (front : List ℕ) → now.selected ≡ Some selected → turn_of now line answers ≡ Some turn
+    → kept_tag now ≡ None → read line ≡ Ok (tag, command) → shows_all command ≡ true → turn.bytes ≡ front ++ tagged tag (response_text (texts.Completed (verb_of command))) → LastFed (false ≡ true) turn.events
+last_was_fed now line tag command selected answers turn front there answered kept reads shows bytes = by now.mailing.begun now.idling refl refl
   where
-    read_current : on_read now (Ok (tag, command)) a.answers ≡ Some turn → IsCurrent v n
-    read_current e =
-        ok_current k n tag [] false now w (on_command now command) a.answers turn v K (tags_are_tags line tag command reads) never (command_last now a.selected command a.there shows) e a.met
+    read_fed : on_read now (Ok (tag, command)) answers ≡ Some turn → LastFed (false ≡ true) turn.events
+    read_fed e =
+        ok_current tag [] false now (on_command now command) answers turn (tags_are_tags line tag command reads) (command_last now selected command there shows) e
         (ap last_of bytes ∙ ends_done front tag (verb_of command))
 
-    by : (begun : Option Appending) (idling : Option (List ℕ)) → begun ≡ now.mailing.begun → idling ≡ now.idling → IsCurrent v n
+    by : (begun : Option Appending) (idling : Option (List ℕ)) → begun ≡ now.mailing.begun → idling ≡ now.idling → LastFed (false ≡ true) turn.events
     by (Some b) idling p q = absurd (none-some b.tag (sym kept ∙ sym (ap (λ (x : Option Appending). kept_behind x now.idling) p)))
     by None (Some i) p q = absurd (none-some i (sym kept ∙ sym (ap (λ (x : Option Appending). kept_behind x now.idling) p) ∙ sym q))
     by None None p q =
-        let first : turn_while now.idling now line a.answers ≡ Some turn = subst (λ (o : Option Appending). turn_behind o now line a.answers ≡ Some turn) (sym p) a.answered in
-        let second : on_read now (read line) a.answers ≡ Some turn = subst (λ (o : Option (List ℕ)). turn_while o now line a.answers ≡ Some turn) (sym q) first in
-        read_current (subst (λ (r : Result (List ℕ × Command) ImapFault). on_read now r a.answers ≡ Some turn) reads second)
+        let first : turn_while now.idling now line answers ≡ Some turn = subst (λ (o : Option Appending). turn_behind o now line answers ≡ Some turn) (sym p) answered in
+        let second : on_read now (read line) answers ≡ Some turn = subst (λ (o : Option (List ℕ)). turn_while o now line answers ≡ Some turn) (sym q) first in
+        read_fed (subst (λ (r : Result (List ℕ × Command) ImapFault). on_read now r answers ≡ Some turn) reads second)
+
+done_current_in : (k : Config) (n : ℕ) (now : Standing) (line tag : List ℕ) (command : Command) (w : World) (turn : Turn) (v : World) (front : List ℕ) → Kept k w → IsAnswered k n now line w turn v → kept_tag now ≡ None → read line ≡ Ok (tag, command)
+    → shows_all command ≡ true → turn.bytes ≡ front ++ tagged tag (response_text (texts.Completed (verb_of command))) → IsCurrent v n
+done_current_in k n now line tag command w turn v front K a kept reads shows bytes =
+    last_current k n w turn.events v (false ≡ true) K never (last_was_fed now line tag command a.selected a.answers turn front a.there a.answered kept reads shows bytes) a.met
 
 pub done_commands_make_current : DoneCommandsMakeCurrent
 done_commands_make_current k events n now line tag command w turn v front is a kept reads shows bytes = done_current_in k n now line tag command w turn v front (kept_always k events w is) a kept reads shows bytes
@@ -395,7 +304,7 @@ done_commands_make_current k events n now line tag command w turn v front is a k
 -- ---- in a life
 
 -- such a command asks for no mailbox and leaves none
-neither_shows : (tag : List ℕ) (command : Command) → shows_all command ≡ true → asked_by tag command ≡ Neither
+pub neither_shows : (tag : List ℕ) (command : Command) → shows_all command ≡ true → asked_by tag command ≡ Neither
 neither_shows tag (commands.Select name) e = absurd (false≢true e)
 neither_shows tag (commands.Examine name) e = absurd (false≢true e)
 neither_shows tag commands.Close e = absurd (false≢true e)

@@ -1,5 +1,5 @@
 -- Where all that was pending was shown, what the session counts is what is there.
-use Rattle.std.proofs.Common.{zero, suc, ◌≡◌, ◌⊎◌, inl, inr, ℕ, ◌+◌, ◌-◌, ◌≤◌, Bool, true, List, [], ◌∷◌, ◌++◌, length, take, drop, refl, sym, subst, ap, ◌∙◌, arith, append-nil}
+use Rattle.std.proofs.Common.{zero, suc, ◌≡◌, ◌⊎◌, inl, inr, ℕ, ◌+◌, ◌-◌, ◌≤◌, Bool, true, false, List, [], ◌∷◌, ◌++◌, length, take, drop, refl, sym, subst, ap, ◌∙◌, arith, append-nil}
 use Rattle.std.specs.Prelude.{Option, Some, None, IfSome, Result, Ok, if◌then◌else◌}
 use Rattle.std.proofs.Math.Seq.{take-length}
 use Rattle.std.proofs.lemmas.Bool.{false≢true}
@@ -23,14 +23,14 @@ use Rattle.imap_grammar.specs.declared.command.ImapFault.{ImapFault}
 use Rattle.imap_session.specs.declared.standing.After.{After}
 use Rattle.imap_session.specs.declared.standing.After.TheVariants.{Go}
 use Rattle.imap_session.specs.declared.standing.Selected.{Selected}
-use Rattle.imap_session.specs.Exchange.{Answer, Entered, Looked, Found, Counted, Altered, Expunged, Fed, Left, Refused, Starved, Appending, Event as Happened, Done, Feed, Standing, Turn, having, kept_behind, kept_tag, played, refusal_text, refused, saying}
-use Rattle.imap_session.specs.Commands.{completed, on_idle_line, on_read, says, showing, turn_behind, turn_while, unlimited}
+use Rattle.imap_session.specs.Exchange.{Answer, Fed, Refused, Appending, Event as Happened, Done, Feed, Standing, Turn, having, kept_behind, kept_tag, played, refusal_text, refused, saying}
+use Rattle.imap_session.specs.Commands.{completed, on_idle_line, on_read, says, showing, turn_behind, turn_of, turn_while, unlimited}
 use Rattle.imap_session.specs.Store.{Met}
 use Rattle.house.specs.Meets.{Meets}
 use Rattle.laws_client.specs.ListTurns.{IsTag}
 use Rattle.laws_client.proofs.Tags.{tags_are_tags}
 use Rattle.laws_client.specs.Clients.{has_ok}
-use Rattle.laws_client.specs.Current.{DoneMakesCurrent, FeedsMakeCurrent, IsAnswered, IsCurrent, NoopMakesCurrent}
+use Rattle.laws_client.specs.Current.{DoneMakesCurrent, FeedsMakeCurrent, IsCurrent, NoopMakesCurrent}
 use Rattle.laws_client.specs.Views.{messages_of, view_in, view_of}
 use Rattle.laws_client.proofs.RecordEntering.{mapped, only_done, only_refused, refusal_has_none}
 use Rattle.laws_client.proofs.Moved.{Calls, Moved, moved, rested, stepped}
@@ -81,78 +81,115 @@ fed_current k w n met changes v K (step, (s, is, (D, shown))) t now =
     all_shown s.cursor unlimited log ok.within (omega (arith, (K.boxes s.mailbox).room)) ∙ ap length (sym (append-nil log)) ∙ ap length (sym box) in
     subst (λ (u : Session). view_of v n ≡ messages_of (v.box u.mailbox)) same (at_end v n (shows s some) there end)
 
+-- ---- the calls of a turn
+
+-- this call was for all that is pending, and was answered
+abbrev pub feed_event : ℕ → List ℕ → List Change → Happened
+feed_event limit met changes = record { call = Feed limit; answer = Fed met changes }
+
+abbrev pub FedAll : Happened → Type 0
+FedAll event = (met : List ℕ) × (changes : List Change) × (event ≡ feed_event unlimited met changes)
+
+-- so was the last of these calls; where there is none, this holds
+abbrev pub LastFed : Type 0 → List Happened → Type 0
+LastFed P [] = P
+LastFed P (event ∷ events) = LastFed (FedAll event) events
+
+pub fed_all : (limit : ℕ) (met : List ℕ) (changes : List Change) → limit ≡ unlimited → FedAll (feed_event limit met changes)
+fed_all limit met changes e = (met, changes, ap (λ (l : ℕ). feed_event l met changes) e)
+
+pub last_weaker : (P Q : Type 0) (events : List Happened) → (P → Q) → LastFed P events → LastFed Q events
+last_weaker P Q [] f h = f h
+last_weaker P Q (event ∷ events) f h = h
+
 -- all that is pending is shown, and then the last line is said, or the store refused
-pub fed_or_refused : (k : Config) (n : ℕ) (tag words : List ℕ) (how : After) (now : Standing) (w : World) (answers : List Answer) (turn : Turn) (v : World) → Kept k w
-    → played tag now (Feed unlimited (Done words how)) answers ≡ Some turn → Met (Calls k n) w turn.events v → IsCurrent v n ⊎ ((fault : MailFault) × (turn.bytes ≡ refusal_text tag fault))
-fed_or_refused k n tag words how now w [] turn v K e met = absurd (none-some turn e)
-fed_or_refused k n tag words how now w (Fed view changes ∷ more) turn v K e met =
+fed_or_not : (tag words : List ℕ) (how : After) (now : Standing) (answers : List Answer) (turn : Turn)
+    → played tag now (Feed unlimited (Done words how)) answers ≡ Some turn → LastFed (false ≡ true) turn.events ⊎ ((fault : MailFault) × (turn.bytes ≡ refusal_text tag fault))
+fed_or_not tag words how now [] turn e = absurd (none-some turn e)
+fed_or_not tag words how now (Fed view changes ∷ more) turn e =
     let m = mapped (λ (x : Turn). having (Feed unlimited) (Fed view changes) (saying (lines view changes) x)) (played tag now (Done words how) more) turn e in
     let d = only_done tag words how now more m.more m.is in
-    let events : turn.events ≡ record { call = Feed unlimited; answer = Fed view changes } ∷ [] =
-    ap (λ (x : Turn). x.events) (sym m.makes) ∙ ap (λ (es : List Happened). record { call = Feed unlimited; answer = Fed view changes } ∷ es) d.events in
-    let met1 : Met (Calls k n) w (record { call = Feed unlimited; answer = Fed view changes } ∷ []) v = subst (λ (es : List Happened). Met (Calls k n) w es v) events met in
-    inl (subst (λ (u : World). IsCurrent u n) (sym met1.2) (fed_current k w n view changes met1.0 K met1.1))
-fed_or_refused k n tag words how now w (Refused fault ∷ []) turn v K e met =
+    let events : turn.events ≡ feed_event unlimited view changes ∷ [] =
+    ap (λ (x : Turn). x.events) (sym m.makes) ∙ ap (λ (es : List Happened). feed_event unlimited view changes ∷ es) d.events in
+    inl (subst (λ (es : List Happened). LastFed (false ≡ true) es) (sym events) (view, changes, refl))
+fed_or_not tag words how now (Refused fault ∷ []) turn e =
     let m = mapped (having (Feed unlimited) (Refused fault)) (Some (refused tag now fault)) turn e in
     let only = only_refused tag now fault m.more m.is in
     inr (fault, ap (λ (x : Turn). x.bytes) (sym m.makes) ∙ only.bytes)
-fed_or_refused k n tag words how now w (Refused fault ∷ b ∷ more) turn v K e met = absurd (none-some turn e)
-fed_or_refused k n tag words how now w (Entered a ∷ more) turn v K e met = absurd (none-some turn e)
-fed_or_refused k n tag words how now w (Looked a ∷ more) turn v K e met = absurd (none-some turn e)
-fed_or_refused k n tag words how now w (Found a ∷ more) turn v K e met = absurd (none-some turn e)
-fed_or_refused k n tag words how now w (Counted a ∷ more) turn v K e met = absurd (none-some turn e)
-fed_or_refused k n tag words how now w (Altered a ∷ more) turn v K e met = absurd (none-some turn e)
-fed_or_refused k n tag words how now w (Expunged a b c ∷ more) turn v K e met = absurd (none-some turn e)
-fed_or_refused k n tag words how now w (Left a ∷ more) turn v K e met = absurd (none-some turn e)
-fed_or_refused k n tag words how now w (Starved a ∷ more) turn v K e met = absurd (none-some turn e)
+fed_or_not tag words how now (_ ∷ more) turn e = absurd (none-some turn e)
 
 -- and where an OK was said, it was shown
-shown_current : (k : Config) (n : ℕ) (tag words : List ℕ) (how : After) (now : Standing) (w : World) (answers : List Answer) (turn : Turn) (v : World) → Kept k w → IsTag tag
-    → played tag now (Feed unlimited (Done words how)) answers ≡ Some turn → Met (Calls k n) w turn.events v → has_ok true tag turn.bytes ≡ true → IsCurrent v n
-shown_current k n tag words how now w answers turn v K t e met ok = by (fed_or_refused k n tag words how now w answers turn v K e met)
+shown_fed : (tag words : List ℕ) (how : After) (now : Standing) (answers : List Answer) (turn : Turn) → IsTag tag
+    → played tag now (Feed unlimited (Done words how)) answers ≡ Some turn → has_ok true tag turn.bytes ≡ true → LastFed (false ≡ true) turn.events
+shown_fed tag words how now answers turn t e ok = by (fed_or_not tag words how now answers turn e)
   where
-    by : IsCurrent v n ⊎ ((fault : MailFault) × (turn.bytes ≡ refusal_text tag fault)) → IsCurrent v n
-    by (inl current) = current
+    by : LastFed (false ≡ true) turn.events ⊎ ((fault : MailFault) × (turn.bytes ≡ refusal_text tag fault)) → LastFed (false ≡ true) turn.events
+    by (inl fed) = fed
     by (inr (fault, bytes)) = absurd (false≢true (sym (refusal_has_none tag fault t) ∙ ap (has_ok true tag) (sym bytes) ∙ ok))
 
-noop_current : (k : Config) (n : ℕ) (now : Standing) (line tag : List ℕ) (w : World) (turn : Turn) (v : World) → Kept k w → IsAnswered k n now line w turn v
-    → kept_tag now ≡ None → read line ≡ Ok (tag, commands.Noop) → has_ok true tag turn.bytes ≡ true → IsCurrent v n
-noop_current k n now line tag w turn v K a kept reads ok = by now.mailing.begun now.idling refl refl
+noop_fed : (now : Standing) (line tag : List ℕ) (selected : Selected) (answers : List Answer) (turn : Turn) → now.selected ≡ Some selected → turn_of now line answers ≡ Some turn
+    → kept_tag now ≡ None → read line ≡ Ok (tag, commands.Noop) → has_ok true tag turn.bytes ≡ true → LastFed (false ≡ true) turn.events
+noop_fed now line tag selected answers turn there answered kept reads ok = by now.mailing.begun now.idling refl refl
   where
-    read_current : on_read now (Ok (tag, commands.Noop)) a.answers ≡ Some turn → IsCurrent v n
-    read_current e =
-        let d : played tag now (showing (Some a.selected) (completed commands.Noop)) a.answers ≡ Some turn = subst (λ (o : Option Selected). played tag now (showing o (completed commands.Noop)) a.answers ≡ Some turn) a.there e in
-        shown_current k n tag (response_text (texts.Completed verbs.Noop)) Go now w a.answers turn v K (tags_are_tags line tag commands.Noop reads) d a.met ok
+    read_fed : on_read now (Ok (tag, commands.Noop)) answers ≡ Some turn → LastFed (false ≡ true) turn.events
+    read_fed e =
+        let d : played tag now (showing (Some selected) (completed commands.Noop)) answers ≡ Some turn = subst (λ (o : Option Selected). played tag now (showing o (completed commands.Noop)) answers ≡ Some turn) there e in
+        shown_fed tag (response_text (texts.Completed verbs.Noop)) Go now answers turn (tags_are_tags line tag commands.Noop reads) d ok
 
-    by : (begun : Option Appending) (idling : Option (List ℕ)) → begun ≡ now.mailing.begun → idling ≡ now.idling → IsCurrent v n
+    by : (begun : Option Appending) (idling : Option (List ℕ)) → begun ≡ now.mailing.begun → idling ≡ now.idling → LastFed (false ≡ true) turn.events
     by (Some b) idling p q = absurd (none-some b.tag (sym (ap (λ (o : Option (List ℕ)). o) kept) ∙ sym (ap (λ (x : Option Appending). kept_behind x now.idling) p)))
     by None (Some i) p q = absurd (none-some i (sym kept ∙ sym (ap (λ (x : Option Appending). kept_behind x now.idling) p) ∙ sym q))
     by None None p q =
-        let first : turn_while now.idling now line a.answers ≡ Some turn = subst (λ (o : Option Appending). turn_behind o now line a.answers ≡ Some turn) (sym p) a.answered in
-        let second : on_read now (read line) a.answers ≡ Some turn = subst (λ (o : Option (List ℕ)). turn_while o now line a.answers ≡ Some turn) (sym q) first in
-        read_current (subst (λ (r : Result (List ℕ × Command) ImapFault). on_read now r a.answers ≡ Some turn) reads second)
+        let first : turn_while now.idling now line answers ≡ Some turn = subst (λ (o : Option Appending). turn_behind o now line answers ≡ Some turn) (sym p) answered in
+        let second : on_read now (read line) answers ≡ Some turn = subst (λ (o : Option (List ℕ)). turn_while o now line answers ≡ Some turn) (sym q) first in
+        read_fed (subst (λ (r : Result (List ℕ × Command) ImapFault). on_read now r answers ≡ Some turn) reads second)
 
-pub noop_makes_current : NoopMakesCurrent
-noop_makes_current k events n now line tag w turn v is a kept reads ok = noop_current k n now line tag w turn v (kept_always k events w is) a kept reads ok
-
-pub done_makes_current : DoneMakesCurrent
-done_makes_current k events n now line tag w turn v is a begun idling done ok =
-    let first : turn_while now.idling now line a.answers ≡ Some turn = subst (λ (o : Option Appending). turn_behind o now line a.answers ≡ Some turn) begun a.answered in
-    let second : turn_while (Some tag) now line a.answers ≡ Some turn = subst (λ (o : Option (List ℕ)). turn_while o now line a.answers ≡ Some turn) idling first in
-    let third : played tag (record now { idling = None }) (on_idle_line (Some a.selected) line) a.answers ≡ Some turn =
-    subst (λ (o : Option Selected). played tag (record now { idling = None }) (on_idle_line o line) a.answers ≡ Some turn) a.there second in
-    let fourth : played tag (record now { idling = None }) (showing (Some a.selected) (completed commands.Idle)) a.answers ≡ Some turn = awake done third in
-    shown_current k n tag (response_text (texts.Completed verbs.Idle)) Go (record now { idling = None }) w a.answers turn v (kept_always k events w is) (subst (λ (o : Option (List ℕ)). IfSome o IsTag) idling a.stands.tags.0) fourth a.met ok
+pub done_fed : (now : Standing) (line tag : List ℕ) (selected : Selected) (answers : List Answer) (turn : Turn) → IfSome now.idling IsTag → now.selected ≡ Some selected → turn_of now line answers ≡ Some turn
+    → now.mailing.begun ≡ None → now.idling ≡ Some tag → is_done line ≡ true → has_ok true tag turn.bytes ≡ true → LastFed (false ≡ true) turn.events
+done_fed now line tag selected answers turn tags there answered begun idling done ok =
+    let first : turn_while now.idling now line answers ≡ Some turn = subst (λ (o : Option Appending). turn_behind o now line answers ≡ Some turn) begun answered in
+    let second : turn_while (Some tag) now line answers ≡ Some turn = subst (λ (o : Option (List ℕ)). turn_while o now line answers ≡ Some turn) idling first in
+    let third : played tag (record now { idling = None }) (on_idle_line (Some selected) line) answers ≡ Some turn =
+    subst (λ (o : Option Selected). played tag (record now { idling = None }) (on_idle_line o line) answers ≡ Some turn) there second in
+    let fourth : played tag (record now { idling = None }) (showing (Some selected) (completed commands.Idle)) answers ≡ Some turn = awake done third in
+    shown_fed tag (response_text (texts.Completed verbs.Idle)) Go (record now { idling = None }) answers turn (subst (λ (o : Option (List ℕ)). IfSome o IsTag) idling tags) fourth ok
   where
-    awake : is_done line ≡ true → played tag (record now { idling = None }) (on_idle_line (Some a.selected) line) a.answers ≡ Some turn
-        → played tag (record now { idling = None }) (showing (Some a.selected) (completed commands.Idle)) a.answers ≡ Some turn
-    awake h e = subst (λ (b : Bool). played tag (record now { idling = None }) (if b then showing (Some a.selected) (completed commands.Idle) else says (response_text texts.ExpectedDone)) a.answers ≡ Some turn) h e
+    awake : is_done line ≡ true → played tag (record now { idling = None }) (on_idle_line (Some selected) line) answers ≡ Some turn
+        → played tag (record now { idling = None }) (showing (Some selected) (completed commands.Idle)) answers ≡ Some turn
+    awake h e = subst (λ (b : Bool). played tag (record now { idling = None }) (if b then showing (Some selected) (completed commands.Idle) else says (response_text texts.ExpectedDone)) answers ≡ Some turn) h e
 
--- ---- whatever the command
+-- ---- over a world
 
 pub kept_moved : (k : Config) (n : ℕ) (w v : World) → Moved k n w v → Kept k w → Kept k v
 kept_moved k n w v (rested e) K = rw e K
 kept_moved k n w v (stepped e step own short) K = kept_step k w e v K step
+
+fed_now : (k : Config) (n : ℕ) (w : World) (event : Happened) (v : World) → Kept k w → FedAll event → Meets k n w event.call event.answer v → IsCurrent v n
+fed_now k n w event v K (met, changes, is) m = fed_current k w n met changes v K (subst (λ (e : Happened). Meets k n w e.call e.answer v) is m)
+
+pub last_current : (k : Config) (n : ℕ) (w : World) (events : List Happened) (v : World) (P : Type 0) → Kept k w → (P → IsCurrent w n) → LastFed P events → Met (Calls k n) w events v → IsCurrent v n
+last_current k n w [] v P K c h met = subst (λ (u : World). IsCurrent u n) (sym met) (c h)
+last_current k n w (e ∷ events) v P K c h (mid, one, more) =
+    last_current k n mid events v (FedAll e) (kept_moved k n w mid (moved k n w e.call e.answer mid one) K) (λ fed. fed_now k n w e mid K fed one) h more
+
+pub fed_or_refused : (k : Config) (n : ℕ) (tag words : List ℕ) (how : After) (now : Standing) (w : World) (answers : List Answer) (turn : Turn) (v : World) → Kept k w
+    → played tag now (Feed unlimited (Done words how)) answers ≡ Some turn → Met (Calls k n) w turn.events v → IsCurrent v n ⊎ ((fault : MailFault) × (turn.bytes ≡ refusal_text tag fault))
+fed_or_refused k n tag words how now w answers turn v K e met = by (fed_or_not tag words how now answers turn e)
+  where
+    by : LastFed (false ≡ true) turn.events ⊎ ((fault : MailFault) × (turn.bytes ≡ refusal_text tag fault)) → IsCurrent v n ⊎ ((fault : MailFault) × (turn.bytes ≡ refusal_text tag fault))
+    by (inl fed) = inl (last_current k n w turn.events v (false ≡ true) K (λ h. absurd (false≢true h)) fed met)
+    by (inr refused) = inr refused
+
+pub noop_makes_current : NoopMakesCurrent
+noop_makes_current k events n now line tag w turn v is a kept reads ok =
+    last_current k n w turn.events v (false ≡ true) (kept_always k events w is) (λ h. absurd (false≢true h)) (noop_fed now line tag a.selected a.answers turn a.there a.answered kept reads ok) a.met
+
+pub done_makes_current : DoneMakesCurrent
+done_makes_current k events n now line tag w turn v is a begun idling done ok =
+    last_current k n w turn.events v (false ≡ true) (kept_always k events w is) (λ h. absurd (false≢true h))
+    (done_fed now line tag a.selected a.answers turn a.stands.tags.0 a.there a.answered begun idling done ok) a.met
+
+-- ---- whatever the command
 
 last_kept : (k : Config) (w : World) (n : ℕ) (calls : List Happened) (met : List ℕ) (changes : List Change) (v : World) → Kept k w
     → Met (Calls k n) w (calls ++ record { call = Feed unlimited; answer = Fed met changes } ∷ []) v → IsCurrent v n

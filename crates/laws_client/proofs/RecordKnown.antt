@@ -20,9 +20,10 @@ use Rattle.laws_client.specs.Clients.{IsRightAbout, asked, asked_by, answered, h
 use Rattle.laws_client.specs.Sizes.{HasShortTexts, HasSmallNumbers}
 use Rattle.laws_client.specs.RecordTurns.{Stands, StandsStill, TurnIsKnown, VerdictsArePrinted, told_line, told_of}
 use Rattle.laws_client.specs.Views.{view_of}
-use Rattle.laws_client.proofs.RecordEntering.{closes_right, entering_right, reads_right, selecting_known, tagged_has}
+use Rattle.laws_client.proofs.RecordEntering.{closes_right, entering_right, reads_right, selected_known, tagged_has}
 use Rattle.laws_client.proofs.Folders.{idle_folders, line_folders, the_turn, verdict_folders}
-use Rattle.laws_client.proofs.Moved.{Calls, sees_all}
+use Rattle.laws_client.proofs.Moved.{Calls, hears_world}
+use Rattle.laws_client.proofs.ToldAll.{HearsAll, sees_of}
 use Rattle.laws_client.proofs.Parts.{HasTold, read_told}
 use Rattle.laws_client.proofs.RecordWorlds.{Sound, numbered_view, sound_always}
 use Rattle.imap_session.specs.declared.texts.ResponseText.TheVariants as texts
@@ -34,56 +35,63 @@ use Rattle.imap_grammar.specs.declared.command.Verb.TheVariants as verbs
 pub may_ask : (now : Standing) (view : List ℕ) (command : Command) → Stands now → IsNumbered view → HasToldParts command → stays command ≡ true → MayAsk now view command
 may_ask now view command stands numbered parts stay = record { stays = stay; numbered = numbered; names = stands.names; parts = parts }
 
-command_known : (k : Config) (n : ℕ) (now : Standing) (w : World) (tag : List ℕ) (command : Command) (answers : List StoreAnswer) (turn : Turn) (v : World) (client : Option Client)
-    → HasSmallNumbers k → Sound k w → Stands now → IsTag tag → played tag now (on_command now command) answers ≡ Some turn → Met (Calls k n) w turn.events v → IsRightAbout (view_of w n) client
-    → (stays command ≡ true → IsRightAbout (view_of v n) (reads_on turn.bytes client)) → IsRightAbout (view_of v n) (answered (asked_by tag command) turn.bytes client)
-command_known k n now w tag (commands.Select name) answers turn v client h S stands t e met right more =
-    entering_right tag turn.bytes (view_of v n) (selecting_known k n tag now w false name answers turn v h S t stands.names e met)
-command_known k n now w tag (commands.Examine name) answers turn v client h S stands t e met right more =
-    entering_right tag turn.bytes (view_of v n) (selecting_known k n tag now w true name answers turn v h S t stands.names e met)
-command_known k n now w tag commands.Close answers turn v client h S stands t e met right more =
-    closes_right k n tag (response_text (texts.Completed verbs.Close)) now w (λ s. not s.read_only) now.selected answers turn v client t (tagged_has tag (response_text (texts.Completed verbs.Close)) t) e met right
-command_known k n now w tag commands.Unselect answers turn v client h S stands t e met right more =
-    closes_right k n tag (response_text (texts.Completed verbs.Unselect)) now w (λ s. false) now.selected answers turn v client t (tagged_has tag (response_text (texts.Completed verbs.Unselect)) t) e met right
-command_known k n now w tag _ answers turn v client h S stands t e met right more = more refl
+command_known : (now : Standing) (old : List ℕ) (tag : List ℕ) (command : Command) (answers : List StoreAnswer) (turn : Turn) (new : List ℕ) (client : Option Client)
+    → Stands now → IsTag tag → played tag now (on_command now command) answers ≡ Some turn → HearsAll old turn.events new → IsRightAbout old client
+    → (stays command ≡ true → IsRightAbout new (reads_on turn.bytes client)) → IsRightAbout new (answered (asked_by tag command) turn.bytes client)
+command_known now old tag (commands.Select name) answers turn new client stands t e met right more =
+    entering_right tag turn.bytes new (selected_known tag now old false name answers turn new t stands.names e met)
+command_known now old tag (commands.Examine name) answers turn new client stands t e met right more =
+    entering_right tag turn.bytes new (selected_known tag now old true name answers turn new t stands.names e met)
+command_known now old tag commands.Close answers turn new client stands t e met right more =
+    closes_right tag (response_text (texts.Completed verbs.Close)) now old (λ s. not s.read_only) now.selected answers turn new client t (tagged_has tag (response_text (texts.Completed verbs.Close)) t) e met right
+command_known now old tag commands.Unselect answers turn new client stands t e met right more =
+    closes_right tag (response_text (texts.Completed verbs.Unselect)) now old (λ s. false) now.selected answers turn new client t (tagged_has tag (response_text (texts.Completed verbs.Unselect)) t) e met right
+command_known now old tag _ answers turn new client stands t e met right more = more refl
 
-read_known : (k : Config) (n : ℕ) (now : Standing) (w : World) (r : Result (List ℕ × Command) ImapFault) (answers : List StoreAnswer) (turn : Turn) (v : World) (client : Option Client)
-    → HasSmallNumbers k → Sound k w → Stands now → IsNumbered (view_of w n) → Tagged r → HasTold r → on_read now r answers ≡ Some turn → Met (Calls k n) w turn.events v → IsRightAbout (view_of w n) client
-    → (MayAnswer now (view_of w n) r → IsRightAbout (view_of v n) (reads_on turn.bytes client)) → IsRightAbout (view_of v n) (answered (asked r) turn.bytes client)
-read_known k n now w (Ok line) answers turn v client h S stands numbered t told e met right more =
-    command_known k n now w line.0 line.1 answers turn v client h S stands t e met right (λ stay. more (may_ask now (view_of w n) line.1 stands numbered told stay))
-read_known k n now w (Err fault) answers turn v client h S stands numbered t told e met right more = more tt
+read_known : (now : Standing) (old : List ℕ) (r : Result (List ℕ × Command) ImapFault) (answers : List StoreAnswer) (turn : Turn) (new : List ℕ) (client : Option Client)
+    → Stands now → IsNumbered old → Tagged r → HasTold r → on_read now r answers ≡ Some turn → HearsAll old turn.events new → IsRightAbout old client
+    → (MayAnswer now old r → IsRightAbout new (reads_on turn.bytes client)) → IsRightAbout new (answered (asked r) turn.bytes client)
+read_known now old (Ok line) answers turn new client stands numbered t told e met right more =
+    command_known now old line.0 line.1 answers turn new client stands t e met right (λ stay. more (may_ask now old line.1 stands numbered told stay))
+read_known now old (Err fault) answers turn new client stands numbered t told e met right more = more tt
 
 -- ---- turns
 
-happening_known : (k : Config) (n : ℕ) (now : Standing) (w : World) (happening : Happening) (turn : Turn) (v : World) (client : Option Client) → HasSmallNumbers k → Sound k w → HasShortTexts v → Stands now
-    → leads_to now happening ≡ Some turn → Met (Calls k n) w turn.events v → IsRightAbout (view_of w n) client → MayHappen now (view_of w n) happening → IsRightAbout (view_of v n) (reads_on turn.bytes client)
-happening_known k n now w happening turn v client h S short stands e met right may =
-    reads_right (view_of w n) turn.bytes (view_of v n) client (happening_follows now (view_of w n) happening turn (view_of v n) stands.tags may e (sees_all k n w turn.events v h S short met)) right
+happening_known : (now : Standing) (old : List ℕ) (happening : Happening) (turn : Turn) (new : List ℕ) (client : Option Client) → Stands now
+    → leads_to now happening ≡ Some turn → HearsAll old turn.events new → IsRightAbout old client → MayHappen now old happening → IsRightAbout new (reads_on turn.bytes client)
+happening_known now old happening turn new client stands e met right may =
+    reads_right old turn.bytes new client (happening_follows now old happening turn new stands.tags may e (sees_of old turn.events new met)) right
 
-line_known : (k : Config) (n : ℕ) (now : Standing) (w : World) (line : List ℕ) (answers : List StoreAnswer) (turn : Turn) (v : World) (client : Option Client) → HasSmallNumbers k → Sound k w → HasShortTexts v → Stands now
-    → turn_of now line answers ≡ Some turn → Met (Calls k n) w turn.events v → IsRightAbout (view_of w n) client → IsRightAbout (view_of v n) (hears client (told_line (kept_tag now) line turn.bytes))
-line_known k n now w line answers turn v client h S short stands e met right = by now.mailing.begun now.idling refl refl
+line_known : (now : Standing) (old : List ℕ) (line : List ℕ) (answers : List StoreAnswer) (turn : Turn) (new : List ℕ) (client : Option Client) → Stands now → IsNumbered old
+    → turn_of now line answers ≡ Some turn → HearsAll old turn.events new → IsRightAbout old client → IsRightAbout new (hears client (told_line (kept_tag now) line turn.bytes))
+line_known now old line answers turn new client stands numbered e met right = by now.mailing.begun now.idling refl refl
   where
-    more : MayCome (kept_tag now) now (view_of w n) line → IsRightAbout (view_of v n) (reads_on turn.bytes client)
-    more may = happening_known k n now w (Line line answers) turn v client h S short stands e met right may
+    more : MayCome (kept_tag now) now old line → IsRightAbout new (reads_on turn.bytes client)
+    more may = happening_known now old (Line line answers) turn new client stands e met right may
 
-    by : (begun : Option Appending) (idling : Option (List ℕ)) → begun ≡ now.mailing.begun → idling ≡ now.idling → IsRightAbout (view_of v n) (hears client (told_line (kept_behind begun idling) line turn.bytes))
-    by (Some a) idling b i = more (subst (λ (o : Option (List ℕ)). MayCome o now (view_of w n) line) (ap₂ kept_behind b i) tt)
-    by None (Some tag) b i = more (subst (λ (o : Option (List ℕ)). MayCome o now (view_of w n) line) (ap₂ kept_behind b i) tt)
+    by : (begun : Option Appending) (idling : Option (List ℕ)) → begun ≡ now.mailing.begun → idling ≡ now.idling → IsRightAbout new (hears client (told_line (kept_behind begun idling) line turn.bytes))
+    by (Some a) idling b i = more (subst (λ (o : Option (List ℕ)). MayCome o now old line) (ap₂ kept_behind b i) tt)
+    by None (Some tag) b i = more (subst (λ (o : Option (List ℕ)). MayCome o now old line) (ap₂ kept_behind b i) tt)
     by None None b i =
         let first : turn_while now.idling now line answers ≡ Some turn = subst (λ (o : Option Appending). turn_behind o now line answers ≡ Some turn) (sym b) e in
         let second : on_read now (read line) answers ≡ Some turn = subst (λ (o : Option (List ℕ)). turn_while o now line answers ≡ Some turn) (sym i) first in
-        read_known k n now w (read line) answers turn v client h S stands (numbered_view k w n S) (read_tagged line) (read_told line) second met right
-        (λ may. more (subst (λ (o : Option (List ℕ)). MayCome o now (view_of w n) line) (ap₂ kept_behind b i) may))
+        read_known now old (read line) answers turn new client stands numbered (read_tagged line) (read_told line) second met right
+        (λ may. more (subst (λ (o : Option (List ℕ)). MayCome o now old line) (ap₂ kept_behind b i) may))
+
+pub turn_heard : (now : Standing) (old : List ℕ) (happening : Happening) (turn : Turn) (new : List ℕ) (client : Option Client) → Stands now → IsNumbered old
+    → VerdictsArePrinted happening → leads_to now happening ≡ Some turn → HearsAll old turn.events new → IsRightAbout old client → IsRightAbout new (hears client (told_of now happening turn.bytes))
+turn_heard now old (Line line answers) turn new client stands numbered printed e met right = line_known now old line answers turn new client stands numbered e met right
+turn_heard now old LongLine turn new client stands numbered printed e met right = happening_known now old LongLine turn new client stands e met right tt
+turn_heard now old (Turned answers) turn new client stands numbered printed e met right = happening_known now old (Turned answers) turn new client stands e met right tt
+turn_heard now old (Literal kept bytes) turn new client stands numbered printed e met right = happening_known now old (Literal kept bytes) turn new client stands e met right tt
+turn_heard now old (Heard verdict answers) turn new client stands numbered printed e met right = happening_known now old (Heard verdict answers) turn new client stands e met right printed
+
+-- ---- over a world
 
 pub turn_known : (k : Config) (n : ℕ) (now : Standing) (w : World) (happening : Happening) (turn : Turn) (v : World) (client : Option Client) → HasSmallNumbers k → Sound k w → HasShortTexts v → Stands now
     → VerdictsArePrinted happening → leads_to now happening ≡ Some turn → Met (Calls k n) w turn.events v → IsRightAbout (view_of w n) client → IsRightAbout (view_of v n) (hears client (told_of now happening turn.bytes))
-turn_known k n now w (Line line answers) turn v client h S short stands printed e met right = line_known k n now w line answers turn v client h S short stands e met right
-turn_known k n now w LongLine turn v client h S short stands printed e met right = happening_known k n now w LongLine turn v client h S short stands e met right tt
-turn_known k n now w (Turned answers) turn v client h S short stands printed e met right = happening_known k n now w (Turned answers) turn v client h S short stands e met right tt
-turn_known k n now w (Literal kept bytes) turn v client h S short stands printed e met right = happening_known k n now w (Literal kept bytes) turn v client h S short stands e met right tt
-turn_known k n now w (Heard verdict answers) turn v client h S short stands printed e met right = happening_known k n now w (Heard verdict answers) turn v client h S short stands e met right printed
+turn_known k n now w happening turn v client h S short stands printed e met right =
+    turn_heard now (view_of w n) happening turn (view_of v n) client stands (numbered_view k w n S) printed e (hears_world k n w turn.events v h S short met) right
 
 pub turn_is_known : TurnIsKnown
 turn_is_known k events w n now happening turn v client h is short stands printed e met right =

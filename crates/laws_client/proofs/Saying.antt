@@ -1,11 +1,11 @@
 -- The answers to lines that a client sends, and what they tell of flags.
-use Rattle.std.proofs.Common.{◌≡◌, ℕ, ◌+◌, ◌<◌, ◌≤◌, ◌^◌, ◌==◌, length, sym, subst, ◌∙◌, Bool, true, false, List, [], ◌∷◌, ◌++◌, refl}
+use Rattle.std.proofs.Common.{◌≡◌, ℕ, ◌+◌, ◌<◌, ◌^◌, ◌==◌, length, sym, subst, ◌∙◌, Bool, true, false, List, [], ◌∷◌, refl}
 use Rattle.std.specs.Prelude.{Option, Some, None, Result, Ok, Err, IfSome, nat_le, nat_lt, ◌&&◌, not, if◌then◌else◌}
 use Rattle.std.specs.List.{list_any}
 use Rattle.std.proofs.lemmas.Bool.{false≢true}
 use Rattle.std.proofs.lemmas.Option.{none-some}
 use Rattle.change_ring.specs.declared.change.Flags.{Flags}
-use Rattle.cursor_set.specs.Lines.{position}
+use Rattle.cursor_set.specs.Lines.{flag_words, position}
 use Rattle.mailbox.specs.declared.clients.Row.{Row}
 use Rattle.imap_grammar.specs.Items.{marks_seen}
 use Rattle.imap_answers.specs.Answers.{row_answer, flags_answer}
@@ -24,8 +24,8 @@ use Rattle.imap_grammar.specs.declared.items.StatusItem.{StatusItem}
 use Rattle.imap_grammar.specs.declared.command.ImapFault.{ImapFault}
 use Rattle.imap_session.specs.declared.standing.After.TheVariants.{Go}
 use Rattle.imap_session.specs.declared.standing.Selected.{Selected}
-use Rattle.imap_session.specs.Exchange.{Alter, Altered, Answer, Appending, Exchange, Expunge, Feed, Folder, ForNothing, ForVerdict, Found, Mailing, Read, Sent, Standing, Turn, Wait, Write, bye, kept_behind}
-use Rattle.imap_session.specs.Commands.{appended_words, appending, last_number, most_unasked, nowhere, number_named, on_rest, on_text, on_verdict, is_over, over, turn_behind, turn_with, wanting, wanting_for, without_begun, without_sent, completed, counting, expunge_set, fault_text, fetch_messages, fetched, fetching, folder_of, in_selected, in_writable, messages_done, on_chosen, on_command, on_found, on_idle_line, on_read, on_set, only_says, says, showing, store_messages, stored, storing, turn_while, unlimited, wrong_state, asking, coming, refused_text}
+use Rattle.imap_session.specs.Exchange.{Alter, Altered, Answer, Appending, Exchange, Expunge, Feed, Folder, ForNothing, ForVerdict, Found, Mailing, Read, Sent, Standing, Turn, Wait, Write, bye, kept_behind, kept_tag}
+use Rattle.imap_session.specs.Commands.{turn_of, turn_of_verdict, appended_words, appending, last_number, most_unasked, nowhere, number_named, on_rest, on_text, on_verdict, is_over, over, turn_behind, turn_with, wanting, wanting_for, without_begun, without_sent, completed, counting, expunge_set, fault_text, fetch_messages, fetched, fetching, folder_of, in_selected, in_writable, messages_done, on_chosen, on_command, on_found, on_idle_line, on_read, on_set, only_says, says, showing, store_messages, stored, storing, turn_while, unlimited, wrong_state, asking, coming, refused_text}
 use Rattle.laws_client.specs.ListTurns.{IsPlain, IsTag}
 use Rattle.laws_client.specs.Fetches.{AreToldParts, IsNumbered}
 use Rattle.laws_client.specs.Commands.{AreNames, IsFollowed, IsPrinted, MayAnswer, MayAsk}
@@ -35,12 +35,13 @@ use Rattle.laws_client.proofs.Ends.{refusal_tells_nothing, tagged_tells_nothing}
 use Rattle.laws_client.proofs.Chosen.{AreIn, named_are_in, small_in}
 use Rattle.laws_client.proofs.Untold.{folder_plain, list_tells_nothing, status_tells_nothing}
 use Rattle.laws_client.proofs.Tags.{Tagged, read_tagged}
-use Rattle.laws_client.specs.Flags.{Point, counted, flags_at}
-use Rattle.laws_client.specs.FlagTurns.{LeadsFlags, LeavesFlags, SeesAllFlags, SeesFlags}
+use Rattle.laws_client.specs.Flags.{FlagsOf, Point, counted}
+use Rattle.laws_client.specs.FlagTurns.{LeadsFlags, LeavesFlags}
+use Rattle.laws_client.proofs.FlagMoments.{SeesAllMoments, SeesMoments, at_moments}
 use Rattle.laws_client.specs.FlagLaws.{AnswerTellsFlags, VerdictTellsFlags}
 use Rattle.laws_client.proofs.FlagPlayed.{turn_tells}
 use Rattle.laws_client.proofs.Telling.{row_tells, store_tells}
-use Rattle.laws_client.proofs.Turning.{Refusals, SaysFlags, ends, leaves, still_within}
+use Rattle.laws_client.proofs.Turning.{Refusals, SaysFlags, ends, leaves}
 use Rattle.imap_session.specs.declared.texts.ResponseText.TheVariants as texts
 use Rattle.imap_session.specs.Texts.{response_text}
 use Rattle.imap_grammar.specs.declared.command.Verb.TheVariants as verbs
@@ -109,7 +110,7 @@ fetching_says tag view fetch mark done ends parts numbered [] p gone same there 
 fetching_says tag view fetch mark done ends parts numbered (uid ∷ uids) p gone same there = by (fetching_says tag view fetch mark done ends parts numbered uids)
   where
     by : ((q : Point) (gone : Bool) → counted q ≡ view → AreIn uids view → SaysFlags tag q (fetching fetch mark view done uids gone)) → (row : Option Row) (q : Point)
-        → SeesFlags p (record { call = Read uid mark; answer = Found row }) q
+        → SeesMoments p (record { call = Read uid mark; answer = Found row }) q
         → SaysFlags tag q (on_found (λ row. Write (fetched fetch view uid row) (fetching fetch mark view done uids gone)) (fetching fetch mark view done uids true) row)
     by more None q s = more q true (s.sees.leads ∙ same) there.1
     by more (Some row) q s =
@@ -117,7 +118,7 @@ fetching_says tag view fetch mark done ends parts numbered (uid ∷ uids) p gone
         let here : IsIn uid (counted q) = subst (λ (v : List ℕ). IsIn uid v) (sym is) there.0 in
         let few : length (counted q) + 1 < 2 ^ 64 = subst (λ (v : List ℕ). length v + 1 < 2 ^ 64) (sym is) numbered.few in (
           subst (λ (v : List ℕ). LeavesFlags q (row_answer (position uid v) fetch.by_uid fetch.items row)) is
-              (row_tells q uid fetch.by_uid fetch.items row here few (small_in uid view numbered.small there.0) s.sees.fits.0 s.sees.fits.1 parts s.tells (still_within p (record { call = Read uid mark; answer = Found (Some row) }) q s)),
+              (row_tells q uid fetch.by_uid fetch.items row here few (small_in uid view numbered.small there.0) s.sees.fits.0 s.sees.fits.1 parts s.tells),
           more q gone is there.1,
         )
 
@@ -126,22 +127,22 @@ storing_says : (tag view : List ℕ) (store : Store) (done : Bool → Exchange) 
 storing_says tag view store done ends numbered [] p gone same there = ends p gone
 storing_says tag view store done ends numbered (uid ∷ uids) p gone same there = by (storing_says tag view store done ends numbered uids)
   where
-    silent_or : (q : Point) (b : Bool) (flags : Flags) (x : Exchange) → counted q ≡ view → flags_at uid q.log ≡ Some flags → q.cursor ≤ length q.log → SaysFlags tag q x
+    silent_or : (q : Point) (b : Bool) (flags : Flags) (x : Exchange) → counted q ≡ view → FlagsOf q.log q.cursor uid (flag_words flags) → SaysFlags tag q x
         → SaysFlags tag q (if b then x else Write (flags_answer store.by_uid (position uid view) uid flags) x)
-    silent_or q true flags x is has within says = says
-    silent_or q false flags x is has within says = (
+    silent_or q true flags x is had says = says
+    silent_or q false flags x is had says = (
       subst (λ (v : List ℕ). LeavesFlags q (flags_answer store.by_uid (position uid v) uid flags)) is
-          (store_tells q uid store.by_uid flags (subst (λ (v : List ℕ). IsIn uid v) (sym is) there.0) (subst (λ (v : List ℕ). length v + 1 < 2 ^ 64) (sym is) numbered.few) (small_in uid view numbered.small there.0) has within),
+          (store_tells q uid store.by_uid flags (subst (λ (v : List ℕ). IsIn uid v) (sym is) there.0) (subst (λ (v : List ℕ). length v + 1 < 2 ^ 64) (sym is) numbered.few) (small_in uid view numbered.small there.0) had),
       says,
     )
 
     by : ((q : Point) (gone : Bool) → counted q ≡ view → AreIn uids view → SaysFlags tag q (storing store view done uids gone)) → (flags : Option Flags) (q : Point)
-        → SeesFlags p (record { call = Alter uid store.change; answer = Altered flags }) q
+        → SeesMoments p (record { call = Alter uid store.change; answer = Altered flags }) q
         → SaysFlags tag q (on_found (λ flags. stored store view uid flags (storing store view done uids gone)) (storing store view done uids true) flags)
     by more None q s = more q true (s.sees.leads ∙ same) there.1
     by more (Some flags) q s =
         let is : counted q ≡ view = s.sees.leads ∙ same in
-        silent_or q store.silent flags (storing store view done uids gone) is s.tells (still_within p (record { call = Alter uid store.change; answer = Altered (Some flags) }) q s) (more q gone is there.1)
+        silent_or q store.silent flags (storing store view done uids gone) is s.tells (more q gone is there.1)
 
 -- the messages that a set names, or one that isn't there
 chosen_says : (tag : List ℕ) (p : Point) (by_uid : Bool) (set : List SeqRange) (next : List ℕ → List ℕ → Exchange) → IsTag tag
@@ -279,12 +280,12 @@ command_says tag p now command t may = (leaves p _ (λ messages. refl), last tag
 -- ---- lines that are no commands
 
 fault_follows : (now : Standing) (fault : ImapFault) (p : Point) (answers : List Answer) (turn : Turn) (q : Point)
-    → Tagged (Err fault) → only_says (fault_text fault) now answers ≡ Some turn → SeesAllFlags p turn.events q → LeadsFlags p turn.bytes q
+    → Tagged (Err fault) → only_says (fault_text fault) now answers ≡ Some turn → SeesAllMoments p turn.events q → LeadsFlags p turn.bytes q
 fault_follows now fault p [] turn q t e sees = ends p now (fault_text fault) Go turn q e (leaves p _ (fault_tells_nothing fault t)) sees
 fault_follows now fault p (answer ∷ more) turn q t e sees = absurd (none-some turn e)
 
 read_follows : (now : Standing) (r : Result (List ℕ × Command) ImapFault) (p : Point) (answers : List Answer) (turn : Turn) (q : Point)
-    → Tagged r → MayAnswer now (counted p) r → on_read now r answers ≡ Some turn → SeesAllFlags p turn.events q → LeadsFlags p turn.bytes q
+    → Tagged r → MayAnswer now (counted p) r → on_read now r answers ≡ Some turn → SeesAllMoments p turn.events q → LeadsFlags p turn.bytes q
 read_follows now (Ok line) p answers turn q t h e sees =
     turn_tells line.0 (refusals line.0 t) p now (on_command now line.1) answers turn q e (command_says line.0 p now line.1 t h) sees
 read_follows now (Err fault) p answers turn q t h e sees = fault_follows now fault p answers turn q t e sees
@@ -302,28 +303,36 @@ idle_line_says tag p selected line t = by (is_done line)
     by false = last tag p texts.ExpectedDone t
 
 while_follows : (idling : Option (List ℕ)) (now : Standing) (line : List ℕ) (p : Point) (answers : List Answer) (turn : Turn) (q : Point)
-    → IsFollowed idling now (counted p) line → turn_while idling now line answers ≡ Some turn → SeesAllFlags p turn.events q → LeadsFlags p turn.bytes q
+    → IsFollowed idling now (counted p) line → turn_while idling now line answers ≡ Some turn → SeesAllMoments p turn.events q → LeadsFlags p turn.bytes q
 while_follows None now line p answers turn q h e sees = read_follows now (read line) p answers turn q (read_tagged line) h e sees
 while_follows (Some tag) now line p answers turn q t e sees =
     turn_tells tag (refusals tag t) p (record now { idling = None }) (on_idle_line now.selected line) answers turn q e (idle_line_says tag p now.selected line t) sees
 
 behind_follows : (begun : Option Appending) (now : Standing) (line : List ℕ) (p : Point) (answers : List Answer) (turn : Turn) (q : Point)
-    → IsFollowed (kept_behind begun now.idling) now (counted p) line → turn_behind begun now line answers ≡ Some turn → SeesAllFlags p turn.events q → LeadsFlags p turn.bytes q
+    → IsFollowed (kept_behind begun now.idling) now (counted p) line → turn_behind begun now line answers ≡ Some turn → SeesAllMoments p turn.events q → LeadsFlags p turn.bytes q
 behind_follows None now line p answers turn q h e sees = while_follows now.idling now line p answers turn q h e sees
 behind_follows (Some a) now line p answers turn q t e sees =
     turn_tells a.tag (refusals a.tag t) p (without_begun now) (on_rest now.mailing a (length line == 0)) answers turn q e (rest_says a.tag p now.mailing a (length line == 0) t) sees
 
+pub answer_tells : (now : Standing) (line : List ℕ) (p : Point) (answers : List Answer) (turn : Turn) (q : Point)
+    → IsFollowed (kept_tag now) now (counted p) line → turn_of now line answers ≡ Some turn → SeesAllMoments p turn.events q → LeadsFlags p turn.bytes q
+answer_tells now line p answers turn q h e sees = behind_follows now.mailing.begun now line p answers turn q h e sees
+
 pub answer_tells_flags : AnswerTellsFlags
-answer_tells_flags now line p answers turn q h e sees = behind_follows now.mailing.begun now line p answers turn q h e sees
+answer_tells_flags now line p answers turn q h e sees = answer_tells now line p answers turn q h e (at_moments p turn.events q sees)
 
 -- ---- verdicts
 
 heard_follows : (sent : Option Sent) (now : Standing) (verdict : Verdict) (p : Point) (answers : List Answer) (turn : Turn) (q : Point)
-    → IfSome sent (λ s. IsTag s.tag) → IsPrinted verdict → turn_with sent now verdict answers ≡ Some turn → SeesAllFlags p turn.events q → LeadsFlags p turn.bytes q
+    → IfSome sent (λ s. IsTag s.tag) → IsPrinted verdict → turn_with sent now verdict answers ≡ Some turn → SeesAllMoments p turn.events q → LeadsFlags p turn.bytes q
 heard_follows None now verdict p answers turn q t u e sees = absurd (none-some turn e)
 heard_follows (Some sent) now verdict p answers turn q t u e sees =
     turn_tells sent.tag (refusals sent.tag t) p (without_sent now) (on_verdict now.selected sent.append.mailbox verdict) answers turn q e
     (verdict_says sent.tag p now.selected sent.append.mailbox verdict t u) sees
 
+pub verdict_tells : (now : Standing) (verdict : Verdict) (p : Point) (answers : List Answer) (turn : Turn) (q : Point)
+    → IfSome now.mailing.sent (λ sent. IsTag sent.tag) → IsPrinted verdict → turn_of_verdict now verdict answers ≡ Some turn → SeesAllMoments p turn.events q → LeadsFlags p turn.bytes q
+verdict_tells now verdict p answers turn q t u e sees = heard_follows now.mailing.sent now verdict p answers turn q t u e sees
+
 pub verdict_tells_flags : VerdictTellsFlags
-verdict_tells_flags now verdict p answers turn q t u e sees = heard_follows now.mailing.sent now verdict p answers turn q t u e sees
+verdict_tells_flags now verdict p answers turn q t u e sees = verdict_tells now verdict p answers turn q t u e (at_moments p turn.events q sees)

@@ -29,46 +29,53 @@ use Rattle.world.proofs.Base.{Every, every_of_all, all_of_every}
 use Rattle.world.proofs.Kept.{Kept, SessionOk}
 use Rattle.delivery_core.specs.Clients.{Done, IsStatus, row_with, rows_then, text_with}
 use Rattle.imap_grammar.specs.declared.set.SeqRange.{SeqRange}
-use Rattle.imap_session.specs.Exchange.{Call, Answer, Look, Read as ReadCall, Count, Alter, Expunge as ExpungeCall, Feed as FeedCall, Leave as LeaveCall, Enter as EnterCall, Entered, Looked, Found, Counted, Altered, Expunged, Fed, Left, Refused, Starved}
+use Rattle.imap_session.specs.Exchange.{Call, Answer, Look, Read as ReadCall, Count, Alter, Expunge as ExpungeCall, Feed as FeedCall, Leave as LeaveCall, Enter as EnterCall, Entered, Looked, Found, Counted, Altered, Expunged, Fed, Left, Refused}
 use Rattle.house.specs.Meets.{Meets, IsRefused, IsTurnedAway}
 use Rattle.laws_client.specs.Beliefs.{MayShow}
-use Rattle.laws_client.specs.Fetches.{AreSmall, IsNumbered}
+use Rattle.laws_client.specs.Fetches.{AreSmall}
 use Rattle.laws_client.specs.ListTurns.{IsCounted, IsRowOf, Sees}
 use Rattle.laws_client.specs.Sizes.{HasShortTexts, HasSmallNumbers}
 use Rattle.laws_client.specs.Views.{IsOpened, messages_of, view_in, view_of}
 use Rattle.laws_client.specs.RecordLaws.{CallsAreSeen, EntriesAreCounted, LeaversCountNothing}
-use Rattle.laws_client.proofs.RecordWorlds.{Sound, added_few, added_small, numbered_at, sound_always}
-use Rattle.laws_client.proofs.Logs.{are_printed, length_replay, small_behind, small_front, view_then}
+use Rattle.laws_client.proofs.RecordWorlds.{Sound, added_few, added_small, sound_always}
+use Rattle.laws_client.proofs.Logs.{are_printed, length_replay, small_behind, small_front, small_replay, view_then}
 
 -- ---- what is shown
 
--- the changes behind a position of a log, at most so many
-pub may_show : (log : List Change) (c l : ℕ) → FitsView [] log → AreSmall (added log) → length (added log) ≤ last_uid → length log ≤ most_changes → MayShow (view_at log c) (take l (drop c log))
-may_show log c l fits small few short =
+-- the changes behind a position of a log, at most so many, where the messages are few
+pub shows_fit : (log : List Change) (c l : ℕ) → FitsView [] log → AreSmall (added log) → length (view_at log c) + length (take l (drop c log)) < 2 ^ 64 → MayShow (view_at log c) (take l (drop c log))
+shows_fit log c l fits small few =
     let front : List Change = take c log in
     let behind : List Change = drop c log in
     let next : List Change = take l behind in
     let rest : List Change = drop l behind in
     let two : added log ≡ added front ++ added behind = ap added (sym (take-append-drop c log)) ∙ added-append front behind in
     let three : added behind ≡ added next ++ added rest = ap added (sym (take-append-drop l behind)) ∙ added-append next rest in
+    let small_front_of_it : AreSmall (added front) = small_front (added front) (added behind) (subst AreSmall two small) in
     let small_behind_it : AreSmall (added behind) = small_behind (added front) (added behind) (subst AreSmall two small) in
     let small_next : AreSmall (added next) = small_front (added next) (added rest) (subst AreSmall three small_behind_it) in
-    let numbered : IsNumbered (view_at log c) = numbered_at log c small few in
-    let fit : FitsView (view_at log c) next = FitsView-take (view_at log c) l behind (FitsView-rest [] front behind (rw take-append-drop fits)) in
-    let some : length next ≤ length behind = rw (length-take l behind) (min-le_right l (length behind)) in record {
+    let fit : FitsView (view_at log c) next = FitsView-take (view_at log c) l behind (FitsView-rest [] front behind (rw take-append-drop fits)) in record {
       fits = fit;
-      printed = are_printed (view_at log c) next numbered.small small_next fit;
-      few = omega (
-        arith,
-        few,
-        short,
-        some,
-        length-drop c log,
-        ap length two,
-        length-append (added front) (added behind),
-        length_replay [] front,
-      );
+      printed = are_printed (view_at log c) next (small_replay [] front tt small_front_of_it) small_next fit;
+      few = few;
     }
+
+may_show : (log : List Change) (c l : ℕ) → FitsView [] log → AreSmall (added log) → length (added log) ≤ last_uid → length log ≤ most_changes → MayShow (view_at log c) (take l (drop c log))
+may_show log c l fits small few short =
+    let front : List Change = take c log in
+    let behind : List Change = drop c log in
+    let two : added log ≡ added front ++ added behind = ap added (sym (take-append-drop c log)) ∙ added-append front behind in
+    let some : length (take l behind) ≤ length behind = rw (length-take l behind) (min-le_right l (length behind)) in
+    shows_fit log c l fits small (omega (
+      arith,
+      few,
+      short,
+      some,
+      length-drop c log,
+      ap length two,
+      length-append (added front) (added behind),
+      length_replay [] front,
+    ))
 
 -- ---- a call that was not refused
 
@@ -210,85 +217,29 @@ feed_seen k w n limit met changes v S (step, (s, is, (D, S1))) = record {
 pub seen : (k : Config) (w : World) (n : ℕ) (call : Call) (answer : Answer) (v : World) → Sound k w → HasSmallNumbers k → HasShortTexts w → Meets k n w call answer v
     → Sees (view_of w n) (record { call = call; answer = answer }) (view_of v n)
 seen k w n (EnterCall i) (Entered opening) v S h short m = record { leads = tt; fits = tt }
-seen k w n (EnterCall i) (Looked copied) v S h short m = absurd m
-seen k w n (EnterCall i) (Found row) v S h short m = absurd m
-seen k w n (EnterCall i) (Counted status) v S h short m = absurd m
-seen k w n (EnterCall i) (Altered flags) v S h short m = absurd m
-seen k w n (EnterCall i) (Expunged met changes gone) v S h short m = absurd m
-seen k w n (EnterCall i) (Fed met changes) v S h short m = absurd m
-seen k w n (EnterCall i) (Left gone) v S h short m = absurd m
 seen k w n (EnterCall i) (Refused fault) v S h short m = unmoved_seen w n (EnterCall i) fault v (turned_away k n i w fault v m)
-seen k w n (EnterCall i) (Starved j) v S h short m = absurd m
-seen k w n (Look by_uid set) (Entered opening) v S h short m = absurd m
+seen k w n (EnterCall i) _ v S h short m = absurd m
 seen k w n (Look by_uid set) (Looked copied) v S h short m = look_seen k w n by_uid set copied v m
-seen k w n (Look by_uid set) (Found row) v S h short m = absurd m
-seen k w n (Look by_uid set) (Counted status) v S h short m = absurd m
-seen k w n (Look by_uid set) (Altered flags) v S h short m = absurd m
-seen k w n (Look by_uid set) (Expunged met changes gone) v S h short m = absurd m
-seen k w n (Look by_uid set) (Fed met changes) v S h short m = absurd m
-seen k w n (Look by_uid set) (Left gone) v S h short m = absurd m
 seen k w n (Look by_uid set) (Refused fault) v S h short m = unmoved_seen w n (Look by_uid set) fault v (was_refused n w fault _ v m)
-seen k w n (Look by_uid set) (Starved j) v S h short m = absurd m
-seen k w n (ReadCall uid mark) (Entered opening) v S h short m = absurd m
-seen k w n (ReadCall uid mark) (Looked copied) v S h short m = absurd m
+seen k w n (Look by_uid set) _ v S h short m = absurd m
 seen k w n (ReadCall uid mark) (Found row) v S h short m = read_seen k w n uid mark row v S short m
-seen k w n (ReadCall uid mark) (Counted status) v S h short m = absurd m
-seen k w n (ReadCall uid mark) (Altered flags) v S h short m = absurd m
-seen k w n (ReadCall uid mark) (Expunged met changes gone) v S h short m = absurd m
-seen k w n (ReadCall uid mark) (Fed met changes) v S h short m = absurd m
-seen k w n (ReadCall uid mark) (Left gone) v S h short m = absurd m
 seen k w n (ReadCall uid mark) (Refused fault) v S h short m = unmoved_seen w n (ReadCall uid mark) fault v (was_refused n w fault _ v m)
-seen k w n (ReadCall uid mark) (Starved j) v S h short m = absurd m
-seen k w n (Count i) (Entered opening) v S h short m = absurd m
-seen k w n (Count i) (Looked copied) v S h short m = absurd m
-seen k w n (Count i) (Found row) v S h short m = absurd m
+seen k w n (ReadCall uid mark) _ v S h short m = absurd m
 seen k w n (Count i) (Counted status) v S h short m = count_seen k w n i status v S h short m
-seen k w n (Count i) (Altered flags) v S h short m = absurd m
-seen k w n (Count i) (Expunged met changes gone) v S h short m = absurd m
-seen k w n (Count i) (Fed met changes) v S h short m = absurd m
-seen k w n (Count i) (Left gone) v S h short m = absurd m
 seen k w n (Count i) (Refused fault) v S h short m = unmoved_seen w n (Count i) fault v m.0
-seen k w n (Count i) (Starved j) v S h short m = absurd m
-seen k w n (Alter uid op) (Entered opening) v S h short m = absurd m
-seen k w n (Alter uid op) (Looked copied) v S h short m = absurd m
-seen k w n (Alter uid op) (Found row) v S h short m = absurd m
-seen k w n (Alter uid op) (Counted status) v S h short m = absurd m
+seen k w n (Count i) _ v S h short m = absurd m
 seen k w n (Alter uid op) (Altered flags) v S h short m = alter_seen k w n uid op flags v S m
-seen k w n (Alter uid op) (Expunged met changes gone) v S h short m = absurd m
-seen k w n (Alter uid op) (Fed met changes) v S h short m = absurd m
-seen k w n (Alter uid op) (Left gone) v S h short m = absurd m
 seen k w n (Alter uid op) (Refused fault) v S h short m = unmoved_seen w n (Alter uid op) fault v (was_refused n w fault _ v m)
-seen k w n (Alter uid op) (Starved j) v S h short m = absurd m
-seen k w n (ExpungeCall uids) (Entered opening) v S h short m = absurd m
-seen k w n (ExpungeCall uids) (Looked copied) v S h short m = absurd m
-seen k w n (ExpungeCall uids) (Found row) v S h short m = absurd m
-seen k w n (ExpungeCall uids) (Counted status) v S h short m = absurd m
-seen k w n (ExpungeCall uids) (Altered flags) v S h short m = absurd m
+seen k w n (Alter uid op) _ v S h short m = absurd m
 seen k w n (ExpungeCall uids) (Expunged met changes gone) v S h short m = expunge_seen k w n uids met changes gone v S m
-seen k w n (ExpungeCall uids) (Fed met changes) v S h short m = absurd m
-seen k w n (ExpungeCall uids) (Left gone) v S h short m = absurd m
 seen k w n (ExpungeCall uids) (Refused fault) v S h short m = unmoved_seen w n (ExpungeCall uids) fault v (was_refused n w fault _ v m)
-seen k w n (ExpungeCall uids) (Starved j) v S h short m = absurd m
-seen k w n (FeedCall limit) (Entered opening) v S h short m = absurd m
-seen k w n (FeedCall limit) (Looked copied) v S h short m = absurd m
-seen k w n (FeedCall limit) (Found row) v S h short m = absurd m
-seen k w n (FeedCall limit) (Counted status) v S h short m = absurd m
-seen k w n (FeedCall limit) (Altered flags) v S h short m = absurd m
-seen k w n (FeedCall limit) (Expunged met changes gone) v S h short m = absurd m
+seen k w n (ExpungeCall uids) _ v S h short m = absurd m
 seen k w n (FeedCall limit) (Fed met changes) v S h short m = feed_seen k w n limit met changes v S m
-seen k w n (FeedCall limit) (Left gone) v S h short m = absurd m
 seen k w n (FeedCall limit) (Refused fault) v S h short m = unmoved_seen w n (FeedCall limit) fault v (was_refused n w fault _ v m)
-seen k w n (FeedCall limit) (Starved j) v S h short m = absurd m
-seen k w n (LeaveCall remove) (Entered opening) v S h short m = absurd m
-seen k w n (LeaveCall remove) (Looked copied) v S h short m = absurd m
-seen k w n (LeaveCall remove) (Found row) v S h short m = absurd m
-seen k w n (LeaveCall remove) (Counted status) v S h short m = absurd m
-seen k w n (LeaveCall remove) (Altered flags) v S h short m = absurd m
-seen k w n (LeaveCall remove) (Expunged met changes gone) v S h short m = absurd m
-seen k w n (LeaveCall remove) (Fed met changes) v S h short m = absurd m
+seen k w n (FeedCall limit) _ v S h short m = absurd m
 seen k w n (LeaveCall remove) (Left gone) v S h short m = record { leads = tt; fits = tt }
 seen k w n (LeaveCall remove) (Refused fault) v S h short m = unmoved_seen w n (LeaveCall remove) fault v (was_refused n w fault _ v m)
-seen k w n (LeaveCall remove) (Starved j) v S h short m = absurd m
+seen k w n (LeaveCall remove) _ v S h short m = absurd m
 
 pub calls_are_seen : CallsAreSeen
 calls_are_seen k events w n call answer v h is short m = seen k w n call answer v (sound_always k events w h is) h short m

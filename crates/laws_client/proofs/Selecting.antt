@@ -5,7 +5,7 @@ use Rattle.std.specs.Option.{option_map}
 use Rattle.std.proofs.lemmas.Option.{none-some}
 use Rattle.cursor_set.specs.Lines.{lines}
 use Rattle.mailbox.specs.declared.clients.MailFault.{MailFault}
-use Rattle.mailbox.specs.declared.clients.MailFault.TheVariants.{Stranger, Lapped, Spent, NoMemory}
+use Rattle.mailbox.specs.declared.clients.MailFault.TheVariants.{Stranger, Lapped, NoMemory}
 use Rattle.imap_grammar.specs.Reading.{read, is_done}
 use Rattle.imap_grammar.specs.declared.command.Command.{Command}
 use Rattle.imap_grammar.specs.declared.command.ImapFault.{ImapFault}
@@ -102,128 +102,39 @@ pub selected_stays : (tag : List ℕ) (now : Standing) (x : Exchange) (answers :
 selected_stays tag now (Done words how) [] turn p e = told now (saying (tagged tag words)) (λ s. refl) how turn e
 selected_stays tag now (Done words how) (a ∷ more) turn p e = absurd (none-some turn e)
 selected_stays tag now (Wait bytes w) [] turn p e = ap (λ (s : Turn). s.standing.selected) (sym (ap (the_turn turn) e)) ∙ waiting_keeps tag now w
-selected_stays tag now (Wait bytes w) (Entered a ∷ more) turn p e = absurd (none-some turn e)
-selected_stays tag now (Wait bytes w) (Looked a ∷ more) turn p e = absurd (none-some turn e)
-selected_stays tag now (Wait bytes w) (Found a ∷ more) turn p e = absurd (none-some turn e)
-selected_stays tag now (Wait bytes w) (Counted a ∷ more) turn p e = absurd (none-some turn e)
-selected_stays tag now (Wait bytes w) (Altered a ∷ more) turn p e = absurd (none-some turn e)
-selected_stays tag now (Wait bytes w) (Expunged a b c ∷ more) turn p e = absurd (none-some turn e)
-selected_stays tag now (Wait bytes w) (Fed a b ∷ more) turn p e = absurd (none-some turn e)
-selected_stays tag now (Wait bytes w) (Left a ∷ more) turn p e = absurd (none-some turn e)
-selected_stays tag now (Wait bytes w) (Refused a ∷ more) turn p e = absurd (none-some turn e)
 selected_stays tag now (Wait bytes w) (Starved n ∷ []) turn p e = goes_without tag now w n turn e
-selected_stays tag now (Wait bytes w) (Starved n ∷ b ∷ more) turn p e = absurd (none-some turn e)
+selected_stays tag now (Wait bytes w) (_ ∷ more) turn p e = absurd (none-some turn e)
 selected_stays tag now (Write bytes x) [] turn p e = maps now (saying bytes) (λ s. refl) (played tag now x []) turn e (λ s d. selected_stays tag now x [] s p d)
-selected_stays tag now (Write bytes x) (Entered a ∷ more) turn p e = maps now (saying bytes) (λ s. refl) (played tag now x (Entered a ∷ more)) turn e (λ s d. selected_stays tag now x (Entered a ∷ more) s p d)
-selected_stays tag now (Write bytes x) (Looked a ∷ more) turn p e = maps now (saying bytes) (λ s. refl) (played tag now x (Looked a ∷ more)) turn e (λ s d. selected_stays tag now x (Looked a ∷ more) s p d)
-selected_stays tag now (Write bytes x) (Found a ∷ more) turn p e = maps now (saying bytes) (λ s. refl) (played tag now x (Found a ∷ more)) turn e (λ s d. selected_stays tag now x (Found a ∷ more) s p d)
-selected_stays tag now (Write bytes x) (Counted a ∷ more) turn p e = maps now (saying bytes) (λ s. refl) (played tag now x (Counted a ∷ more)) turn e (λ s d. selected_stays tag now x (Counted a ∷ more) s p d)
-selected_stays tag now (Write bytes x) (Altered a ∷ more) turn p e = maps now (saying bytes) (λ s. refl) (played tag now x (Altered a ∷ more)) turn e (λ s d. selected_stays tag now x (Altered a ∷ more) s p d)
-selected_stays tag now (Write bytes x) (Expunged a b c ∷ more) turn p e = maps now (saying bytes) (λ s. refl) (played tag now x (Expunged a b c ∷ more)) turn e (λ s d. selected_stays tag now x (Expunged a b c ∷ more) s p d)
-selected_stays tag now (Write bytes x) (Fed a b ∷ more) turn p e = maps now (saying bytes) (λ s. refl) (played tag now x (Fed a b ∷ more)) turn e (λ s d. selected_stays tag now x (Fed a b ∷ more) s p d)
-selected_stays tag now (Write bytes x) (Left a ∷ more) turn p e = maps now (saying bytes) (λ s. refl) (played tag now x (Left a ∷ more)) turn e (λ s d. selected_stays tag now x (Left a ∷ more) s p d)
-selected_stays tag now (Write bytes x) (Refused a ∷ more) turn p e = maps now (saying bytes) (λ s. refl) (played tag now x (Refused a ∷ more)) turn e (λ s d. selected_stays tag now x (Refused a ∷ more) s p d)
 selected_stays tag now (Write bytes x) (Starved zero ∷ []) turn p e = given_up tag now NoMemory turn e
 selected_stays tag now (Write bytes x) (Starved (suc n) ∷ []) turn p e = maps now (saying bytes) (λ s. refl) (played tag now x (Starved n ∷ [])) turn e (λ s d. selected_stays tag now x (Starved n ∷ []) s p d)
-selected_stays tag now (Write bytes x) (Starved zero ∷ b ∷ more) turn p e = maps now (saying bytes) (λ s. refl) (played tag now x (Starved zero ∷ b ∷ more)) turn e (λ s d. selected_stays tag now x (Starved zero ∷ b ∷ more) s p d)
-selected_stays tag now (Write bytes x) (Starved (suc n) ∷ b ∷ more) turn p e = maps now (saying bytes) (λ s. refl) (played tag now x (Starved (suc n) ∷ b ∷ more)) turn e (λ s d. selected_stays tag now x (Starved (suc n) ∷ b ∷ more) s p d)
+selected_stays tag now (Write bytes x) (given ∷ more) turn p e = maps now (saying bytes) (λ s. refl) (played tag now x (given ∷ more)) turn e (λ s d. selected_stays tag now x (given ∷ more) s p d)
 selected_stays tag now (Put bytes x) answers turn p e = maps now (saying bytes) (λ s. refl) (played tag now x answers) turn e (λ s d. selected_stays tag now x answers s p d)
-selected_stays tag now (Enter selected next) [] turn p e = absurd (none-some turn e)
-selected_stays tag now (Enter selected next) (Entered a ∷ more) turn p e = absurd p
-selected_stays tag now (Enter selected next) (Looked a ∷ more) turn p e = absurd (none-some turn e)
-selected_stays tag now (Enter selected next) (Found a ∷ more) turn p e = absurd (none-some turn e)
-selected_stays tag now (Enter selected next) (Counted a ∷ more) turn p e = absurd (none-some turn e)
-selected_stays tag now (Enter selected next) (Altered a ∷ more) turn p e = absurd (none-some turn e)
-selected_stays tag now (Enter selected next) (Expunged a b c ∷ more) turn p e = absurd (none-some turn e)
-selected_stays tag now (Enter selected next) (Fed a b ∷ more) turn p e = absurd (none-some turn e)
-selected_stays tag now (Enter selected next) (Left a ∷ more) turn p e = absurd (none-some turn e)
-selected_stays tag now (Enter selected next) (Refused a ∷ []) turn p e = absurd p
-selected_stays tag now (Enter selected next) (Refused a ∷ b ∷ more) turn p e = absurd (none-some turn e)
-selected_stays tag now (Enter selected next) (Starved a ∷ more) turn p e = absurd (none-some turn e)
+selected_stays tag now (Enter selected next) answers turn p e = absurd p
 selected_stays tag now (Look by_uid set next) [] turn p e = absurd (none-some turn e)
-selected_stays tag now (Look by_uid set next) (Entered a ∷ more) turn p e = absurd (none-some turn e)
 selected_stays tag now (Look by_uid set next) (Looked a ∷ more) turn p e = maps now (having (Look by_uid set) (Looked a)) (λ s. refl) (played tag now (next a) more) turn e (λ s d. selected_stays tag now (next a) more s (p a) d)
-selected_stays tag now (Look by_uid set next) (Found a ∷ more) turn p e = absurd (none-some turn e)
-selected_stays tag now (Look by_uid set next) (Counted a ∷ more) turn p e = absurd (none-some turn e)
-selected_stays tag now (Look by_uid set next) (Altered a ∷ more) turn p e = absurd (none-some turn e)
-selected_stays tag now (Look by_uid set next) (Expunged a b c ∷ more) turn p e = absurd (none-some turn e)
-selected_stays tag now (Look by_uid set next) (Fed a b ∷ more) turn p e = absurd (none-some turn e)
-selected_stays tag now (Look by_uid set next) (Left a ∷ more) turn p e = absurd (none-some turn e)
 selected_stays tag now (Look by_uid set next) (Refused a ∷ []) turn p e = told now (λ s. having (Look by_uid set) (Refused a) (saying (refusal_text tag a) s)) (λ s. refl) (refusal_after a) turn e
-selected_stays tag now (Look by_uid set next) (Refused a ∷ b ∷ more) turn p e = absurd (none-some turn e)
-selected_stays tag now (Look by_uid set next) (Starved n ∷ more) turn p e = absurd (none-some turn e)
+selected_stays tag now (Look by_uid set next) (_ ∷ more) turn p e = absurd (none-some turn e)
 selected_stays tag now (Read uid mark next) [] turn p e = absurd (none-some turn e)
-selected_stays tag now (Read uid mark next) (Entered a ∷ more) turn p e = absurd (none-some turn e)
-selected_stays tag now (Read uid mark next) (Looked a ∷ more) turn p e = absurd (none-some turn e)
 selected_stays tag now (Read uid mark next) (Found a ∷ more) turn p e = maps now (having (Read uid mark) (Found a)) (λ s. refl) (played tag now (next a) more) turn e (λ s d. selected_stays tag now (next a) more s (p a) d)
-selected_stays tag now (Read uid mark next) (Counted a ∷ more) turn p e = absurd (none-some turn e)
-selected_stays tag now (Read uid mark next) (Altered a ∷ more) turn p e = absurd (none-some turn e)
-selected_stays tag now (Read uid mark next) (Expunged a b c ∷ more) turn p e = absurd (none-some turn e)
-selected_stays tag now (Read uid mark next) (Fed a b ∷ more) turn p e = absurd (none-some turn e)
-selected_stays tag now (Read uid mark next) (Left a ∷ more) turn p e = absurd (none-some turn e)
 selected_stays tag now (Read uid mark next) (Refused a ∷ []) turn p e = told now (λ s. having (Read uid mark) (Refused a) (saying (refusal_text tag a) s)) (λ s. refl) (refusal_after a) turn e
-selected_stays tag now (Read uid mark next) (Refused a ∷ b ∷ more) turn p e = absurd (none-some turn e)
-selected_stays tag now (Read uid mark next) (Starved a ∷ more) turn p e = absurd (none-some turn e)
+selected_stays tag now (Read uid mark next) (_ ∷ more) turn p e = absurd (none-some turn e)
 selected_stays tag now (Count mailbox next) [] turn p e = absurd (none-some turn e)
-selected_stays tag now (Count mailbox next) (Entered a ∷ more) turn p e = absurd (none-some turn e)
-selected_stays tag now (Count mailbox next) (Looked a ∷ more) turn p e = absurd (none-some turn e)
-selected_stays tag now (Count mailbox next) (Found a ∷ more) turn p e = absurd (none-some turn e)
 selected_stays tag now (Count mailbox next) (Counted a ∷ more) turn p e = maps now (having (Count mailbox) (Counted a)) (λ s. refl) (played tag now (next a) more) turn e (λ s d. selected_stays tag now (next a) more s (p a) d)
-selected_stays tag now (Count mailbox next) (Altered a ∷ more) turn p e = absurd (none-some turn e)
-selected_stays tag now (Count mailbox next) (Expunged a b c ∷ more) turn p e = absurd (none-some turn e)
-selected_stays tag now (Count mailbox next) (Fed a b ∷ more) turn p e = absurd (none-some turn e)
-selected_stays tag now (Count mailbox next) (Left a ∷ more) turn p e = absurd (none-some turn e)
 selected_stays tag now (Count mailbox next) (Refused a ∷ []) turn p e = told now (λ s. having (Count mailbox) (Refused a) (saying (refusal_text tag a) s)) (λ s. refl) (refusal_after a) turn e
-selected_stays tag now (Count mailbox next) (Refused a ∷ b ∷ more) turn p e = absurd (none-some turn e)
-selected_stays tag now (Count mailbox next) (Starved a ∷ more) turn p e = absurd (none-some turn e)
+selected_stays tag now (Count mailbox next) (_ ∷ more) turn p e = absurd (none-some turn e)
 selected_stays tag now (Alter uid op next) [] turn p e = absurd (none-some turn e)
-selected_stays tag now (Alter uid op next) (Entered a ∷ more) turn p e = absurd (none-some turn e)
-selected_stays tag now (Alter uid op next) (Looked a ∷ more) turn p e = absurd (none-some turn e)
-selected_stays tag now (Alter uid op next) (Found a ∷ more) turn p e = absurd (none-some turn e)
-selected_stays tag now (Alter uid op next) (Counted a ∷ more) turn p e = absurd (none-some turn e)
 selected_stays tag now (Alter uid op next) (Altered a ∷ more) turn p e = maps now (having (Alter uid op) (Altered a)) (λ s. refl) (played tag now (next a) more) turn e (λ s d. selected_stays tag now (next a) more s (p a) d)
-selected_stays tag now (Alter uid op next) (Expunged a b c ∷ more) turn p e = absurd (none-some turn e)
-selected_stays tag now (Alter uid op next) (Fed a b ∷ more) turn p e = absurd (none-some turn e)
-selected_stays tag now (Alter uid op next) (Left a ∷ more) turn p e = absurd (none-some turn e)
 selected_stays tag now (Alter uid op next) (Refused a ∷ []) turn p e = told now (λ s. having (Alter uid op) (Refused a) (saying (refusal_text tag a) s)) (λ s. refl) (refusal_after a) turn e
-selected_stays tag now (Alter uid op next) (Refused a ∷ b ∷ more) turn p e = absurd (none-some turn e)
-selected_stays tag now (Alter uid op next) (Starved a ∷ more) turn p e = absurd (none-some turn e)
+selected_stays tag now (Alter uid op next) (_ ∷ more) turn p e = absurd (none-some turn e)
 selected_stays tag now (Expunge uids x) [] turn p e = absurd (none-some turn e)
-selected_stays tag now (Expunge uids x) (Entered a ∷ more) turn p e = absurd (none-some turn e)
-selected_stays tag now (Expunge uids x) (Looked a ∷ more) turn p e = absurd (none-some turn e)
-selected_stays tag now (Expunge uids x) (Found a ∷ more) turn p e = absurd (none-some turn e)
-selected_stays tag now (Expunge uids x) (Counted a ∷ more) turn p e = absurd (none-some turn e)
-selected_stays tag now (Expunge uids x) (Altered a ∷ more) turn p e = absurd (none-some turn e)
 selected_stays tag now (Expunge uids x) (Expunged a b c ∷ more) turn p e = maps now (λ s. having (Expunge uids) (Expunged a b c) (saying (lines a b) s)) (λ s. refl) (played tag now x more) turn e (λ s d. selected_stays tag now x more s p d)
-selected_stays tag now (Expunge uids x) (Fed a b ∷ more) turn p e = absurd (none-some turn e)
-selected_stays tag now (Expunge uids x) (Left a ∷ more) turn p e = absurd (none-some turn e)
 selected_stays tag now (Expunge uids x) (Refused a ∷ []) turn p e = told now (λ s. having (Expunge uids) (Refused a) (saying (refusal_text tag a) s)) (λ s. refl) (refusal_after a) turn e
-selected_stays tag now (Expunge uids x) (Refused a ∷ b ∷ more) turn p e = absurd (none-some turn e)
-selected_stays tag now (Expunge uids x) (Starved a ∷ more) turn p e = absurd (none-some turn e)
+selected_stays tag now (Expunge uids x) (_ ∷ more) turn p e = absurd (none-some turn e)
 selected_stays tag now (Feed limit x) [] turn p e = absurd (none-some turn e)
-selected_stays tag now (Feed limit x) (Entered a ∷ more) turn p e = absurd (none-some turn e)
-selected_stays tag now (Feed limit x) (Looked a ∷ more) turn p e = absurd (none-some turn e)
-selected_stays tag now (Feed limit x) (Found a ∷ more) turn p e = absurd (none-some turn e)
-selected_stays tag now (Feed limit x) (Counted a ∷ more) turn p e = absurd (none-some turn e)
-selected_stays tag now (Feed limit x) (Altered a ∷ more) turn p e = absurd (none-some turn e)
-selected_stays tag now (Feed limit x) (Expunged a b c ∷ more) turn p e = absurd (none-some turn e)
 selected_stays tag now (Feed limit x) (Fed a b ∷ more) turn p e = maps now (λ s. having (Feed limit) (Fed a b) (saying (lines a b) s)) (λ s. refl) (played tag now x more) turn e (λ s d. selected_stays tag now x more s p d)
-selected_stays tag now (Feed limit x) (Left a ∷ more) turn p e = absurd (none-some turn e)
 selected_stays tag now (Feed limit x) (Refused a ∷ []) turn p e = told now (λ s. having (Feed limit) (Refused a) (saying (refusal_text tag a) s)) (λ s. refl) (refusal_after a) turn e
-selected_stays tag now (Feed limit x) (Refused a ∷ b ∷ more) turn p e = absurd (none-some turn e)
-selected_stays tag now (Feed limit x) (Starved a ∷ more) turn p e = absurd (none-some turn e)
-selected_stays tag now (Leave remove x) [] turn p e = absurd (none-some turn e)
-selected_stays tag now (Leave remove x) (Entered a ∷ more) turn p e = absurd (none-some turn e)
-selected_stays tag now (Leave remove x) (Looked a ∷ more) turn p e = absurd (none-some turn e)
-selected_stays tag now (Leave remove x) (Found a ∷ more) turn p e = absurd (none-some turn e)
-selected_stays tag now (Leave remove x) (Counted a ∷ more) turn p e = absurd (none-some turn e)
-selected_stays tag now (Leave remove x) (Altered a ∷ more) turn p e = absurd (none-some turn e)
-selected_stays tag now (Leave remove x) (Expunged a b c ∷ more) turn p e = absurd (none-some turn e)
-selected_stays tag now (Leave remove x) (Fed a b ∷ more) turn p e = absurd (none-some turn e)
-selected_stays tag now (Leave remove x) (Left a ∷ more) turn p e = absurd p
-selected_stays tag now (Leave remove x) (Refused a ∷ []) turn p e = absurd p
-selected_stays tag now (Leave remove x) (Refused a ∷ b ∷ more) turn p e = absurd (none-some turn e)
-selected_stays tag now (Leave remove x) (Starved a ∷ more) turn p e = absurd (none-some turn e)
+selected_stays tag now (Feed limit x) (_ ∷ more) turn p e = absurd (none-some turn e)
+selected_stays tag now (Leave remove x) answers turn p e = absurd p
 
 -- ---- exchanges
 
@@ -326,21 +237,9 @@ in_verdict selected mailbox (verdicts.Refused why) = tt
 pub idle_selected : (selected : Option Selected) (idling : Bool) (now : Standing) (answers : List Answer) (turn : Turn) → idle_turn_in selected idling now answers ≡ Some turn → turn.standing.selected ≡ now.selected
 idle_selected (Some selected) true now [] turn e = absurd (none-some turn e)
 idle_selected (Some selected) true now (Fed met changes ∷ []) turn e = ap (λ (t : Turn). t.standing.selected) (sym (ap (the_turn turn) e))
-idle_selected (Some selected) true now (Fed met changes ∷ b ∷ more) turn e = absurd (none-some turn e)
 idle_selected (Some selected) true now (Refused Lapped ∷ []) turn e = ap (λ (t : Turn). t.standing.selected) (sym (ap (the_turn turn) e))
-idle_selected (Some selected) true now (Refused Lapped ∷ b ∷ more) turn e = absurd (none-some turn e)
 idle_selected (Some selected) true now (Refused Stranger ∷ []) turn e = ap (λ (t : Turn). t.standing.selected) (sym (ap (the_turn turn) e))
-idle_selected (Some selected) true now (Refused Stranger ∷ b ∷ more) turn e = absurd (none-some turn e)
-idle_selected (Some selected) true now (Refused Spent ∷ more) turn e = absurd (none-some turn e)
-idle_selected (Some selected) true now (Refused NoMemory ∷ more) turn e = absurd (none-some turn e)
-idle_selected (Some selected) true now (Entered a ∷ more) turn e = absurd (none-some turn e)
-idle_selected (Some selected) true now (Looked a ∷ more) turn e = absurd (none-some turn e)
-idle_selected (Some selected) true now (Found a ∷ more) turn e = absurd (none-some turn e)
-idle_selected (Some selected) true now (Counted a ∷ more) turn e = absurd (none-some turn e)
-idle_selected (Some selected) true now (Altered a ∷ more) turn e = absurd (none-some turn e)
-idle_selected (Some selected) true now (Expunged a b c ∷ more) turn e = absurd (none-some turn e)
-idle_selected (Some selected) true now (Left a ∷ more) turn e = absurd (none-some turn e)
-idle_selected (Some selected) true now (Starved a ∷ more) turn e = absurd (none-some turn e)
+idle_selected (Some selected) true now (_ ∷ more) turn e = absurd (none-some turn e)
 idle_selected (Some selected) false now [] turn e = ap (λ (t : Turn). t.standing.selected) (sym (ap (the_turn turn) e))
 idle_selected (Some selected) false now (a ∷ more) turn e = absurd (none-some turn e)
 idle_selected None true now [] turn e = ap (λ (t : Turn). t.standing.selected) (sym (ap (the_turn turn) e))
@@ -370,15 +269,7 @@ enters_sel tag now read_only folder (Entered o ∷ more) turn t e =
 enters_sel tag now read_only folder (Refused fault ∷ []) turn t e =
     let m = mapped (having (Enter folder.mailbox) (Refused fault)) (Some (refused tag now fault)) turn e in
     subst (λ (s : Turn). IfSel tag s.bytes s.standing) m.makes (refused_sel tag fault m.more t (only_refused tag now fault m.more m.is))
-enters_sel tag now read_only folder (Refused fault ∷ b ∷ more) turn t e = absurd (none-some turn e)
-enters_sel tag now read_only folder (Looked a ∷ more) turn t e = absurd (none-some turn e)
-enters_sel tag now read_only folder (Found a ∷ more) turn t e = absurd (none-some turn e)
-enters_sel tag now read_only folder (Counted a ∷ more) turn t e = absurd (none-some turn e)
-enters_sel tag now read_only folder (Altered a ∷ more) turn t e = absurd (none-some turn e)
-enters_sel tag now read_only folder (Expunged a b c ∷ more) turn t e = absurd (none-some turn e)
-enters_sel tag now read_only folder (Fed a b ∷ more) turn t e = absurd (none-some turn e)
-enters_sel tag now read_only folder (Left a ∷ more) turn t e = absurd (none-some turn e)
-enters_sel tag now read_only folder (Starved a ∷ more) turn t e = absurd (none-some turn e)
+enters_sel tag now read_only folder (_ ∷ more) turn t e = absurd (none-some turn e)
 
 named_sel : (tag : List ℕ) (now : Standing) (read_only : Bool) (name : List ℕ) (folders : List Folder) (answers : List Answer) (turn : Turn) → IsTag tag → played tag now (on_folder name folders (entering read_only)) answers ≡ Some turn → IfSel tag turn.bytes turn.standing
 named_sel tag now read_only name folders answers turn t e = by (folder_of name folders) e
@@ -409,15 +300,7 @@ closing_sel tag now read_only name folders (Some selected) (Left gone ∷ more) 
 closing_sel tag now read_only name folders (Some selected) (Refused fault ∷ []) turn t e =
     let m = mapped (having (Leave false) (Refused fault)) (Some (refused tag now fault)) turn e in
     subst (λ (s : Turn). IfSel tag s.bytes s.standing) m.makes (refused_sel tag fault m.more t (only_refused tag now fault m.more m.is))
-closing_sel tag now read_only name folders (Some selected) (Refused fault ∷ b ∷ more) turn t e = absurd (none-some turn e)
-closing_sel tag now read_only name folders (Some selected) (Entered a ∷ more) turn t e = absurd (none-some turn e)
-closing_sel tag now read_only name folders (Some selected) (Looked a ∷ more) turn t e = absurd (none-some turn e)
-closing_sel tag now read_only name folders (Some selected) (Found a ∷ more) turn t e = absurd (none-some turn e)
-closing_sel tag now read_only name folders (Some selected) (Counted a ∷ more) turn t e = absurd (none-some turn e)
-closing_sel tag now read_only name folders (Some selected) (Altered a ∷ more) turn t e = absurd (none-some turn e)
-closing_sel tag now read_only name folders (Some selected) (Expunged a b c ∷ more) turn t e = absurd (none-some turn e)
-closing_sel tag now read_only name folders (Some selected) (Fed a b ∷ more) turn t e = absurd (none-some turn e)
-closing_sel tag now read_only name folders (Some selected) (Starved a ∷ more) turn t e = absurd (none-some turn e)
+closing_sel tag now read_only name folders (Some selected) (_ ∷ more) turn t e = absurd (none-some turn e)
 
 selecting_sel : (tag : List ℕ) (now : Standing) (read_only : Bool) (name : List ℕ) (answers : List Answer) (turn : Turn) (client : Option Client) → IsTag tag → played tag now (selecting now read_only name) answers ≡ Some turn
     → Known_selected (if has_ok true tag turn.bytes then Some (reads fresh turn.bytes) else None) turn.standing
@@ -444,15 +327,7 @@ leaving_sel tag words now remove (Left gone ∷ more) turn client t ok e k =
 leaving_sel tag words now remove (Refused fault ∷ []) turn client t ok e k =
     let m = mapped (having (Leave remove) (Refused fault)) (Some (refused tag now fault)) turn e in
     stays_sel tag turn.bytes client now turn.standing k (ap (λ (s : Turn). s.standing.selected) (sym m.makes) ∙ given_up tag now fault m.more m.is)
-leaving_sel tag words now remove (Refused fault ∷ b ∷ more) turn client t ok e k = absurd (none-some turn e)
-leaving_sel tag words now remove (Entered a ∷ more) turn client t ok e k = absurd (none-some turn e)
-leaving_sel tag words now remove (Looked a ∷ more) turn client t ok e k = absurd (none-some turn e)
-leaving_sel tag words now remove (Found a ∷ more) turn client t ok e k = absurd (none-some turn e)
-leaving_sel tag words now remove (Counted a ∷ more) turn client t ok e k = absurd (none-some turn e)
-leaving_sel tag words now remove (Altered a ∷ more) turn client t ok e k = absurd (none-some turn e)
-leaving_sel tag words now remove (Expunged a b c ∷ more) turn client t ok e k = absurd (none-some turn e)
-leaving_sel tag words now remove (Fed a b ∷ more) turn client t ok e k = absurd (none-some turn e)
-leaving_sel tag words now remove (Starved a ∷ more) turn client t ok e k = absurd (none-some turn e)
+leaving_sel tag words now remove (_ ∷ more) turn client t ok e k = absurd (none-some turn e)
 
 closes_sel : (tag words : List ℕ) (now : Standing) (remove : Selected → Bool) (selected : Option Selected) (answers : List Answer) (turn : Turn) (client : Option Client) → IsTag tag → has_ok true tag (tagged tag words) ≡ true
     → played tag now (on_found (λ s. Leave (remove s) (says words)) wrong_state selected) answers ≡ Some turn → Known_selected client now → Known_selected (if has_ok true tag turn.bytes then None else reads_on turn.bytes client) turn.standing
@@ -499,7 +374,7 @@ verdict_sel : (sent : Option Sent) (now : Standing) (verdict : Verdict) (answers
 verdict_sel None now verdict answers turn e = absurd (none-some turn e)
 verdict_sel (Some sent) now verdict answers turn e = selected_stays sent.tag (without_sent now) (on_verdict now.selected sent.append.mailbox verdict) answers turn (in_verdict now.selected sent.append.mailbox verdict) e
 
-turn_sel : (now : Standing) (happening : Happening) (turn : Turn) (client : Option Client) → leads_to now happening ≡ Some turn → Known_selected client now → Known_selected (hears client (told_of now happening turn.bytes)) turn.standing
+pub turn_sel : (now : Standing) (happening : Happening) (turn : Turn) (client : Option Client) → leads_to now happening ≡ Some turn → Known_selected client now → Known_selected (hears client (told_of now happening turn.bytes)) turn.standing
 turn_sel now (Line line answers) turn client e k = line_sel now line answers turn client e k
 turn_sel now LongLine turn client e k = reads_sel turn.bytes client now turn.standing k (ap (λ (t : Turn). t.standing.selected) (sym (ap (the_turn turn) e)))
 turn_sel now (Turned answers) turn client e k = reads_sel turn.bytes client now turn.standing k (idle_selected now.selected (is_idling now) now answers turn e)

@@ -12,9 +12,9 @@ use Rattle.imap_grammar.specs.declared.command.Command.{Command}
 use Rattle.imap_grammar.specs.declared.command.Command.TheVariants as commands
 use Rattle.imap_grammar.specs.declared.command.ImapFault.{ImapFault}
 use Rattle.delivery_token.specs.declared.Verdict.{Verdict}
-use Rattle.mailbox.specs.declared.clients.MailFault.TheVariants.{Stranger, Lapped, Spent, NoMemory}
+use Rattle.mailbox.specs.declared.clients.MailFault.TheVariants.{Stranger, Lapped}
 use Rattle.imap_session.specs.declared.standing.Selected.{Selected}
-use Rattle.imap_session.specs.Exchange.{Answer, Entered, Looked, Found, Counted, Altered, Expunged, Fed, Left, Refused, Starved, is_idling, Appending, Asked, Dropped, Folder, ForDone, ForLiteral, ForNothing, ForVerdict, Mailing, Sent, Standing, Turn, Unasked, Waiting, played, waiting}
+use Rattle.imap_session.specs.Exchange.{Answer, Fed, Refused, is_idling, Appending, Asked, Dropped, Folder, ForDone, ForLiteral, ForNothing, ForVerdict, Mailing, Sent, Standing, Turn, Unasked, Waiting, played, waiting}
 use Rattle.imap_session.specs.Commands.{due_of, fault_text, idle_turn_in, kept_text, number_named, on_command, on_idle_line, on_read, on_rest, on_verdict, only_says, taking, turn_behind, turn_of, turn_while, turn_with, with_bytes, without_begun, without_sent}
 use Rattle.imap_session.specs.Store.{IdleTurns, Met}
 use Rattle.house_peers.proofs.Rising.{idles_keep}
@@ -264,21 +264,9 @@ line_mailed folders sent line now answers turn m due e = behind now.mailing.begu
 turned_folders : (selected : Option Selected) (idling : Bool) (now : Standing) (answers : List Answer) (turn : Turn) → idle_turn_in selected idling now answers ≡ Some turn → turn.standing.folders ≡ now.folders
 turned_folders (Some selected) true now [] turn e = absurd (none-some turn e)
 turned_folders (Some selected) true now (Fed met changes ∷ []) turn e = subst (λ (s : Turn). s.standing.folders ≡ now.folders) (ap (the_turn turn) e) refl
-turned_folders (Some selected) true now (Fed met changes ∷ b ∷ more) turn e = absurd (none-some turn e)
 turned_folders (Some selected) true now (Refused Lapped ∷ []) turn e = subst (λ (s : Turn). s.standing.folders ≡ now.folders) (ap (the_turn turn) e) refl
-turned_folders (Some selected) true now (Refused Lapped ∷ b ∷ more) turn e = absurd (none-some turn e)
 turned_folders (Some selected) true now (Refused Stranger ∷ []) turn e = subst (λ (s : Turn). s.standing.folders ≡ now.folders) (ap (the_turn turn) e) refl
-turned_folders (Some selected) true now (Refused Stranger ∷ b ∷ more) turn e = absurd (none-some turn e)
-turned_folders (Some selected) true now (Refused Spent ∷ more) turn e = absurd (none-some turn e)
-turned_folders (Some selected) true now (Refused NoMemory ∷ more) turn e = absurd (none-some turn e)
-turned_folders (Some selected) true now (Entered a ∷ more) turn e = absurd (none-some turn e)
-turned_folders (Some selected) true now (Looked a ∷ more) turn e = absurd (none-some turn e)
-turned_folders (Some selected) true now (Found a ∷ more) turn e = absurd (none-some turn e)
-turned_folders (Some selected) true now (Counted a ∷ more) turn e = absurd (none-some turn e)
-turned_folders (Some selected) true now (Altered a ∷ more) turn e = absurd (none-some turn e)
-turned_folders (Some selected) true now (Expunged a b c ∷ more) turn e = absurd (none-some turn e)
-turned_folders (Some selected) true now (Left a ∷ more) turn e = absurd (none-some turn e)
-turned_folders (Some selected) true now (Starved a ∷ more) turn e = absurd (none-some turn e)
+turned_folders (Some selected) true now (_ ∷ more) turn e = absurd (none-some turn e)
 turned_folders (Some selected) false now [] turn e = subst (λ (s : Turn). s.standing.folders ≡ now.folders) (ap (the_turn turn) e) refl
 turned_folders (Some selected) false now (a ∷ more) turn e = absurd (none-some turn e)
 turned_folders None true now [] turn e = subst (λ (s : Turn). s.standing.folders ≡ now.folders) (ap (the_turn turn) e) refl

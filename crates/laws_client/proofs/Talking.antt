@@ -2,9 +2,9 @@
 use Rattle.std.proofs.Common.{◌≡◌, ℕ, Bool, true, false, List, [], ◌∷◌, ap, sym, refl, subst}
 use Rattle.std.specs.Prelude.{Option, Some, None, IfSome}
 use Rattle.std.proofs.lemmas.Option.{none-some}
-use Rattle.mailbox.specs.declared.clients.MailFault.TheVariants.{Stranger, Lapped, Spent, NoMemory}
+use Rattle.mailbox.specs.declared.clients.MailFault.TheVariants.{Stranger, Lapped}
 use Rattle.imap_session.specs.declared.standing.Selected.{Selected}
-use Rattle.imap_session.specs.Exchange.{Answer, Entered, Looked, Found, Counted, Altered, Expunged, Fed, Left, Refused, Starved, Standing, Turn, Appending, is_idling, kept_behind, kept_tag, may_send}
+use Rattle.imap_session.specs.Exchange.{Answer, Fed, Refused, Standing, Turn, Appending, is_idling, kept_behind, kept_tag, may_send}
 use Rattle.imap_session.specs.Commands.{idle_turn_in, turn_of_long_line, with_bytes}
 use Rattle.laws_client.specs.Beliefs.{IsOf, Follows, Leads}
 use Rattle.laws_client.specs.Commands.{IsFollowed}
@@ -23,21 +23,9 @@ use Rattle.laws_client.proofs.Turns.{rests_in, the_turn, then_follows}
 turned_keeps : (P : List ℕ → Type 0) (selected : Option Selected) (idling : Bool) (now : Standing) (answers : List Answer) (turn : Turn) → AreTagsOf P now → idle_turn_in selected idling now answers ≡ Some turn → Kept (AreTagsOf P) turn
 turned_keeps P (Some selected) true now [] turn k e = absurd (none-some turn e)
 turned_keeps P (Some selected) true now (Fed met changes ∷ []) turn k e = subst (λ (s : Turn). Kept (AreTagsOf P) s) (ap (the_turn turn) e) k
-turned_keeps P (Some selected) true now (Fed met changes ∷ b ∷ more) turn k e = absurd (none-some turn e)
 turned_keeps P (Some selected) true now (Refused Lapped ∷ []) turn k e = subst (λ (s : Turn). Kept (AreTagsOf P) s) (ap (the_turn turn) e) k
-turned_keeps P (Some selected) true now (Refused Lapped ∷ b ∷ more) turn k e = absurd (none-some turn e)
 turned_keeps P (Some selected) true now (Refused Stranger ∷ []) turn k e = subst (λ (s : Turn). Kept (AreTagsOf P) s) (ap (the_turn turn) e) k
-turned_keeps P (Some selected) true now (Refused Stranger ∷ b ∷ more) turn k e = absurd (none-some turn e)
-turned_keeps P (Some selected) true now (Refused Spent ∷ more) turn k e = absurd (none-some turn e)
-turned_keeps P (Some selected) true now (Refused NoMemory ∷ more) turn k e = absurd (none-some turn e)
-turned_keeps P (Some selected) true now (Entered a ∷ more) turn k e = absurd (none-some turn e)
-turned_keeps P (Some selected) true now (Looked a ∷ more) turn k e = absurd (none-some turn e)
-turned_keeps P (Some selected) true now (Found a ∷ more) turn k e = absurd (none-some turn e)
-turned_keeps P (Some selected) true now (Counted a ∷ more) turn k e = absurd (none-some turn e)
-turned_keeps P (Some selected) true now (Altered a ∷ more) turn k e = absurd (none-some turn e)
-turned_keeps P (Some selected) true now (Expunged a b c ∷ more) turn k e = absurd (none-some turn e)
-turned_keeps P (Some selected) true now (Left a ∷ more) turn k e = absurd (none-some turn e)
-turned_keeps P (Some selected) true now (Starved a ∷ more) turn k e = absurd (none-some turn e)
+turned_keeps P (Some selected) true now (_ ∷ more) turn k e = absurd (none-some turn e)
 turned_keeps P (Some selected) false now [] turn k e = subst (λ (s : Turn). Kept (AreTagsOf P) s) (ap (the_turn turn) e) k
 turned_keeps P (Some selected) false now (a ∷ more) turn k e = absurd (none-some turn e)
 turned_keeps P None true now [] turn k e = subst (λ (s : Turn). Kept (AreTagsOf P) s) (ap (the_turn turn) e) k

@@ -1,5 +1,5 @@
 -- The answers of FETCH and STORE tell the flags of the row, and no others.
-use Rattle.std.proofs.Common.{◌≡◌, ℕ, ◌+◌, ◌^◌, ◌<◌, ◌≤◌, Bool, true, false, List, [], ◌∷◌, ◌++◌, length, map, refl, sym, subst, ap, ◌∙◌, arith, append_assoc, append-nil}
+use Rattle.std.proofs.Common.{◌≡◌, ℕ, ◌+◌, ◌^◌, ◌<◌, Bool, true, false, List, [], ◌∷◌, ◌++◌, length, map, refl, sym, subst, ap, ◌∙◌, arith, append_assoc, append-nil}
 use Rattle.std.specs.Prelude.{Option, Some, None, codes, decimal, ◌&&◌}
 use Rattle.std.specs.List.{list_all}
 use Rattle.std.proofs.lemmas.Bool.{false≢true}
@@ -18,7 +18,7 @@ use Rattle.laws_client.proofs.Chosen.{small_in}
 use Rattle.laws_client.proofs.Follows.{position_most}
 use Rattle.laws_client.proofs.Items.{body_words, digits_closed, digits_other, flag_list, flag_list_other, flags_of, is_other, number_words, other_passes, tail, words_append}
 use Rattle.laws_client.proofs.Kept.{body_word, count_kept, item_kept, IsSmall, part_small}
-use Rattle.laws_client.specs.Flags.{Believes, Point, counted, flags_at}
+use Rattle.laws_client.specs.Flags.{Believes, FlagsOf, Point, counted}
 use Rattle.laws_client.specs.FlagTurns.{LeavesFlags}
 use Rattle.laws_client.specs.FlagLaws.{RowTellsFlags, StoreTellsFlags}
 use Rattle.laws_client.proofs.Moments.{now_is_moment}
@@ -133,41 +133,41 @@ abbrev names_in : Option (List (List ℕ)) → List (List ℕ)
 names_in None = []
 names_in (Some names) = names
 
--- of flags that it has now
-allows_now : (p : Point) (row : Row) → flags_at row.uid p.log ≡ Some row.flags → p.cursor ≤ length p.log → Allows (Believes p row.uid) row
-allows_now p row has within = record {
+-- of flags that it had at a moment
+allows_told : (p : Point) (row : Row) → FlagsOf p.log p.cursor row.uid (flag_words row.flags) → Allows (Believes p row.uid) row
+allows_told p row had = record {
   uid = λ m is. is;
-  flags = λ m is names e. now_is_moment p.log p.cursor row.uid row.flags names within has (sym (ap names_in e));
+  flags = λ m is names e. subst (λ (ns : List (List ℕ)). FlagsOf p.log p.cursor row.uid ns) (ap names_in e) had;
 }
 
-answer_tells : (p : Point) (row : Row) (list : List FetchItem) → IsIn row.uid (counted p) → length (counted p) + 1 < 2 ^ 64 → IsSmall row → AreToldParts list → flags_at row.uid p.log ≡ Some row.flags → p.cursor ≤ length p.log
+answer_tells : (p : Point) (row : Row) (list : List FetchItem) → IsIn row.uid (counted p) → length (counted p) + 1 < 2 ^ 64 → IsSmall row → AreToldParts list → FlagsOf p.log p.cursor row.uid (flag_words row.flags)
     → LeavesFlags p (fetch_answer (position row.uid (counted p)) (map (item_text row) list))
-answer_tells p row list there few small parts has within known right =
+answer_tells p row list there few small parts had known right =
     let ws : List (List ℕ) = words (spaced (map (item_kept row) list) ++ 41 ∷ []) in
     let t = is_told (Believes p) row.uid (λ m. items (unopened (into_first 40 ws)) m)
-    (λ m is. opened_keep (Believes p row.uid) ws (items_keep (Believes p row.uid) (Believes p row.uid) row list (allows_now p row has within) small parts) m is) (counted p) known there right in record {
+    (λ m is. opened_keep (Believes p row.uid) ws (items_keep (Believes p row.uid) (Believes p row.uid) row list (allows_told p row had) small parts) m is) (counted p) known there right in record {
       after = t.now;
       reads = answer_read (Some known) (position row.uid (counted p)) row list (omega (arith, few, position_most row.uid (counted p))) small parts ∙ ap knowing t.is;
       each = t.each;
     }
 
 pub row_tells : (p : Point) (uid : ℕ) (by_uid : Bool) (list : List FetchItem) (row : Row) → IsIn uid (counted p) → length (counted p) + 1 < 2 ^ 64 → uid < 2 ^ 64 → row.uid ≡ uid → length row.text < 2 ^ 64
-    → AreToldParts list → flags_at uid p.log ≡ Some row.flags → p.cursor ≤ length p.log → LeavesFlags p (row_answer (position uid (counted p)) by_uid list row)
-row_tells p uid by_uid list row there few fits is small parts has within =
+    → AreToldParts list → FlagsOf p.log p.cursor uid (flag_words row.flags) → LeavesFlags p (row_answer (position uid (counted p)) by_uid list row)
+row_tells p uid by_uid list row there few fits is small parts had =
     subst (λ (u : ℕ). LeavesFlags p (row_answer (position u (counted p)) by_uid list row)) is
     (answer_tells p row (answered by_uid row.newly_seen list) (subst (λ (u : ℕ). IsIn u (counted p)) (sym is) there) few
-    (record { uid = subst (λ (u : ℕ). u < 2 ^ 64) (sym is) fits; text = small }) (answered_told by_uid row.newly_seen list parts) (subst (λ (u : ℕ). flags_at u p.log ≡ Some row.flags) (sym is) has) within)
+    (record { uid = subst (λ (u : ℕ). u < 2 ^ 64) (sym is) fits; text = small }) (answered_told by_uid row.newly_seen list parts) (subst (λ (u : ℕ). FlagsOf p.log p.cursor u (flag_words row.flags)) (sym is) had))
 
-pub store_tells : (p : Point) (uid : ℕ) (by_uid : Bool) (flags : Flags) → IsIn uid (counted p) → length (counted p) + 1 < 2 ^ 64 → uid < 2 ^ 64 → flags_at uid p.log ≡ Some flags → p.cursor ≤ length p.log
+pub store_tells : (p : Point) (uid : ℕ) (by_uid : Bool) (flags : Flags) → IsIn uid (counted p) → length (counted p) + 1 < 2 ^ 64 → uid < 2 ^ 64 → FlagsOf p.log p.cursor uid (flag_words flags)
     → LeavesFlags p (flags_answer by_uid (position uid (counted p)) uid flags)
-store_tells p uid by_uid flags there few fits has within =
+store_tells p uid by_uid flags there few fits had =
     subst (λ (t : List ℕ). LeavesFlags p t) (store_shape by_uid (position uid (counted p)) uid flags)
-    (answer_tells p (row_of uid flags) (store_items by_uid) there few (record { uid = fits; text = omega arith }) (store_told by_uid) has within)
+    (answer_tells p (row_of uid flags) (store_items by_uid) there few (record { uid = fits; text = omega arith }) (store_told by_uid) had)
 
 pub row_tells_flags : RowTellsFlags
 row_tells_flags p uid by_uid items row there numbered is parts has within =
-    let i = is_in uid (counted p) there in row_tells p uid by_uid items row i numbered.few (small_in uid (counted p) numbered.small i) is.0 is.1 parts has within
+    let i = is_in uid (counted p) there in row_tells p uid by_uid items row i numbered.few (small_in uid (counted p) numbered.small i) is.0 is.1 parts (now_is_moment p.log p.cursor uid row.flags (flag_words row.flags) within has refl)
 
 pub store_tells_flags : StoreTellsFlags
 store_tells_flags p uid by_uid flags there numbered has within =
-    let i = is_in uid (counted p) there in store_tells p uid by_uid flags i numbered.few (small_in uid (counted p) numbered.small i) has within
+    let i = is_in uid (counted p) there in store_tells p uid by_uid flags i numbered.few (small_in uid (counted p) numbered.small i) (now_is_moment p.log p.cursor uid flags (flag_words flags) within has refl)

@@ -15,7 +15,7 @@ use Rattle.imap_grammar.specs.declared.command.Command.TheVariants as commands
 use Rattle.imap_grammar.specs.declared.command.ImapFault.{ImapFault}
 use Rattle.imap_session.specs.declared.standing.After.TheVariants.{Go}
 use Rattle.imap_session.specs.declared.standing.Selected.{Selected}
-use Rattle.imap_session.specs.Exchange.{Answer, Appending, Entered, Looked, Found, Counted, Altered, Expunged, Fed, Left, Refused, Starved, Event, Exchange, Put, Enter, Leave, Folder, Standing, Turn, closed, having, kept_behind, kept_tag, played, refusal_after, refused, saying, tagged}
+use Rattle.imap_session.specs.Exchange.{Answer, Appending, Entered, Left, Refused, Event, Exchange, Put, Enter, Leave, Folder, Standing, Turn, closed, having, kept_behind, kept_tag, played, refusal_after, refused, saying, tagged}
 use Rattle.imap_session.specs.Commands.{closing, entering, folder_of, on_command, on_folder, on_found, on_read, opened, says, turn_behind, turn_of, turn_while, wanting}
 use Rattle.imap_session.specs.Store.{Met}
 use Rattle.imap_answers.specs.Answers.{all_flags, opening_text}
@@ -81,15 +81,7 @@ enters_none tag now read_only folder (Entered o ∷ more) turn t none e unsaid =
 enters_none tag now read_only folder (Refused fault ∷ []) turn t none e unsaid =
     let m = mapped (having (Enter folder.mailbox) (Refused fault)) (Some (refused tag now fault)) turn e in
     ap (λ (s : Turn). s.standing.selected) (sym m.makes) ∙ given_up tag now fault m.more m.is ∙ none
-enters_none tag now read_only folder (Refused fault ∷ b ∷ more) turn t none e unsaid = absurd (none-some turn e)
-enters_none tag now read_only folder (Looked a ∷ more) turn t none e unsaid = absurd (none-some turn e)
-enters_none tag now read_only folder (Found a ∷ more) turn t none e unsaid = absurd (none-some turn e)
-enters_none tag now read_only folder (Counted a ∷ more) turn t none e unsaid = absurd (none-some turn e)
-enters_none tag now read_only folder (Altered a ∷ more) turn t none e unsaid = absurd (none-some turn e)
-enters_none tag now read_only folder (Expunged a b c ∷ more) turn t none e unsaid = absurd (none-some turn e)
-enters_none tag now read_only folder (Fed a b ∷ more) turn t none e unsaid = absurd (none-some turn e)
-enters_none tag now read_only folder (Left a ∷ more) turn t none e unsaid = absurd (none-some turn e)
-enters_none tag now read_only folder (Starved a ∷ more) turn t none e unsaid = absurd (none-some turn e)
+enters_none tag now read_only folder (_ ∷ more) turn t none e unsaid = absurd (none-some turn e)
 
 named_none : (tag : List ℕ) (now : Standing) (read_only : Bool) (name : List ℕ) (folders : List Folder) (answers : List Answer) (turn : Turn) → IsTag tag → now.selected ≡ None
     → played tag now (on_folder name folders (entering read_only)) answers ≡ Some turn → has_ok true tag turn.bytes ≡ false → turn.standing.selected ≡ None
@@ -134,15 +126,7 @@ closing_none tag now read_only name folders (Some selected) (Refused fault ∷ [
       events = ap (λ (s : Turn). s.events) (sym m.makes) ∙ ap (λ (es : List Event). record { call = Leave false; answer = Refused fault } ∷ es) (only_refused tag now fault m.more m.is).events;
       standing = ap (λ (s : Turn). s.standing) (sym m.makes) ∙ ap (λ (s : Turn). s.standing) (sym (ap (the_turn m.more) m.is));
     })
-closing_none tag now read_only name folders (Some selected) (Refused fault ∷ b ∷ more) turn t is e unsaid = absurd (none-some turn e)
-closing_none tag now read_only name folders (Some selected) (Entered a ∷ more) turn t is e unsaid = absurd (none-some turn e)
-closing_none tag now read_only name folders (Some selected) (Looked a ∷ more) turn t is e unsaid = absurd (none-some turn e)
-closing_none tag now read_only name folders (Some selected) (Found a ∷ more) turn t is e unsaid = absurd (none-some turn e)
-closing_none tag now read_only name folders (Some selected) (Counted a ∷ more) turn t is e unsaid = absurd (none-some turn e)
-closing_none tag now read_only name folders (Some selected) (Altered a ∷ more) turn t is e unsaid = absurd (none-some turn e)
-closing_none tag now read_only name folders (Some selected) (Expunged a b c ∷ more) turn t is e unsaid = absurd (none-some turn e)
-closing_none tag now read_only name folders (Some selected) (Fed a b ∷ more) turn t is e unsaid = absurd (none-some turn e)
-closing_none tag now read_only name folders (Some selected) (Starved a ∷ more) turn t is e unsaid = absurd (none-some turn e)
+closing_none tag now read_only name folders (Some selected) (_ ∷ more) turn t is e unsaid = absurd (none-some turn e)
 
 -- ---- lines
 

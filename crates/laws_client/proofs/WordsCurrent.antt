@@ -12,7 +12,7 @@ use Rattle.imap_grammar.specs.Reading.{is_done}
 use Rattle.imap_grammar.specs.declared.command.Command.TheVariants as commands
 use Rattle.imap_session.specs.declared.standing.After.TheVariants.{Go}
 use Rattle.imap_session.specs.declared.standing.Selected.{Selected}
-use Rattle.imap_session.specs.Exchange.{Answer, Appending, Entered, Looked, Found, Counted, Altered, Expunged, Fed, Left, Refused, Starved, Count, Done, Feed, Sent, Standing, Turn, having, is_idling, kept_behind, kept_tag, played, refusal_text, refused}
+use Rattle.imap_session.specs.Exchange.{Answer, Appending, Counted, Refused, Count, Done, Feed, Sent, Standing, Turn, having, is_idling, kept_behind, kept_tag, played, refusal_text, refused}
 use Rattle.imap_session.specs.Commands.{appended_words, completed, on_idle_line, on_verdict, refused_text, says, showing, turn_behind, turn_of, turn_while, turn_with, unlimited, without_begun, without_sent}
 use Rattle.imap_session.specs.Store.{Met}
 use Rattle.laws_client.specs.Beliefs.{IsRight}
@@ -108,15 +108,7 @@ stored_current k n mailbox uid tag t selected now w (Counted status ∷ more) tu
     fed_ok k n tag (appended_words status.uidvalidity uid) now w more m.more v K t m.is (subst (λ (u : World). Met (Calls k n) u m.more.events v) same first.2)
     (subst (λ (x : Turn). SaysOk x.bytes) (sym m.makes) ok)
 stored_current k n mailbox uid tag t selected now w (Refused fault ∷ []) turn v K e met ok = absurd (refused_ok tag t (Count mailbox) now fault turn e ok)
-stored_current k n mailbox uid tag t selected now w (Refused fault ∷ b ∷ more) turn v K e met ok = absurd (none-some turn e)
-stored_current k n mailbox uid tag t selected now w (Entered a ∷ more) turn v K e met ok = absurd (none-some turn e)
-stored_current k n mailbox uid tag t selected now w (Looked a ∷ more) turn v K e met ok = absurd (none-some turn e)
-stored_current k n mailbox uid tag t selected now w (Found a ∷ more) turn v K e met ok = absurd (none-some turn e)
-stored_current k n mailbox uid tag t selected now w (Altered a ∷ more) turn v K e met ok = absurd (none-some turn e)
-stored_current k n mailbox uid tag t selected now w (Expunged a b c ∷ more) turn v K e met ok = absurd (none-some turn e)
-stored_current k n mailbox uid tag t selected now w (Fed a b ∷ more) turn v K e met ok = absurd (none-some turn e)
-stored_current k n mailbox uid tag t selected now w (Left a ∷ more) turn v K e met ok = absurd (none-some turn e)
-stored_current k n mailbox uid tag t selected now w (Starved a ∷ more) turn v K e met ok = absurd (none-some turn e)
+stored_current k n mailbox uid tag t selected now w (_ ∷ more) turn v K e met ok = absurd (none-some turn e)
 
 verdict_current : (k : Config) (n mailbox : ℕ) (verdict : Verdict) (tag : List ℕ) → IsWord tag → (selected : Selected) (now : Standing) (w : World) (answers : List Answer) (turn : Turn) (v : World) → Kept k w
     → played tag now (on_verdict (Some selected) mailbox verdict) answers ≡ Some turn → Met (Calls k n) w turn.events v → SaysOk turn.bytes → IsCurrent v n

@@ -24,4 +24,6 @@ pub mod FlagLaws
 pub mod Worlds
 pub mod FlagRecords
 pub mod FlagLife
+pub mod Served
+pub mod ServedFlags
 pub mod rows

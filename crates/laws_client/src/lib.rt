@@ -1,10 +1,11 @@
 //! Laws of what a mail client may conclude from the bytes that it is told: of the selected mailbox within one session, of a house over the record of
-//! all that was printed, and of flags. No code lives here, but laws.
+//! all that was printed, of flags, and of a server's sessions over mailboxes behind locks. No code lives here, but laws.
 #![tactic(auto)]
 
 mod flag_laws;
 mod list_laws;
 mod record_laws;
+mod served_laws;
 
 pub use flag_laws::{
     clients_know_flags, flags_are_heard, flags_are_told, flags_become_current, flags_have_moments,
@@ -17,4 +18,7 @@ pub use list_laws::{
 pub use record_laws::{
     answers_are_cut, appends_are_told, calls_are_seen, clients_keep_up, lists_are_current,
     lives_are_known, one_life_happens, turns_are_known, uids_stay,
+};
+pub use served_laws::{
+    served_clients_keep_up, served_clients_know_flags, served_lists_are_current, served_texts_stay,
 };

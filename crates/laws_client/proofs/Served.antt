@@ -1,0 +1,411 @@
+-- What a session over mailboxes behind locks counts, call by call, and what its client is told of it.
+use Rattle.std.proofs.Common.{◌≡◌, ◌⊎◌, inl, inr, ℕ, ◌+◌, ◌-◌, ◌<◌, ◌≤◌, ◌^◌, Bool, true, false, ◌==◌, List, [], ◌∷◌, ◌++◌, length, take, drop, map, refl, sym, subst, ap, ◌∙◌, arith, append-nil, Option, Some, None, All, Contains}
+use Rattle.std.specs.Prelude.{IfSome, if◌then◌else◌, min, option_map}
+use Rattle.std.proofs.Math.Nat.{min-le_left}
+use Rattle.std.proofs.Math.Seq.{take-length}
+use Rattle.std.proofs.lemmas.Bool.{eqb-true}
+use Rattle.std.proofs.lemmas.List.{take-append-drop, length-append, length-take, length-map}
+use Rattle.std.proofs.lemmas.List.Elements.{All-head, All-tail, Contains-append_left}
+use mathlib.Core.List.{IsPrefix}
+use Rattle.change_ring.specs.declared.change.Change.{Change}
+use Rattle.change_ring.specs.declared.change.Change.TheVariants.{Add, Gone, Flags as SetFlags}
+use Rattle.change_ring.specs.Log as change
+use Rattle.change_ring.specs.Log.{FitsView, added, replay, rows_of, view_at}
+use Rattle.change_ring.proofs.LogLaws.{added-append, uids-rows_after}
+use Rattle.change_ring.specs.Window.{total}
+use Rattle.cursor_set.specs.Cursors.{CursorHandle, Open, if_of, in_slot}
+use Rattle.delivery_token.specs.declared.Job.{Job}
+use Rattle.delivery_token.specs.declared.Verdict.TheVariants.{Stored}
+use Rattle.mailbox.specs.declared.clients.MailFault.{MailFault}
+use Rattle.mailbox.specs.declared.clients.Opening.{Opening}
+use Rattle.mailbox.specs.declared.clients.Row.{Row}
+use Rattle.mailbox.specs.Mailbox.{Mailbox, Message, message_with}
+use Rattle.mailbox.specs.Stands.{IsKept}
+use Rattle.house_history.specs.declared.event.Event as house
+use Rattle.house_history.specs.declared.event.Event.TheVariants.{Judged}
+use Rattle.house_history.specs.Events.{changes_in}
+use Rattle.house_history.specs.Legal.{Stands as WasStored}
+use Rattle.house_history.proofs.Parts.{same as same_number}
+use Rattle.house_history.proofs.Follow.{changes_grow}
+use Rattle.house_history.proofs.Standing.{same_copy}
+use Rattle.workers_sync.specs.Holds.{HasCursor}
+use Rattle.imap_session.specs.Exchange.{Call, Answer, Enter, Look, Read, Count, Alter, Expunge, Feed, Leave, Entered, Looked, Found, Counted, Altered, Expunged, Fed, Left, Refused, Starved, Event, Standing, Turn}
+use Rattle.imap_session.specs.Commands.{unlimited}
+use Rattle.imap_session.specs.Store.{Met}
+use Rattle.session_thread.specs.declared.locked_store.Entry.{Entry}
+use Rattle.session_thread.specs.Locks.{Holds, LockedStore, entered_at, seeing}
+use Rattle.session_thread.specs.SinceSelect.{IsUpToCursor, Opens, Shows, Tells, WasShown, WasShownIn, shown_since, shown_then}
+use Rattle.session_thread.proofs.SinceSelect.{by_call, since_select}
+use Rattle.laws_client.specs.Beliefs.{MayShow}
+use Rattle.laws_client.specs.Client.{Client}
+use Rattle.laws_client.specs.Clients.{IsRightAbout, Told, hears, hears_all}
+use Rattle.laws_client.specs.Fetches.{AreSmall, IsNumbered}
+use Rattle.laws_client.specs.ListTurns.{IsRowOf, Sees}
+use Rattle.laws_client.specs.RecordTurns.{Stands, VerdictsArePrinted, told_of}
+use Rattle.laws_client.specs.Talks.{Happening, leads_to}
+use Rattle.laws_client.specs.Served.{ArePrintable, CursorsStaySmall, FeedsReachTheEnd, HasSmallCursor, HasSmallUids, IsAtEnd, IsPrintable, ServedListsAreCurrent, ServedLives, ServedLivesAreKnown, ServedTextsStay, ServedTurnIsKnown, comes, turns, counted_by, counted_in, messages_in}
+use Rattle.laws_client.proofs.Living.{hears_last}
+use Rattle.laws_client.proofs.Logs.{length_replay, small_front, small_replay, view_stays, view_then}
+use Rattle.laws_client.proofs.RecordKnown.{stands_still, turn_heard}
+use Rattle.laws_client.proofs.Seen.{shows_fit}
+use Rattle.laws_client.proofs.ToldAll.{HearsAll, OpensSo}
+
+-- ---- small numbers
+
+small_of : (xs : List ℕ) → All (λ (uid : ℕ). uid < 2 ^ 64) xs → AreSmall xs
+small_of [] h = tt
+small_of (x ∷ xs) h = (All-head (λ (uid : ℕ). uid < 2 ^ 64) x xs h, small_of xs (All-tail (λ (uid : ℕ). uid < 2 ^ 64) x xs h))
+
+abbrev pub Small : List house.Event → Type 0
+Small history = (m : ℕ) → AreSmall (added (changes_in m history))
+
+pub small_before : (before after : List house.Event) → IsPrefix before after → Small after → Small before
+small_before before after goes small m =
+    let g = changes_grow m before after goes in
+    small_front (added (changes_in m before)) (added g.0) (subst AreSmall (ap added (sym g.1) ∙ added-append (changes_in m before) g.0) (small m))
+
+pub small_uids : (history : List house.Event) → HasSmallUids history → Small history
+small_uids history h m = small_of (added (changes_in m history)) (h m)
+
+length_added : (cs : List Change) → length (added cs) ≤ length cs
+length_added [] = omega arith
+length_added (Add uid ∷ cs) = omega (arith, length_added cs)
+length_added (Gone uid ∷ cs) = omega (arith, length_added cs)
+length_added (SetFlags uid flags ∷ cs) = omega (arith, length_added cs)
+
+-- no more messages than changes
+pub few_at : (log : List Change) (c : ℕ) → length (view_at log c) ≤ c
+few_at log c = omega (arith, length_replay [] (take c log), length_added (take c log), length-take c log, min-le_left c (length log))
+
+numbered_to : (log : List Change) (c : ℕ) → AreSmall (added log) → c ≤ 2 ^ 62 → IsNumbered (view_at log c)
+numbered_to log c small few =
+    let parts : added log ≡ added (take c log) ++ added (drop c log) = ap added (sym (take-append-drop c log)) ∙ added-append (take c log) (drop c log) in record {
+      few = omega (arith, few, few_at log c);
+      small = small_replay [] (take c log) tt (small_front (added (take c log)) (added (drop c log)) (subst AreSmall parts small));
+    }
+
+pub numbered : (selection : LockedStore) → Small selection.history → HasSmallCursor selection → IsNumbered (counted_by selection)
+numbered selection small at = by selection.entered at
+  where
+    by : (entered : Option Entry) → IfSome entered (λ (here : Entry). here.handle.at ≤ 2 ^ 62) → IsNumbered (counted_in selection.history entered)
+    by None h = record { few = omega arith; small = tt }
+    by (Some here) h = numbered_to (changes_in here.mailbox selection.history) here.handle.at (small here.mailbox) h
+
+-- ---- what a session counts, as the history goes on
+
+pub view_grows : (log all : List Change) (c : ℕ) → IsPrefix log all → c ≤ length log → view_at all c ≡ view_at log c
+view_grows log all c goes within = ap (λ (l : List Change). view_at l c) (sym goes.1) ∙ view_stays c log goes.0 within
+
+pub counted_grows : (before after : List house.Event) (entered : Option Entry) (shown : List Change) → IsPrefix before after → WasShownIn before entered shown → counted_in after entered ≡ counted_in before entered
+counted_grows before after None shown goes was = refl
+counted_grows before after (Some here) shown goes was =
+    view_grows (changes_in here.mailbox before) (changes_in here.mailbox after) here.handle.at (changes_grow here.mailbox before after goes) was.within
+
+pub entered_of : (old new : LockedStore) → new ≡ seeing old new.history → new.entered ≡ old.entered
+entered_of old new is = ap (λ (p : LockedStore). p.entered) is
+
+-- it has seen more of the history, and is where it was
+counts_still : (old new : LockedStore) (shown : List Change) → new ≡ seeing old new.history → IsPrefix old.history new.history → WasShown old shown → counted_by new ≡ counted_by old
+counts_still old new shown is goes was =
+    ap (λ (e : Option Entry). counted_in new.history e) (entered_of old new is) ∙ counted_grows old.history new.history old.entered shown goes was
+
+pub of_entry : (P : Entry → Type 0) (entered : Option Entry) (here : Entry) → entered ≡ Some here → IfSome entered P → P here
+of_entry P entered here is h = subst (λ (e : Option Entry). IfSome e P) is h
+
+pub to_entry : (P : Entry → Type 0) (entered : Option Entry) (here : Entry) → entered ≡ Some here → P here → IfSome entered P
+to_entry P entered here is h = subst (λ (e : Option Entry). IfSome e P) (sym is) h
+
+pub shown_to : (history : List house.Event) (entered : Option Entry) (here : Entry) (shown : List Change) → entered ≡ Some here → WasShownIn history entered shown → IsUpToCursor history here shown
+shown_to history entered here shown is was = subst (λ (e : Option Entry). WasShownIn history e shown) is was
+
+-- ---- a cursor at the end of its log
+
+pub all_there : (log : List Change) (at : ℕ) → at ≡ length log → view_at log at ≡ map (λ (row : change.Row). row.uid) (rows_of log)
+all_there log at end = ap (view_at log) end ∙ ap (replay []) (take-length log) ∙ sym (uids-rows_after [] log)
+
+pub served_lists_are_current : ServedListsAreCurrent
+served_lists_are_current selection here is end =
+    ap (counted_in selection.history) is ∙ all_there (changes_in here.mailbox selection.history) here.handle.at end
+
+-- ---- cursors stay small
+
+still_small : (old new : LockedStore) → new ≡ old → HasSmallCursor old → HasSmallCursor new
+still_small old new is h = subst (λ (p : LockedStore). HasSmallCursor p) (sym is) h
+
+seen_small : (old new : LockedStore) → new ≡ seeing old new.history → HasSmallCursor old → HasSmallCursor new
+seen_small old new is h = subst (λ (e : Option Entry). IfSome e (λ (here : Entry). here.handle.at ≤ 2 ^ 62)) (sym (entered_of old new is)) h
+
+-- a cursor stands within the log of its mailbox, and that has no more changes
+within_few : (m : Mailbox) (handle : CursorHandle) (view : List ℕ) → IsKept m → HasCursor m handle view → handle.at ≤ 2 ^ 62
+within_few m handle view kept known = let few = kept.few in let within = known.within in omega (arith, few, within)
+
+at_small : (selection : LockedStore) (here : Entry) → selection.entered ≡ Some here → here.handle.at ≤ 2 ^ 62 → HasSmallCursor selection
+at_small selection here is few = to_entry (λ (e : Entry). e.handle.at ≤ 2 ^ 62) selection.entered here is few
+
+-- a refused call leaves the session as it was
+pub still : (old new : LockedStore) (call : Call) (fault : MailFault) → Holds old call (Refused fault) new → new ≡ old
+still old new (Enter m) fault h = h.0
+still old new (Look by_uid set) fault h = h.0
+still old new (Read uid mark) fault h = h.0
+still old new (Count m) fault h = h.0
+still old new (Alter uid op) fault h = h.0
+still old new (Expunge uids) fault h = h.0
+still old new (Feed limit) fault h = h.0
+still old new (Leave remove) fault h = h.0
+
+pub never : (old new : LockedStore) (call : Call) (n : ℕ) → Holds old call (Starved n) new → ⊥
+never old new (Enter m) n h = h
+never old new _ n h = h
+
+pub small_call : (old new : LockedStore) (call : Call) (answer : Answer) → Holds old call answer new → HasSmallCursor old → HasSmallCursor new
+small_call old new call (Refused fault) h small = still_small old new (still old new call fault h) small
+small_call old new (Enter m) (Entered opening) (nowhere, door, (handle, (found, left, (number, enters), k), is)) small =
+    at_small new (record { mailbox = m; start = handle.at; handle = handle }) (ap (λ (p : LockedStore). p.entered) is) (within_few left.mailbox handle _ enters.event.left_kept enters.known)
+small_call old new (Look by_uid set) (Looked view) h small = still_small old new h.0 small
+small_call old new (Read uid mark) (Found row) h small = seen_small old new h.0 small
+small_call old new (Count m) (Counted status) h small = seen_small old new h.0 small
+small_call old new (Alter uid op) (Altered flags) h small = seen_small old new h.0 small
+small_call old new (Expunge uids) (Expunged view changes gone) (here, there, (next, (found, left, (does, shows), k), is)) small =
+    at_small new (record { mailbox = here.mailbox; start = here.start; handle = next }) (ap (λ (p : LockedStore). p.entered) is) (within_few left.mailbox next _ does.event.left_kept does.counts)
+small_call old new (Feed limit) (Fed view changes) (here, there, (next, (found, left, (feeds, shows), k), is)) small =
+    at_small new (record { mailbox = here.mailbox; start = here.start; handle = next }) (ap (λ (p : LockedStore). p.entered) is) (within_few left.mailbox next _ feeds.event.left_kept feeds.counts)
+small_call old new (Leave remove) (Left gone) h small = subst (λ (e : Option Entry). IfSome e (λ (here : Entry). here.handle.at ≤ 2 ^ 62)) (sym (ap (λ (p : LockedStore). p.entered) h.1)) tt
+small_call old new call (Starved n) h small = absurd (never old new call n h)
+small_call old new _ _ h small = absurd h
+
+pub cursors_stay_small : CursorsStaySmall
+cursors_stay_small old new [] met small = still_small old new met small
+cursors_stay_small old new (event ∷ events) met small = cursors_stay_small met.0 new events met.2 (small_call old met.0 event.call event.answer met.1 small)
+
+-- ---- what it sees
+
+abbrev pub SeesSo : LockedStore → Call → Answer → LockedStore → Type 0
+SeesSo old call answer new = Sees (counted_by old) (record { call = call; answer = answer }) (counted_by new) × OpensSo answer (counted_by new)
+
+unmoved : (old new : LockedStore) (call : Call) (fault : MailFault) → new ≡ old → SeesSo old call (Refused fault) new
+unmoved old new call fault is = (record { leads = ap counted_by is; fits = tt }, tt)
+
+-- the view that was looked at
+met_view : (old : LockedStore) (here : Entry) (view : List ℕ) (changes : List Change) → old.entered ≡ Some here → Shows old.history here view changes → view ≡ counted_by old
+met_view old here view changes there shows = shows.met ∙ sym (ap (counted_in old.history) there)
+
+sees_entry : (old new : LockedStore) (call : Call) (opening : Opening) (shown : List Change) → Holds old call (Entered opening) new → Tells old (Entered opening) new → WasShown new [] → HasSmallCursor new → IsPrintable (Entered opening)
+    → SeesSo old call (Entered opening) new
+sees_entry old new (Enter m) opening shown h tells was small fine =
+    let handle : CursorHandle = h.2.0 in
+    let here : Entry = record { mailbox = m; start = handle.at; handle = handle } in
+    let there : new.entered ≡ Some here = ap (λ (p : LockedStore). p.entered) h.2.2 in
+    let told = of_entry (λ (e : Entry). Opens new.history e opening) new.entered here there tells in
+    let few = of_entry (λ (e : Entry). e.handle.at ≤ 2 ^ 62) new.entered here there small in
+    let log : List Change = changes_in m new.history in
+    let view : counted_by new ≡ messages_in m new.history = served_lists_are_current new here there told.start in
+    let count : opening.count ≡ length (counted_by new) =
+    told.count ∙ sym (length-map (rows_of log) (λ (row : change.Row). row.uid)) ∙ ap length (sym view) in
+    let is = ap (λ (xs : List ℕ). length xs) (ap (counted_in new.history) there) in
+    let most = few_at log handle.at in
+    (record { leads = tt; fits = tt }, record { count = count; few = omega (arith, count, is, most, few); uidvalidity = fine.1; uidnext = fine.0 })
+sees_entry old new _ opening shown h tells was small fine = absurd h
+
+sees_look : (old new : LockedStore) (call : Call) (view : List ℕ) → Holds old call (Looked view) new → Tells old (Looked view) new → SeesSo old call (Looked view) new
+sees_look old new (Look by_uid set) view h tells =
+    let there = h.1.1 in
+    let shows = of_entry (λ (e : Entry). Shows old.history e view []) old.entered h.1.0 there tells in
+    (record { leads = (met_view old h.1.0 view [] there shows, ap counted_by h.0); fits = tt }, tt)
+sees_look old new _ view h tells = absurd h
+
+-- a row that was found has the UID that was asked for
+row_uid : (uid : ℕ) (f : Message → Row) (messages : List Message) (row : Row) → ((m : Message) → (f m).uid ≡ m.uid) → option_map f (message_with uid messages) ≡ Some row → row.uid ≡ uid
+row_uid uid f [] row same e = cc
+row_uid uid f (m ∷ messages) row same e = by (m.uid == uid) refl (row_uid uid f messages row same) e
+  where
+    some_row : Row → Option Row → Row
+    some_row d None = d
+    some_row d (Some r) = r
+
+    by : (b : Bool) → (m.uid == uid) ≡ b → (option_map f (message_with uid messages) ≡ Some row → row.uid ≡ uid) → option_map f (if b then Some m else message_with uid messages) ≡ Some row → row.uid ≡ uid
+    by true is more found = ap (λ (o : Option Row). (some_row row o).uid) (sym found) ∙ same m ∙ eqb-true m.uid uid is
+    by false is more found = more found
+
+row_of_uid : (uid : ℕ) (f : Message → Row) (messages : List Message) (row : Option Row) → ((m : Message) → (f m).uid ≡ m.uid) → row ≡ option_map f (message_with uid messages) → IsPrintable (Found row) → IsRowOf uid row
+row_of_uid uid f messages None same e fine = tt
+row_of_uid uid f messages (Some row) same e fine = (row_uid uid f messages row same (sym e), fine)
+
+sees_row : (old new : LockedStore) (call : Call) (row : Option Row) (shown : List Change) → Holds old call (Found row) new → IsPrefix old.history new.history → WasShown old shown → IsPrintable (Found row) → SeesSo old call (Found row) new
+sees_row old new (Read uid mark) row shown h goes was fine =
+    let reads = h.1.2.2.0 in
+    (record { leads = counts_still old new shown h.0 goes was; fits = row_of_uid uid _ h.1.2.1.mailbox.messages row (λ m. refl) reads.answers fine }, tt)
+sees_row old new _ row shown h goes was fine = absurd h
+
+sees_count : (old new : LockedStore) (call : Call) (status : _) (shown : List Change) → Holds old call (Counted status) new → IsPrefix old.history new.history → WasShown old shown → IsPrintable (Counted status) → SeesSo old call (Counted status) new
+sees_count old new (Count m) status shown h goes was fine = (record { leads = counts_still old new shown h.0 goes was; fits = fine }, tt)
+sees_count old new _ status shown h goes was fine = absurd h
+
+sees_flags : (old new : LockedStore) (call : Call) (flags : _) (shown : List Change) → Holds old call (Altered flags) new → IsPrefix old.history new.history → WasShown old shown → SeesSo old call (Altered flags) new
+sees_flags old new (Alter uid op) flags shown h goes was = (record { leads = counts_still old new shown h.0 goes was; fits = tt }, tt)
+sees_flags old new _ flags shown h goes was = absurd h
+
+-- the next changes were shown
+record MovesOn (old : LockedStore) (view : List ℕ) (changes : List Change) (new : LockedStore) : Type 0 where
+  met : view ≡ counted_by old
+  goes : counted_by new ≡ replay (counted_by old) changes
+  may : MayShow (counted_by old) changes
+
+moves_on : (old new : LockedStore) (here : Entry) (next : CursorHandle) (view : List ℕ) (changes shown : List Change) → old.entered ≡ Some here → new ≡ entered_at old here next new.history → IsPrefix old.history new.history
+    → Shows new.history here view changes → WasShown old shown → WasShown new (shown ++ changes) → FitsView [] (changes_in here.mailbox new.history) → Small new.history → HasSmallCursor new → MovesOn old view changes new
+moves_on old new here next view changes shown there is goes shows was now fits small few =
+    let log : List Change = changes_in here.mailbox new.history in
+    let at : Entry = record { mailbox = here.mailbox; start = here.start; handle = next } in
+    let there_now : new.entered ≡ Some at = ap (λ (p : LockedStore). p.entered) is in
+    let before = shown_to old.history old.entered here shown there was in
+    let after = shown_to new.history new.entered at (shown ++ changes) there_now now in
+    let few_now = of_entry (λ (e : Entry). e.handle.at ≤ 2 ^ 62) new.entered at there_now few in
+    let l = length-append shown changes in
+    let c = before.cursor in
+    let d = after.cursor in
+    let within = after.within in
+    let on : next.at ≡ here.handle.at + length changes = omega (arith, l, c, d) in
+    let inside : here.handle.at ≤ length log = omega (arith, on, within) in
+    let some : List Change = take (length changes) (drop here.handle.at log) in
+    let same : counted_by old ≡ view_at log here.handle.at =
+    ap (counted_in old.history) there ∙ sym (view_grows (changes_in here.mailbox old.history) log here.handle.at (changes_grow here.mailbox old.history new.history goes) before.within) in
+    let most = few_at log here.handle.at in
+    let long = ap length shows.showed in record {
+      met = shows.met ∙ sym same;
+      goes = ap (counted_in new.history) there_now ∙ ap (view_at log) (on ∙ ap (λ (cs : List Change). here.handle.at + length cs) shows.showed)
+          ∙ ap (λ (l : List Change). view_at l (here.handle.at + length some)) (sym (append-nil log)) ∙ view_then here.handle.at (length changes) log [] inside
+          ∙ ap (λ (cs : List Change). replay (view_at log here.handle.at) cs) (sym shows.showed) ∙ ap (λ (xs : List ℕ). replay xs changes) (sym same);
+      may = subst (λ (cs : List Change). MayShow (counted_by old) cs) (sym shows.showed) (subst (λ (xs : List ℕ). MayShow xs some) (sym same)
+          (shows_fit log here.handle.at (length changes) fits (small here.mailbox) (omega (arith, most, few_now, on, long))));
+    }
+
+sees_expunge : (old new : LockedStore) (call : Call) (view : List ℕ) (changes : List Change) (gone : ℕ) (shown : List Change) → Holds old call (Expunged view changes gone) new → IsPrefix old.history new.history
+    → Tells old (Expunged view changes gone) new → WasShown old shown → WasShown new (shown ++ changes) → Small new.history → HasSmallCursor new → SeesSo old call (Expunged view changes gone) new
+sees_expunge old new (Expunge uids) view changes gone shown (here, there, (next, (found, left, does, k), is)) goes tells was now small few =
+    let shows = of_entry (λ (e : Entry). Shows new.history e view changes) old.entered here there tells in
+    let on = moves_on old new here next view changes shown there is goes shows was now (k.legal.logs here.mailbox).there small few in
+    (record { leads = (on.met, on.goes); fits = on.may }, tt)
+sees_expunge old new _ view changes gone shown h goes tells was now small few = absurd h
+
+sees_feed : (old new : LockedStore) (call : Call) (view : List ℕ) (changes : List Change) (shown : List Change) → Holds old call (Fed view changes) new → IsPrefix old.history new.history
+    → Tells old (Fed view changes) new → WasShown old shown → WasShown new (shown ++ changes) → Small new.history → HasSmallCursor new → SeesSo old call (Fed view changes) new
+sees_feed old new (Feed limit) view changes shown (here, there, (next, (found, left, does, k), is)) goes tells was now small few =
+    let shows = of_entry (λ (e : Entry). Shows new.history e view changes) old.entered here there tells in
+    let on = moves_on old new here next view changes shown there is goes shows was now (k.legal.logs here.mailbox).there small few in
+    (record { leads = (on.met, on.goes); fits = on.may }, tt)
+sees_feed old new _ view changes shown h goes tells was now small few = absurd h
+
+pub sees_call : (old new : LockedStore) (call : Call) (answer : Answer) (shown : List Change) → Holds old call answer new → WasShown old shown → HasSmallCursor old → IsPrintable answer → Small new.history → SeesSo old call answer new
+sees_call old new call answer shown h was at fine small =
+    let b = by_call old new call answer shown h was in
+    by answer h b.0 b.1 b.2 (small_call old new call answer h at) fine
+  where
+    by : (answer : Answer) → Holds old call answer new → IsPrefix old.history new.history → Tells old answer new → WasShown new (shown_then shown answer) → HasSmallCursor new → IsPrintable answer → SeesSo old call answer new
+    by (Entered opening) h goes tells now few fine = sees_entry old new call opening shown h tells now few fine
+    by (Looked view) h goes tells now few fine = sees_look old new call view h tells
+    by (Found row) h goes tells now few fine = sees_row old new call row shown h goes was fine
+    by (Counted status) h goes tells now few fine = sees_count old new call status shown h goes was fine
+    by (Altered flags) h goes tells now few fine = sees_flags old new call flags shown h goes was
+    by (Expunged view changes gone) h goes tells now few fine = sees_expunge old new call view changes gone shown h goes tells was now small few
+    by (Fed view changes) h goes tells now few fine = sees_feed old new call view changes shown h goes tells was now small few
+    by (Left gone) h goes tells now few fine = (record { leads = tt; fits = tt }, tt)
+    by (Refused fault) h goes tells now few fine = unmoved old new call fault (still old new call fault h)
+    by (Starved n) h goes tells now few fine = absurd (never old new call n h)
+
+pub hears_held : (old new : LockedStore) (events : List Event) (shown : List Change) → Met Holds old events new → WasShown old shown → HasSmallCursor old → ArePrintable events → Small new.history → HearsAll (counted_by old) events (counted_by new)
+hears_held old new [] shown met was at fine small = ap counted_by met
+hears_held old new (event ∷ events) shown (mid, one, more) was at (fine, rest) small =
+    let b = by_call old mid event.call event.answer shown one was in
+    let s = since_select mid new events (shown_then shown event.answer) more b.2 in
+    let sees = sees_call old mid event.call event.answer shown one was at fine (small_before mid.history new.history s.0 small) in
+    (counted_by mid, sees.0, sees.1, hears_held mid new events (shown_then shown event.answer) more b.2 (small_call old mid event.call event.answer one at) rest small)
+
+-- ---- turns
+
+turn_held : (old new : LockedStore) (shown : List Change) (now : Standing) (happening : Happening) (turn : Turn) (client : Option Client) → WasShown old shown → HasSmallCursor old → Stands now
+    → VerdictsArePrinted happening → ArePrintable turn.events → Small new.history → leads_to now happening ≡ Some turn → Met Holds old turn.events new
+    → IsRightAbout (counted_by old) client → IsRightAbout (counted_by new) (hears client (told_of now happening turn.bytes))
+turn_held old new shown now happening turn client was at stands printed fine small e met right =
+    let s = since_select old new turn.events shown met was in
+    turn_heard now (counted_by old) happening turn (counted_by new) client stands (numbered old (small_before old.history new.history s.0 small) at) printed e (hears_held old new turn.events shown met was at fine small) right
+
+pub served_turn_is_known : ServedTurnIsKnown
+served_turn_is_known old new shown now happening turn client was at stands printed fine small e met right =
+    turn_held old new shown now happening turn client was at stands printed fine (small_uids new.history small) e met right
+
+-- ---- a life
+
+pub record StandsIn (now : Standing) (selection : LockedStore) : Type 0 where
+  pub stands : Stands now
+  pub shown : List Change
+  pub was : WasShown selection shown
+  pub at : HasSmallCursor selection
+
+pub stands_in : (first : Standing) (began : LockedStore) {sent : List ℕ} {told : List Told} {now : Standing} {selection : LockedStore} → began.entered ≡ None → Stands first
+    → ServedLives first began sent told now selection → StandsIn now selection
+stands_in first began none stands comes = record {
+  stands = stands;
+  shown = [];
+  was = subst (λ (e : Option Entry). WasShownIn began.history e []) (sym none) refl;
+  at = subst (λ (e : Option Entry). IfSome e (λ (here : Entry). here.handle.at ≤ 2 ^ 62)) (sym none) tt;
+}
+stands_in first began none stands (turns {now = now} {selection = selection} lives happening bytes turn next sent printed fine e met) =
+    let K = stands_in first began none stands lives in record {
+      stands = stands_still now happening turn K.stands e;
+      shown = shown_since K.shown turn.events;
+      was = (since_select selection next turn.events K.shown met K.was).1;
+      at = cursors_stay_small selection next turn.events met K.at;
+    }
+
+served_lives : (first : Standing) (began : LockedStore) {sent : List ℕ} {told : List Told} {now : Standing} {selection : LockedStore} → began.entered ≡ None → Stands first → Small selection.history
+    → ServedLives first began sent told now selection → IsRightAbout (counted_by selection) (hears_all None told)
+served_lives first began none stands small comes = tt
+served_lives first began none stands small (turns {told = told} {now = now} {selection = selection} lives happening bytes turn next sent printed fine e met) =
+    let K = stands_in first began none stands lives in
+    let s = since_select selection next turn.events K.shown met K.was in
+    let right = served_lives first began none stands (small_before selection.history next.history s.0 small) lives in
+    subst (λ (c : Option Client). IsRightAbout (counted_by next) c) (sym (hears_last None told (told_of now happening turn.bytes)))
+    (turn_held selection next K.shown now happening turn (hears_all None told) K.was K.at K.stands printed fine small e met right)
+
+pub served_lives_are_known : ServedLivesAreKnown
+served_lives_are_known first began sent told now selection none stands small lives = served_lives first began none stands (small_uids selection.history small) lives
+
+-- ---- a Feed that shows all
+
+number_of : (b : Bool) (o : Option Open) (x : Open) → (if b then o else None) ≡ Some x → b ≡ true
+number_of true o x e = refl
+number_of false o x e = cc
+
+-- the handle is of the mailbox that was found
+pub of_number : (found : Mailbox) (handle : CursorHandle) (view : List ℕ) → IsKept found → HasCursor found handle view → found.number ≡ handle.number
+of_number found handle view kept known =
+    sym kept.handles ∙ same_number (found.cursors.number) handle.number
+    (number_of (found.cursors.number == handle.number) (if_of handle (in_slot found.cursors handle.slot)) (record { serial = handle.serial; at = handle.at; view = view }) known.cursor)
+
+-- as many were shown as were pending
+all_were : (limit pending shown : ℕ) → shown ≡ min limit pending → pending ≤ 2 ^ 62 → (shown < limit) ⊎ (limit ≡ unlimited) → shown ≡ pending
+all_were limit pending shown is few (inl less) = omega (arith, is, less)
+all_were limit pending shown is few (inr all) = omega (arith, is, few, all)
+
+pub feeds_reach_the_end : FeedsReachTheEnd
+feeds_reach_the_end old new limit view changes shown was (here, there, (next, (found, left, (feeds, shows), k), is)) most =
+    let before = shown_to old.history old.entered here shown there was in
+    let n : found.mailbox.number ≡ here.mailbox = of_number found.mailbox here.handle view feeds.event.found_kept feeds.known ∙ before.handle in
+    let few = feeds.event.found_kept.few in
+    let known = feeds.known.within in
+    let all = all_were limit (total found.mailbox.window - here.handle.at) (length changes) feeds.count (omega (arith, few)) most in
+    let at = ap (λ (h : CursorHandle). h.at) feeds.goes_on in
+    let log : changes_in found.mailbox.number new.history ≡ changes_in found.mailbox.number found.events =
+    k.all ∙ ap (changes_in found.mailbox.number) (k.events ∙ append-nil found.events) in
+    let long : length (changes_in here.mailbox new.history) ≡ total found.mailbox.window =
+    subst (λ (m : ℕ). length (changes_in m new.history) ≡ total found.mailbox.window) n (ap length log ∙ k.found_log.window.long) in
+    to_entry (IsAtEnd new) new.entered (record { mailbox = here.mailbox; start = here.start; handle = next }) (ap (λ (p : LockedStore). p.entered) is) (omega (arith, known, all, at, long))
+
+-- ---- texts
+
+pub served_texts_stay : ServedTextsStay
+served_texts_stay before after m a b legal goes (i, in_i, text_i, was_i) (j, in_j, text_j, was_j) same =
+    let event : house.Event = Judged i (Stored a.uid) was_i.0 in
+    let later = subst (λ (h : List house.Event). Contains h event) goes.1 (Contains-append_left before goes.0 event was_i.1) in
+    let under = subst (λ (uid : ℕ). WasStored after i uid) same (was_i.0, later) in
+    let one = same_copy after i j b.uid legal under was_j (in_i ∙ sym in_j) in
+    sym text_i ∙ ap (λ (k : Job). k.text) one ∙ text_j

@@ -1,0 +1,145 @@
+-- A client of a session over mailboxes behind locks, as a server's: what its session counts, and when the client is right about that.
+use Rattle.std.specs.Prelude.{◌≡◌, ◌⊎◌, ℕ, ◌<◌, ◌≤◌, ◌^◌, true, List, [], ◌∷◌, ◌++◌, length, map, All, Option, Some, None, IfSome, Ok}
+use mathlib.Core.List.{IsPrefix}
+use Rattle.change_ring.specs.declared.change.Change.{Change}
+use Rattle.change_ring.specs.Log as change
+use Rattle.change_ring.specs.Log.{added, rows_of, view_at}
+use Rattle.mailbox.specs.declared.clients.Row.{Row}
+use Rattle.house_history.specs.declared.event.Event as house
+use Rattle.house_history.specs.Events.{changes_in}
+use Rattle.house_history.specs.Legal.{Legal}
+use Rattle.imap_grammar.specs.Reading.{is_done, read}
+use Rattle.imap_grammar.specs.declared.command.Command.{Command}
+use Rattle.imap_grammar.specs.Verbs.{verb_of}
+use Rattle.imap_session.specs.declared.standing.Selected.{Selected}
+use Rattle.imap_session.specs.declared.texts.ResponseText.TheVariants as texts
+use Rattle.imap_session.specs.Exchange.{Answer, Counted, Entered, Event, Fed, Feed, Found, Standing, Turn, kept_tag, tagged}
+use Rattle.imap_session.specs.Commands.{turn_of, unlimited}
+use Rattle.imap_session.specs.Texts.{response_text}
+use Rattle.imap_session.specs.Store.{Met}
+use Rattle.session_thread.specs.declared.locked_store.Entry.{Entry}
+use Rattle.session_thread.specs.Locks.{HasItsText, Holds, LockedStore}
+use Rattle.session_thread.specs.SinceSelect.{WasShown}
+use Rattle.laws_client.specs.Beliefs.{IsRight}
+use Rattle.laws_client.specs.Client.{Client, Known, knowing}
+use Rattle.laws_client.specs.Clients.{Answer as Answer_to, IsRightAbout, Told, has_ok, hears, hears_all}
+use Rattle.laws_client.specs.Current.{shows_all}
+use Rattle.laws_client.specs.ListTurns.{IsCounted}
+use Rattle.laws_client.specs.Lives.{IsSentFor}
+use Rattle.laws_client.specs.RecordTurns.{Stands, VerdictsArePrinted, told_of}
+use Rattle.laws_client.specs.Talks.{Happening, leads_to}
+
+-- ---- what it counts
+
+-- the UIDs that the first changes of its mailbox leave, up to the cursor; none where it has selected no mailbox
+abbrev pub counted_in : List house.Event → Option Entry → List ℕ
+counted_in history None = []
+counted_in history (Some here) = view_at (changes_in here.mailbox history) here.handle.at
+
+-- by the history as far as the session has seen it
+abbrev pub counted_by : LockedStore → List ℕ
+counted_by selection = counted_in selection.history selection.entered
+
+-- ---- what has to be small, so that each number in a session's lines can be printed
+
+-- The numbers in an answer of the store can be printed. In the code they are machine numbers of at most 64 bits, but for the SIZE of a STATUS, which has 128: it is the sum of the lengths
+-- of texts that are in memory.
+abbrev pub IsPrintable : Answer → Type 0
+IsPrintable (Entered opening) = (opening.uidnext < 2 ^ 64) × (opening.uidvalidity < 2 ^ 64)
+IsPrintable (Counted status) = IsCounted status
+IsPrintable (Found (Some row)) = length row.text < 2 ^ 64
+IsPrintable answer = Unit {0}
+
+-- so can those in the answers to these calls
+abbrev pub ArePrintable : List Event → Type 0
+ArePrintable [] = Unit {0}
+ArePrintable (event ∷ events) = IsPrintable event.answer × ArePrintable events
+
+-- each UID that a mailbox gave can be printed
+abbrev pub HasSmallUids : List house.Event → Type 0
+HasSmallUids history = (m : ℕ) → All (λ (uid : ℕ). uid < 2 ^ 64) (added (changes_in m history))
+
+-- The cursor's number is one that a mailbox can count up to: no log is longer.
+abbrev pub HasSmallCursor : LockedStore → Type 0
+HasSmallCursor selection = IfSome selection.entered (λ here. here.handle.at ≤ 2 ^ 62)
+
+-- ---- a turn
+
+-- Whatever happens, whatever is refused, and whatever others do between two holds of a lock: a client that was right about what its session counts before a turn hears what is said
+-- in it, and is right about what the session counts then.
+abbrev pub ServedTurnIsKnown : Type 0
+ServedTurnIsKnown = (old new : LockedStore) (shown : List Change) (now : Standing) (happening : Happening) (turn : Turn) (client : Option Client)
+    → WasShown old shown → HasSmallCursor old → Stands now → VerdictsArePrinted happening → ArePrintable turn.events → HasSmallUids new.history
+    → leads_to now happening ≡ Some turn → Met Holds old turn.events new
+    → IsRightAbout (counted_by old) client → IsRightAbout (counted_by new) (hears client (told_of now happening turn.bytes))
+
+-- and the cursor's number is such a one then, whatever was called
+abbrev pub CursorsStaySmall : Type 0
+CursorsStaySmall = (old new : LockedStore) (events : List Event) → Met Holds old events new → HasSmallCursor old → HasSmallCursor new
+
+-- ---- a life
+
+-- A session stood so when it came. Since then these bytes of its client were answered, and it was told all this, piece by piece; and now it stands so, in the mailbox that it has
+-- entered. What others do needs no case of its own: each hold of a lock may find whatever they have done meanwhile.
+pub data ServedLives (first : Standing) (began : LockedStore) : List ℕ → List Told → Standing → LockedStore → Type 0 where
+  comes : ServedLives first began [] [] first began
+  turns : {sent : List ℕ} {told : List Told} {now : Standing} {selection : LockedStore} → ServedLives first began sent told now selection
+      → (happening : Happening) (bytes : List ℕ) (turn : Turn) (next : LockedStore) → IsSentFor happening bytes → VerdictsArePrinted happening → ArePrintable turn.events
+      → leads_to now happening ≡ Some turn → Met Holds selection turn.events next
+      → ServedLives first began (sent ++ bytes) (told ++ told_of now happening turn.bytes ∷ []) turn.standing next
+
+-- Whatever its client sends and whatever others do, from where it was in no mailbox it is right about what the session counts at each moment.
+abbrev pub ServedLivesAreKnown : Type 0
+ServedLivesAreKnown = (first : Standing) (began : LockedStore) (sent : List ℕ) (told : List Told) (now : Standing) (selection : LockedStore)
+    → began.entered ≡ None → Stands first → HasSmallUids selection.history
+    → ServedLives first began sent told now selection → IsRightAbout (counted_by selection) (hears_all None told)
+
+-- ---- when its list is the mailbox
+
+-- the UIDs of the messages that the history leaves in mailbox m, in their order
+abbrev pub messages_in : ℕ → List house.Event → List ℕ
+messages_in m history = map (λ (row : change.Row). row.uid) (rows_of (changes_in m history))
+
+-- the cursor is at the end of the mailbox's log, as far as the session has seen it
+abbrev pub IsAtEnd : LockedStore → Entry → Type 0
+IsAtEnd selection here = here.handle.at ≡ length (changes_in here.mailbox selection.history)
+
+-- Then what the session counts is all that is there: so a client that is right about it has a list of the mailbox as it is.
+abbrev pub ServedListsAreCurrent : Type 0
+ServedListsAreCurrent = (selection : LockedStore) (here : Entry) → selection.entered ≡ Some here → IsAtEnd selection here → counted_by selection ≡ messages_in here.mailbox selection.history
+
+-- And the cursor is there where fewer changes were shown than were asked for, or all that are pending were, as at the end of NOOP (RFC 9051, 6.1.2).
+abbrev pub FeedsReachTheEnd : Type 0
+FeedsReachTheEnd = (old new : LockedStore) (limit : ℕ) (view : List ℕ) (changes shown : List Change)
+    → WasShown old shown → Holds old (Feed limit) (Fed view changes) new → (length changes < limit) ⊎ (limit ≡ unlimited) → IfSome new.entered (IsAtEnd new)
+
+-- So it is behind a command that `shows_all` names whose answer's last line says that it is done.
+abbrev pub ServedCommandsReachTheEnd : Type 0
+ServedCommandsReachTheEnd = (old new : LockedStore) (shown : List Change) (now : Standing) (line tag : List ℕ) (command : Command) (selected : Selected) (answers : List Answer) (turn : Turn) (front : List ℕ)
+    → WasShown old shown → now.selected ≡ Some selected → turn_of now line answers ≡ Some turn → Met Holds old turn.events new
+    → kept_tag now ≡ None → read line ≡ Ok (tag, command) → shows_all command ≡ true → turn.bytes ≡ front ++ tagged tag (response_text (texts.Completed (verb_of command)))
+    → IfSome new.entered (IsAtEnd new)
+
+-- and behind a DONE, where the IDLE that it ends is answered OK (RFC 2177)
+abbrev pub ServedDoneReachesTheEnd : Type 0
+ServedDoneReachesTheEnd = (old new : LockedStore) (shown : List Change) (now : Standing) (line tag : List ℕ) (selected : Selected) (answers : List Answer) (turn : Turn)
+    → WasShown old shown → Stands now → now.selected ≡ Some selected → turn_of now line answers ≡ Some turn → Met Holds old turn.events new
+    → now.mailing.begun ≡ None → now.idling ≡ Some tag → is_done line ≡ true → has_ok true tag turn.bytes ≡ true
+    → IfSome new.entered (IsAtEnd new)
+
+-- In a session's life: a client that knows where it is sends one of the lines of `shows_all`. When it has read the answer to its end it still knows, and its list is the mailbox as its session found it last.
+abbrev pub ServedCommandsMakeCurrent : Type 0
+ServedCommandsMakeCurrent = (first : Standing) (began : LockedStore) (sent : List ℕ) (told : List Told) (now : Standing) (selection : LockedStore) (client : Client)
+    (line tag : List ℕ) (command : Command) (answers : List Answer) (turn : Turn) (next : LockedStore) (front : List ℕ) (here : Entry)
+    → began.entered ≡ None → Stands first → HasSmallUids next.history → ServedLives first began sent told now selection → hears_all None told ≡ Some client
+    → turn_of now line answers ≡ Some turn → ArePrintable turn.events → Met Holds selection turn.events next
+    → kept_tag now ≡ None → read line ≡ Ok (tag, command) → shows_all command ≡ true → turn.bytes ≡ front ++ tagged tag (response_text (texts.Completed (verb_of command)))
+    → next.entered ≡ Some here
+    → (list : List Known) × (hears_all None (told ++ Answer_to line turn.bytes ∷ []) ≡ Some (knowing (Some list))) × IsRight (messages_in here.mailbox next.history) list
+
+-- ---- texts
+
+-- Two texts that were told under one UID of one mailbox, at whatever moments, are the same (RFC 9051, 2.3.1.1).
+abbrev pub ServedTextsStay : Type 0
+ServedTextsStay = (before after : List house.Event) (m : ℕ) (a b : Row) → Legal after → IsPrefix before after
+    → HasItsText before m (Some a) → HasItsText after m (Some b) → a.uid ≡ b.uid → a.text ≡ b.text
