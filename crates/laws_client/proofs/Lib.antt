@@ -89,3 +89,4 @@ mod TextRows
 mod Served
 mod ServedCurrent
 mod ServedFlags
+mod ServedStays

@@ -26,4 +26,5 @@ pub mod FlagRecords
 pub mod FlagLife
 pub mod Served
 pub mod ServedFlags
+pub mod ServedStays
 pub mod rows

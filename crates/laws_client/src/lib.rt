@@ -20,5 +20,6 @@ pub use record_laws::{
     lives_are_known, one_life_happens, turns_are_known, uids_stay,
 };
 pub use served_laws::{
-    served_clients_keep_up, served_clients_know_flags, served_lists_are_current, served_texts_stay,
+    served_clients_keep_up, served_clients_know_flags, served_lists_are_current,
+    served_sessions_stay, served_texts_stay,
 };

@@ -3,7 +3,14 @@
 //! every such session, that what it was shown since SELECT is its mailbox's changes up to its cursor (`shown_since_select`).
 
 ghost use Rattle.laws_client.specs.ServedFlags.{ServedFlagsAreCurrent, ServedFlagsAreFound, ServedFlagsHaveMoments, ServedLivesTellFlags, ServedTurnTellsFlags};
+ghost use Rattle.laws_client.specs.ServedStays.{ServedSessionsStay};
 ghost use Rattle.laws_client.specs.Served.{CursorsStaySmall, FeedsReachTheEnd, ServedCommandsMakeCurrent, ServedCommandsReachTheEnd, ServedDoneReachesTheEnd, ServedListsAreCurrent, ServedLivesAreKnown, ServedTextsStay, ServedTurnIsKnown};
+
+/// Between a SELECT and what ends it such a session stays in that mailbox, with the handle that it was given there: of that only the cursor's
+/// number moves on, by as many changes as were shown.
+pub fn served_sessions_stay()
+    ensures { ServedSessionsStay }
+{}
 
 /// A client that knows which of its lines were SELECT, EXAMINE, CLOSE or UNSELECT keeps up with what its session counts, whatever
 /// it sends, whatever is refused, and whatever others do between two holds of a lock. Since a SELECT or EXAMINE was answered
