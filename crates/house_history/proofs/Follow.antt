@@ -3,7 +3,7 @@ use Rattle.std.proofs.Common.{◌≡◌, ℕ, ◌<◌, ◌==◌, ◌&&◌, ◌||
 use mathlib.Core.Bool.{cond}
 use mathlib.Core.List.{IsPrefix}
 use Rattle.std.proofs.lemmas.List.{append-nil}
-use Rattle.std.proofs.lemmas.List.Elements.{Contains-push}
+use Rattle.std.proofs.lemmas.List.Elements.{Contains-push, filter_map-append}
 use Rattle.std.proofs.lemmas.List.Quantifiers.{all_pairs_push}
 use Rattle.std.proofs.lemmas.Bool.{cases_lt}
 use Rattle.std.proofs.lemmas.Bool.Decides.{nat_tests}
@@ -21,7 +21,7 @@ use Rattle.house_history.specs.declared.event.Step.{Step}
 use Rattle.house_history.specs.declared.event.Step.TheVariants.{Leave}
 use Rattle.house_history.specs.Events.{concerns, seat_key, ticket_key, sent_of, sent_by, step_of, life, judged_of, judged_in, arrives, logged, more, changes_from, changes_in}
 use Rattle.house_history.specs.Legal.{IsBefore, IsLife, unused, under_way, judged, withdrawn, Legal, WasJudged, WasWithdrawn}
-use Rattle.house_history.specs.Views.{IsNotedIn}
+use Rattle.house_history.specs.Views.{IsNotedIn, IsSettledIn}
 use Rattle.house_history.proofs.Logs.{legal_empty_log, legal_logged}
 use Rattle.house_history.proofs.Parts.{of_part, push_some, push_none, given_of, alone, came_from, there, flip, same, is_same, itself, or_left, or_right, or_first, or_second, or_cases}
 
@@ -351,3 +351,20 @@ pub noted_own : (history : List Event) (job : Job) (t : ℕ) (noted : Noted) →
 noted_own history job t noted legal sent e was =
     let one = sent_once history legal was.0 job was.3.0 t (had_been_sent history legal was.0 noted.verdict was.3.0 was.3.1) sent (was.1 ∙ e) in
     subst (λ (j : Job). WasJudged history j noted.verdict) (ap (λ x. x.0) one) was.3
+
+-- ---- what is noted
+
+pub withdrawn_later : (a b : List Event) (j : Job) → IsPrefix a b → WasWithdrawn a j → WasWithdrawn b j
+withdrawn_later a b j p was = (
+  was.0,
+  there (sent_by j.key.seat a) (sent_by j.key.seat b) (j, was.0) (sent_by j.key.seat p.0, sym (filter_map-append (sent_of j.key.seat) a p.0) ∙ ap (sent_by j.key.seat) p.1) was.1,
+  there a b (Withdrawn was.0) p was.2,
+)
+
+pub settled_later : (a b : List Event) (noted : Noted) → IsPrefix a b → IsSettledIn a noted → IsSettledIn b noted
+settled_later a b noted p (inl is) = inl (noted_later a b noted p is)
+settled_later a b noted p (inr (not, was)) = inr (not, (was.0, was.1, withdrawn_later a b was.0 p was.2))
+
+pub settled_final : (history : List Event) (job : Job) (v : Verdict) (noted : Noted) → Legal history → IsSettledIn history noted → WasJudged history job v → job.key ≡ noted.key → noted.verdict ≡ v
+settled_final history job v noted legal (inl is) was own = (only_verdict history is.0 job noted.verdict v legal is.3 was (is.1 ∙ sym own)).1
+settled_final history job v noted legal (inr (not, gone)) was own = absurd (never_judged history gone.0 job v legal gone.2 was (gone.1 ∙ sym own))

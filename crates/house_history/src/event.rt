@@ -20,7 +20,7 @@ pub enum Step {
 pub enum Event {
     /// Its seat put a copy on its way.
     Sent(Job, u64),
-    /// Its seat has it back, and nobody else.
+    /// Whoever had it gave it up: nobody has it any more.
     Withdrawn(u64),
     /// There was a verdict on the copy, under its mailbox's lock.
     Judged(Job, Verdict, u64),

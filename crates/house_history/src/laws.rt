@@ -14,7 +14,7 @@ ghost use Rattle.house_history.specs.declared.event.Event.{Event};
 ghost use Rattle.house_history.specs.Events.{accepted_in, changes_in, judged_in, keys_of_seat, sent_by, sent_to, uids_of};
 ghost use Rattle.house_history.specs.Laws.{StandsAlone};
 ghost use Rattle.house_history.specs.Legal.{Legal, Stands, WasJudged, WasWithdrawn};
-ghost use Rattle.house_history.specs.Views.{IsNotedIn};
+ghost use Rattle.house_history.specs.Views.{IsNotedIn, IsSettledIn};
 
 /// There is one verdict on a key in all mailboxes together, and one copy of it.
 pub fn one_verdict()
@@ -39,6 +39,13 @@ pub fn noted_is_own()
 pub fn withdrawn_never_judged()
     ensures { (history : List Event) (i j : Job) (v : Verdict) → Legal history
         → WasWithdrawn history i → WasJudged history j v → i.key ≢ j.key }
+{}
+
+/// What is noted of a copy stays so: a verdict on it is the one that is noted.
+pub fn settled_is_final()
+    ensures { (history : List Event) (job : Job) (v : Verdict) (noted : Noted) → Legal history
+        → IsSettledIn history noted → WasJudged history job v → job.key ≡ noted.key
+        → noted.verdict ≡ v }
 {}
 
 /// A copy that was stored stands in its mailbox once, under that UID, and in no other mailbox.

@@ -1,9 +1,10 @@
 //! What passes between threads, as what it is to contracts: a copy, and what is noted of one. Each brings what was known of the
 //! history when it was made.
-ghost use Rattle.std.specs.Prelude.{◌≡◌, ◌≢◌, ℕ, ◌∷◌, [], true};
+ghost use Rattle.std.specs.Prelude.{◌≡◌, ◌≢◌, ℕ, ◌∷◌, []};
 ghost use mathlib.Core.List.{IsPrefix};
 ghost use Rattle.house_history.specs.Legal.{Legal};
-ghost use Rattle.house_history.specs.Views.{IsNotedIn};
+ghost use Rattle.delivery_token.specs.declared.Job.{Job};
+ghost use Rattle.house_history.specs.Views.{IsNotedIn, IsSettledIn};
 ghost use Rattle.delivery_token.specs.declared.Verdict.TheVariants.{Stored};
 ghost use Rattle.house_history.specs.declared.event.Event.TheVariants as events;
 
@@ -56,26 +57,23 @@ impl<B: Naming> Letter<B> {
     }
 }
 
-/// What is noted of a copy. Where it was stored, and where `judged`, the history says so.
+/// What is noted of a copy, which is the last word on it: the history has this verdict, or the copy wasn't stored and was withdrawn, so that
+/// there never is a verdict.
 #[derive(Drop)]
 pub struct Answer<B: Naming> {
     noted: Noted,
-    judged: bool,
     front: Front<B>,
 }
 
 impl<B: Naming> Model for Answer<B> {
-    ghost use Rattle.std.specs.Prelude.{◌≡◌, true, ℕ};
     ghost use Rattle.delivery_token.specs.declared.log.Noted.{Noted};
-    ghost use Rattle.delivery_token.specs.declared.Verdict.TheVariants.{Stored};
-    ghost use Rattle.house_history.specs.Views.{IsNotedIn};
+    ghost use Rattle.house_history.specs.Views.{IsSettledIn};
 
     ghost Value = { Noted };
 
     ghost view = { λ a. a.noted };
 
-    ghost invariant = { λ a. ((u : ℕ) → a.noted.verdict ≡ Stored u → a.judged ≡ true)
-        × (a.judged ≡ true → IsNotedIn a.front a.noted) };
+    ghost invariant = { λ a. IsSettledIn a.front a.noted };
 }
 
 impl<B: Naming> Answer<B> {
@@ -84,23 +82,18 @@ impl<B: Naming> Answer<B> {
         requires { IsNotedIn front noted }
         ensures { result ≡ noted }
     {
-        Answer {
-            noted,
-            judged: true,
-            front,
-        }
+        Answer { noted, front }
     }
 
-    /// What is noted of a copy that wasn't stored, and of which nothing more is said.
-    pub fn untold(noted: Noted, front: Front<B>) -> Answer<B>
-        requires { (u : ℕ) → noted.verdict ≢ Stored u }
+    /// What is noted of a copy that wasn't stored and never will be: this withdraws it.
+    pub fn withdrawn(noted: Noted, mut ticket: Ticket<B>, mut front: Front<B>) -> Answer<B>
+        requires refused { (u : ℕ) → noted.verdict ≢ Stored u }
+        requires copy { (j : Job) × (j.key ≡ noted.key)
+            × (ticket.life ≡ events.Sent j ticket.number ∷ []) }
         ensures { result ≡ noted }
     {
-        Answer {
-            noted,
-            judged: false,
-            front,
-        }
+        ticket.withdraw(&mut front);
+        Answer { noted, front }
     }
 
     /// What is noted.
@@ -110,13 +103,11 @@ impl<B: Naming> Answer<B> {
         self.noted
     }
 
-    /// Whoever hears it knows what the history says of the copy: the verdict, where it is stored, and where this answers true.
-    pub fn teach(&self, front: &mut Front<B>) -> bool
+    /// Whoever hears it knows that it is the last word on the copy.
+    pub fn teach(&self, front: &mut Front<B>)
         ensures seen { IsPrefix front.old front.new × Legal front.new }
-        ensures judged { result ≡ true → IsNotedIn front.new self.now }
-        ensures stored { (u : ℕ) → self.now.verdict ≡ Stored u → IsNotedIn front.new self.now }
+        ensures settled { IsSettledIn front.new self.now }
     {
         front.learn(&self.front);
-        self.judged
     }
 }

@@ -34,6 +34,7 @@ pub record Sends (job : Job) (old new : Dispatch) : Type 0 where
   pub goes_on : IsPrefix old.history new.history
   pub legal : Legal new.history
   pub shown : Contains (sent_by job.key.seat new.history) (job, ticket)
+  pub own : sent_by new.number new.history ≡ sent_by old.number old.history ++ (job, ticket) ∷ []
 
 -- By the copy: one that may be sent is sent, and is a letter from then on; of any other nothing is said, and it comes back.
 pub data SendsOrKeeps (job : Job) (answer : Result Job Job) (old new : Dispatch) : Type 0 where
@@ -47,3 +48,4 @@ pub record HasLearned (old new : Dispatch) : Type 0 where
   pub tickets : new.tickets ≡ old.tickets
   pub goes_on : IsPrefix old.history new.history
   pub legal : Legal new.history
+  pub own : sent_by new.number new.history ≡ sent_by old.number old.history

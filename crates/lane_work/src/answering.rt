@@ -39,7 +39,7 @@ fn deliver_under<B: Naming, R: Wait>(
     )
 }
 
-// What is noted of a copy whose mailbox isn't there: it is refused.
+// What is noted of a copy whose mailbox isn't there: it is refused, and withdrawn.
 fn refused<B: Naming>(depot: &Depot<B>, letter: Letter<B>) -> Answer<B>
     ensures { result ≡ record {
       key = letter.key;
@@ -47,13 +47,13 @@ fn refused<B: Naming>(depot: &Depot<B>, letter: Letter<B>) -> Answer<B>
       verdict = verdicts.Refused refusals.NoMemory;
     } }
 {
-    let job = letter.job();
+    let (job, ticket) = letter.open();
     let noted = Noted {
         key: job.key,
         mailbox: job.mailbox,
         verdict: Verdict::Refused(Refusal::NoMemory),
     };
-    Answer::untold(noted, depot.front.again())
+    Answer::withdrawn(noted, ticket, depot.front.again())
 }
 
 // What is noted of a copy: what its mailbox answers, where that is there.

@@ -1,11 +1,11 @@
 //! What a producer says of its copies in the house's history: that each is sent, and of one that comes back that nobody will judge
 //! it. On which lane a copy is put stands in `putting`.
 
-ghost use Rattle.std.specs.Prelude.{◌≡◌, ◌↔◌, [], ℕ, IfOk, IsTrue};
+ghost use Rattle.std.specs.Prelude.{◌≡◌, ◌↔◌, [], IfOk, IsTrue};
 ghost use mathlib.Core.List.{IsPrefix};
-ghost use Rattle.delivery_token.specs.declared.Verdict.TheVariants as verdicts;
+ghost use Rattle.house_history.specs.Events.{sent_by};
 ghost use Rattle.house_history.specs.Legal.{Legal, WasWithdrawn};
-ghost use Rattle.house_history.specs.Views.{IsNotedIn};
+ghost use Rattle.house_history.specs.Views.{IsSettledIn};
 ghost use Rattle.lane_work.specs.Dispatching.{HasLearned, SendsOrKeeps};
 ghost use Rattle.lane_work.specs.inner.Dispatching.{IsBehind};
 
@@ -23,6 +23,8 @@ pub struct Dispatch<B: Naming> {
 }
 
 impl<B: Naming> Model for Dispatch<B> {
+    ghost use Rattle.std.specs.Prelude.{◌≡◌};
+    ghost use Rattle.house_history.specs.Events.{sent_by};
     ghost use Rattle.lane_work.specs.Dispatching.{Dispatch};
     ghost use Rattle.lane_work.specs.inner.Dispatching.{IsLast};
 
@@ -35,7 +37,8 @@ impl<B: Naming> Model for Dispatch<B> {
       history = d.front;
     } };
 
-    ghost invariant = { λ d. IsLast d.seat.number d.last d.seat.sent };
+    ghost invariant = { λ d. IsLast d.seat.number d.last d.seat.sent
+        × (sent_by d.seat.number d.front ≡ d.seat.sent) };
 }
 
 // Whether the key is of the seat of this number, and behind the last one that it sent.
@@ -53,7 +56,7 @@ fn is_behind(number: u8, last: &Option<CopyKey>, key: &CopyKey) -> bool
 
 impl<B: Naming> Dispatch<B> {
     /// What a seat that has sent nothing sends with.
-    pub fn new(seat: Seat<B>, tickets: Tickets<B>, front: Front<B>) -> Dispatch<B>
+    pub fn new(mut seat: Seat<B>, tickets: Tickets<B>, front: Front<B>) -> Dispatch<B>
         requires { seat.sent ≡ [] }
         ensures { result ≡ record {
           number = seat.number;
@@ -62,6 +65,8 @@ impl<B: Naming> Dispatch<B> {
           history = front;
         } }
     {
+        let mut later = front.again();
+        seat.look(&mut later);
         Dispatch {
             seat,
             tickets,
@@ -70,11 +75,22 @@ impl<B: Naming> Dispatch<B> {
         }
     }
 
-    /// What is known of the history is legal.
-    pub fn is_legal(&self)
-        ensures { Legal self.now.history }
+    /// What is known of the history is legal, and has just what this seat has sent.
+    pub fn is_kept(&self)
+        ensures legal { Legal self.now.history }
+        ensures own { sent_by self.now.number self.now.history ≡ self.now.sent }
     {
         self.front.is_legal();
+    }
+
+    /// Where all is known that is known here, it is known that this seat has sent no more.
+    pub fn has_sent_all(&mut self, front: &Front<B>)
+        ensures same { self.new ≡ self.old }
+        ensures own { IsPrefix self.old.history front.now
+            → sent_by self.old.number front.now ≡ sent_by self.old.number self.old.history }
+    {
+        let mut later = front.again();
+        self.seat.look(&mut later);
     }
 
     /// Says that a copy is sent: it is a letter from then on.
@@ -95,6 +111,7 @@ impl<B: Naming> Dispatch<B> {
             unreachable!()
         };
         self.seat.send(&mut ticket, &mut self.front, &job);
+        self.seat.look(&mut self.front);
         self.last = Some(job.key);
         Ok(Letter::new(job, ticket))
     }
@@ -106,6 +123,7 @@ impl<B: Naming> Dispatch<B> {
     {
         let (_, mut ticket) = letter.open();
         ticket.withdraw(&mut self.front);
+        self.seat.look(&mut self.front);
     }
 
     /// A front has then what is known of the history here, too.
@@ -117,13 +135,12 @@ impl<B: Naming> Dispatch<B> {
         front.learn(&self.front);
     }
 
-    /// Learns what an answer brings. Of a copy that was stored, and where this answers true, the history has the verdict.
-    pub fn learn(&mut self, answer: &Answer<B>) -> bool
+    /// Learns what an answer brings: that it is the last word on its copy.
+    pub fn learn(&mut self, answer: &Answer<B>)
         ensures learned { HasLearned self.old self.new }
-        ensures stored { (uid : ℕ) → answer.now.verdict ≡ verdicts.Stored uid
-            → IsNotedIn self.new.history answer.now }
-        ensures judged { IsTrue result → IsNotedIn self.new.history answer.now }
+        ensures settled { IsSettledIn self.new.history answer.now }
     {
-        answer.teach(&mut self.front)
+        answer.teach(&mut self.front);
+        self.seat.look(&mut self.front);
     }
 }

@@ -64,7 +64,7 @@ fn put_letter<B: Naming, R: Wait, S: Summons>(
         × (number_of permit.new ≡ number_of permit.old) }
     ensures put { MatchOption result
         (sent permit.new ≡ sent permit.old ++ entries.Item (number_of permit.old) letter ∷ [])
-        (λ _. (sent permit.new ≡ sent permit.old)
+        (λ back. (back ≡ letter) × (sent permit.new ≡ sent permit.old)
         × FilledAlone (room_of lane.now) (number_of permit.old) (sent permit.old)) }
 {
     for _ in 1..TRIES {
@@ -82,7 +82,7 @@ fn put_letter<B: Naming, R: Wait, S: Summons>(
 
 // Says that a copy is sent, and puts it on a lane: None where it is under way, else what is known of it at once. One that finds no room is
 // taken back.
-#[tactic(auto, using(crate::proofs::BackingLaws::kept_on, crate::proofs::BackingLaws::known_on, crate::proofs::BackingLaws::then_on, crate::proofs::BackingLaws::said_on, crate::proofs::BackingLaws::put_on))]
+#[tactic(auto, using(crate::proofs::BackingLaws::kept_on, crate::proofs::BackingLaws::refused_on, crate::proofs::BackingLaws::put_on))]
 fn put_on<B: Naming, R: Wait, S: Summons>(
     context: &Context<'_, B, R, S>,
     lane: &ShardQueue<Letter<B>>,
@@ -102,8 +102,7 @@ fn put_on<B: Naming, R: Wait, S: Summons>(
         }) ∷ [])
         (λ v. (sent permit.new ≡ sent permit.old)
         × IsAtOnce (FilledAlone (room_of lane.now) (number_of permit.old) (sent permit.old)) v) }
-    ensures backed { GoesOnWith dispatch.old.history dispatch.new.history (sent permit.old)
-        (sent permit.new) }
+    ensures backed { GoesOnWith dispatch.old dispatch.new (sent permit.old) (sent permit.new) }
 {
     let Ok(text) = copy.text.copy() else {
         return Some(Verdict::Refused(Refusal::NoMemory));
@@ -148,8 +147,7 @@ fn put_at<B: Naming, R: Wait, S: Summons>(
         v) }
     ensures over { is_over permit.old ≡ true
         → (result ≡ Some (verdicts.Refused refusals.Shut)) × (permit.new ≡ permit.old) }
-    ensures backed { GoesOnWith dispatch.old.history dispatch.new.history (put_by permit.old)
-        (put_by permit.new) }
+    ensures backed { GoesOnWith dispatch.old dispatch.new (put_by permit.old) (put_by permit.new) }
 {
     match permit {
         LanePermit::Live(live) => put_on(context, lane, live, dispatch, copy),

@@ -17,7 +17,7 @@ ghost use Rattle.lane_work.specs.Account.{AreBooks, HaveEnded, notes_tell, setti
 ghost use Rattle.lane_work.specs.inner.Account.{HasServed};
 ghost use Rattle.lane_work.specs.Awaiting.{HearsItsOwn, copies_in, verdicts_in};
 ghost use Rattle.lane_work.specs.Ends.{CountsEnds, ends_in};
-ghost use Rattle.lane_work.specs.Backing.{KeepsBacked};
+ghost use Rattle.lane_work.specs.Backing.{IsBackedBy, IsBackedDesk, KeepsBacked};
 ghost use Rattle.lane_work.specs.Working.{IsWorked};
 ghost use Rattle.lane_work.specs.Speaking.{Stands, is_quit, premises_of};
 ghost use Rattle.lane_work.specs.inner.Speaking.{Spoke};
@@ -265,6 +265,7 @@ fn speak<B: Naming, R: Wait, G: Gate, S: Summons>(
     ensures number { producer.new.desk.number ≡ producer.old.desk.number }
     ensures ends { CountsEnds producer.old.desk producer.new.desk }
     ensures seat { producer.new.book.seat ≡ producer.old.book.seat }
+    ensures backed { KeepsBacked producer.old.desk producer.new.desk }
     ensures only { OnOk result (HearsItsOwn producer.old.desk producer.new.desk) }
     ensures spoke { OnOk result ((done : List Judged)
         → Stands directory.now context.now.office.now.directory (rooms_of
@@ -316,6 +317,7 @@ fn converse<B: Naming, R: Wait, G: Gate, S: Summons>(
     ensures number { producer.new.desk.number ≡ producer.old.desk.number }
     ensures ends { CountsEnds producer.old.desk producer.new.desk }
     ensures seat { producer.new.book.seat ≡ producer.old.book.seat }
+    ensures backed { KeepsBacked producer.old.desk producer.new.desk }
     ensures only { OnOk result (HearsItsOwn producer.old.desk producer.new.desk) }
     ensures spoke { IfOk result (λ reply. (done : List Judged)
         → AreBooks context.now.office.now.directory (rooms_of context.now.office.now.lanes.items)
@@ -382,6 +384,7 @@ fn go_through<B: Naming, R: Wait, G: Gate, S: Summons>(
     ensures ends { CountsEnds producer.old.desk producer.new.desk }
     ensures seat { producer.new.book.seat ≡ producer.old.book.seat }
     ensures began { result ≢ Fate.NotBegun }
+    ensures backed { KeepsBacked producer.old.desk producer.new.desk }
     ensures only { result ≡ Fate.Whole → HearsItsOwn producer.old.desk producer.new.desk }
     ensures whole { result ≡ Fate.Whole
         → HasServed (premises_of context.now.office.now) producer.old.desk.number (map (λ b.
@@ -453,10 +456,17 @@ pub fn work<B: Naming, R: Wait, G: Gate, S: Summons>(
         → verdicts_in (received result.receiver) ≡ verdicts_in (received desk.receiver) +
         copies_in (map said result.ended.items) }
 
+    // Where it is `Whole`, and its seat had sent nothing before, the house's history has what it put and heard, and nothing else of its seat.
+    ensures backed { result.fate ≡ Fate.Whole → received desk.receiver ≡ []
+        → desk.dispatch.sent ≡ []
+        → IsBackedBy desk.dispatch.number result.dispatch (received result.receiver) (map said
+        result.ended.items) }
+
     // The permits, the receiver and the log are its own; where it is `Whole`, this is its account: of replies, notes and what it put.
     ensures worked { IsWorked context.now.office.now context.now.channel.now desk.number (map (λ b.
         b.items) connections.now) result }
 {
+    desk.dispatch.is_kept();
     let log = WorkerLog::new(context.alloc, desk.number);
     let mut producer = Producer {
         pace,
@@ -511,6 +521,11 @@ pub fn finish<B: Naming, R: Wait, G: Gate, S: Summons>(
         → length (received result.receiver) + ends_in (received producer.entry.desk.receiver)
         ≡ length
         (received producer.entry.desk.receiver) + ends_in (received result.receiver) }
+
+    // Where it is `Whole`, the house's history has what it put and heard, as it had it before.
+    ensures backed { result.fate ≡ Fate.Whole → (seat : ℕ)
+        → IsBackedDesk seat producer.entry.desk
+        → IsBackedBy seat result.dispatch (received result.receiver) (map said result.ended.items) }
 
     // It is `NotBegun` only where it was given as that.
     ensures began { fate ≢ Fate.NotBegun → result.fate ≢ Fate.NotBegun }

@@ -118,8 +118,7 @@ impl<B: Naming> LockedMailbox<B> {
     /// Delivers a copy, and answers what is noted of it.
     ///
     /// One that isn't for this mailbox, or not behind all that it had of its seat, is refused as
-    /// NoMemory; nothing is done and nothing said then, and its ticket is let go: of such a copy it is
-    /// never said what became of it.
+    /// NoMemory; nothing is done then, and it is withdrawn, so that there is never a verdict on it.
     pub fn deliver(&mut self, letter: Letter<B>) -> Answer<B>
         ensures copy { (result.key ≡ letter.key) × (result.mailbox ≡ letter.mailbox) }
         ensures answers { Answers letter result.verdict self.old self.new }
@@ -131,7 +130,7 @@ impl<B: Naming> LockedMailbox<B> {
                 mailbox: job.mailbox,
                 verdict: Verdict::Refused(Refusal::NoMemory),
             };
-            return Answer::untold(noted, self.front.again());
+            return Answer::withdrawn(noted, ticket, self.front.again());
         }
         let verdict = self.judge(&mut ticket, &job);
         let noted = Noted {

@@ -22,8 +22,8 @@ struct Senders<B: Naming> {
 
 // A call, and what it is to answer.
 enum Act {
-    // A copy for a mailbox: the UID, or that it is refused; and whether the history says so.
-    Deliver(u8, Option<u32>, bool),
+    // A copy for a mailbox: the UID, or that it is refused.
+    Deliver(u8, Option<u32>),
     // A copy that its seat has back.
     Withdraw,
     // How many at most, and how many were shown.
@@ -75,7 +75,6 @@ fn delivers<B: Naming>(
     locked: &mut LockedMailbox<B>,
     mailbox: u8,
     wanted: Option<u32>,
-    known: bool,
 ) -> bool {
     let Ok(text) = text_in(alloc) else {
         return false;
@@ -84,8 +83,8 @@ fn delivers<B: Naming>(
         return false;
     };
     let answer = locked.deliver(letter);
-    let is_known = answer.teach(&mut senders.front);
-    uid_of(answer.noted().verdict) == wanted && is_known == known
+    answer.teach(&mut senders.front);
+    uid_of(answer.noted().verdict) == wanted
 }
 
 // Whether a copy can be had back.
@@ -146,7 +145,7 @@ fn step<B: Naming>(
     act: &Act,
 ) -> bool {
     match act {
-        Act::Deliver(m, wanted, known) => delivers(alloc, senders, locked, *m, *wanted, *known),
+        Act::Deliver(m, wanted) => delivers(alloc, senders, locked, *m, *wanted),
         Act::Withdraw => withdraws(alloc, senders),
         Act::Feed(limit, wanted) => {
             locked.feed(&mut senders.front, handle, *limit, out) == *wanted
@@ -183,11 +182,11 @@ fn play<B: Naming>(
 }
 
 const ACTS: &[Act] = &[
-    Act::Deliver(0, Some(1), true),
-    Act::Deliver(1, None, false),
+    Act::Deliver(0, Some(1)),
+    Act::Deliver(1, None),
     Act::Withdraw,
-    Act::Deliver(0, Some(2), true),
-    Act::Deliver(0, None, true),
+    Act::Deliver(0, Some(2)),
+    Act::Deliver(0, None),
     Act::Counts(0, 2),
     Act::Feed(1, Ok(1)),
     Act::Lines(b"* 1 EXISTS\r\n"),
@@ -201,7 +200,7 @@ const ACTS: &[Act] = &[
     Act::Counts(2, 1),
     Act::Feed(64, Ok(1)),
     Act::Lines(b"* 2 EXPUNGE\r\n"),
-    Act::Deliver(0, Some(3), true),
+    Act::Deliver(0, Some(3)),
     Act::Alter(1, FlagOp::Set(DELETED), Ok(Some(DELETED))),
 ];
 
@@ -295,9 +294,8 @@ fn keeps_the_order<B: Naming>(
     };
     let stored = locked.deliver(second);
     let refused = locked.deliver(first);
-    uid_of(stored.noted().verdict) == Some(1)
-        && uid_of(refused.noted().verdict).is_none()
-        && !refused.teach(&mut senders.front)
+    refused.teach(&mut senders.front);
+    uid_of(stored.noted().verdict) == Some(1) && uid_of(refused.noted().verdict).is_none()
 }
 
 // Whether all that is checked of a history that was just opened is so.

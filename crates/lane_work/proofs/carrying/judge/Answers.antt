@@ -77,3 +77,6 @@ returns-in-None-clause-only g c =
     let heard = ap (λ (x : ReceiverPermit Noted). verdicts_in (received x)) put.same.1 in
     let kept = ap (λ (v : Vec (LanePermit Job) Global). copies_in (map put_by v.items)) c.hear_one.ensures.same.1 in
     on_ok_weaker c.hear_one.result (λ one. omega (arith, counts, none, heard, kept, one)) c.hear_one.ensures.only
+
+pub returns-in-None-clause-backed : goal.returns-in-None-clause-backed
+returns-in-None-clause-backed g c seat was = c.hear_one.ensures.backed seat (c.put_copy.ensures.backed seat was)

@@ -3,7 +3,7 @@ use Rattle.lane_work.proofs.RoundLaws.{round_first, round_last, round_next, roun
 use Rattle.lane_work.proofs.closing.end_where_shut.Goals as goal
 
 pub loop-lane-init : goal.loop-lane-init
-loop-lane-init g c = (round_first c.args.directory.now c.args.context.now.office.now.lanes.items c.args.desk.now.number c.args.desk.now.permits.items, refl, refl, refl)
+loop-lane-init g c = (round_first c.args.directory.now c.args.context.now.office.now.lanes.items c.args.desk.now.number c.args.desk.now.permits.items, refl, refl, refl, refl)
 
 pub remove-permit-requires : goal.remove-permit-requires
 remove-permit-requires g c =
@@ -33,6 +33,7 @@ loop-lane-preserved g c =
       v.1,
       v.2,
       v.3,
+      v.4,
     )
 
 pub returns-clause-permits : goal.returns-clause-permits
@@ -48,7 +49,7 @@ returns-clause-kept g c =
     let v = c.loop-lane.invariant in
     let r = round_last c.args.directory.now lanes c.args.desk.now.number c.args.desk.now.permits.items c.loop-lane.lane c.loop-lane.desk.permits.items c.requires.0 c.requires.1
     (omega (arith, c.loop-lane-test.false, c.len-lane-end.ensures, c.loop-lane.auto.lane-end)) v.0 in
-    (v.1, v.2, v.3, r.2)
+    (v.1, v.2, v.3, r.2, v.4)
 
 pub returns-clause-over : goal.returns-clause-over
 returns-clause-over g c =

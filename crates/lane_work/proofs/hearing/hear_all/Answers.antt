@@ -5,7 +5,7 @@ use Rattle.shard_queue.specs.Reply.{received}
 use Rattle.lane_work.specs.Copies.{copies_of}
 use Rattle.lane_work.specs.Ends.{ends_in}
 use Rattle.lane_work.specs.Permits.{put_by}
-use Rattle.lane_work.proofs.BackingLaws.{backed_heard, goes_nowhere}
+use Rattle.lane_work.proofs.BackingLaws.{backed_end_heard, backed_heard}
 use Rattle.lane_work.proofs.PermitLaws.{ends_next, not_live}
 use Rattle.delivery_token.specs.declared.CopyKey.{CopyKey}
 use Rattle.delivery_token.specs.Verdicts.{FillsIn}
@@ -25,7 +25,7 @@ loop-init g c = (
   refl,
   were_heard_same (received c.args.desk.now.receiver) (copies_of (submission_of c.args.message.now)) c.args.verdicts.now.slots,
   λ live. refl,
-  λ was. was,
+  λ seat was. was,
 )
 
 pub returns-then-not-hear_awaited-clause-fills : goal.returns-then-not-hear_awaited-clause-fills
@@ -106,8 +106,8 @@ loop-preserved-in-Item g c =
           (subst (λ noted. FillsIn c.as_slice-keys.result.now c.as_slice-mailboxes.result.now noted c.loop.verdicts.slots c.hear_awaited.new.self.slots) c.noted.ensures
           (c.hear_awaited.ensures.noted (search rules))))) c.loop.invariant.6,
       (λ live. let e = ap ends_in came ∙ ends_next old (Item c.in-Item.field-0 c.in-Item.answer) in let h = c.loop.invariant.7 live in omega (arith, e, h)),
-      (λ was. backed_heard c.loop.desk.dispatch.history c.learn.new.self.history old (received c.recv_as.new.permit) (Item c.in-Item.field-0 c.in-Item.answer) (map put_by c.loop.desk.permits.items)
-          c.learn.ensures.learned.goes_on c.learn.ensures.learned.legal (λ uid is. c.learn.ensures.stored uid is) came (c.loop.invariant.8 was)),
+      (λ seat was. backed_heard c.loop.desk.dispatch c.learn.new.self old (received c.recv_as.new.permit) (Item c.in-Item.field-0 c.in-Item.answer) (map put_by c.loop.desk.permits.items)
+          c.learn.ensures.learned c.learn.ensures.settled came seat (c.loop.invariant.8 seat was)),
     )
 
 -- the end of a shard on which the permit is over
@@ -125,9 +125,7 @@ loop-preserved g c =
       (let n = ap length came ∙ length-append old (End c.in-End.shard ∷ []) in omega (arith, n, e, c.loop.invariant.5)),
       heard_still old (received c.recv_as.new.permit) (copies_of (submission_of c.args.message.now)) c.args.verdicts.now.slots c.loop.verdicts.slots c.loop.verdicts.slots (c.recv_as.result ∷ [], grew) refl c.loop.invariant.6,
       (λ live. absurd (not_live c.loop.desk.permits.items c.args.desk.now.permits.items c.in-End.shard (search rules) live (search rules))),
-      (λ was. let before = c.loop.invariant.8 was in
-          backed_heard c.loop.desk.dispatch.history c.loop.desk.dispatch.history old (received c.recv_as.new.permit) (End c.in-End.shard) (map put_by c.loop.desk.permits.items)
-          (goes_nowhere c.loop.desk.dispatch.history) before.legal tt came before),
+      (λ seat was. backed_end_heard c.loop.desk.dispatch old (received c.recv_as.new.permit) c.in-End.shard (map put_by c.loop.desk.permits.items) came seat (c.loop.invariant.8 seat was)),
     )
 
 -- where each is known, none is awaited
@@ -144,16 +142,14 @@ returns-then-are_known-clause-awaited g c =
 
 -- the history has what was heard
 pub returns-then-not-hear_awaited-clause-backed : goal.returns-then-not-hear_awaited-clause-backed
-returns-then-not-hear_awaited-clause-backed g c was =
+returns-then-not-hear_awaited-clause-backed g c seat was =
     let old = received c.loop.desk.receiver in
     let came : received c.recv_as.new.permit ≡ old ++ Item c.in-Item.field-0 c.in-Item.answer ∷ [] = search rules in
-    backed_heard c.loop.desk.dispatch.history c.learn.new.self.history old (received c.recv_as.new.permit) (Item c.in-Item.field-0 c.in-Item.answer) (map put_by c.loop.desk.permits.items)
-    c.learn.ensures.learned.goes_on c.learn.ensures.learned.legal (λ uid is. c.learn.ensures.stored uid is) came (c.loop.invariant.8 was)
+    backed_heard c.loop.desk.dispatch c.learn.new.self old (received c.recv_as.new.permit) (Item c.in-Item.field-0 c.in-Item.answer) (map put_by c.loop.desk.permits.items)
+    c.learn.ensures.learned c.learn.ensures.settled came seat (c.loop.invariant.8 seat was)
 
 pub returns-then-not-is_over_at-clause-backed : goal.returns-then-not-is_over_at-clause-backed
-returns-then-not-is_over_at-clause-backed g c was =
+returns-then-not-is_over_at-clause-backed g c seat was =
     let old = received c.loop.desk.receiver in
     let came : received c.recv_as.new.permit ≡ old ++ End c.in-End.shard ∷ [] = search rules in
-    let before = c.loop.invariant.8 was in
-    backed_heard c.loop.desk.dispatch.history c.loop.desk.dispatch.history old (received c.recv_as.new.permit) (End c.in-End.shard) (map put_by c.loop.desk.permits.items)
-    (goes_nowhere c.loop.desk.dispatch.history) before.legal tt came before
+    backed_end_heard c.loop.desk.dispatch old (received c.recv_as.new.permit) c.in-End.shard (map put_by c.loop.desk.permits.items) came seat (c.loop.invariant.8 seat was)

@@ -58,22 +58,22 @@ returns-else-noted-mailbox-clause-only g c =
     ap verdicts_in grew ∙ verdict_more old c.in-Item.field-0 c.in-Item.answer
 
 pub returns-then-ne-clause-backed : goal.returns-then-ne-clause-backed
-returns-then-ne-clause-backed g c was =
+returns-then-ne-clause-backed g c =
     let old = received c.args.desk.now.receiver in
     let grew : received c.recv_as.new.permit ≡ old ++ Item c.in-Item.field-0 c.in-Item.answer ∷ [] = search rules in
-    backed_heard c.args.desk.now.dispatch.history c.learn.new.self.history old (received c.recv_as.new.permit) (Item c.in-Item.field-0 c.in-Item.answer) (map put_by c.args.desk.now.permits.items)
-    c.learn.ensures.learned.goes_on c.learn.ensures.learned.legal (λ uid is. c.learn.ensures.stored uid is) grew was
+    backed_heard c.args.desk.now.dispatch c.learn.new.self old (received c.recv_as.new.permit) (Item c.in-Item.field-0 c.in-Item.answer) (map put_by c.args.desk.now.permits.items)
+    c.learn.ensures.learned c.learn.ensures.settled grew
 
 pub returns-then-noted-mailbox-clause-backed : goal.returns-then-noted-mailbox-clause-backed
-returns-then-noted-mailbox-clause-backed g c was =
+returns-then-noted-mailbox-clause-backed g c =
     let old = received c.args.desk.now.receiver in
     let grew : received c.recv_as.new.permit ≡ old ++ Item c.in-Item.field-0 c.in-Item.answer ∷ [] = search rules in
-    backed_heard c.args.desk.now.dispatch.history c.learn.new.self.history old (received c.recv_as.new.permit) (Item c.in-Item.field-0 c.in-Item.answer) (map put_by c.args.desk.now.permits.items)
-    c.learn.ensures.learned.goes_on c.learn.ensures.learned.legal (λ uid is. c.learn.ensures.stored uid is) grew was
+    backed_heard c.args.desk.now.dispatch c.learn.new.self old (received c.recv_as.new.permit) (Item c.in-Item.field-0 c.in-Item.answer) (map put_by c.args.desk.now.permits.items)
+    c.learn.ensures.learned c.learn.ensures.settled grew
 
 pub returns-else-noted-mailbox-clause-backed : goal.returns-else-noted-mailbox-clause-backed
-returns-else-noted-mailbox-clause-backed g c was =
+returns-else-noted-mailbox-clause-backed g c =
     let old = received c.args.desk.now.receiver in
     let grew : received c.recv_as.new.permit ≡ old ++ Item c.in-Item.field-0 c.in-Item.answer ∷ [] = search rules in
-    backed_heard c.args.desk.now.dispatch.history c.learn.new.self.history old (received c.recv_as.new.permit) (Item c.in-Item.field-0 c.in-Item.answer) (map put_by c.args.desk.now.permits.items)
-    c.learn.ensures.learned.goes_on c.learn.ensures.learned.legal (λ uid is. c.learn.ensures.stored uid is) grew was
+    backed_heard c.args.desk.now.dispatch c.learn.new.self old (received c.recv_as.new.permit) (Item c.in-Item.field-0 c.in-Item.answer) (map put_by c.args.desk.now.permits.items)
+    c.learn.ensures.learned c.learn.ensures.settled grew

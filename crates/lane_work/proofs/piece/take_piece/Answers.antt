@@ -52,7 +52,7 @@ loop-used-preserved-in-More g c =
           subst (λ b. Stands d d (rooms_of lanes) c.args.producer.now.desk.number done (bytes ++ take (c.loop-used.used + c.in-Ok.fed.used) c.args.piece.now) b c.turn.new.machine (told ++ c.turn.new.out.items) (g.N.Notebook.tells c.turn.new.producer.book) (received c.turn.new.producer.desk.receiver) (map put_by c.turn.new.producer.desk.permits.items))
           (ap is_quit c.in-More.is) named,
       start_on (received c.args.producer.now.desk.receiver) (received c.loop-used.producer.desk.receiver) (received c.turn.new.producer.desk.receiver) v.10 c.in-Ok.ensures.grew,
-      λ was. c.in-Ok.ensures.backed (v.11 was),
+      λ seat was. c.in-Ok.ensures.backed seat (v.11 seat was),
     )
 
 pub loop-used-preserved : goal.loop-used-preserved
@@ -78,7 +78,7 @@ loop-used-preserved g c =
           subst (λ b. Stands d d (rooms_of lanes) c.args.producer.now.desk.number done (bytes ++ take (c.loop-used.used + c.in-Ok.fed.used) c.args.piece.now) b c.turn.new.machine (told ++ c.turn.new.out.items) (g.N.Notebook.tells c.turn.new.producer.book) (received c.turn.new.producer.desk.receiver) (map put_by c.turn.new.producer.desk.permits.items))
           (ap is_quit c.in-Submit.is) named,
       start_on (received c.args.producer.now.desk.receiver) (received c.loop-used.producer.desk.receiver) (received c.turn.new.producer.desk.receiver) v.10 c.in-Ok.ensures.grew,
-      λ was. c.in-Ok.ensures.backed (v.11 was),
+      λ seat was. c.in-Ok.ensures.backed seat (v.11 seat was),
     )
 
 pub returns-in-Quit-clause-took : goal.returns-in-Quit-clause-took
@@ -124,3 +124,12 @@ returns-in-Quit-clause-grew g c = start_on (received c.args.producer.now.desk.re
 
 pub returns-then-load-2-clause-grew : goal.returns-then-load-2-clause-grew
 returns-then-load-2-clause-grew g c = start_on (received c.args.producer.now.desk.receiver) (received c.loop-used.producer.desk.receiver) (received c.turn.new.producer.desk.receiver) c.loop-used.invariant.10 c.in-Ok.ensures.grew
+
+pub returns-in-Err-clause-backed : goal.returns-in-Err-clause-backed
+returns-in-Err-clause-backed g c seat was = c.in-Err.ensures.backed seat (c.loop-used.invariant.11 seat was)
+
+pub returns-in-Quit-clause-backed : goal.returns-in-Quit-clause-backed
+returns-in-Quit-clause-backed g c seat was = c.in-Ok.ensures.backed seat (c.loop-used.invariant.11 seat was)
+
+pub returns-then-load-2-clause-backed : goal.returns-then-load-2-clause-backed
+returns-then-load-2-clause-backed g c seat was = c.in-Ok.ensures.backed seat (c.loop-used.invariant.11 seat was)

@@ -41,5 +41,5 @@ loop-i-preserved g c =
           (search rules) (search rules) c.index.ensures c.index-in-loop-i.ensures (search rules) more
           (length-map c.loop-i.desk.permits.items put_by ∙ overs_length c.loop-i.desk.permits.items c.args.desk.now.permits.items v.1.3 ∙ sym (length-map c.args.desk.now.permits.items put_by))
           number (c.put_or_make_room-verdict.ensures.put (is_live open_to)) (v.6 open_to),
-      λ was. c.put_or_make_room-verdict.ensures.backed (v.7 was),
+      λ seat was. c.put_or_make_room-verdict.ensures.backed seat (v.7 seat was),
     )

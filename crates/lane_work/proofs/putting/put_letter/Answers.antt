@@ -10,4 +10,4 @@ returns-in-Err-put_as-clause-put g c =
     let put = c.in-Err-put_as.ensures.put in
     let room = room_of c.args.lane.now in
     let full = found_full room (number_of c.loop.permit) (sent c.loop.permit) (put_seen c.loop.permit) put.3 in
-    (put.1 ∙ v.2, subst (λ n. FilledAlone room n (sent c.args.permit.now)) v.1 (subst (λ l. FilledAlone room (number_of c.loop.permit) l) v.2 full))
+    (put.0 ∙ v.3, put.1 ∙ v.2, subst (λ n. FilledAlone room n (sent c.args.permit.now)) v.1 (subst (λ l. FilledAlone room (number_of c.loop.permit) l) v.2 full))

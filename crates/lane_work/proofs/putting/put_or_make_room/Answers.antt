@@ -1,4 +1,5 @@
 use Rattle.std.proofs.Common.{◌≡◌, ◌<◌, ◌∙◌, ap, refl, sym, subst, slice_index_or, slice_set, length, map, ◌++◌, ◌∷◌, [], MatchOption, arith, true, false}
+use Rattle.std.proofs.lemmas.List.{length-map}
 use Rattle.delivery_token.specs.declared.Job.{Job}
 use Rattle.shard_queue.specs.declared.lane.Entry.TheVariants.{Item}
 use Rattle.lane_work.specs.Permits.{IsPermit, overs, put_by}
@@ -81,13 +82,13 @@ returns-clause-put g c live =
 
 -- what the history had of the desk, and of the copy that was put
 pub returns-clause-backed : goal.returns-clause-backed
-returns-clause-backed g c was =
+returns-clause-backed g c =
     let w = c.shard_of-shard.ensures.within in
     let l = c.requires.lanes in
     let n = permits_length c.args.context.now.office.now.lanes.items c.args.desk.now.number c.args.desk.now.permits.items c.requires.permits in
     let under : c.shard_of-shard.result < length c.args.desk.now.permits.items = omega (arith, n, w, l) in
-    let on = c.put_at.ensures.backed in
     let permits = c.args.desk.now.permits.items in
-    backed_put c.args.desk.now.dispatch.history c.put_at.new.dispatch.history (received c.args.desk.now.receiver) (map put_by permits) (map put_by (slice_set permits c.shard_of-shard.result c.put_at.new.permit))
-    c.shard_of-shard.result (put_by c.index_mut.result.now) (put_by c.put_at.new.permit) on.goes_on (on.legal was.legal)
-    (sent_at permits c.shard_of-shard.result c.index_mut.result.now under ∙ ap put_by (sym c.index_mut.ensures.value)) (sent_set permits c.shard_of-shard.result c.put_at.new.permit) on.sent was
+    let all = length-map permits put_by in
+    backed_put c.args.desk.now.dispatch c.put_at.new.dispatch (received c.args.desk.now.receiver) (map put_by permits) (map put_by (slice_set permits c.shard_of-shard.result c.put_at.new.permit))
+    c.shard_of-shard.result (put_by c.index_mut.result.now) (put_by c.put_at.new.permit) (omega (arith, under, all))
+    (sent_at permits c.shard_of-shard.result c.index_mut.result.now under ∙ ap put_by (sym c.index_mut.ensures.value)) (sent_set permits c.shard_of-shard.result c.put_at.new.permit) c.put_at.ensures.backed

@@ -32,7 +32,7 @@ loop-init g c = (
   λ done begun. goes_begin (premises_of c.args.context.now.office.now) c.args.producer.now.desk.number done (g.I.Read.remaining c.args.input.now) (g.O.Sink.taken c.args.output.now) c.args.machine.now c.args.out.now.items (g.N.Notebook.tells c.args.producer.now.book)
       (received c.args.producer.now.desk.receiver) (map put_by c.args.producer.now.desk.permits.items) begun,
   start_same (received c.args.producer.now.desk.receiver),
-  λ was. was,
+  λ seat was. was,
 )
 
 pub returns-in_default-clause-played : goal.returns-in_default-clause-played
@@ -144,7 +144,7 @@ loop-preserved g c =
           goes_piece house p done stream before rest after m out keeps heard put here not less piece c.take_piece.new.machine c.take_piece.new.out.items (g.N.Notebook.tells c.take_piece.new.producer.book) (received c.take_piece.new.producer.desk.receiver) (map put_by c.take_piece.new.producer.desk.permits.items)
           c.in-Ok-read_piece.ensures.came read,
       start_on (received c.args.producer.now.desk.receiver) (received c.loop.producer.desk.receiver) (received c.take_piece.new.producer.desk.receiver) v.11 c.in-Ok-Read.ensures.grew,
-      λ was. c.in-Ok-Read.ensures.backed (v.12 was),
+      λ seat was. c.in-Ok-Read.ensures.backed seat (v.12 seat was),
     )
 
 pub returns-in-Ok-Shut-clause-played : goal.returns-in-Ok-Shut-clause-played
@@ -241,3 +241,12 @@ returns-in-Err-Torn-clause-grew g c = start_on (received c.args.producer.now.des
 
 pub returns-in-Err-Torn-clause-torn : goal.returns-in-Err-Torn-clause-torn
 returns-in-Err-Torn-clause-torn g c why = longer (received c.args.producer.now.desk.receiver) (received c.loop.producer.desk.receiver) (received c.take_piece.new.producer.desk.receiver) c.loop.invariant.11 (c.in-Err-Torn.ensures.torn (ap (λ x. Err x) c.in-Err-Torn.field-0-is))
+
+pub returns-in-Ok-Shut-clause-backed : goal.returns-in-Ok-Shut-clause-backed
+returns-in-Ok-Shut-clause-backed g c seat was = c.in-Ok-Shut.ensures.backed seat (c.loop.invariant.12 seat was)
+
+pub returns-in-Err-NoMemory-clause-backed : goal.returns-in-Err-NoMemory-clause-backed
+returns-in-Err-NoMemory-clause-backed g c seat was = c.in-Err-NoMemory.ensures.backed seat (c.loop.invariant.12 seat was)
+
+pub returns-in-Err-Torn-clause-backed : goal.returns-in-Err-Torn-clause-backed
+returns-in-Err-Torn-clause-backed g c seat was = c.in-Err-Torn.ensures.backed seat (c.loop.invariant.12 seat was)

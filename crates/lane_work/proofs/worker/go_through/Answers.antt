@@ -12,6 +12,7 @@ use Rattle.lane_work.specs.Ends.{ends_in}
 use Rattle.lane_work.specs.Permits.{AreInForce, put_by}
 use Rattle.lane_work.specs.inner.Account.{HasServed}
 use Rattle.lane_work.specs.inner.Closing.{Marks, closings_at}
+use Rattle.lane_work.proofs.BackingLaws.{desk_kept}
 use Rattle.lane_work.proofs.ClosingLaws.{marked_at, marked_first, marked_next}
 use Rattle.lane_work.proofs.PermitLaws.{new_live, not_over}
 use Rattle.lane_work.specs.Speaking.{premises_of}
@@ -30,6 +31,7 @@ loop-i-init g c = (
   served_begin (premises_of c.args.context.now.office.now) c.args.producer.now.desk.number c.args.replies.now.items (notes_tell c.args.producer.now.book.notes) (received c.args.producer.now.desk.receiver) (map put_by c.args.producer.now.desk.permits.items) c.requires.begun.0 c.requires.begun.1,
   marked_first (closings_at c.args.context.now.office.now c.args.producer.now.desk.number) c.args.context.now.office.now.directory c.in-Ok.directory c.in-Ok.ensures.same c.in-Ok.ensures.marks,
   refl,
+  λ seat was. was,
 )
 
 pub close_due-requires-clause-permits : goal.close_due-requires-clause-permits
@@ -81,7 +83,23 @@ loop-i-preserved g c =
       (let one = c.in-Ok-converse.ensures.only in
           let r = ap (λ (x : ReceiverPermit Noted). verdicts_in (received x)) kept.1 in
           let q = ap copies_in kept.3 in omega (arith, one, r, q, v.7)),
+      λ seat was. c.in-Ok-converse.ensures.backed seat (desk_kept c.loop-i.producer.desk closed kept.1 kept.3 kept.4 seat (v.8 seat was)),
     )
 
 pub returns-clause-only : goal.returns-clause-only
 returns-clause-only g c whole = c.loop-i.invariant.7
+
+pub returns-in-Err-NoMemory-clause-backed : goal.returns-in-Err-NoMemory-clause-backed
+returns-in-Err-NoMemory-clause-backed g c seat was =
+    let kept = c.close_due.ensures.kept in
+    c.converse.ensures.backed seat (desk_kept c.loop-i.producer.desk c.close_due.new.desk kept.1 kept.3 kept.4 seat (c.loop-i.invariant.8 seat was))
+
+pub returns-in-Err-Torn-clause-backed : goal.returns-in-Err-Torn-clause-backed
+returns-in-Err-Torn-clause-backed g c seat was =
+    let kept = c.close_due.ensures.kept in
+    c.converse.ensures.backed seat (desk_kept c.loop-i.producer.desk c.close_due.new.desk kept.1 kept.3 kept.4 seat (c.loop-i.invariant.8 seat was))
+
+pub returns-in_default-push-clause-backed : goal.returns-in_default-push-clause-backed
+returns-in_default-push-clause-backed g c seat was =
+    let kept = c.close_due.ensures.kept in
+    c.converse.ensures.backed seat (desk_kept c.loop-i.producer.desk c.close_due.new.desk kept.1 kept.3 kept.4 seat (c.loop-i.invariant.8 seat was))

@@ -3,6 +3,7 @@ use Rattle.shard_queue.specs.Reply.{IsReceiver, received}
 use Rattle.lane_work.specs.Account.{notes_tell}
 use Rattle.lane_work.specs.inner.Account.{HasServed}
 use Rattle.lane_work.specs.Awaiting.{HearsItsOwn}
+use Rattle.lane_work.specs.Backing.{KeepsBacked}
 use Rattle.lane_work.specs.Ends.{CountsEnds}
 use Rattle.lane_work.specs.Permits.{AreInForce, put_by}
 use Rattle.lane_work.specs.inner.Closing.{IsMarkedBefore, closings_at}
@@ -19,3 +20,4 @@ invariant-loop-i g l =
     × HasServed (premises_of l.context.office.now) l.fn.producer.desk.number (map (λ b. b.items) (take l.i l.connections)) (map (λ b. b.items) l.replies.items) (notes_tell l.producer.book.notes) (received l.producer.desk.receiver) (map put_by l.producer.desk.permits.items)
     × IsMarkedBefore (closings_at l.context.office.now l.fn.producer.desk.number) l.i l.context.office.now.directory l.directory
     × HearsItsOwn l.fn.producer.desk l.producer.desk
+    × KeepsBacked l.fn.producer.desk l.producer.desk

@@ -75,3 +75,9 @@ returns-clause-only g c =
     let same = ap (λ (x : ReceiverPermit Noted). verdicts_in (received x)) c.put_all.ensures.same.1 in
     let kept = ap (λ (v : Vec (LanePermit Job) Global). copies_in (map put_by v.items)) c.hear_all.ensures.same.1 in
     omega (arith, heard, same, kept, c.put_all.ensures.counts)
+
+pub returns-in_default-clause-backed : goal.returns-in_default-clause-backed
+returns-in_default-clause-backed g c seat was = c.hear_all.ensures.backed seat (c.put_all.ensures.backed seat was)
+
+pub returns-clause-backed : goal.returns-clause-backed
+returns-clause-backed g c seat was = c.hear_all.ensures.backed seat (c.put_all.ensures.backed seat was)

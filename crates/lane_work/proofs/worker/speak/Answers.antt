@@ -63,6 +63,7 @@ loop-fed-preserved-in-Submit g c =
           subst (λ b. Stands c.args.directory.now d (rooms_of c.args.context.now.office.now.lanes.items) c.args.producer.now.desk.number done (take (c.loop-fed.used + c.in_ok-fed.fed.used) bytes) b c.turn.new.machine c.turn.new.out.items (notes_tell c.turn.new.producer.book.notes) (received c.turn.new.producer.desk.receiver) (map put_by c.turn.new.producer.desk.permits.items))
           (ap is_quit c.in-Submit.is) whole,
       (let own = c.in_ok-fed.ensures.only in omega (arith, own, v.10)),
+      λ seat was. c.in_ok-fed.ensures.backed seat (v.11 seat was),
     )
 
 pub loop-fed-preserved : goal.loop-fed-preserved
@@ -91,6 +92,7 @@ loop-fed-preserved g c =
           subst (λ b. Stands c.args.directory.now d (rooms_of c.args.context.now.office.now.lanes.items) c.args.producer.now.desk.number done (take (c.loop-fed.used + c.in_ok-fed.fed.used) bytes) b c.turn.new.machine c.turn.new.out.items (notes_tell c.turn.new.producer.book.notes) (received c.turn.new.producer.desk.receiver) (map put_by c.turn.new.producer.desk.permits.items))
           (ap is_quit c.in-More.is) whole,
       (let own = c.in_ok-fed.ensures.only in omega (arith, own, v.10)),
+      λ seat was. c.in_ok-fed.ensures.backed seat (v.11 seat was),
     )
 
 pub returns-in-Quit-clause-only : goal.returns-in-Quit-clause-only
@@ -98,3 +100,12 @@ returns-in-Quit-clause-only g c = let own = c.in_ok-fed.ensures.only in omega (a
 
 pub returns-then-used-bytes-clause-only : goal.returns-then-used-bytes-clause-only
 returns-then-used-bytes-clause-only g c = let own = c.in_ok-fed.ensures.only in omega (arith, own, c.loop-fed.invariant.10)
+
+pub returns-in_err-fed-clause-backed : goal.returns-in_err-fed-clause-backed
+returns-in_err-fed-clause-backed g c seat was = c.turn.ensures.backed seat (c.loop-fed.invariant.11 seat was)
+
+pub returns-in-Quit-clause-backed : goal.returns-in-Quit-clause-backed
+returns-in-Quit-clause-backed g c seat was = c.turn.ensures.backed seat (c.loop-fed.invariant.11 seat was)
+
+pub returns-then-used-bytes-clause-backed : goal.returns-then-used-bytes-clause-backed
+returns-then-used-bytes-clause-backed g c seat was = c.turn.ensures.backed seat (c.loop-fed.invariant.11 seat was)

@@ -4,6 +4,7 @@ use Rattle.lane_work.specs.Account.{notes_tell}
 use Rattle.lane_work.specs.Copies.{rooms_of}
 use Rattle.lane_work.specs.Talk.{Judged}
 use Rattle.lane_work.specs.Awaiting.{HearsItsOwn}
+use Rattle.lane_work.specs.Backing.{KeepsBacked}
 use Rattle.lane_work.specs.Ends.{CountsEnds}
 use Rattle.lane_work.specs.Permits.{AreInForce, put_by}
 use Rattle.lane_work.specs.Speaking.{Stands}
@@ -22,6 +23,7 @@ invariant-loop-fed g l =
     × ((done : List Judged) → Stands l.directory l.context.office.now.directory (rooms_of l.context.office.now.lanes.items) l.fn.producer.desk.number done [] false l.fn.machine l.fn.out.items (notes_tell l.fn.producer.book.notes) (received l.fn.producer.desk.receiver) (map put_by l.fn.producer.desk.permits.items)
     → Stands l.directory l.context.office.now.directory (rooms_of l.context.office.now.lanes.items) l.fn.producer.desk.number done (take l.used l.bytes) false l.machine l.out.items (notes_tell l.producer.book.notes) (received l.producer.desk.receiver) (map put_by l.producer.desk.permits.items))
     × HearsItsOwn l.fn.producer.desk l.producer.desk
+    × KeepsBacked l.fn.producer.desk l.producer.desk
 
 abbrev pub decreases-loop-fed : goal.decreases-loop-fed
 decreases-loop-fed g l = length l.bytes - l.used

@@ -1,4 +1,4 @@
-use Rattle.std.proofs.Common.{arith, ◌∙◌, ap, sym, subst, map, ℕ, Vec}
+use Rattle.std.proofs.Common.{arith, ◌∙◌, ap, refl, sym, subst, map, ℕ, Vec}
 use Rattle.std.specs.Global.{Global}
 use Rattle.delivery_token.specs.WorkerLog.{WorkerLog}
 use Rattle.shard_queue.specs.Reply.{received}
@@ -8,6 +8,7 @@ use Rattle.lane_work.specs.Copies.{rooms_of}
 use Rattle.lane_work.specs.Account.{Account, HaveEnded}
 use Rattle.lane_work.specs.Permits.{AreEnded}
 use Rattle.lane_work.specs.Speaking.{premises_of}
+use Rattle.lane_work.proofs.BackingLaws.{backed_begin}
 use Rattle.lane_work.proofs.AwaitedLaws.{ended_counts, new_counts, quiet_counts}
 use Rattle.lane_work.proofs.ServedLaws.{account_of, books_begin}
 use Rattle.lane_work.proofs.worker.work.Goals as goal
@@ -42,3 +43,10 @@ returns-clause-only g c whole =
     let ended = ended_counts desk.number (map put_by desk.permits.items) (map said c.finish.result.ended.items) c.finish.ensures.said in
     let new = new_counts c.args.desk.permits.items c.requires.permits.1 in
     omega (arith, own, quiet, ended, new)
+
+pub returns-clause-backed : goal.returns-clause-backed
+returns-clause-backed g c whole unheard unsent =
+    let desk = c.args.desk in
+    let seat = desk.dispatch.number in
+    let begun = backed_begin seat desk.dispatch.history (received desk.receiver) desk.permits.items c.is_kept.ensures.legal (c.is_kept.ensures.own ∙ unsent) unheard c.requires.permits.1 in
+    c.finish.ensures.backed whole seat (c.go_through-fate.ensures.backed seat (refl, begun))

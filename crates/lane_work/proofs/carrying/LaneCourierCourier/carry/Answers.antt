@@ -1,4 +1,4 @@
-use Rattle.std.proofs.Common.{◌++◌, ◌∷◌, ◌∙◌, [], arith, refl, map, List}
+use Rattle.std.proofs.Common.{◌≡◌, false, true, ◌++◌, ◌∷◌, ◌∙◌, [], arith, refl, map, List}
 use Rattle.workers_sync.specs.Carried.{Carried, copy_of}
 use Rattle.delivery_token.specs.declared.Job.{Job}
 use Rattle.delivery_token.specs.declared.Verdict.{Verdict}
@@ -27,7 +27,7 @@ returns-clause-kept g c first k =
     let self = c.args.self.now in
     let one : Carried = record { message = c.args.message; mailbox = c.args.mailbox; text = c.args.text.now; flags = c.args.flags; verdict = c.in-Ok.verdict } in
     let same = k.0 in (
-      (same.0, same.1, c.judge.ensures.number ∙ same.2, (let a = same.3 in let b = c.judge.ensures.ends in omega (arith, a, b)), λ was. c.judge.ensures.backed (same.4 was)),
+      (same.0, same.1, c.judge.ensures.number ∙ same.2, (let a = same.3 in let b = c.judge.ensures.ends in omega (arith, a, b)), λ seat was. c.judge.ensures.backed seat (same.4 seat was)),
       k.1,
       c.note_one.ensures.owner ∙ c.reserve.ensures.owner ∙ k.2,
       λ whole.
@@ -42,4 +42,14 @@ returns-clause-kept g c first k =
               carries_more first.context.office.now self.context.office.now first.serial self.serial first.desk self.desk c.judge.new.desk more.0 one same.0 k.1 same.2 more.1 c.in-Ok.ensures.judged c.judge.ensures.grew,
             ),
           ),
+    )
+
+-- a courier that is torn carries no more
+pub returns-in_default-clause-kept : goal.returns-in_default-clause-kept
+returns-in_default-clause-kept g c first k =
+    let same = k.0 in (
+      (same.0, same.1, c.judge.ensures.number ∙ same.2, (let a = same.3 in let b = c.judge.ensures.ends in omega (arith, a, b)), λ seat was. c.judge.ensures.backed seat (same.4 seat was)),
+      k.1,
+      c.reserve.ensures.owner ∙ k.2,
+      λ whole. absurd (let e : true ≡ false = whole in cc),
     )
