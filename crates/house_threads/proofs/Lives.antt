@@ -10,6 +10,7 @@ use Rattle.lane_work.specs.declared.worker.Worked.{Worked}
 use Rattle.lane_work.specs.declared.consumer.Consumed.{Consumed}
 use Rattle.lane_work.specs.declared.worker.Fate.TheVariants.{NotBegun, Whole}
 use Rattle.lane_work.specs.Awaiting.{copies_in, verdicts_in}
+use Rattle.lane_work.specs.Backing.{IsBackedBy}
 use Rattle.lane_work.specs.Permits.{AreEnded}
 use Rattle.lane_work.specs.Account.{Account}
 use Rattle.lane_work.specs.Speaking.{premises_of}
@@ -29,14 +30,15 @@ use Rattle.house_floor.proofs.Finding.{found_at}
 pub work_of : {B : Type 0} (floor : Floor B) (plans : Plans) (guests : List Guest) (i n number : ℕ) (c : ReplyChannel Noted) (p : Vec (Vec ℕ Global) Global) (bytes : List (Vec ℕ Global)) (w : Worked B)
     → i ≡ n → n < length plans → number ≡ n → bytes ≡ (slice_index_or plans i p).items
     → IsWorked floor.office (slice_index_or floor.depot.channels.items i c) number (map (λ b. b.items) bytes) w → (w.fate ≡ Whole → verdicts_in (received w.receiver) ≡ copies_in (map said w.ended.items))
-    → IsProduceOf floor plans guests n w
-work_of floor plans guests i n number c p bytes w same under of are worked only =
+    → (w.fate ≡ Whole → IsBackedBy number w.dispatch (received w.receiver) (map said w.ended.items)) → IsProduceOf floor plans guests n w
+work_of floor plans guests i n number c p bytes w same under of are worked only backed =
     let own = subst (λ (x : ℕ). IsWorked floor.office (slice_index_or floor.depot.channels.items i c) x (map (λ b. b.items) bytes) w) of worked in
     record {
       ended = own.0;
       receiver = λ channel at. subst (λ (x : ReplyChannel Noted). IsReceiver x w.receiver) (found_at floor.depot.channels.items i n c channel same at) own.1;
       seat = own.2;
       only = only;
+      backed = λ whole. subst (λ (x : ℕ). IsBackedBy x w.dispatch (received w.receiver) (map said w.ended.items)) of (backed whole);
       worker = λ plan at whole.
           subst (λ (x : List (Vec ℕ Global)). Account (premises_of floor.office) n (map (λ b. b.items) x) (map (λ b. b.items) w.replies.items) w.log.notes (received w.receiver) (map said w.ended.items))
           (are ∙ ap (λ (v : Vec (Vec ℕ Global) Global). v.items) (found_at plans i n p plan same at)) (own.3 whole);
@@ -60,6 +62,7 @@ attended_of floor plans guests i n s seat c g w same behind counts of is attende
       receiver = λ channel at. subst (λ (x : ReplyChannel Noted). IsReceiver x w.receiver) (found_at floor.depot.channels.items i n c channel same at) own.1;
       seat = own.2;
       only = own.3;
+      backed = own.5;
       worker = λ plan at whole. absurd (beyond plans n plan behind at);
       session = λ k guest here at whole.
           subst (λ (x : Guest). SessionAccount (premises_of floor.office) (length floor.depot.mailboxes.items) floor.turns n x (map (λ b. b.items) w.replies.items) w.log.notes (received w.receiver) (map said w.ended.items))
@@ -78,6 +81,7 @@ stood_down floor plans guests n number receiver w r of is ended same seat fate h
       receiver = λ channel at. subst (IsReceiver channel) (sym same) (hears channel at);
       seat = seat ∙ of;
       only = λ whole. absurd (not_whole whole);
+      backed = λ whole. absurd (not_whole whole);
       worker = λ plan at whole. absurd (not_whole whole);
       session = λ k guest behind at whole. absurd (not_whole whole);
     })

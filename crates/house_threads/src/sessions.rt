@@ -110,6 +110,7 @@ pub(crate) fn attend<B: Naming, R: Wait, G: Gate>(
         unreachable!();
     };
     let Post { desk, room } = post;
+    desk.dispatch.is_kept();
     let mailboxes = &floor.depot.mailboxes;
     let bells = &floor.depot.sessions[usize::from(inbox)];
     let mut locked = LockedStore::new(

@@ -32,6 +32,12 @@ use Rattle.house_floor.specs.Crew.{AllAt}
 use Rattle.house_floor.specs.declared.floor.Floor.{Floor}
 use Rattle.house_floor.specs.declared.floor.Guest.{Guest}
 use Rattle.house_floor.specs.Left.{IsServiceOf, Plans}
+use Rattle.house_history.specs.declared.event.Event.{Event}
+use Rattle.house_history.specs.Events.{sent_by}
+use Rattle.house_history.specs.Legal.{Legal}
+use Rattle.lane_work.specs.Backing.{IsBacked}
+use Rattle.lane_work.proofs.BackingLaws.{backed_later}
+use Rattle.reckoning.specs.Histories.{IsKnownIn}
 use Rattle.reckoning.specs.Produced.{IsProduceOf, SessionAccount}
 use Rattle.reckoning.specs.Closing.{AreChannelsClosedWith, AreClosedWith}
 use Rattle.reckoning.specs.Gathered.{fault_of_consumer, fault_of_fate}
@@ -154,6 +160,18 @@ module _ {B : Type 0} (floor : Floor B) (plans : Plans) (guests : List Guest) (w
   only_of p under =
       let l = left_by p under in
       ap verdicts_in (ap (λ xs. slice_index_or xs p []) answers_are ∙ mapped_at (λ (v : Worked B). received v.receiver) ws p l.0 [] l.1) ∙ l.2.only l.3 ∙ ap copies_in l.4
+
+  -- a history in which all of them are known has what each of them put and heard, and nothing else of its seat
+  pub backed_by : (log : List Event) → All (IsKnownIn log) ws → Legal log → (p : ℕ) → p < length plans + length guests
+      → IsBacked p log (slice_index_or (map reply_history replied) p []) (map (of p) (map history closed))
+  backed_by log known legal p under =
+      let l = left_by p under in
+      let b = l.2.backed l.3 in
+      let k = all_at (IsKnownIn log) ws p l.0 known l.1 in
+      let own = subst (λ (n : ℕ). sent_by n log ≡ sent_by n l.0.dispatch.history) b.0 k.own in
+      let here = backed_later p l.0.dispatch.history log (received l.0.receiver) (map said l.0.ended.items) k.known legal own b.1 in
+      among ws p l.0 l.1 (map reply_history replied) answers_are (λ replies notes answers. IsBacked p log answers (map (of p) (map history closed)))
+      (subst (λ x. IsBacked p log (received l.0.receiver) x) l.4 here)
 
 -- ---- what was taken
 

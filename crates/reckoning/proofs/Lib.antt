@@ -6,3 +6,4 @@ pub mod Balanced
 pub mod Spent
 pub mod Abandoned
 mod Numbered
+pub mod Histories

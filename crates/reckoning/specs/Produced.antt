@@ -13,6 +13,7 @@ use Rattle.session_thread.specs.Life.{Lives, Moment, greeted_at}
 use Rattle.lane_work.specs.declared.worker.Worked.{Worked}
 use Rattle.lane_work.specs.declared.worker.Fate.TheVariants.{Whole}
 use Rattle.lane_work.specs.Account.{Account, AreAccountedFor, Premises}
+use Rattle.lane_work.specs.Backing.{IsBackedBy}
 use Rattle.lane_work.specs.Awaiting.{copies_in, verdicts_in}
 use Rattle.lane_work.specs.Permits.{AreEnded}
 use Rattle.lane_work.specs.Speaking.{premises_of}
@@ -50,6 +51,8 @@ pub record IsProduceOf {B : Type 0} (floor : Floor B) (plans : Plans) (guests : 
   pub receiver : (channel : ReplyChannel Noted) → slice_get floor.depot.channels.items n ≡ Some channel → IsReceiver channel w.receiver
   pub seat : w.log.seat ≡ n
   pub only : w.fate ≡ Whole → verdicts_in (received w.receiver) ≡ copies_in (map said w.ended.items)
+  -- Where it came whole the history has what it put and heard, and nothing else of its seat.
+  pub backed : w.fate ≡ Whole → IsBackedBy n w.dispatch (received w.receiver) (map said w.ended.items)
   pub worker : (plan : Vec (Vec ℕ Global) Global) → slice_get plans n ≡ Some plan → w.fate ≡ Whole
       → Account (premises_of floor.office) n (map (λ b. b.items) plan.items) (map (λ b. b.items) w.replies.items) w.log.notes (received w.receiver) (map said w.ended.items)
   pub session : (k : ℕ) (guest : Guest) → n ≡ length plans + k → slice_get guests k ≡ Some guest → w.fate ≡ Whole

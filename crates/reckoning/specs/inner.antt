@@ -1,1 +1,2 @@
 pub mod Spending
+pub mod Histories

@@ -7,6 +7,7 @@ mod abandoning;
 mod balancing;
 mod close;
 mod gather;
+mod learning;
 mod remains;
 mod shelves;
 
@@ -14,5 +15,6 @@ pub use abandoning::abandon;
 pub use balancing::{Books, Closes, Closings, Gathered, balance, close_queues, gather_all};
 pub use close::{close_all_channels, close_all_lanes};
 pub use gather::{Fault, FromConsumers, FromWorkers};
+pub use learning::learn_all;
 pub use remains::{Remains, remains_of};
 pub use shelves::{Shelves, take_out};

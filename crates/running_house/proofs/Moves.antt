@@ -1,5 +1,5 @@
 -- Lists that were mapped, and accounts that say the same of equal things.
-use Rattle.std.proofs.Common.{◌≡◌, ◌<◌, ◌≤◌, ◌+◌, ◌++◌, ◌∙◌, length-drop, ℕ, zero, suc, List, [], ◌∷◌, None, Some, Result, Ok, Err, IfOk, Vec, length, map, take, drop, slice_get, slice_index_or, refl, sym, ap, subst, arith}
+use Rattle.std.proofs.Common.{◌≡◌, ◌<◌, ◌≤◌, ◌+◌, ◌++◌, ◌∙◌, ◌⊎◌, inl, inr, length-drop, ℕ, zero, suc, List, [], ◌∷◌, None, Some, Result, Ok, Err, IfErr, IfOk, Vec, length, map, take, drop, slice_get, slice_index_or, refl, sym, ap, subst, arith}
 use Rattle.std.specs.Global.{Global}
 use Rattle.delivery_token.specs.declared.Job.{Job}
 use Rattle.delivery_token.specs.declared.log.Noted.{Noted}
@@ -7,6 +7,11 @@ use Rattle.shard_queue.specs.declared.lane.Entry.{Entry}
 use Rattle.shard_queue.specs.Lane.{of}
 use Rattle.lane_work.specs.Account.{Premises}
 use Rattle.lane_work.proofs.CopyLaws.{take_next}
+use Rattle.reckoning.specs.declared.gather.Fault.{Fault}
+use Rattle.reckoning.specs.declared.gather.Fault.TheVariants as known
+use Rattle.running_house.specs.Plan.{of_reckoning}
+use Rattle.running_house.specs.declared.plan.WorkFault.{WorkFault}
+use Rattle.running_house.specs.declared.plan.WorkFault.TheVariants as told
 use Rattle.running_house.specs.inner.Agree.{AreTexts}
 
 pub map_twice : {A B C : Type 0} (g : B → C) (f : A → B) (xs : List A) → map g (map f xs) ≡ map (λ x. g (f x)) xs
@@ -124,3 +129,9 @@ if_ok (Err e) p q both = tt
 pub both : {A E : Type 0} (P Q : A → Type 0) (result : Result A E) → IfOk result P → IfOk result Q → IfOk result (λ x. P x × Q x)
 both P Q (Ok x) p q = (p, q)
 both P Q (Err e) p q = tt
+
+-- want of memory, or what doesn't agree, is a fault of the threads
+pub told_fault : {A : Type 0} (result : Result A WorkFault) → IfErr result (λ fault. (fault ≡ told.NoMemory) ⊎ (fault ≡ told.Torn)) → IfErr result (λ fault. (known : Fault) × (fault ≡ of_reckoning known))
+told_fault (Ok x) is = tt
+told_fault (Err e) (inl is) = (known.NoMemory, is)
+told_fault (Err e) (inr is) = (known.Torn, is)

@@ -30,7 +30,10 @@ use Rattle.house_floor.specs.Left.{IsServiceOf}
 use Rattle.reckoning.specs.Produced.{IsProduceOf, SessionAccount}
 use Rattle.reckoning.specs.Balancing.{IsBalanced}
 use Rattle.reckoning.specs.declared.balancing.Books.{Books}
-use Rattle.reckoning.proofs.Accounts.{account_of, all_taken, answers_of, only_of, mapped_at, session_account_of}
+use Rattle.house_history.specs.Legal.{Legal}
+use Rattle.lane_work.specs.Backing.{IsBacked}
+use Rattle.reckoning.specs.Histories.{IsKnownIn}
+use Rattle.reckoning.proofs.Accounts.{account_of, all_taken, answers_of, backed_by, only_of, mapped_at, session_account_of}
 use Rattle.reckoning.proofs.Parts.{seats_of, some_at}
 use Rattle.running_house.specs.Agree as report
 use Rattle.running_house.specs.Agree.{Agrees}
@@ -181,12 +184,19 @@ module _ {B : Type 0} (plan : Plan) (floor : Floor B) (is : IsFloorFor plan floo
       subst (λ (d : Directory). All (MayCome plan.config d (report.accepted_of r) (report.histories r)) (slice_index_or (report.notes_of r) p [])) same
       (subst (λ (taken : List (List (Entry Job))). All (MayCome plan.config floor.office.directory (report.accepted_of r) taken) (slice_index_or (report.notes_of r) p [])) taken_same here)
 
+  pub backed : All (IsKnownIn r.history) ws → Legal r.history → (p : ℕ) → p < producers_in plan → IsBacked p r.history (slice_index_or (report.answers r) p []) (map (of p) (report.histories r))
+  backed known legal p under =
+      subst (λ (hs : List (List (Entry Job))). IsBacked p r.history (slice_index_or (report.answers r) p []) (map (of p) hs)) histories_same
+      (subst (λ (xs : List (List (Entry Noted))). IsBacked p r.history (slice_index_or xs p []) (map (of p) (map history books.closed.lanes.items))) answers_same
+      (backed_by floor plan.workers.items plan.sessions.items ws worked producers balanced.fates _ books.closed.lanes.items balanced.lanes_closed _ books.closed.channels.items balanced.channels_closed r.history known legal p under))
+
   pub agrees : (whole : Bool) → whole ≡ (length plan.sessions.items == 0)
       → ListsAgree floor.office.directory whole (report.notes_of r) (map (λ t. items_of t.items) books.taken.items) (report.accepted_of r) (report.texts_of r)
       → ListsMet floor.office.directory whole (report.notes_of r) (map (λ t. items_of t.items) books.taken.items) (report.accepted_of r) (report.texts_of r)
       → IsNumbered plan.config.first_uid r
-      → All (λ log. All (MayCome plan.config floor.office.directory (report.accepted_of r) (map (λ t. t.items) books.taken.items)) log.notes) r.logs.items → Agrees plan r
-  agrees whole all lists met numbered founded = record {
+      → All (λ log. All (MayCome plan.config floor.office.directory (report.accepted_of r) (map (λ t. t.items) books.taken.items)) log.notes) r.logs.items
+      → All (IsKnownIn r.history) ws → Legal r.history → Agrees plan r
+  agrees whole all lists met numbered founded known legal = record {
     accounts = accounts;
     sessions = sessions;
     lists = subst (λ x. ListsAgree x.directory (length plan.sessions.items == 0) (report.notes_of r) (report.copies_taken r) (report.accepted_of r) (report.texts_of r)) is.premises
@@ -198,6 +208,8 @@ module _ {B : Type 0} (plan : Plan) (floor : Floor B) (is : IsFloorFor plan floo
     once = λ m under. told_once r.texts.items numbered.once m;
     in_order = in_order whole met;
     refusals = refusals founded;
+    legal = legal;
+    backed = backed known legal;
     seats = seats_are;
     replies = replies_count;
     said = count;

@@ -12,9 +12,11 @@ use Rattle.shard_queue.specs.Closing.{IsWhole}
 use Rattle.shard_queue.specs.Lane.{of}
 use Rattle.shard_queue.specs.Reply.{reply_history}
 use Rattle.shard_queue.specs.Permits.{history, numbers}
+use Rattle.house_history.specs.Legal.{Legal}
 use Rattle.lane_work.specs.Account.{Account}
 use Rattle.lane_work.specs.Answering.{WereAnswered}
 use Rattle.lane_work.specs.Awaiting.{copies_in, verdicts_in}
+use Rattle.lane_work.specs.Backing.{IsBacked}
 use Rattle.lane_work.specs.Consuming.{items_of}
 use Rattle.reckoning.specs.Produced.{SessionAccount}
 use Rattle.house_floor.specs.declared.floor.Guest.{Guest}
@@ -101,6 +103,9 @@ pub record Agrees (plan : Plan) (r : Report) : Type 0 where
   -- A copy was refused for want of room on its lane, in its mailbox, or of UIDs, only where that can have been.
   pub refusals : (p : ℕ) → p < producers_in plan
       → All (MayCome plan.config (premises_for plan).directory (accepted_of r) (histories r)) (slice_index_or (notes_of r) p [])
+  -- The one history of all threads is legal, and has what each worker and session put and heard, and nothing else of its seat.
+  pub legal : Legal r.history
+  pub backed : (p : ℕ) → p < producers_in plan → IsBacked p r.history (slice_index_or (answers r) p []) (map (of p) (histories r))
   -- There is one of each for each worker and session.
   pub seats : map (λ l. l.seat) r.logs.items ≡ numbers 0 (producers_in plan)
   pub replies : length (replies_of r) ≡ length (connections_of plan)

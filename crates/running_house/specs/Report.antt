@@ -5,6 +5,7 @@ use Rattle.delivery_token.specs.WorkerLog.{WorkerLog}
 use Rattle.delivery_token.specs.declared.CopyKey.{CopyKey}
 use Rattle.delivery_token.specs.declared.Job.{Job}
 use Rattle.delivery_token.specs.declared.log.Noted.{Noted}
+use Rattle.house_history.specs.declared.event.Event.{Event}
 use Rattle.shard_queue.specs.declared.queue.Closed.{Closed}
 use Rattle.shard_queue.specs.declared.reply.ReplyClosed.{ReplyClosed}
 
@@ -20,3 +21,4 @@ pub record Report : Type 0 where
   pub texts : Vec (Vec (ℕ × List ℕ) Global) Global  -- and the messages that are there
   pub sessions : Vec (Vec ℕ Global) Global  -- what each session said
   pub closed : Closes
+  pub history : List Event  -- how the history begins that all threads shared

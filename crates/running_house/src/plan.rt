@@ -9,7 +9,7 @@ ghost use Rattle.running_house.specs.Plan.{IsFaultOf, after_settings, are_too_ma
 use delivery_token::{CopyKey, Text, WorkerLog};
 use envelope::Directory;
 use house_floor::{Guest, MOST_PRODUCERS, is_nobody};
-use house_history::Naming;
+use house_history::{Front, Naming};
 use lane_work::Closing;
 use reckoning::{Closes, Fault};
 use settings::{Config, ConfigFault, directory_of};
@@ -54,6 +54,8 @@ pub struct Report<B: Naming> {
     pub sessions: Vec<Vec<u8>>,
     /// What was taken of each queue.
     pub closed: Closes<B>,
+    /// How the history begins that all threads shared, with all that a worker or a session put and heard.
+    pub history: Front<B>,
 }
 
 impl<B: Naming> Model for Report<B> {
@@ -68,6 +70,7 @@ impl<B: Naming> Model for Report<B> {
       texts = r.texts;
       sessions = r.sessions;
       closed = record { lanes = r.closed.lanes; channels = r.closed.channels };
+      history = r.history;
     } };
 }
 

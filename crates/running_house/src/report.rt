@@ -22,9 +22,9 @@ use crate::plan::{Plan, Report, WorkFault};
 use crate::refusals::{Evidence, all_may_come};
 use envelope::Directory;
 use house_floor::{Baskets, Floor, Ran};
-use house_history::Naming;
+use house_history::{Front, Naming};
 use locked_mailbox::LockedMailbox;
-use reckoning::{Books, Fault, Remains, Shelves, balance, remains_of, take_out};
+use reckoning::{Books, Fault, Remains, Shelves, balance, learn_all, remains_of, take_out};
 use settings::Config;
 use std::alloc::{AllocError, Global};
 use std::sync::Mutex;
@@ -60,6 +60,14 @@ fn part_sessions(
     Ok(sessions)
 }
 
+// What a report has besides what is compared.
+struct Besides<B: Naming> {
+    // What each session said.
+    sessions: Vec<Vec<u8>>,
+    // How the history begins.
+    history: Front<B>,
+}
+
 // Compares what the threads said with what the mailboxes hold, and puts the report together.
 fn compare<B: Naming>(
     alloc: Global,
@@ -68,7 +76,7 @@ fn compare<B: Naming>(
     config: &Config,
     books: Books<B>,
     shelves: Shelves,
-    sessions: Vec<Vec<u8>>,
+    besides: Besides<B>,
 ) -> Result<Report<B>, WorkFault>
     requires shards { directory.now.shards ≤ vec_len books.taken }
     requires numbered { All (λ v. AreNumbered v.items) shelves.accepted.items }
@@ -86,8 +94,8 @@ fn compare<B: Naming>(
         All (λ log. All (MayCome config.now directory.now (accepted_of r)
         (map (λ t. t.items) books.taken.items)) log.notes) r.logs.items) }
     ensures same { IfOk result (λ r. (r.replies ≡ books.replies) × (r.logs ≡ books.logs)
-        × (r.sessions ≡ sessions) × (r.closed.lanes ≡ books.closed.lanes)
-        × (r.closed.channels ≡ books.closed.channels)) }
+        × (r.sessions ≡ besides.sessions) × (r.closed.lanes ≡ books.closed.lanes)
+        × (r.closed.channels ≡ books.closed.channels) × (r.history ≡ besides.history)) }
     ensures fault { IfErr result (λ fault. (fault ≡ WorkFault.NoMemory)
         ⊎ (fault ≡ WorkFault.Torn)) }
 {
@@ -98,6 +106,7 @@ fn compare<B: Naming>(
         closed,
     } = books;
     let Shelves { accepted, texts } = shelves;
+    let Besides { sessions, history } = besides;
     let evidence = Evidence {
         config,
         directory,
@@ -130,6 +139,7 @@ fn compare<B: Naming>(
         texts,
         sessions,
         closed,
+        history,
     })
 }
 
@@ -140,6 +150,7 @@ fn report_on<B: Naming>(
     directory: &Directory,
     mailboxes: Vec<Mutex<LockedMailbox<B>>>,
     mut books: Books<B>,
+    history: Front<B>,
 ) -> Result<Report<B>, WorkFault>
     requires shards { directory.now.shards ≤ vec_len books.taken }
     requires workers { length plan.now.workers.items ≤ vec_len books.replies }
@@ -158,7 +169,8 @@ fn report_on<B: Naming>(
         × (r.logs ≡ books.logs) ×
         (r.closed.lanes ≡ books.closed.lanes) × (r.closed.channels ≡ books.closed.channels)
         × AreTexts (drop (length plan.now.workers.items) books.replies.items) r.sessions.items ×
-        (length plan.now.workers.items + vec_len r.sessions ≡ vec_len books.replies)) }
+        (length plan.now.workers.items + vec_len r.sessions ≡ vec_len books.replies)
+        × (r.history ≡ history)) }
     ensures fault { IfErr result (λ fault. (known : Fault) × (fault ≡ of_reckoning known)) }
 {
     let sessions = part_sessions(alloc, &mut books.replies, plan.workers.len())?;
@@ -170,7 +182,7 @@ fn report_on<B: Naming>(
         &plan.config,
         books,
         shelves,
-        sessions,
+        Besides { sessions, history },
     )
 }
 
@@ -194,6 +206,7 @@ pub(crate) fn report_of<B: Naming>(
     ensures agrees { IfOk result (Agrees plan.now) }
     ensures fault { IfErr result (λ fault. (known : Fault) × (fault ≡ of_reckoning known)) }
 {
+    let mut history = floor.depot.front.again();
     let Remains {
         directory,
         lanes,
@@ -201,7 +214,7 @@ pub(crate) fn report_of<B: Naming>(
         mailboxes,
     } = remains_of(floor);
     let Ran {
-        worked,
+        mut worked,
         consumed,
         stands,
         posts,
@@ -209,6 +222,7 @@ pub(crate) fn report_of<B: Naming>(
     } = ran;
     stands.destroy_empty();
     posts.destroy_empty();
+    learn_all(&mut worked, &mut history);
     let books = balance(alloc, lanes, channels, worked, consumed, baskets)?;
-    report_on(alloc, plan, &directory, mailboxes, books)
+    report_on(alloc, plan, &directory, mailboxes, books, history)
 }

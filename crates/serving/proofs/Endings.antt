@@ -45,7 +45,8 @@ use Rattle.house_floor.specs.declared.floor.Floor.{Floor}
 use Rattle.house_floor.specs.Left.{IsServiceOf}
 use Rattle.reckoning.proofs.Accounts.{answers_of, at_position, in_at}
 use Rattle.reckoning.proofs.Parts.{some_at}
-use Rattle.serving_workers.specs.Closing.{AreBacked, GoOn, WasClosed}
+use Rattle.reckoning.specs.Histories.{AreBacked}
+use Rattle.serving_workers.specs.Closing.{GoOn, WasClosed}
 use Rattle.serving_workers.specs.Leaving.{HasServedClients, HasServedMail, IsServed}
 use Rattle.serving_workers.specs.declared.accepting.Served.{Served}
 use Rattle.serving_workers.specs.Finished.{Finished}
@@ -119,12 +120,17 @@ heard_at (x ∷ served) [] n s go at = absurd go
 heard_at (x ∷ served) (list ∷ all) zero s go at = (let same : x ≡ s = cc in subst (λ (y : Served _). IsStartOf (received y.receiver) list) same go.0)
 heard_at (x ∷ served) (list ∷ all) (suc n) s go at = heard_at served all n s go.1 at
 
-backed_at : {B : Type 0} (served : List (Served B)) (front : List Event) (all : List (List (Entry Noted))) (n : ℕ) (s : Served B) → AreBacked front (map (λ s. s.ended.items) served) all → slice_get served n ≡ Some s
-    → IsBacked front (slice_index_or all n []) (map said s.ended.items)
-backed_at [] front all n s are at = absurd (cc)
-backed_at (x ∷ served) front [] n s are at = absurd are
-backed_at (x ∷ served) front (list ∷ all) zero s are at = (let same : x ≡ s = cc in subst (λ (y : Served _). IsBacked front list (map said y.ended.items)) same are.0)
-backed_at (x ∷ served) front (list ∷ all) (suc n) s are at = backed_at served front all n s are.1 at
+backed_at : {B : Type 0} (first : ℕ) (served : List (Served B)) (front : List Event) (all : List (List (Entry Noted))) (n : ℕ) (s : Served B) → AreBacked front first (map (λ s. s.ended.items) served) all → slice_get served n ≡ Some s
+    → IsBacked (first + n) front (slice_index_or all n []) (map said s.ended.items)
+backed_at first [] front all n s are at = absurd (cc)
+backed_at first (x ∷ served) front [] n s are at = absurd are
+backed_at first (x ∷ served) front (list ∷ all) zero s are at =
+    let same : x ≡ s = cc in
+    let here : first ≡ first + 0 = omega arith in
+    subst (λ (p : ℕ). IsBacked p front list (map said s.ended.items)) here (subst (λ (y : Served _). IsBacked first front list (map said y.ended.items)) same are.0)
+backed_at first (x ∷ served) front (list ∷ all) (suc n) s are at =
+    let next : suc first + n ≡ first + suc n = omega arith in
+    subst (λ (p : ℕ). IsBacked p front (slice_index_or all n []) (map said s.ended.items)) next (backed_at (suc first) served front all n s are.1 at)
 
 -- ---- what a worker's connections came to
 
@@ -223,10 +229,12 @@ module _ {B : Type 0} (floor : Floor B) (workers : ℕ) (served : List (Served B
       (subst (λ (words : List (List (Entry Job))). HasServedMail (premises_of floor.office) n (received s.0.receiver) words) s.3 mail)
 
   -- what it put and heard the history has
-  backed_by : (n : ℕ) → n < length served → IsBacked finished.front (slice_index_or (answers finished) n []) (map (of n) (histories finished))
+  backed_by : (n : ℕ) → n < length served → IsBacked n finished.front (slice_index_or (answers finished) n []) (map (of n) (histories finished))
   backed_by n under =
       let s = left_by n under in
-      subst (IsBacked finished.front (slice_index_or (answers finished) n [])) s.3 (backed_at served finished.front (answers finished) n s.0 was.backed s.1)
+      subst (IsBacked n finished.front (slice_index_or (answers finished) n [])) s.3
+      (subst (λ (p : ℕ). IsBacked p finished.front (slice_index_or (answers finished) n []) (map said s.0.ended.items)) (let e : 0 + n ≡ n = omega arith in e)
+      (backed_at 0 served finished.front (answers finished) n s.0 was.backed s.1))
 
   pub came_to : CameTo floor workers finished
   came_to = record {

@@ -43,9 +43,9 @@ pub record HasLeft (config : Config) (finished : Finished) : Type 0 where
   -- There was a lane for each shard, and the first of the producers were the workers.
   pub shards : length finished.lanes.items ≡ (directory_for config).shards
   pub workers : config.workers ≤ length finished.channels.items
-  -- The one history of all threads is legal, and has what each producer put and heard.
+  -- The one history of all threads is legal, and has what each producer put and heard, and nothing else of its seat.
   pub legal : Legal finished.front
-  pub backed : (n : ℕ) → n < length finished.channels.items → IsBacked finished.front (slice_index_or (answers finished) n []) (map (of n) (histories finished))
+  pub backed : (n : ℕ) → n < length finished.channels.items → IsBacked n finished.front (slice_index_or (answers finished) n []) (map (of n) (histories finished))
   -- What was taken of a worker from each lane is what its connections submitted, one after another with the serials from 0 on, and then its end; and the verdict on
   -- each of these copies came on its channel.
   pub mail : (n : ℕ) → n < config.workers → HasServedMail house n (slice_index_or (answers finished) n []) (map (of n) (histories finished))

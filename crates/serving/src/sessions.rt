@@ -386,7 +386,7 @@ fn attend_there<'a, B: Naming, H: Hall, R: Wait>(
 {
     let (floor, gate) = (&site.workplace.floor, &site.gate);
     let Post { desk, room } = ManuallyDrop::into_inner(post);
-    desk.dispatch.is_legal();
+    desk.dispatch.is_kept();
     let summons = site.workplace.summons(gate);
     let context = Context {
         rt,

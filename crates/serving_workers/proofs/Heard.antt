@@ -16,6 +16,7 @@ use Rattle.shard_queue.specs.Permits.{said}
 use Rattle.shard_queue.specs.declared.lane.Entry.{Entry}
 use Rattle.shard_queue.specs.declared.lane.Entry.TheVariants.{Item, End}
 use Rattle.house_history.specs.declared.event.Event.{Event}
+use Rattle.house_history.specs.Events.{sent_by}
 use Rattle.house_history.specs.Legal.{Legal}
 use Rattle.lane_work.specs.Backing.{IsBacked, IsShown}
 use Rattle.lane_work.specs.Ends.{ends_in}
@@ -31,7 +32,8 @@ use Rattle.house_floor.specs.Crew.{AllAt}
 use Rattle.house_floor.specs.declared.floor.Floor.{Floor}
 use Rattle.reckoning.proofs.Laying.{laid_items}
 use Rattle.reckoning.proofs.Parts.{from_here, past_all, some_at}
-use Rattle.serving_workers.specs.Closing.{AreBacked, GoOn}
+use Rattle.reckoning.proofs.Histories.{IsBackedAt}
+use Rattle.serving_workers.specs.Closing.{GoOn}
 use Rattle.serving_workers.specs.declared.accepting.Served.{Served}
 use Rattle.serving_workers.specs.inner.Leaving.{HasHeard, is_whole}
 
@@ -89,32 +91,6 @@ all_heard all done (s ∷ left) none are = absurd (omega (arith, none))
 
 -- ---- what the history has
 
-few : (more : List (Entry Noted)) → ends_in more ≤ length more
-few [] = omega arith
-few (Item shard noted ∷ more) = let f = few more in omega (arith, f)
-few (End shard ∷ more) = let f = few more in omega (arith, f)
-
-all_ends : (history : List Event) (more : List (Entry Noted)) → ends_in more ≡ length more → All (IsShown history) more
-all_ends history [] same = All-nil (IsShown history)
-all_ends history (Item shard noted ∷ more) same = absurd (let f = few more in omega (arith, same, f))
-all_ends history (End shard ∷ more) same = All-cons (IsShown history) (End shard) more tt (all_ends history more (omega (arith, same)))
-
-ends_both : (old more : List (Entry Noted)) → ends_in (old ++ more) ≡ ends_in old + ends_in more
-ends_both [] more = omega arith
-ends_both (Item shard noted ∷ old) more = ends_both old more
-ends_both (End shard ∷ old) more = let h = ends_both old more in omega (arith, h)
-
--- where nothing but ends was heard since, the history has what was heard as it had what was heard before
-pub ends_backed : (history : List Event) (old new : List (Entry Noted)) (put : List (List (Entry Job))) → IsStartOf old new → length new + ends_in old ≡ length old + ends_in new → IsBacked history old put → IsBacked history new put
-ends_backed history old new put grew quiet was =
-    let ends = ap ends_in grew.1 ∙ ends_both old grew.0 in
-    let long = ap length grew.1 ∙ length-append old grew.0 in
-    subst (λ (l : List (Entry Noted)). IsBacked history l put) (sym grew.1) (record {
-      legal = was.legal;
-      sent = was.sent;
-      shown = All-append (IsShown history) old grew.0 was.shown (all_ends history grew.0 (omega (arith, ends, long, quiet)));
-    })
-
 pub whole_is : (fate : Fate) → is_whole fate ≡ true → fate ≡ Whole
 whole_is Whole is = refl
 whole_is NotBegun is = cc
@@ -125,31 +101,12 @@ both : (a b : Bool) → (a && b) ≡ true → (a ≡ true) × (b ≡ true)
 both true b e = (refl, e)
 both false b e = cc
 
-abbrev pub Known : {B : Type 0} → List Event → Worked B → Type 0
-Known front w = IsPrefix w.dispatch.history front
-
--- one producer more has taught a front
-pub taught : {B : Type 0} (worked : List (Worked B)) (number : ℕ) (one : Worked B) (before now : List Event) → number < length worked → one ≡ slice_index_or worked number one → IsPrefix before now → IsPrefix one.dispatch.history now
-    → All (Known before) (take number worked) → All (Known now) (take (number + 1) worked)
-taught {B} worked number one before now within is grew mine all =
-    let e : take (number + 1) worked ≡ take number worked ++ one ∷ [] = take_more worked number one within ∙ ap (λ (w : Worked B). take number worked ++ w ∷ []) (sym is) in
-    subst (All (Known now)) (sym e)
-    (All-append (Known now) (take number worked) (one ∷ [])
-    (All-weaker (Known before) (Known now) (λ w known. goes_farther w.dispatch.history before now known grew) (take number worked) all)
-    (All-cons (Known now) one [] mine (All-nil (Known now))))
-
-pub all_taught : {B : Type 0} (worked : List (Worked B)) (number : ℕ) (front : List Event) → length worked ≤ number → All (Known front) (take number worked) → All (Known front) worked
-all_taught worked number front past all = subst (All (Known front)) (take_all number worked past) all
-
--- each producer's front has grown to one that all share
-pub backed_of : {B : Type 0} (floor : Floor B) (history : List Event) (n : ℕ) (ws : List (Worked B)) → AllAt (HasHeard floor) n ws → list_all (λ w. is_whole w.fate) ws ≡ true → All (λ (w : Worked B). IsPrefix w.dispatch.history history) ws → Legal history
-    → AreBacked history (map (λ w. w.ended.items) ws) (map (λ w. received w.receiver) ws)
-backed_of floor history n [] all whole fronts legal = tt
-backed_of floor history n (w ∷ ws) all whole fronts legal =
-    let b = both (is_whole w.fate) (list_all (λ v. is_whole v.fate) ws) whole in (
-      backed_later w.dispatch.history history (received w.receiver) (map said w.ended.items) (All-head (λ (v : Worked _). IsPrefix v.dispatch.history history) w ws fronts) legal (all.0.backed b.0),
-      backed_of floor history (suc n) ws all.1 b.1 (All-tail (λ (v : Worked _). IsPrefix v.dispatch.history history) w ws fronts) legal,
-    )
+-- each heard nothing but ends, so the history has what it put and heard
+pub backed_each : {B : Type 0} (floor : Floor B) (n : ℕ) (ws : List (Worked B)) → AllAt (HasHeard floor) n ws → list_all (λ w. is_whole w.fate) ws ≡ true → AllAt IsBackedAt n ws
+backed_each floor n [] all whole = tt
+backed_each floor n (w ∷ ws) all whole =
+    let b = both (is_whole w.fate) (list_all (λ v. is_whole v.fate) ws) whole in
+    (all.0.backed b.0, backed_each floor (suc n) ws all.1 b.1)
 
 module _ {B : Type 0} (floor : Floor B) where
   pub ended_of : (n : ℕ) (ws : List (Worked B)) → AllAt (HasHeard floor) n ws → AreEndedHands floor.office.lanes.items n (map (λ w. w.ended.items) ws)

@@ -4,7 +4,7 @@ use Rattle.std.proofs.lemmas.Option.{slice_get-get_or}
 use Rattle.delivery_token.specs.declared.log.Noted.{Noted}
 use Rattle.shard_queue.specs.declared.ends.ReplyChannel.{ReplyChannel}
 use Rattle.shard_queue.specs.Reply.{IsReceiver, received}
-use Rattle.lane_work.specs.Backing.{IsBacked}
+use Rattle.lane_work.specs.Backing.{IsBackedBy}
 use Rattle.lane_work.specs.Permits.{AreEnded}
 use Rattle.house_floor.specs.declared.floor.Floor.{Floor}
 use Rattle.serving_workers.specs.declared.accepting.Served.{Served}
@@ -20,7 +20,7 @@ pub served_by : {B : Type 0} (floor : Floor B) (i n number : ℕ) (c : ReplyChan
     → AreEnded floor.office.lanes.items number s.ended.items → IsReceiver (slice_index_or floor.depot.channels.items i c) s.receiver
     → (s.mail ≡ true → s.torn ≡ false → HasServedMail (premises_of floor.office) number (received s.receiver) (map said s.ended.items))
     → (s.mail ≡ false → s.torn ≡ false → HasServedClients (premises_of floor.office) number (received s.receiver) (map said s.ended.items))
-    → IsBacked s.dispatch.history (received s.receiver) (map said s.ended.items) → IsServed floor n r
+    → IsBackedBy n s.dispatch (received s.receiver) (map said s.ended.items) → IsServed floor n r
 served_by floor i n number c s r same of is ended hears mail clients backed = subst (IsServed floor n) (sym is) (record {
   ended = subst (λ (p : ℕ). AreEnded floor.office.lanes.items p s.ended.items) of ended;
   receiver = λ channel at. subst (λ (x : ReplyChannel Noted). IsReceiver x s.receiver) (found_at floor.depot.channels.items i n c channel same at) hears;

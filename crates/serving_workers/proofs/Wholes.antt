@@ -18,7 +18,8 @@ use Rattle.reckoning.specs.Closing.{AreChannelsClosedWith, AreClosedWith}
 use Rattle.house_history.specs.Legal.{Legal}
 use Rattle.shard_queue.specs.Reply.{reply_history}
 use Rattle.shard_queue.specs.declared.queue.Ended.{Ended}
-use Rattle.serving_workers.specs.Closing.{AreBacked, GoOn, WasClosed}
+use Rattle.reckoning.specs.Histories.{AreBacked}
+use Rattle.serving_workers.specs.Closing.{GoOn, WasClosed}
 use Rattle.serving_workers.specs.Finished.{Finished}
 use Rattle.serving_workers.specs.declared.accepting.Served.{Served}
 
@@ -33,7 +34,7 @@ pub whole_of : {B : Type 0} (floor : Floor B) (served : List (Served B)) (d : Di
     → AreClosedWith lanes.items (map (λ w. w.ended.items) ws) (map (λ c. c.permit) d.consumed.items) finished.lanes.items
     → AreChannelsClosedWith channels.items (map (λ c. c.senders.items) d.consumed.items) (map (λ w. w.receiver) ws) finished.channels.items
     → AreReceivers floor.depot.channels.items (map (λ w. w.receiver) ws) → Legal finished.front
-    → AreBacked finished.front (map (λ w. w.ended.items) ws) (map (λ w. received w.receiver) ws) → WasClosed floor served d finished
+    → AreBacked finished.front 0 (map (λ w. w.ended.items) ws) (map (λ w. received w.receiver) ws) → WasClosed floor served d finished
 whole_of floor served d ws lanes channels finished order producers clerks of_lanes of_channels ended grew closed shut own legal backed =
     let permits = map (λ (c : Consumed _). c.permit) d.consumed.items in
     let senders = map (λ (c : Consumed _). c.senders.items) d.consumed.items in
@@ -47,6 +48,6 @@ whole_of floor served d ws lanes channels finished order producers clerks of_lan
       channels = (receivers, own, subst (λ (v : Vec (ReplyChannel Noted) Global). AreChannelsClosedWith v.items senders receivers finished.channels.items) of_channels shut);
       heard = subst (GoOn (map (λ (s : Served _). received s.receiver) served)) (sym (histories_taken shut.2 ∙ got_twice ws)) grew;
       legal = legal;
-      backed = subst (λ (hs : List (List (Ended Job))). AreBacked finished.front hs (map reply_history finished.channels.items)) ended
-          (subst (AreBacked finished.front (map (λ (w : Worked _). w.ended.items) ws)) (sym (histories_taken shut.2 ∙ got_twice ws)) backed);
+      backed = subst (λ (hs : List (List (Ended Job))). AreBacked finished.front 0 hs (map reply_history finished.channels.items)) ended
+          (subst (AreBacked finished.front 0 (map (λ (w : Worked _). w.ended.items) ws)) (sym (histories_taken shut.2 ∙ got_twice ws)) backed);
     }

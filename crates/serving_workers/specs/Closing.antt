@@ -3,11 +3,8 @@ use Rattle.std.specs.Prelude.{◌≡◌, List, [], ◌∷◌, true, false, map}
 use Rattle.std.specs.List.{list_any}
 use Rattle.delivery_token.specs.declared.Job.{Job}
 use Rattle.delivery_token.specs.declared.log.Noted.{Noted}
-use Rattle.house_history.specs.declared.event.Event.{Event}
 use Rattle.house_history.specs.Legal.{Legal}
-use Rattle.shard_queue.specs.Permits.{said}
 use Rattle.shard_queue.specs.declared.queue.Ended.{Ended}
-use Rattle.lane_work.specs.Backing.{IsBacked}
 use Rattle.shard_queue.specs.Reply.{received, reply_history}
 use Rattle.shard_queue.specs.Shared.{IsStartOf}
 use Rattle.shard_queue.specs.declared.lane.Entry.{Entry}
@@ -16,6 +13,7 @@ use Rattle.lane_work.specs.ChannelPermits.{AreReceivers}
 use Rattle.clerks.specs.declared.staff.Dismissed.{Dismissed}
 use Rattle.house_floor.specs.declared.floor.Floor.{Floor}
 use Rattle.reckoning.specs.Closing.{AreChannelsClosedWith, AreClosedWith}
+use Rattle.reckoning.specs.Histories.{AreBacked}
 use Rattle.serving_workers.specs.declared.accepting.Served.{Served}
 use Rattle.serving_workers.specs.Finished.{Finished}
 
@@ -25,13 +23,6 @@ GoOn [] [] = Unit {0}
 GoOn [] (list ∷ after) = ⊥
 GoOn (list ∷ before) [] = ⊥
 GoOn (first ∷ before) (list ∷ after) = IsStartOf first list × GoOn before after
-
--- The history has what each producer put, by what is left of its permits, and what it heard.
-abbrev pub AreBacked : List Event → (ended : List (List (Ended Job))) → (heard : List (List (Entry Noted))) → Type 0
-AreBacked history [] [] = Unit {0}
-AreBacked history [] (heard ∷ all) = ⊥
-AreBacked history (words ∷ ended) [] = ⊥
-AreBacked history (words ∷ ended) (heard ∷ all) = IsBacked history heard (map said words) × AreBacked history ended all
 
 -- Each clerk stood in its place, and nobody met what he didn't await. These are what was taken of each queue: each lane was closed with what the producers
 -- left of their permits there and with its consumer's, each reply channel with what the clerks left of theirs and with its own receiver.
@@ -46,4 +37,4 @@ pub record WasClosed {B : Type 0} (floor : Floor B) (served : List (Served B)) (
   pub heard : GoOn (map (λ s. received s.receiver) served) (map reply_history finished.channels.items)
   -- the house's history, as far as it is handed out, is legal, and has all of that
   pub legal : Legal finished.front
-  pub backed : AreBacked finished.front (map (λ s. s.ended.items) served) (map reply_history finished.channels.items)
+  pub backed : AreBacked finished.front 0 (map (λ s. s.ended.items) served) (map reply_history finished.channels.items)

@@ -11,7 +11,7 @@ use Rattle.shard_queue.specs.declared.ends.ReplyChannel.{ReplyChannel}
 use Rattle.shard_queue.specs.declared.lane.Entry.{Entry}
 use Rattle.shard_queue.specs.Permits.{said}
 use Rattle.shard_queue.specs.Reply.{IsReceiver, received}
-use Rattle.lane_work.specs.Backing.{IsBacked}
+use Rattle.lane_work.specs.Backing.{IsBackedBy}
 use Rattle.lane_work.specs.Account.{AreBooks, AreBooksOf, HaveEnded, Premises, setting_at}
 use Rattle.lane_work.specs.Permits.{AreEnded}
 use Rattle.lane_work.specs.Speaking.{premises_of}
@@ -66,13 +66,13 @@ pub record HasServedClients (house : Premises) (seat : ℕ) (heard : List (Entry
 -- ---- all of them
 
 -- What producer n leaves: its ended permits on all lanes, and its end of its own channel. A worker's words are its connections' own, and those of another its clients'. The
--- history that the house shares has what it put and heard, however it came to its end.
+-- history that the house shares has what it put and heard, and nothing else of its seat, however it came to its end.
 pub record IsServed {B : Type 0} (floor : Floor B) (n : ℕ) (s : Served B) : Type 0 where
   pub ended : AreEnded floor.office.lanes.items n s.ended.items
   pub receiver : (channel : ReplyChannel Noted) → slice_get floor.depot.channels.items n ≡ Some channel → IsReceiver channel s.receiver
   pub mail : s.mail ≡ true → s.torn ≡ false → HasServedMail (premises_of floor.office) n (received s.receiver) (map said s.ended.items)
   pub clients : s.mail ≡ false → s.torn ≡ false → HasServedClients (premises_of floor.office) n (received s.receiver) (map said s.ended.items)
-  pub backed : IsBacked s.dispatch.history (received s.receiver) (map said s.ended.items)
+  pub backed : IsBackedBy n s.dispatch (received s.receiver) (map said s.ended.items)
 
 -- its thread will leave that, or it is there
 abbrev pub IsHired : {B : Type 0} → Floor B → ℕ → Hired B → Type 0

@@ -4,7 +4,7 @@
 ghost use Rattle.std.specs.Prelude.{◌≡◌, ◌≢◌, Err, ◌≤◌, ◌<◌, ◌+◌, ℕ, [], true, false, All, length, map, vec_capacity};
 ghost use Rattle.shard_queue.specs.Permits.{said};
 ghost use Rattle.shard_queue.specs.Reply.{IsReceiver, received};
-ghost use Rattle.lane_work.specs.Backing.{IsBacked, KeepsBacked};
+ghost use Rattle.lane_work.specs.Backing.{IsBackedBy, KeepsBacked};
 ghost use Rattle.lane_work.specs.Permits.{AreEnded, AreInForce, IsNew, put_by};
 ghost use Rattle.lane_work.specs.Speaking.{premises_of};
 ghost use Rattle.serving_workers.specs.Leaving.{AreServed, HasServedMail};
@@ -241,10 +241,11 @@ pub(crate) fn serve_until_stopped<B: Naming, R: Wait, G: Gate, S: Summons>(
         → HasServedMail (premises_of context.now.office.now) desk.number (received result.receiver)
         (map said result.ended.items) }
     ensures backed { All IsNew desk.permits.items → received desk.receiver ≡ []
-        → IsBacked result.dispatch.history (received result.receiver)
+        → desk.dispatch.sent ≡ []
+        → IsBackedBy desk.dispatch.number result.dispatch (received result.receiver)
         (map said result.ended.items) }
 {
-    desk.dispatch.is_legal();
+    desk.dispatch.is_kept();
     let book = LogBook::new(context.rt, context.alloc, door.log, door.names);
     let mut producer = Producer { pace, desk, book };
     let torn = serve_all(context, &mut producer, door, grip, &mut buffers);

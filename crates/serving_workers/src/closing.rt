@@ -3,8 +3,6 @@
 
 ghost use Rattle.std.specs.Prelude.{◌≡◌, ◌<◌, ◌≤◌, [], All, IfSome, length, map, true, vec_len, vec_capacity};
 ghost use Rattle.std.specs.List.{list_all, list_any};
-ghost use mathlib.Core.List.{IsPrefix};
-ghost use Rattle.house_history.specs.Legal.{Legal};
 ghost use Rattle.shard_queue.specs.Reply.{received};
 ghost use Rattle.shard_queue.specs.Shared.{IsStartOf};
 ghost use Rattle.lane_work.specs.LanePermits.{AreConsumers};
@@ -21,7 +19,7 @@ use delivery_token::WorkerLog;
 use house_floor::{Baskets, Floor, Ran, Started};
 use house_history::{Front, Naming};
 use lane_work::{Consumed, Fate, Worked, hear_ends};
-use reckoning::{Closes, Closings, Remains, abandon, close_queues, remains_of};
+use reckoning::{Closes, Closings, Remains, abandon, close_queues, learn_all, remains_of};
 use std::marker::Model;
 use std::sync::Wait;
 use workers_sync::{Actor, Pace};
@@ -144,18 +142,6 @@ fn are_quiet<B: Naming>(worked: &[Worked<B>]) -> bool
     worked.iter().all(|one| is_quiet(one))
 }
 
-// The front has then what each producer knows of the history.
-fn learn_all<B: Naming>(worked: &[Worked<B>], front: &mut Front<B>)
-    ensures before { IsPrefix front.old front.new }
-    ensures each { All (λ w. IsPrefix w.dispatch.history front.new) worked.now }
-    ensures legal { Legal front.new }
-{
-    front.is_legal();
-    for number in 0..worked.len() {
-        worked[number].dispatch.teach(front);
-    }
-}
-
 // Spends a house of which a clerk stood at another's position, so that no lane and no channel can be closed.
 fn spend_house<B: Naming>(
     floor: Floor<B>,
@@ -214,9 +200,9 @@ pub fn close_all<B: Naming, R: Wait>(
 {
     let alloc = floor.alloc;
     let is_producer_torn = is_producer_torn(&served);
-    let worked = hear_all_out(rt, &floor, served, worked);
+    let mut worked = hear_all_out(rt, &floor, served, worked);
     let mut front = floor.depot.front.again();
-    learn_all(&worked, &mut front);
+    learn_all(&mut worked, &mut front);
     let Dismissed { consumed, in_order } = dismissed;
     if !in_order {
         spend_house(floor, worked, consumed, baskets);

@@ -61,6 +61,7 @@ fn looked_at<B: Naming>(report: Report<B>) -> Reported {
         texts,
         sessions,
         closed: _,
+        history: _,
     } = report;
     Reported {
         replies,

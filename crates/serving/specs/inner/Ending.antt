@@ -49,9 +49,9 @@ pub record CameTo {B : Type 0} (floor : Floor B) (workers : ℕ) (finished : Fin
   -- Nothing else was on a lane or on a channel, and nothing was left there.
   pub lanes : WereEmptied floor.office.lanes.items finished.lanes.items
   pub channels : WereHeardOut floor.depot.channels.items finished.channels.items
-  -- The house's history is legal, and has what each producer put and heard.
+  -- The house's history is legal, and has what each producer put and heard, and nothing else of its seat.
   pub legal : Legal finished.front
-  pub backed : (n : ℕ) → n < length floor.depot.channels.items → IsBacked finished.front (slice_index_or (answers finished) n []) (map (of n) (histories finished))
+  pub backed : (n : ℕ) → n < length floor.depot.channels.items → IsBacked n finished.front (slice_index_or (answers finished) n []) (map (of n) (histories finished))
 
 -- ---- on the way there
 

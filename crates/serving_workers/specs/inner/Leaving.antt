@@ -4,7 +4,7 @@ use Rattle.delivery_token.specs.declared.log.Noted.{Noted}
 use Rattle.shard_queue.specs.declared.ends.ReplyChannel.{ReplyChannel}
 use Rattle.shard_queue.specs.Permits.{said}
 use Rattle.shard_queue.specs.Reply.{IsReceiver, received}
-use Rattle.lane_work.specs.Backing.{IsBacked}
+use Rattle.lane_work.specs.Backing.{IsBackedBy}
 use Rattle.lane_work.specs.Permits.{AreEnded}
 use Rattle.lane_work.specs.declared.worker.Fate.{Fate}
 use Rattle.lane_work.specs.declared.worker.Fate.TheVariants.{Whole, NotBegun, NoMemory, Torn}
@@ -21,4 +21,4 @@ is_whole Torn = false
 pub record HasHeard {B : Type 0} (floor : Floor B) (n : ℕ) (w : Worked B) : Type 0 where
   pub ended : AreEnded floor.office.lanes.items n w.ended.items
   pub receiver : (channel : ReplyChannel Noted) → slice_get floor.depot.channels.items n ≡ Some channel → IsReceiver channel w.receiver
-  pub backed : is_whole w.fate ≡ true → IsBacked w.dispatch.history (received w.receiver) (map said w.ended.items)
+  pub backed : is_whole w.fate ≡ true → IsBackedBy n w.dispatch (received w.receiver) (map said w.ended.items)

@@ -2,7 +2,9 @@ use Rattle.std.proofs.Common.{rules, ◌≡◌, ◌∙◌, ℕ, Vec, sym, ap, su
 use Rattle.std.specs.Global.{Global}
 use Rattle.delivery_token.specs.declared.log.Noted.{Noted}
 use Rattle.shard_queue.specs.declared.ends.ReplyChannel.{ReplyChannel}
-use Rattle.shard_queue.specs.Reply.{IsReceiver}
+use Rattle.shard_queue.specs.Permits.{said}
+use Rattle.shard_queue.specs.Reply.{IsReceiver, received}
+use Rattle.lane_work.specs.Backing.{IsBackedBy}
 use Rattle.lane_work.specs.Awaiting.{verdicts_in}
 use Rattle.lane_work.specs.Working.{IsWorked}
 use Rattle.house_floor.proofs.Finding.{here_at}
@@ -24,3 +26,6 @@ returns g c =
     c.as_slice.result.now c.work.result same c.requires.number c.requires.post.number (c.as_slice.ensures.value ∙ ap (λ (v : Vec (Vec ℕ Global) Global). v.items) c.index-plans-position.is)
     (subst (λ (x : ReplyChannel Noted). IsWorked floor.office x c.args.post.desk.number (map (λ b. b.items) c.as_slice.result.now) c.work.result) c.index.ensures c.work.ensures.worked)
     (λ whole. let only = c.work.ensures.only whole in let none = ap verdicts_in c.requires.post.unheard.0 in omega (arith, only, none))
+    (λ whole.
+    subst (λ (x : ℕ). IsBackedBy x c.work.result.dispatch (received c.work.result.receiver) (map said c.work.result.ended.items)) (c.requires.post.dispatch.0 ∙ sym c.requires.post.number)
+    (c.work.ensures.backed whole c.requires.post.unheard.0 c.requires.post.dispatch.1))

@@ -8,6 +8,8 @@ use Rattle.lane_work.specs.Copies.{rooms_of}
 use Rattle.lane_work.specs.Awaiting.{verdicts_in}
 use Rattle.lane_work.specs.Permits.{AreEnded, put_by}
 use Rattle.lane_work.proofs.AwaitedLaws.{ended_counts, new_counts, quiet_counts}
+use Rattle.house_history.specs.Events.{sent_by}
+use Rattle.lane_work.proofs.BackingLaws.{backed_begin}
 use Rattle.lane_work.proofs.ServedLaws.{books_begin}
 use Rattle.shard_queue.specs.Reply.{IsReceiver, received}
 use Rattle.shard_queue.specs.Permits.{said}
@@ -48,4 +50,9 @@ returns g c =
           session_account floor now.context.office.now now.desk seat now.serial c.args.guest.now c.user_of-user.result.now c.new-locked.result c.args.floor.now.depot.front lived.0 lived.2.0 (map (λ b. b.items) left.replies.items) now.book.notes left.log.notes
           (received left.receiver) (map said left.ended.items) life.same.0 own life.serial (ap (λ (b : WorkerLog). b.notes) end.kept.0) named (search rules) lived.2.1 said_alone
           (lived.1 [] begun) end.grew end.said,
+      λ whole.
+          let desk = c.args.post.desk in
+          let unsent = subst (λ (p : ℕ). sent_by p desk.dispatch.history ≡ []) c.requires.post.dispatch.0 (c.is_kept.ensures.own ∙ c.requires.post.dispatch.1) in
+          let began = backed_begin seat desk.dispatch.history (received desk.receiver) desk.permits.items c.is_kept.ensures.legal unsent c.requires.post.unheard.0 c.requires.post.fresh in
+          end.backed whole seat (life.same.4 seat (c.requires.post.dispatch.0, began)),
     )

@@ -6,6 +6,10 @@ use Rattle.lane_work.specs.declared.worker.Worked.{Worked}
 use Rattle.lane_work.specs.LanePermits as rows
 use Rattle.lane_work.specs.ChannelPermits.{AreReceivers, AreSenderEndedHands}
 use Rattle.reckoning.proofs.Parts.{consumers_of, ended_of, receivers_of, sender_hands_of}
+use Rattle.house_floor.specs.Crew.{AllAt}
+use Rattle.house_history.specs.Legal.{Legal}
+use Rattle.reckoning.specs.Histories.{IsKnownIn}
+use Rattle.reckoning.specs.Produced.{IsProduceOf}
 use Rattle.running_house.specs.Lists.{ListsAgree}
 use Rattle.running_house.specs.Walk.{ListsMet}
 use Rattle.reckoning.specs.Balancing.{IsBalanced}
@@ -17,20 +21,21 @@ use Rattle.running_house.proofs.report.report_of.Goals as goal
 
 pub balance-requires-clause-hands : goal.balance-requires-clause-hands
 balance-requires-clause-hands g c =
-    let ws = c.args.ran.worked in
-    let count = c.requires.all.worked in
-    let ok = ws.ok.0 in
+    let ws = c.learn_all.new.worked in
     subst (λ v. rows.AreEndedHands v.items 0 (map (λ (w : Worked _). w.ended.items) ws.items)) (sym c.remains_of-directory.ensures.lanes)
-    (ended_of c.args.floor c.args.plan.now.workers.items c.args.plan.now.sessions.items 0 ws.items c.requires.worked)
+    (ended_of c.args.floor c.args.plan.now.workers.items c.args.plan.now.sessions.items 0 ws.items
+    (subst (AllAt (IsProduceOf c.args.floor c.args.plan.now.workers.items c.args.plan.now.sessions.items) 0) (sym c.learn_all.ensures.same.0) c.requires.worked))
 
 pub balance-requires-clause-receivers : goal.balance-requires-clause-receivers
 balance-requires-clause-receivers g c =
-    let ws = c.args.ran.worked in
+    let ws = c.learn_all.new.worked in
+    let as_many = c.learn_all.ensures.same.1 in
     let channels = c.requires.floor.house.channels in
     let count = c.requires.all.worked in
     let ok = ws.ok.0 in
     subst (λ v. AreReceivers v.items (map (λ (w : Worked _). w.receiver) ws.items)) (sym c.remains_of-directory.ensures.channels)
-    (receivers_of c.args.floor c.args.plan.now.workers.items c.args.plan.now.sessions.items 0 ws.items c.requires.worked (omega (arith, count, ok, channels)))
+    (receivers_of c.args.floor c.args.plan.now.workers.items c.args.plan.now.sessions.items 0 ws.items
+    (subst (AllAt (IsProduceOf c.args.floor c.args.plan.now.workers.items c.args.plan.now.sessions.items) 0) (sym c.learn_all.ensures.same.0) c.requires.worked) (omega (arith, as_many, count, ok, channels)))
 
 pub balance-requires-clause-consumers : goal.balance-requires-clause-consumers
 balance-requires-clause-consumers g c =
@@ -50,16 +55,20 @@ balance-requires-clause-senders g c =
 
 pub returns-clause-agrees : goal.returns-clause-agrees
 returns-clause-agrees g c =
-    let ws = c.args.ran.worked in
+    let ws = c.learn_all.new.worked in
+    let still = c.learn_all.ensures.same.0 in
+    let as_many = c.learn_all.ensures.same.1 in
+    let worked = subst (AllAt (IsProduceOf c.args.floor c.args.plan.now.workers.items c.args.plan.now.sessions.items) 0) (sym still) c.requires.worked in
+    let known = subst (All (IsKnownIn c.learn_all.new.front)) (sym still) c.learn_all.ensures.each in
     let cs = c.args.ran.consumed in
     let books = c.in_ok-books.books in
     let whole = length c.args.plan.now.sessions.items == 0 in
     let balanced = subst (λ v. IsBalanced v.items c.args.floor.depot.channels.items ws.items cs.items books) c.remains_of-directory.ensures.lanes
     (subst (λ v. IsBalanced c.remains_of-directory.result.lanes.items v.items ws.items cs.items books) c.remains_of-directory.ensures.channels c.in_ok-books.ensures.balanced) in
-    let producers = sym ws.ok.0 ∙ c.requires.all.worked in
+    let producers = sym ws.ok.0 ∙ (as_many ∙ c.requires.all.worked) in
     let laid = ap length balanced.replies ∙ length-map ws.items (λ (w : Worked _). w.replies) in
     if_ok c.report_on.result (both _ _ c.report_on.result c.report_on.ensures.lists (both _ _ c.report_on.result c.report_on.ensures.met (both _ _ c.report_on.result c.report_on.ensures.numbered c.report_on.ensures.refusals))) c.report_on.ensures.parts
-    (λ r lists parts. agrees c.args.plan.now c.args.floor c.requires.floor ws.items cs.items c.requires.worked c.requires.consumed
+    (λ r lists parts. agrees c.args.plan.now c.args.floor c.requires.floor ws.items cs.items worked c.requires.consumed
     producers (sym cs.ok.0 ∙ c.requires.all.consumed) books balanced
     r parts.0 parts.1 parts.2 parts.3 parts.4
     (let counted = parts.5 in omega (arith, counted, laid, producers, r.sessions.ok.0, books.replies.ok.0))
@@ -67,4 +76,5 @@ returns-clause-agrees g c =
     (subst (λ d. ListsAgree d whole (notes_of r) (map (λ t. items_of t.items) books.taken.items) (accepted_of r) (texts_of r)) c.remains_of-directory.ensures.directory lists.0)
     (subst (λ d. ListsMet d whole (notes_of r) (map (λ t. items_of t.items) books.taken.items) (accepted_of r) (texts_of r)) c.remains_of-directory.ensures.directory lists.1.0)
     lists.1.1.0
-    (subst (λ d. All (λ log. All (MayCome c.args.plan.now.config d (accepted_of r) (map (λ t. t.items) books.taken.items)) log.notes) r.logs.items) c.remains_of-directory.ensures.directory lists.1.1.1))
+    (subst (λ d. All (λ log. All (MayCome c.args.plan.now.config d (accepted_of r) (map (λ t. t.items) books.taken.items)) log.notes) r.logs.items) c.remains_of-directory.ensures.directory lists.1.1.1)
+    (subst (λ h. All (IsKnownIn h) ws.items) (sym parts.6) known) (subst Legal (sym parts.6) c.learn_all.ensures.legal))

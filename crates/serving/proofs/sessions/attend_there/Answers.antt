@@ -1,4 +1,4 @@
-use Rattle.std.proofs.Common.{rules, ◌≡◌, ◌≤◌, ◌∙◌, ℕ, true, false, length, map, refl, sym, subst, vec_capacity}
+use Rattle.std.proofs.Common.{rules, ◌≡◌, ◌≤◌, ◌∙◌, ℕ, [], true, false, length, map, refl, sym, subst, vec_capacity}
 use Rattle.delivery_token.specs.declared.log.Noted.{Noted}
 use Rattle.shard_queue.specs.declared.ends.ReplyChannel.{ReplyChannel}
 use Rattle.shard_queue.specs.declared.reply.ReceiverPermit.{ReceiverPermit}
@@ -7,7 +7,8 @@ use Rattle.shard_queue.specs.Reply.{IsReceiver, received}
 use Rattle.lane_work.specs.Permits.{AreEnded, ArePermits, put_by}
 use Rattle.lane_work.specs.Speaking.{premises_of}
 use Rattle.lane_work.specs.declared.desk.Office.{Office}
-use Rattle.lane_work.specs.Backing.{IsBacked}
+use Rattle.house_history.specs.Events.{sent_by}
+use Rattle.lane_work.specs.Backing.{IsBackedBy}
 use Rattle.lane_work.specs.Dispatching.{Dispatch}
 use Rattle.lane_work.proofs.BackingLaws.{backed_begin, backed_end}
 use Rattle.lane_work.proofs.PermitLaws.{new_live}
@@ -60,7 +61,10 @@ returns-clause-served g c =
     let mine = subst (λ (n : ℕ). AreAttended (premises_of floor.office) n served.0 (received now.desk.receiver) (map put_by now.desk.permits.items)) (sym life.same.2) served.1 in
     subst (λ (r : ReceiverPermit Noted). HasServedClients (premises_of floor.office) now.desk.number (received r) (map said left.ended.items)) (sym c.leave.ensures.receiver)
     (clients_end (premises_of floor.office) now.desk.number now.desk.number served.0 (received now.desk.receiver) (map put_by now.desk.permits.items) (map said left.ended.items) refl mine c.leave.ensures.said))
-    (let begun = backed_begin post.desk.dispatch.history (received post.desk.receiver) post.desk.permits.items c.is_legal.ensures is.unheard.0 is.fresh in
-    let backed = backed_end now.desk.dispatch.history (received now.desk.receiver) now.desk.number (map put_by now.desk.permits.items) (map said left.ended.items) c.leave.ensures.said (life.same.4 begun) in
-    subst (λ (d : Dispatch). IsBacked d.history (received left.receiver) (map said left.ended.items)) (sym c.leave.ensures.dispatch)
-    (subst (λ (r : ReceiverPermit Noted). IsBacked now.desk.dispatch.history (received r) (map said left.ended.items)) (sym c.leave.ensures.receiver) backed))
+    (let n = c.args.number in
+    let unsent = subst (λ (p : ℕ). sent_by p post.desk.dispatch.history ≡ []) is.dispatch.0 (c.is_kept.ensures.own ∙ is.dispatch.1) in
+    let begun = backed_begin n post.desk.dispatch.history (received post.desk.receiver) post.desk.permits.items c.is_kept.ensures.legal unsent is.unheard.0 is.fresh in
+    let done = life.same.4 n (is.dispatch.0, begun) in
+    let backed = backed_end n now.desk.number now.desk.dispatch.history (received now.desk.receiver) (map put_by now.desk.permits.items) (map said left.ended.items) c.leave.ensures.said done.1 in
+    subst (λ (d : Dispatch). IsBackedBy n d (received left.receiver) (map said left.ended.items)) (sym c.leave.ensures.dispatch)
+    (subst (λ (r : ReceiverPermit Noted). IsBackedBy n now.desk.dispatch (received r) (map said left.ended.items)) (sym c.leave.ensures.receiver) (done.0, backed)))

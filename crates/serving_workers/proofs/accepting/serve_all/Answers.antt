@@ -18,8 +18,11 @@ loop-serial-preserved g c =
       λ begun.
           let before = subst (λ n. AreServed house n c.loop-serial.serial (received c.loop-serial.producer.desk.receiver) (map put_by c.loop-serial.producer.desk.permits.items)) (sym v.2) (v.4 begun) in
           subst (λ n. AreServed house n (c.loop-serial.serial + 1) (received now.receiver) (map put_by now.permits.items)) v.2 (c.attend.ensures.mail (search rules) before),
-      λ was. c.attend.ensures.backed (v.5 was),
+      λ seat was. c.attend.ensures.backed seat (v.5 seat was),
     )
 
 pub returns-clause-mail : goal.returns-clause-mail
 returns-clause-mail g c is begun = (c.loop-serial.serial, c.loop-serial.invariant.4 begun)
+
+pub returns-then-attend-clause-backed : goal.returns-then-attend-clause-backed
+returns-then-attend-clause-backed g c seat was = c.attend.ensures.backed seat (c.loop-serial.invariant.5 seat was)

@@ -1,4 +1,4 @@
-use Rattle.std.proofs.Common.{subst, map}
+use Rattle.std.proofs.Common.{◌∙◌, refl, subst, map}
 use Rattle.shard_queue.specs.Reply.{received}
 use Rattle.shard_queue.specs.Permits.{said}
 use Rattle.lane_work.specs.Permits.{put_by}
@@ -17,8 +17,10 @@ returns-clause-served g c fresh is =
 
 -- the history has what it put and heard
 pub returns-clause-backed : goal.returns-clause-backed
-returns-clause-backed g c fresh unheard =
+returns-clause-backed g c fresh unheard unsent =
     let desk = c.args.desk in
     let now = c.serve_all-torn.new.producer.desk in
-    let begun = backed_begin desk.dispatch.history (received desk.receiver) desk.permits.items c.is_legal.ensures unheard fresh in
-    backed_end now.dispatch.history (received now.receiver) now.number (map put_by now.permits.items) (map said c.end_all-ended.result.items) c.end_all-ended.ensures.said (c.serve_all-torn.ensures.backed begun)
+    let seat = desk.dispatch.number in
+    let begun = backed_begin seat desk.dispatch.history (received desk.receiver) desk.permits.items c.is_kept.ensures.legal (c.is_kept.ensures.own ∙ unsent) unheard fresh in
+    let done = c.serve_all-torn.ensures.backed seat (refl, begun) in
+    (done.0, backed_end seat now.number now.dispatch.history (received now.receiver) (map put_by now.permits.items) (map said c.end_all-ended.result.items) c.end_all-ended.ensures.said done.1)

@@ -1,7 +1,9 @@
-use Rattle.std.proofs.Common.{rules, ◌≡◌, ◌∙◌, ℕ, false, true, sym, subst}
+use Rattle.std.proofs.Common.{rules, ◌≡◌, ◌∙◌, ℕ, false, true, map, sym, subst}
 use Rattle.delivery_token.specs.declared.log.Noted.{Noted}
 use Rattle.shard_queue.specs.declared.ends.ReplyChannel.{ReplyChannel}
-use Rattle.shard_queue.specs.Reply.{IsReceiver}
+use Rattle.shard_queue.specs.Permits.{said}
+use Rattle.shard_queue.specs.Reply.{IsReceiver, received}
+use Rattle.lane_work.specs.Backing.{IsBackedBy}
 use Rattle.lane_work.specs.Permits.{ArePermits}
 use Rattle.lane_work.proofs.PermitLaws.{new_live, not_over}
 use Rattle.house_floor.specs.Crew.{IsPost}
@@ -33,4 +35,5 @@ returns-clause-served g c =
     c.serve_until_stopped.ensures.ended (subst (λ (x : ReplyChannel Noted). IsReceiver x c.serve_until_stopped.result.receiver) c.index.ensures c.serve_until_stopped.ensures.receiver)
     (λ mail whole. c.serve_until_stopped.ensures.served is.fresh whole)
     (λ none whole. absurd (let e : true ≡ false = sym c.serve_until_stopped.ensures.mail ∙ none in cc))
-    (c.serve_until_stopped.ensures.backed is.fresh is.unheard.0)
+    (subst (λ n. IsBackedBy n c.serve_until_stopped.result.dispatch (received c.serve_until_stopped.result.receiver) (map said c.serve_until_stopped.result.ended.items)) is.dispatch.0
+    (c.serve_until_stopped.ensures.backed is.fresh is.unheard.0 is.dispatch.1))

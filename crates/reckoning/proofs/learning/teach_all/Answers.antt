@@ -3,11 +3,12 @@ use mathlib.Core.List.{IsPrefix}
 use Rattle.lane_work.specs.declared.worker.Worked.{Worked}
 use Rattle.std.proofs.lemmas.List.Elements.{All-nil}
 use Rattle.lane_work.proofs.BackingLaws.{goes_farther, goes_nowhere}
-use Rattle.serving_workers.proofs.Heard.{Known, all_taught, taught}
-use Rattle.serving_workers.proofs.closing.learn_all.Goals as goal
+use Rattle.reckoning.specs.inner.Histories.{IsKnown}
+use Rattle.reckoning.proofs.Histories.{all_of_them, taught}
+use Rattle.reckoning.proofs.learning.teach_all.Goals as goal
 
 pub loop-number-init : goal.loop-number-init
-loop-number-init g c = (goes_nowhere c.args.front.now, c.is_legal.ensures, All-nil (Known c.args.front.now))
+loop-number-init g c = (goes_nowhere c.args.front.now, c.is_legal.ensures, All-nil (IsKnown c.args.front.now))
 
 pub loop-number-preserved : goal.loop-number-preserved
 loop-number-preserved g c =
@@ -19,4 +20,4 @@ loop-number-preserved g c =
     )
 
 pub returns-clause-each : goal.returns-clause-each
-returns-clause-each g c = all_taught c.args.worked.now c.loop-number.number c.loop-number.front (search rules) c.loop-number.invariant.2
+returns-clause-each g c = all_of_them (IsKnown c.loop-number.front) c.args.worked.now c.loop-number.number (search rules) c.loop-number.invariant.2

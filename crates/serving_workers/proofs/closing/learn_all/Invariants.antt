@@ -1,8 +1,0 @@
-use Rattle.std.proofs.Common.{All, take}
-use mathlib.Core.List.{IsPrefix}
-use Rattle.house_history.specs.Legal.{Legal}
-use Rattle.serving_workers.proofs.Heard.{Known}
-use Rattle.serving_workers.proofs.closing.learn_all.Given as goal
-
-abbrev pub invariant-loop-number : goal.invariant-loop-number
-invariant-loop-number g l = IsPrefix l.fn.front l.front × Legal l.front × All (Known l.front) (take l.number l.worked)
