@@ -41,7 +41,7 @@ message_of setting homes first last (x ∷ xs) are (suc n) j e =
     let z : (first + 1) + n ≡ first + suc n = omega arith in
     subst (λ (m : ℕ). IsMessage setting homes m j.message) z (message_of setting homes (first + 1) last xs are.1 n j e)
 
-whole_message : (setting : Setting) (directory : Directory) (bytes : List ℕ) (said : List Reply) (judged : List Judged) → IsWholeDialogue setting directory bytes said judged
+pub whole_message : (setting : Setting) (directory : Directory) (bytes : List ℕ) (said : List Reply) (judged : List Judged) → IsWholeDialogue setting directory bytes said judged
     → (n : ℕ) (j : Judged) → slice_get judged n ≡ Some j → IsMessage setting (length directory.homes) n j.message
 whole_message setting directory bytes said judged d n j e =
     let last : ℕ = (dialogue setting directory fresh d.events).standing.submitted in

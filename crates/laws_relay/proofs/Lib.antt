@@ -39,4 +39,6 @@ mod Put
 mod AccountRefuted
 mod Worked
 mod Reported
+mod ToldCopies
 mod Served
+mod ServedWorkers

@@ -1,18 +1,28 @@
--- What a relay may conclude of a mail connection of a server, by the bytes that it sent and was told there.
-use Rattle.std.specs.Prelude.{◌≡◌, ◌<◌, ℕ, true, List, [], ◌++◌, Option, Some, slice_index_or}
+-- What a relay may conclude of the mail connections of a server, by the bytes that it sent and was told there.
+use Rattle.std.specs.Prelude.{◌≡◌, ◌<◌, ◌≤◌, ◌==◌, ◌⊎◌, ℕ, true, false, List, [], ◌++◌, AllPairs, Contains, Option, Some, None, length, slice_index_or, if◌then◌else◌}
+use Rattle.delivery_token.specs.Keys.{Below}
 use Rattle.delivery_token.specs.declared.CopyKey.{CopyKey}
 use Rattle.delivery_token.specs.declared.Job.{Job}
+use Rattle.delivery_token.specs.declared.Verdict.{Verdict}
+use Rattle.delivery_token.specs.declared.log.Noted.{Noted}
 use Rattle.envelope.specs.Directory.{Directory}
 use Rattle.house_history.specs.declared.event.Event.{Event}
+use Rattle.house_history.specs.Events.{accepted_in, keys_of_seat}
 use Rattle.house_history.specs.Laws.{StandsAlone}
-use Rattle.house_history.specs.Legal.{Legal, Stands}
+use Rattle.house_history.specs.Legal.{Legal, Stands, WasJudged}
 use Rattle.lane_work.specs.Account.{Premises, closings_of, setting_at}
-use Rattle.lane_work.specs.Backing.{HaveStood}
+use Rattle.lane_work.specs.Backing.{HaveStood, IsBacked}
 use Rattle.lane_work.specs.Copies.{told}
 use Rattle.lane_work.specs.Talk.{HasTaken, Judged}
 use Rattle.lmtp_machine.specs.declared.reply.Reply.{Reply}
 use Rattle.lmtp_machine.specs.Conversation.{Conversation}
 use Rattle.lmtp_machine.specs.Replies.{wire}
+use Rattle.settings.specs.Settings.{IsInRange, config_fault}
+use Rattle.settings.specs.declared.config.Config.{Config}
+use Rattle.shard_queue.specs.declared.lane.Entry.{Entry}
+use Rattle.serving_workers.specs.Finished.{Finished}
+use Rattle.serving_workers.specs.Leaving.{HasServedMail, HaveConversed, next, none, passed}
+use Rattle.serving.specs.Left.{HasLeft}
 use Rattle.laws_relay.specs.Concluding.{IsTextOf, key_at, message_at}
 use Rattle.laws_relay.specs.Fates.{Names}
 use Rattle.laws_relay.specs.Handed.{Handed, handed_over, is_taken}
@@ -29,23 +39,78 @@ pub record StandsInHistory (directory : Directory) (history : List Event) (key :
   pub stands : Stands history copy uid
   pub once : StandsAlone history copy uid
 
--- What a relay may conclude of the messages that it handed over on the connection with this seat and serial, by what it was told so far.
-pub record ServedConcludes (directory : Directory) (seat serial : ℕ) (history : List Event) (messages : List Handed) : Type 0 where
+-- This copy is the one for a recipient of a message that the relay handed over: in the mailbox which that RCPT line names, with the text that was sent. And of its reply
+-- the relay knows that it is 250, or it hasn't read it.
+pub record WasHandedOver (directory : Directory) (number : ℕ → Option ℕ) (known whole : List Handed) (copy : Job) : Type 0 where
+  pub k : ℕ
+  pub numbered : number k ≡ Some copy.key.message
+  pub names : Names directory (slice_index_or (message_at whole k).recipients copy.key.recipient []) copy.mailbox
+  pub text : IsTextOf (message_at whole k) copy.text
+  pub read : (is_taken (message_at known k) copy.key.recipient ≡ true) ⊎ (length (message_at known k).replies ≤ copy.key.recipient)
+
+-- What a relay may conclude of the messages that it handed over on the connection with this seat and serial: `known`, by what it was told so far; `whole`, by all that was said there.
+pub record ServedConcludes (directory : Directory) (seat serial : ℕ) (history : List Event) (known whole : List Handed) : Type 0 where
   -- The server numbered the messages that were submitted, in their order: this is the number of the k-th that was handed over, if it was not refused as a whole. It is part of the keys of its copies.
   pub number : ℕ → Option ℕ
   pub rises : (k m a b : ℕ) → k < m → number k ≡ Some a → number m ≡ Some b → a < b
   -- a recipient whose reply is 250 has its copy in the history
-  pub taken : (k i : ℕ) → is_taken (message_at messages k) i ≡ true
-      → (n : ℕ) × (number k ≡ Some n) × StandsInHistory directory history (key_at seat serial n i) (message_at messages k) i
+  pub taken : (k i : ℕ) → is_taken (message_at known k) i ≡ true
+      → (n : ℕ) × (number k ≡ Some n) × StandsInHistory directory history (key_at seat serial n i) (message_at known k) i
+  -- one whose reply is another has no copy of this message there
+  pub refused : (k i n : ℕ) → i < length (message_at known k).replies → is_taken (message_at known k) i ≡ false → number k ≡ Some n
+      → (copy : Job) (uid : ℕ) → Stands history copy uid → copy.key ≡ key_at seat serial n i → ⊥
   -- different recipients, also of one message, have different copies
   pub different : (k m a b i j : ℕ) → number k ≡ Some a → number m ≡ Some b → key_at seat serial a i ≡ key_at seat serial b j → (k ≡ m) × (i ≡ j)
+  -- nothing else stands of this connection
+  pub nothing_else : (copy : Job) (uid : ℕ) → Stands history copy uid → copy.key.seat ≡ seat → copy.key.serial ≡ serial → WasHandedOver directory number known whole copy
+  -- in each mailbox the copies of this worker stand in the order in which they were sent: by connection, by message, by recipient
+  pub in_order : (mailbox : ℕ) → AllPairs Below (keys_of_seat seat (accepted_in mailbox history))
 
--- A connection of a worker that closes no shard has taken these bytes and said these replies, and of each copy of its messages of which Stored was told the history has it, as `converse` and
--- `books_stand` say of a server's connection at any moment. A relay that sent these bytes, and perhaps more behind them, was told any front of the replies: it may conclude.
+-- ---- a connection, at any moment between two messages
+
+-- Of this connection just those copies stand of which Stored is told here: the very copies, in their mailboxes, under these UIDs; and each verdict that there is on one of its copies is told.
+pub record ConnectionStands (seat serial : ℕ) (history : List Event) (told : List (Job × Verdict)) : Type 0 where
+  pub stood : HaveStood history told
+  pub all : (copy : Job) (verdict : Verdict) → copy.key.seat ≡ seat → copy.key.serial ≡ serial → WasJudged history copy verdict → Contains told (copy, verdict)
+
+-- A connection of a worker that closes no shard has taken these bytes and said these replies, and of its copies just those stand of which Stored was told. A relay that sent these bytes, and
+-- perhaps more behind them, was told any front of the replies: it may conclude.
 abbrev pub ServedRelaysConclude : Type 0
 ServedRelaysConclude = (house : Premises) (seat serial : ℕ) (bytes : List ℕ) (said : List Reply) (judged : List Judged) (at : Conversation) (history : List Event)
     → IsInLine house.host → closings_of house seat ≡ []
     → HasTaken (setting_at house seat serial) house.directory bytes said judged at
-    → Legal history → HaveStood history (told judged)
+    → Legal history → ConnectionStands seat serial history (told judged)
     → (more front untold : List ℕ) → front ++ untold ≡ wire house.host said
-    → ServedConcludes house.directory seat serial history (handed_over (bytes ++ more) front)
+    → ServedConcludes house.directory seat serial history (handed_over (bytes ++ more) front) (handed_over (bytes ++ more) (wire house.host said))
+
+-- ---- all connections of a worker
+
+-- the bytes that came on the connection with this serial number, and the replies that were said; none where nothing was said
+abbrev pub bytes_on : {house : Premises} {seat connections : ℕ} {judged : List Judged} → HaveConversed house seat connections judged → ℕ → List ℕ
+bytes_on none serial = []
+bytes_on (passed {n} before) serial = if serial == n then [] else bytes_on before serial
+bytes_on (next {n} bytes replies more at before taken) serial = if serial == n then bytes else bytes_on before serial
+
+abbrev pub replies_on : {house : Premises} {seat connections : ℕ} {judged : List Judged} → HaveConversed house seat connections judged → ℕ → List Reply
+replies_on none serial = []
+replies_on (passed {n} before) serial = if serial == n then [] else replies_on before serial
+replies_on (next {n} bytes replies more at before taken) serial = if serial == n then replies else replies_on before serial
+
+pub record WorkerConcludes (house : Premises) (seat : ℕ) (history : List Event) {connections : ℕ} {judged : List Judged} (conversed : HaveConversed house seat connections judged) : Type 0 where
+  -- Of each connection: a relay that sent what came there, and perhaps more behind it, was told any front of the replies.
+  pub each : (serial : ℕ) → serial < connections → (more front untold : List ℕ) → front ++ untold ≡ wire house.host (replies_on conversed serial)
+      → ServedConcludes house.directory seat serial history (handed_over (bytes_on conversed serial ++ more) front) (handed_over (bytes_on conversed serial ++ more) (wire house.host (replies_on conversed serial)))
+  -- whatever stands of this worker is of one of these connections
+  pub nothing_else : (copy : Job) (uid : ℕ) → Stands history copy uid → copy.key.seat ≡ seat → copy.key.serial < connections
+
+-- Of a worker that has served, where the history has what it put and heard and nothing else of its seat.
+abbrev pub WorkersConclude : Type 0
+WorkersConclude = (house : Premises) (seat : ℕ) (heard : List (Entry Noted)) (words : List (List (Entry Job))) (history : List Event)
+    → IsInLine house.host → 0 < house.directory.shards → house.directory.shards ≡ length words
+    → (mail : HasServedMail house seat heard words) → IsBacked seat history heard words
+    → WorkerConcludes house seat history mail.served.1
+
+-- So it is of each worker of a server that stopped in order.
+abbrev pub ServersConclude : Type 0
+ServersConclude = (config : Config) (finished : Finished) (left : HasLeft config finished) → IsInRange config → config_fault config ≡ None
+    → (n : ℕ) (worker : n < config.workers) → WorkerConcludes left.house n finished.front (left.mail n worker).served.1

@@ -3,7 +3,6 @@
 
 ghost use Rattle.laws_relay.specs.AccountLaws.{AccountsConclude, AccountsKeepClosed, ConnectionsAreKnown, RisingUidsAreAlone};
 ghost use Rattle.laws_relay.specs.Reports.{ReportsConclude};
-ghost use Rattle.laws_relay.specs.Served.{ServedRelaysConclude};
 
 use crate::reply_laws::messages_are_known;
 use running_house::{connections_are_of_lines, lines_are_told, reports_tell_of_each_copy};
@@ -45,15 +44,4 @@ pub fn reports_conclude()
 {
     accounts_conclude();
     reports_tell_of_each_copy();
-}
-
-/// Of a mail connection of a server, at any moment: each recipient whose reply a relay has read as 250 has its copy in the one history that
-/// all threads of the server share, in the mailbox that its RCPT line names, with the text that came, under one UID, once. `converse` and
-/// `books_stand` (`lane_work`) say of a connection what this asks for.
-pub fn served_relays_conclude()
-    ensures { ServedRelaysConclude }
-{
-    messages_are_known();
-    connections_of_accounts_are_known();
-    connections_are_of_lines();
 }

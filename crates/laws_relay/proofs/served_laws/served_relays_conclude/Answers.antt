@@ -1,5 +1,5 @@
 use Rattle.laws_relay.proofs.Served.{served_relays_conclude}
-use Rattle.laws_relay.proofs.account_laws.served_relays_conclude.Goals as goal
+use Rattle.laws_relay.proofs.served_laws.served_relays_conclude.Goals as goal
 
 pub returns : goal.returns
 returns c =
