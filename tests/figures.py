@@ -18,17 +18,17 @@ TOP = os.path.dirname(os.path.dirname(os.path.abspath(__file__)))
 
 # Each figure, in the order in which they are printed, and its limit.
 LIMITS = {
-    "crates": 44,
+    "crates": 45,
     "longest chain of crates": 11,
     "product crates under 150 lines of code": 5,
     "product functions with 8 arguments or more": 17,
     "most arguments of a product function": 9,
     "per mille of clauses that begin with a line over 100 columns": 0,
-    "lines of proofs": 85000,
+    "lines of proofs": 86000,
     "lines of docs/PROVING.md": 300,
-    "lines of code, definitions and proofs": 165000,
+    "lines of code, definitions and proofs": 167000,
     "files that name an option (ring_max)": 50,
-    "files that name a setting of serve (lmtp_port)": 32,
+    "files that name a setting of serve (lmtp_port)": 33,
     "files that name a refusal of a copy (MailboxFull)": 39,
     "files that name a field of the house (visitors)": 54,
     "files that name a verb with an answer (STATUS)": 41,

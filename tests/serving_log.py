@@ -165,7 +165,7 @@ def tell_sessions(program):
         mail(house).quit()
 
     lines = log_of(program, ("--log",), visit)
-    appended = find(lines, r"imap alice (\d+) message 1 alice/Work stored uid 1")[1]
+    appended = find(lines, r"imap alice (\d+) message 1 alice/Work stored uid 1 2 bytes")[1]
     find(lines, rf"imap alice {appended} quit")
     idled = find(lines, r"imap bob (\d+) idle")[1]
     find(lines, rf"imap bob {idled} gone")

@@ -1,6 +1,6 @@
-//! What passes between the connections and the mailboxes: a copy with its key, the verdict on it,
-//! the log in which a worker notes the verdicts that it heard, and the copies of one message that was
-//! submitted, with what was heard of each. No lane, no mailbox and no connection.
+//! What passes between the connections and the mailboxes: a copy with its key, and the verdict on it.
+//! A worker notes the verdicts that it heard in a log, and of the copies of a message what was heard
+//! of each. No lane, no mailbox and no connection.
 #![tactic(auto)]
 
 mod laws;

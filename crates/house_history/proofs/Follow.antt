@@ -14,12 +14,13 @@ use Rattle.delivery_token.specs.declared.CopyKey.{CopyKey}
 use Rattle.delivery_token.specs.Keys.{Below}
 use Rattle.delivery_token.specs.declared.Job.{Job}
 use Rattle.delivery_token.specs.declared.Verdict.{Verdict}
+use Rattle.delivery_token.specs.declared.Verdict.TheVariants.{Stored, Refused}
 use Rattle.delivery_token.specs.declared.log.Noted.{Noted}
 use Rattle.house_history.specs.declared.event.Event.{Event}
 use Rattle.house_history.specs.declared.event.Event.TheVariants.{Sent, Withdrawn, Judged, Changed}
 use Rattle.house_history.specs.declared.event.Step.{Step}
 use Rattle.house_history.specs.declared.event.Step.TheVariants.{Leave}
-use Rattle.house_history.specs.Events.{concerns, seat_key, ticket_key, sent_of, sent_by, step_of, life, judged_of, judged_in, arrives, logged, more, changes_from, changes_in}
+use Rattle.house_history.specs.Events.{accepted_in, accepted_of, concerns, seat_key, ticket_key, sent_of, sent_by, step_of, life, judged_of, judged_in, arrives, logged, more, changes_from, changes_in}
 use Rattle.house_history.specs.Legal.{IsBefore, IsLife, unused, under_way, judged, withdrawn, Legal, WasJudged, WasWithdrawn}
 use Rattle.house_history.specs.Views.{IsNotedIn, IsSettledIn}
 use Rattle.house_history.proofs.Logs.{legal_empty_log, legal_logged}
@@ -59,6 +60,16 @@ life_own t log own is = sym (of_part (step_of t) (concerns (ticket_key t)) (step
 
 pub judged_own : (m p : ℕ) (log own : List Event) → part concerns m log ≡ own → judged_in m p log ≡ judged_in m p own
 judged_own m p log own is = sym (of_part (judged_of m p) (concerns m) (judged_elsewhere m p) log) ∙ ap (judged_in m p) is
+
+accepted_elsewhere : (m : ℕ) (x : Event) → concerns m x ≡ false → accepted_of m x ≡ None
+accepted_elsewhere m (Sent j t) e = refl
+accepted_elsewhere m (Withdrawn t) e = refl
+accepted_elsewhere m (Judged j (Stored uid) t) e = ap (λ (b : Bool). cond b (Some (j.key, uid)) None) (flip m j.mailbox (or_left _ _ e))
+accepted_elsewhere m (Judged j (Refused why) t) e = refl
+accepted_elsewhere m (Changed n s) e = refl
+
+pub accepted_own : (m : ℕ) (log own : List Event) → part concerns m log ≡ own → accepted_in m log ≡ accepted_in m own
+accepted_own m log own is = sym (of_part (accepted_of m) (concerns m) (accepted_elsewhere m) log) ∙ ap (accepted_in m) is
 
 none_elsewhere : (m : ℕ) (log : List Change) (x : Event) → concerns m x ≡ false → more m log x ≡ []
 none_elsewhere m log (Sent j t) e = refl

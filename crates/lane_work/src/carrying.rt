@@ -118,7 +118,8 @@ impl<'a, B: Naming, R: Wait, S: Summons, N: Notebook> Courier for LaneCourier<'a
             self.is_torn = true;
             return Err(Lost::Torn);
         };
-        self.book.note_one(key, mailbox, verdict);
+        let bytes = text.as_slice().len();
+        self.book.note_one(key, mailbox, bytes, verdict);
         Ok(verdict)
     }
 }

@@ -1,6 +1,6 @@
-//! What one worker and one consumer of a running house do with their permits: a worker's connections,
-//! from the greeting to the end of its permit on each lane, the shards that it closes before them, and a
-//! consumer's lane, from the first copy to the last end. Nothing is known here of how threads begin and are joined.
+//! What one worker and one consumer of a running house do with their permits. A worker's connections are served from the greeting to the
+//! end of its permit on each lane, and shards are closed before them. A consumer's lane is taken from the first copy to the last end.
+//! Nothing is known here of how threads begin and are joined.
 //! The permits are made, dealt, collected and closed here too, lane by lane, and one LMTP connection of a worker is served over a reader and a sink.
 #![tactic(auto)]
 

@@ -50,8 +50,8 @@ pub trait Notebook {
         ensures tells { (copies : List (Job × Verdict)) → tells self.old copies →
             tells self.new (copies ++ zip (copies_of (submission_of message.now)) verdicts.now) };
 
-    /// Notes the verdict on one copy, in room that was reserved.
-    fn note_one(&mut self, key: CopyKey, mailbox: u8, verdict: Verdict)
+    /// Notes the verdict on one copy, whose text has so many bytes, in room that was reserved.
+    fn note_one(&mut self, key: CopyKey, mailbox: u8, bytes: usize, verdict: Verdict)
         requires room { has_room self.old 1 }
 
         // It tells of the copy of this key and mailbox too, with its verdict, behind those of which it told. Its text doesn't matter.
@@ -77,7 +77,7 @@ impl Notebook for WorkerLog {
         log_all(self, message, verdicts);
     }
 
-    fn note_one(&mut self, key: CopyKey, mailbox: u8, verdict: Verdict) {
+    fn note_one(&mut self, key: CopyKey, mailbox: u8, _bytes: usize, verdict: Verdict) {
         self.note(key, mailbox, verdict);
     }
 }
@@ -99,7 +99,7 @@ impl Notebook for Unkept {
 
     fn note_all(&mut self, _message: &Submission, _verdicts: &[Verdict]) {}
 
-    fn note_one(&mut self, _key: CopyKey, _mailbox: u8, _verdict: Verdict) {}
+    fn note_one(&mut self, _key: CopyKey, _mailbox: u8, _bytes: usize, _verdict: Verdict) {}
 }
 
 fn log_all(log: &mut WorkerLog, message: &Submission, verdicts: &[Verdict])

@@ -1,5 +1,5 @@
-//! Laws of what a mail client may conclude from the bytes that it is told: of the selected mailbox within one session, of a house over the record of
-//! all that was printed, of flags, and of a server's sessions over mailboxes behind locks. No code lives here, but laws.
+//! Laws of what a mail client may conclude from the bytes that it is told. They are of the selected mailbox within one session, of a house over the
+//! record of all that was printed, of flags, and of a server's sessions. No code lives here, but laws.
 #![tactic(auto)]
 
 mod flag_laws;

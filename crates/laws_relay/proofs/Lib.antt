@@ -42,3 +42,4 @@ mod Reported
 mod ToldCopies
 mod Served
 mod ServedWorkers
+mod ServedLines

@@ -23,6 +23,7 @@ use Rattle.lmtp_machine.specs.Replies.{wire}
 use Rattle.running_house.specs.Laws.{TalkIsOfLines}
 use Rattle.serving.specs.Left.{answers, histories}
 use Rattle.serving_workers.specs.Leaving.{HaveConversed, next, none, passed}
+use Rattle.serving_workers.specs.Lines.{Spoken}
 use Rattle.shard_queue.specs.declared.lane.Entry.TheVariants.{End}
 use Rattle.shard_queue.specs.Lane.{of}
 use Rattle.shard_queue.specs.Permits.{history as taken_of}
@@ -36,25 +37,25 @@ use Rattle.laws_relay.proofs.ToldCopies.{all_left, all_right, taken_copy, told_o
 
 -- ---- what was judged on each connection
 
-abbrev judged_on : {house : Premises} {seat connections : ℕ} {judged : List Judged} → HaveConversed house seat connections judged → ℕ → List Judged
+abbrev judged_on : {house : Premises} {seat connections : ℕ} {spoken : List Spoken} {judged : List Judged} → HaveConversed house seat connections spoken judged → ℕ → List Judged
 judged_on none serial = []
 judged_on (passed {n} before) serial = if serial == n then [] else judged_on before serial
-judged_on (next {n} bytes replies more at before taken) serial = if serial == n then more else judged_on before serial
+judged_on (next {n} bytes replies more at dropped written failed before taken are) serial = if serial == n then more else judged_on before serial
 
 told_both : (judged more : List Judged) → told (judged ++ more) ≡ told judged ++ told more
 told_both judged more = flat_map-append told_of judged more
 
-earlier : (serial n : ℕ) → serial < n + 1 → (serial == n) ≡ false → serial < n
+pub earlier : (serial n : ℕ) → serial < n + 1 → (serial == n) ≡ false → serial < n
 earlier serial n under other = grind (arith, nat_tests)
 
-is_this : (serial n : ℕ) → (serial == n) ≡ true → serial ≡ n
+pub is_this : (serial n : ℕ) → (serial == n) ≡ true → serial ≡ n
 is_this serial n this = grind (arith, nat_tests)
 
 not_this : (serial n : ℕ) → (serial == n) ≡ false → serial ≡ n → ⊥
 not_this serial n other this = grind (arith, nat_tests)
 
 -- what holds of all that was told holds of what was told of one connection
-all_on : (P : Job × Verdict → Type 0) {house : Premises} {seat connections : ℕ} {judged : List Judged} (conversed : HaveConversed house seat connections judged) (serial : ℕ)
+all_on : (P : Job × Verdict → Type 0) {house : Premises} {seat connections : ℕ} {spoken : List Spoken} {judged : List Judged} (conversed : HaveConversed house seat connections spoken judged) (serial : ℕ)
     → All P (told judged) → All P (told (judged_on conversed serial))
 all_on P none serial all = all
 all_on P (passed {n} before) serial all = by (all_on P before serial all) (serial == n)
@@ -62,7 +63,7 @@ all_on P (passed {n} before) serial all = by (all_on P before serial all) (seria
     by : All P (told (judged_on before serial)) → (b : Bool) → All P (told (if b then [] else judged_on before serial))
     by others true = λ i d under. absurd (omega (arith, under))
     by others false = others
-all_on P (next {n} {judged} bytes replies more at before taken) serial all =
+all_on P (next {n} {spoken} {judged} bytes replies more at dropped written failed before taken are) serial all =
     let both : All P (told judged ++ told more) = subst (λ (l : List (Job × Verdict)). All P l) (told_both judged more) all in
     by (all_on P before serial (all_left P (told judged) (told more) both)) (all_right P (told judged) (told more) both) (serial == n)
   where
@@ -71,18 +72,18 @@ all_on P (next {n} {judged} bytes replies more at before taken) serial all =
     by others here false = others
 
 -- each copy that was told is of one of these connections
-of_these : TalkIsOfLines → {house : Premises} {seat connections : ℕ} {judged : List Judged} → HaveConversed house seat connections judged → (copy : Job) (verdict : Verdict)
+of_these : TalkIsOfLines → {house : Premises} {seat connections : ℕ} {spoken : List Spoken} {judged : List Judged} → HaveConversed house seat connections spoken judged → (copy : Job) (verdict : Verdict)
     → Contains (told judged) (copy, verdict) → copy.key.serial < connections
 of_these lines none copy verdict has = absurd (let u = has.1 in omega (arith, u))
 of_these lines (passed before) copy verdict has = let u = of_these lines before copy verdict has in omega (arith, u)
-of_these lines {house} {seat} (next {n} {judged} bytes replies more at before taken) copy verdict has =
+of_these lines {house} {seat} (next {n} {spoken} {judged} bytes replies more at dropped written failed before taken are) copy verdict has =
     elim (Contains-append_cases (told judged) (told more) (copy, verdict) (subst (λ (l : List (Job × Verdict)). Contains l (copy, verdict)) (told_both judged more) has)) [
       | inl there ↦ (let u = of_these lines before copy verdict there in omega (arith, u))
       | inr here ↦ (let e = (taken_copy lines (setting_at house seat n) house.directory bytes replies more at taken copy verdict here).of_serial in omega (arith, e))
     ]
 
 -- and was told on that connection
-told_on : TalkIsOfLines → {house : Premises} {seat connections : ℕ} {judged : List Judged} (conversed : HaveConversed house seat connections judged) (serial : ℕ) (copy : Job) (verdict : Verdict)
+told_on : TalkIsOfLines → {house : Premises} {seat connections : ℕ} {spoken : List Spoken} {judged : List Judged} (conversed : HaveConversed house seat connections spoken judged) (serial : ℕ) (copy : Job) (verdict : Verdict)
     → copy.key.serial ≡ serial → Contains (told judged) (copy, verdict) → Contains (told (judged_on conversed serial)) (copy, verdict)
 told_on lines none serial copy verdict e has = has
 told_on lines (passed {n} before) serial copy verdict e has = by (told_on lines before serial copy verdict e has) (of_these lines before copy verdict has) (serial == n) refl
@@ -90,7 +91,7 @@ told_on lines (passed {n} before) serial copy verdict e has = by (told_on lines 
     by : Contains (told (judged_on before serial)) (copy, verdict) → copy.key.serial < n → (b : Bool) → (serial == n) ≡ b → Contains (told (if b then [] else judged_on before serial)) (copy, verdict)
     by there under true this = absurd (let same = is_this serial n this in omega (arith, e, same, under))
     by there under false other = there
-told_on lines {house} {seat} (next {n} {judged} bytes replies more at before taken) serial copy verdict e has =
+told_on lines {house} {seat} (next {n} {spoken} {judged} bytes replies more at dropped written failed before taken are) serial copy verdict e has =
     elim (Contains-append_cases (told judged) (told more) (copy, verdict) (subst (λ (l : List (Job × Verdict)). Contains l (copy, verdict)) (told_both judged more) has)) [
       | inl there ↦ before_it (told_on lines before serial copy verdict e there) (of_these lines before copy verdict there) (serial == n) refl
       | inr here ↦ on_it here (taken_copy lines (setting_at house seat n) house.directory bytes replies more at taken copy verdict here).of_serial (serial == n) refl
@@ -114,7 +115,7 @@ record HasTalked (house : Premises) (seat serial : ℕ) (bytes : List ℕ) (said
 abbrev IsTalkOrNone : Premises → (seat serial : ℕ) → List ℕ → List Reply → List Judged → Type 0
 IsTalkOrNone house seat serial bytes said judged = HasTalked house seat serial bytes said judged ⊎ ((said ≡ []) × (judged ≡ []))
 
-each_talk : {house : Premises} {seat connections : ℕ} {judged : List Judged} (conversed : HaveConversed house seat connections judged) (serial : ℕ) → serial < connections
+each_talk : {house : Premises} {seat connections : ℕ} {spoken : List Spoken} {judged : List Judged} (conversed : HaveConversed house seat connections spoken judged) (serial : ℕ) → serial < connections
     → IsTalkOrNone house seat serial (bytes_on conversed serial) (replies_on conversed serial) (judged_on conversed serial)
 each_talk none serial under = absurd (omega (arith, under))
 each_talk {house} {seat} (passed {n} before) serial under = by (λ u. each_talk before serial u) (serial == n) refl
@@ -123,7 +124,7 @@ each_talk {house} {seat} (passed {n} before) serial under = by (λ u. each_talk 
         → IsTalkOrNone house seat serial (if b then [] else bytes_on before serial) (if b then [] else replies_on before serial) (if b then [] else judged_on before serial)
     by others true this = inr (refl, refl)
     by others false other = others (earlier serial n under other)
-each_talk {house} {seat} (next {n} bytes replies more at before taken) serial under = by (λ u. each_talk before serial u) (serial == n) refl
+each_talk {house} {seat} (next {n} bytes replies more at dropped written failed before taken are) serial under = by (λ u. each_talk before serial u) (serial == n) refl
   where
     by : (serial < n → IsTalkOrNone house seat serial (bytes_on before serial) (replies_on before serial) (judged_on before serial)) → (b : Bool) → (serial == n) ≡ b
         → IsTalkOrNone house seat serial (if b then bytes else bytes_on before serial) (if b then replies else replies_on before serial) (if b then more else judged_on before serial)
@@ -173,19 +174,19 @@ one_concludes served house seat serial bytes said judged history in_line legal s
 -- ---- a worker
 
 pub workers_conclude : ServedRelaysConclude → TalkIsOfLines → WordsStand → WorkersConclude
-workers_conclude served lines words_stand house seat heard words history in_line some lanes mail backed =
+workers_conclude served lines words_stand house seat line heard words history in_line some lanes mail backed =
     let as_many : house.directory.shards ≡ length mail.sent = lanes ∙ ap length mail.ended ∙ length-map mail.sent (λ entries. entries ++ End seat ∷ []) in
-    let stand : StandAsTold seat history (told mail.served.0) =
-    words_stand house.directory house.rooms seat (told mail.served.0) history heard mail.sent words some as_many mail.served.2 mail.ended backed in
+    let stand : StandAsTold seat history (told mail.served.judged) =
+    words_stand house.directory house.rooms seat (told mail.served.judged) history heard mail.sent words some as_many mail.served.books mail.ended backed in
     record {
       each = λ serial under more front untold e.
-          one_concludes served house seat serial (bytes_on mail.served.1 serial) (replies_on mail.served.1 serial) (judged_on mail.served.1 serial) history in_line backed.legal
+          one_concludes served house seat serial (bytes_on mail.served.conversed serial) (replies_on mail.served.conversed serial) (judged_on mail.served.conversed serial) history in_line backed.legal
           (record {
-            stood = all_on (λ (one : Job × Verdict). (uid : ℕ) → one.1 ≡ Stored uid → WasJudged history one.0 (Stored uid)) mail.served.1 serial stand.stood;
-            all = λ copy verdict own of_serial judged. told_on lines mail.served.1 serial copy verdict of_serial (stand.all copy verdict own judged);
+            stood = all_on (λ (one : Job × Verdict). (uid : ℕ) → one.1 ≡ Stored uid → WasJudged history one.0 (Stored uid)) mail.served.conversed serial stand.stood;
+            all = λ copy verdict own of_serial judged. told_on lines mail.served.conversed serial copy verdict of_serial (stand.all copy verdict own judged);
           })
-          (each_talk mail.served.1 serial under) more front untold e;
-      nothing_else = λ copy uid stands own. of_these lines mail.served.1 copy (Stored uid) (stand.all copy (Stored uid) own stands);
+          (each_talk mail.served.conversed serial under) more front untold e;
+      nothing_else = λ copy uid stands own. of_these lines mail.served.conversed copy (Stored uid) (stand.all copy (Stored uid) own stands);
     }
 
 -- ---- a server
@@ -197,4 +198,4 @@ servers_conclude workers config finished left range faultless n worker =
     let lanes : left.house.directory.shards ≡ length (map (of n) (histories finished)) =
     ap (λ (d : Directory). d.shards) left.set.directory ∙ sym left.shards ∙ sym (length-map finished.lanes.items taken_of) ∙ sym (length-map (histories finished) (of n)) in
     let many = left.workers in
-    workers left.house n (slice_index_or (answers finished) n []) (map (of n) (histories finished)) finished.front in_line some lanes (left.mail n worker) (left.backed n (omega (arith, worker, many)))
+    workers left.house n (left.mail n worker).line (slice_index_or (answers finished) n []) (map (of n) (histories finished)) finished.front in_line some lanes (left.mail n worker).served (left.backed n (omega (arith, worker, many)))

@@ -1,5 +1,5 @@
 -- What a relay may conclude of the mail connections of a server, by the bytes that it sent and was told there.
-use Rattle.std.specs.Prelude.{◌≡◌, ◌<◌, ◌≤◌, ◌==◌, ◌⊎◌, ℕ, true, false, List, [], ◌++◌, AllPairs, Contains, Option, Some, None, length, slice_index_or, if◌then◌else◌}
+use Rattle.std.specs.Prelude.{◌≡◌, ◌<◌, ◌≤◌, ◌==◌, ◌⊎◌, ℕ, Bool, true, false, List, [], ◌++◌, AllPairs, Contains, Option, Some, None, length, slice_get, slice_index_or, if◌then◌else◌}
 use Rattle.delivery_token.specs.Keys.{Below}
 use Rattle.delivery_token.specs.declared.CopyKey.{CopyKey}
 use Rattle.delivery_token.specs.declared.Job.{Job}
@@ -15,13 +15,16 @@ use Rattle.lane_work.specs.Backing.{HaveStood, IsBacked}
 use Rattle.lane_work.specs.Copies.{told}
 use Rattle.lane_work.specs.Talk.{HasTaken, Judged}
 use Rattle.lmtp_machine.specs.declared.reply.Reply.{Reply}
+use mathlib.Core.List.{IsPrefix}
 use Rattle.lmtp_machine.specs.Conversation.{Conversation}
+use Rattle.lmtp_machine.specs.Dialogue.{Phase}
 use Rattle.lmtp_machine.specs.Replies.{wire}
 use Rattle.settings.specs.Settings.{IsInRange, config_fault}
 use Rattle.settings.specs.declared.config.Config.{Config}
 use Rattle.shard_queue.specs.declared.lane.Entry.{Entry}
 use Rattle.serving_workers.specs.Finished.{Finished}
-use Rattle.serving_workers.specs.Leaving.{HasServedMail, HaveConversed, next, none, passed}
+use Rattle.serving_workers.specs.Leaving.{AreWritten, HasServedMail, HaveConversed, next, none, passed}
+use Rattle.serving_workers.specs.Lines.{Spoken, Told}
 use Rattle.serving.specs.Left.{HasLeft}
 use Rattle.laws_relay.specs.Concluding.{IsTextOf, key_at, message_at}
 use Rattle.laws_relay.specs.Fates.{Names}
@@ -86,17 +89,18 @@ ServedRelaysConclude = (house : Premises) (seat serial : ℕ) (bytes : List ℕ)
 -- ---- all connections of a worker
 
 -- the bytes that came on the connection with this serial number, and the replies that were said; none where nothing was said
-abbrev pub bytes_on : {house : Premises} {seat connections : ℕ} {judged : List Judged} → HaveConversed house seat connections judged → ℕ → List ℕ
+abbrev pub bytes_on : {house : Premises} {seat connections : ℕ} {spoken : List Spoken} {judged : List Judged} → HaveConversed house seat connections spoken judged → ℕ → List ℕ
 bytes_on none serial = []
 bytes_on (passed {n} before) serial = if serial == n then [] else bytes_on before serial
-bytes_on (next {n} bytes replies more at before taken) serial = if serial == n then bytes else bytes_on before serial
+bytes_on (next {n} bytes replies more at dropped written failed before taken are) serial = if serial == n then bytes else bytes_on before serial
 
-abbrev pub replies_on : {house : Premises} {seat connections : ℕ} {judged : List Judged} → HaveConversed house seat connections judged → ℕ → List Reply
+abbrev pub replies_on : {house : Premises} {seat connections : ℕ} {spoken : List Spoken} {judged : List Judged} → HaveConversed house seat connections spoken judged → ℕ → List Reply
 replies_on none serial = []
 replies_on (passed {n} before) serial = if serial == n then [] else replies_on before serial
-replies_on (next {n} bytes replies more at before taken) serial = if serial == n then replies else replies_on before serial
+replies_on (next {n} bytes replies more at dropped written failed before taken are) serial = if serial == n then replies else replies_on before serial
 
-pub record WorkerConcludes (house : Premises) (seat : ℕ) (history : List Event) {connections : ℕ} {judged : List Judged} (conversed : HaveConversed house seat connections judged) : Type 0 where
+pub record WorkerConcludes (house : Premises) (seat : ℕ) (history : List Event) {connections : ℕ} {spoken : List Spoken} {judged : List Judged}
+    (conversed : HaveConversed house seat connections spoken judged) : Type 0 where
   -- Of each connection: a relay that sent what came there, and perhaps more behind it, was told any front of the replies.
   pub each : (serial : ℕ) → serial < connections → (more front untold : List ℕ) → front ++ untold ≡ wire house.host (replies_on conversed serial)
       → ServedConcludes house.directory seat serial history (handed_over (bytes_on conversed serial ++ more) front) (handed_over (bytes_on conversed serial ++ more) (wire house.host (replies_on conversed serial)))
@@ -105,12 +109,38 @@ pub record WorkerConcludes (house : Premises) (seat : ℕ) (history : List Event
 
 -- Of a worker that has served, where the history has what it put and heard and nothing else of its seat.
 abbrev pub WorkersConclude : Type 0
-WorkersConclude = (house : Premises) (seat : ℕ) (heard : List (Entry Noted)) (words : List (List (Entry Job))) (history : List Event)
+WorkersConclude = (house : Premises) (seat : ℕ) (line : Told) (heard : List (Entry Noted)) (words : List (List (Entry Job))) (history : List Event)
     → IsInLine house.host → 0 < house.directory.shards → house.directory.shards ≡ length words
-    → (mail : HasServedMail house seat heard words) → IsBacked seat history heard words
-    → WorkerConcludes house seat history mail.served.1
+    → (mail : HasServedMail house seat line heard words) → IsBacked seat history heard words
+    → WorkerConcludes house seat history mail.served.conversed
 
 -- So it is of each worker of a server that stopped in order.
 abbrev pub ServersConclude : Type 0
 ServersConclude = (config : Config) (finished : Finished) (left : HasLeft config finished) → IsInRange config → config_fault config ≡ None
-    → (n : ℕ) (worker : n < config.workers) → WorkerConcludes left.house n finished.front (left.mail n worker).served.1
+    → (n : ℕ) (worker : n < config.workers) → WorkerConcludes left.house n finished.front (left.mail n worker).served.served.conversed
+
+-- ---- a line that tells what came and what was said
+
+-- The connection with this serial, whose peer sends this, and to which that was written, whose output failed or didn't: what was written is the replies to the bytes that were taken of it,
+-- and perhaps at last that the server shuts down; and where the output failed, a beginning. By any beginning of the replies that it has read the peer may conclude.
+pub record ConnectionConcludes (house : Premises) (seat serial : ℕ) (history : List Event) (came said : List ℕ) (failed : Bool) : Type 0 where
+  pub taken : List ℕ
+  pub replies : List Reply
+  pub phase : Phase
+  pub read : IsPrefix taken came
+  pub written : AreWritten house.host taken replies phase said failed
+  pub concludes : (front untold : List ℕ) → front ++ untold ≡ wire house.host replies
+      → ServedConcludes house.directory seat serial history (handed_over came front) (handed_over came (wire house.host replies))
+
+-- Of each connection that came in at this line of a worker, by what the line tells of it; and whatever stands of this worker is of one of them.
+pub record LineConcludes (house : Premises) (seat : ℕ) (history : List Event) (came : List (List ℕ)) (said : List (List ℕ × Bool)) : Type 0 where
+  pub as_many : length came ≡ length said
+  pub each : (serial : ℕ) → serial < length said
+      → ConnectionConcludes house seat serial history (slice_index_or came serial []) (slice_index_or said serial ([], false)).0 (slice_index_or said serial ([], false)).1
+  pub nothing_else : (copy : Job) (uid : ℕ) → Stands history copy uid → copy.key.seat ≡ seat → copy.key.serial < length said
+
+-- So it is of the line of each worker of a server that stopped in order, where the line tells what came and what was said.
+abbrev pub LinesConclude : Type 0
+LinesConclude = (config : Config) (finished : Finished) (left : HasLeft config finished) → IsInRange config → config_fault config ≡ None
+    → (n : ℕ) → n < config.workers → (came : List (List ℕ)) (said : List (List ℕ × Bool)) → slice_get finished.lines n ≡ Some (Some (record { came = Some came; said = Some said }))
+    → LineConcludes left.house n finished.front came said

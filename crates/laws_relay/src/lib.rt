@@ -1,5 +1,5 @@
-//! Laws of what a mail relay may conclude from the bytes that it is told, and from nothing else: of replies and messages, over the record of a
-//! house on one thread, over the report of a running house, and over the history of a server. No code lives here, but laws.
+//! Laws of what a mail relay may conclude from the bytes that it is told, and from nothing else. They are of replies and messages, over the record
+//! of a house on one thread, over the report of a running house, and over the history of a server. No code lives here, but laws.
 #![tactic(auto)]
 
 mod account_laws;
@@ -12,4 +12,4 @@ pub use account_laws::{
 };
 pub use record_laws::relays_may_conclude;
 pub use reply_laws::{connections_are_known, messages_are_known, replies_are_read};
-pub use served_laws::{served_relays_conclude, servers_conclude, workers_conclude};
+pub use served_laws::{lines_conclude, served_relays_conclude, servers_conclude, workers_conclude};

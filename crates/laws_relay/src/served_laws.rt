@@ -1,7 +1,7 @@
 //! Laws of what a relay may conclude of a server, by the one history that all its threads share, as functions that do nothing but rest on the
 //! laws of the crates below.
 
-ghost use Rattle.laws_relay.specs.Served.{ServedRelaysConclude, ServersConclude, WorkersConclude};
+ghost use Rattle.laws_relay.specs.Served.{LinesConclude, ServedRelaysConclude, ServersConclude, WorkersConclude};
 
 use crate::account_laws::connections_of_accounts_are_known;
 use crate::reply_laws::messages_are_known;
@@ -36,4 +36,12 @@ pub fn servers_conclude()
     ensures { ServersConclude }
 {
     workers_conclude();
+}
+
+/// So it is of the line of each worker, where it tells what came and what was said: each connection that came in there is one that was served, with
+/// the bytes that its peer sends; and what it was told is the replies to these, or the first of them.
+pub fn lines_conclude()
+    ensures { LinesConclude }
+{
+    servers_conclude();
 }

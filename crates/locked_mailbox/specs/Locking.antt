@@ -1,5 +1,7 @@
 -- A mailbox under its lock, beside the right to say what happens there.
 use Rattle.std.specs.Prelude.{◌≡◌, ℕ, ◌<◌, ◌++◌, ◌∷◌, [], ◌⊎◌, List, length, slice_index_or, slice_set, Result, Ok, Err, Option, Some, None, All}
+use Rattle.std.specs.Borrow.{MutBor}
+use Rattle.std.specs.Fn.{Once}
 use mathlib.Core.List.{IsPrefix}
 use Rattle.delivery_token.specs.declared.CopyKey.{CopyKey}
 use Rattle.delivery_token.specs.declared.Job.{Job}
@@ -75,6 +77,18 @@ pub data Answers (job : Job) (verdict : Verdict) (found left : LockedMailbox) : 
 -- nothing is said.
 abbrev pub InOneHold : {V : Type 0} → (V → V → Type 0) → Type 0
 InOneHold {V} P = (found : V) × (left : V) × P found left
+
+-- at `&mut`s to x and y the call may give r, and leave x' and y' there
+pub record ReturnsLent {F T A R : Type 0} (g : Once F (MutBor T × (MutBor A × Unit {0})) (R × (MutBor T × (MutBor A × Unit {0})))) (f : F) (x : T) (y : A) (r : R) (x' : T) (y' : A) : Type 0 where
+  pub shown : MutBor T
+  pub shows : shown.now ≡ x
+  pub lent : MutBor A
+  pub lends : lent.now ≡ y
+  pub left : MutBor T
+  pub back : MutBor A
+  pub met : g.post f (shown, (lent, tt)) (r, (left, (back, tt)))
+  pub leaves : left.now ≡ x'
+  pub gives : back.now ≡ y'
 
 -- ---- what clients do
 

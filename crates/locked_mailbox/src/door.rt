@@ -3,8 +3,7 @@
 
 ghost use Rattle.std.specs.Prelude.{◌≡◌};
 ghost use Rattle.std.specs.Fn.{FnOnceReturnsAtMut};
-ghost use Rattle.workers_sync.specs.Holds.{ReturnsLent};
-ghost use Rattle.locked_mailbox.specs.Locking.{InOneHold};
+ghost use Rattle.locked_mailbox.specs.Locking.{InOneHold, ReturnsLent};
 
 use std::sync::{Mutex, Wait};
 

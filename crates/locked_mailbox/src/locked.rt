@@ -2,6 +2,10 @@
 ghost use Rattle.std.specs.Prelude.{◌≡◌, ◌↔◌, ◌∷◌, [], IfOk, IsTrue, None, replicate};
 ghost use Rattle.mailbox.specs.Stands.{Stands};
 ghost use Rattle.house_history.specs.declared.event.Event.TheVariants as events;
+ghost use mathlib.Core.List.{IsPrefix};
+ghost use Rattle.shared_history.specs.Pages.{part};
+ghost use Rattle.house_history.specs.Events.{concerns};
+ghost use Rattle.house_history.specs.Legal.{Legal};
 ghost use Rattle.locked_mailbox.specs.Locking.{Answers, IsNext, Judges, Keeps};
 
 use delivery_token::{CopyKey, Job, Noted, Refusal, Verdict, precedes};
@@ -79,6 +83,29 @@ impl<B: Naming> LockedMailbox<B> {
             last: _,
         } = self;
         mailbox
+    }
+
+    /// All that is known here of the history is taught to a front, with all that has happened in this mailbox.
+    pub fn teach(&mut self, front: &mut Front<B>)
+        ensures same { self.new ≡ (record self.old { history = self.new.history }) }
+        ensures own { part concerns self.old.mailbox.number self.new.history ≡ self.old.events }
+        ensures mine { IsPrefix self.new.history front.new }
+        ensures before { IsPrefix front.old front.new }
+        ensures legal { Legal front.new }
+    {
+        self.part.look(&mut self.front);
+        front.learn(&self.front);
+    }
+
+    /// Where all is known that is known here, and that has all that has happened in this mailbox, nothing more has happened there.
+    pub fn has_all(&mut self, front: &Front<B>)
+        ensures same { self.new ≡ self.old }
+        ensures own { part concerns self.old.mailbox.number self.old.history ≡ self.old.events
+            → IsPrefix self.old.history front.now
+            → part concerns self.old.mailbox.number front.now ≡ self.old.events }
+    {
+        let mut later = front.again();
+        self.part.look(&mut later);
     }
 
     /// It is as what has happened here leaves it.

@@ -40,6 +40,13 @@ impl Model for Accepted {
 }
 
 impl Accepted {
+    // Whether they are kept.
+    pub(crate) fn history(&self) -> History
+        ensures { result ≡ self.now.history }
+    {
+        self.history
+    }
+
     // None was accepted.
     pub(crate) fn new(alloc: Global, history: History) -> Accepted
         ensures history { result.history ≡ history }

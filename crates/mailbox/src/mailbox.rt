@@ -318,6 +318,13 @@ impl Mailbox {
         }
     }
 
+    /// Whether it keeps which copies it took.
+    pub fn history(&self) -> History
+        ensures { result ≡ self.now.history }
+    {
+        self.accepted.history()
+    }
+
     /// The copies that were accepted, each with its UID, in the order of the deliveries; none where
     /// the mailbox doesn't keep them.
     pub fn accepted(&self) -> &[(CopyKey, u32)]

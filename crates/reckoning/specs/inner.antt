@@ -1,2 +1,3 @@
 pub mod Spending
 pub mod Histories
+pub mod Shelves

@@ -8,6 +8,7 @@ use delivery_token::{Job, WorkerLog};
 use house_history::{Answer, Letter, Naming};
 use lane_work::{Consumed, Fate, Worked};
 use shard_queue::{ConsumerPermit, Ended, Entry, ReceiverPermit, SenderEnded};
+use std::alloc::AllocError;
 
 /// Why what the threads left is no report.
 #[derive(Clone, Copy, Debug, PartialEq, Eq)]
@@ -16,8 +17,18 @@ pub enum Fault {
     Spawn,
     /// An actor wanted memory.
     NoMemory,
-    /// A producer heard what it didn't await, or a consumer met a copy that was nobody's.
+    /// A producer heard what it didn't await, a consumer met a copy that was nobody's, or behind a mailbox's lock lay another one.
     Torn,
+}
+
+impl From<AllocError> for Fault {
+    ghost use Rattle.reckoning.specs.declared.gather.Fault.{Fault};
+
+    ghost from_gives = { λ _ fault. fault ≡ Fault.NoMemory };
+
+    fn from(_error: AllocError) -> Fault {
+        Fault::NoMemory
+    }
 }
 
 /// What the producers left, by their numbers.

@@ -17,4 +17,4 @@ pub use close::{close_all_channels, close_all_lanes};
 pub use gather::{Fault, FromConsumers, FromWorkers};
 pub use learning::learn_all;
 pub use remains::{Remains, remains_of};
-pub use shelves::{Shelves, take_out};
+pub use shelves::{Shelves, are_recorded, take_out, unlock_all, unlock_into};

@@ -32,7 +32,10 @@ use Rattle.reckoning.specs.Balancing.{IsBalanced}
 use Rattle.reckoning.specs.declared.balancing.Books.{Books}
 use Rattle.house_history.specs.Legal.{Legal}
 use Rattle.lane_work.specs.Backing.{IsBacked}
+use Rattle.house_history.specs.Events.{accepted_in}
 use Rattle.reckoning.specs.Histories.{IsKnownIn}
+use Rattle.reckoning.specs.Shelves.{HasAccepted}
+use Rattle.reckoning.proofs.Histories.{accepted_at}
 use Rattle.reckoning.proofs.Accounts.{account_of, all_taken, answers_of, backed_by, only_of, mapped_at, session_account_of}
 use Rattle.reckoning.proofs.Parts.{seats_of, some_at}
 use Rattle.running_house.specs.Agree as report
@@ -195,8 +198,8 @@ module _ {B : Type 0} (plan : Plan) (floor : Floor B) (is : IsFloorFor plan floo
       → ListsMet floor.office.directory whole (report.notes_of r) (map (λ t. items_of t.items) books.taken.items) (report.accepted_of r) (report.texts_of r)
       → IsNumbered plan.config.first_uid r
       → All (λ log. All (MayCome plan.config floor.office.directory (report.accepted_of r) (map (λ t. t.items) books.taken.items)) log.notes) r.logs.items
-      → All (IsKnownIn r.history) ws → Legal r.history → Agrees plan r
-  agrees whole all lists met numbered founded known legal = record {
+      → All (IsKnownIn r.history) ws → Legal r.history → AllAt (HasAccepted r.history) 0 r.accepted.items → Agrees plan r
+  agrees whole all lists met numbered founded known legal accepted = record {
     accounts = accounts;
     sessions = sessions;
     lists = subst (λ x. ListsAgree x.directory (length plan.sessions.items == 0) (report.notes_of r) (report.copies_taken r) (report.accepted_of r) (report.texts_of r)) is.premises
@@ -210,6 +213,12 @@ module _ {B : Type 0} (plan : Plan) (floor : Floor B) (is : IsFloorFor plan floo
     refusals = refusals founded;
     legal = legal;
     backed = backed known legal;
+    mailboxes = λ m under.
+        let same : floor.office.directory ≡ (premises_for plan).directory = ap (λ h. h.directory) is.premises in
+        let many = (subst (λ (d : Directory). length (report.accepted_of r) ≡ length d.homes) same lists.mailboxes.0) in
+        let mapped = length-map r.accepted.items (λ v. v.items) in
+        let none : 0 + m ≡ m = omega arith in
+        accepted_at r.history 0 r.accepted.items accepted m (omega (arith, under, many, mapped)) ∙ ap (λ k. accepted_in k r.history) none;
     seats = seats_are;
     replies = replies_count;
     said = count;

@@ -12,6 +12,7 @@ use Rattle.shard_queue.specs.Closing.{IsWhole}
 use Rattle.shard_queue.specs.Lane.{of}
 use Rattle.shard_queue.specs.Reply.{reply_history}
 use Rattle.shard_queue.specs.Permits.{history, numbers}
+use Rattle.house_history.specs.Events.{accepted_in}
 use Rattle.house_history.specs.Legal.{Legal}
 use Rattle.lane_work.specs.Account.{Account}
 use Rattle.lane_work.specs.Answering.{WereAnswered}
@@ -106,6 +107,8 @@ pub record Agrees (plan : Plan) (r : Report) : Type 0 where
   -- The one history of all threads is legal, and has what each worker and session put and heard, and nothing else of its seat.
   pub legal : Legal r.history
   pub backed : (p : ℕ) → p < producers_in plan → IsBacked p r.history (slice_index_or (answers r) p []) (map (of p) (histories r))
+  -- What each mailbox accepted is what that history says that it accepted.
+  pub mailboxes : (m : ℕ) → m < length (premises_for plan).directory.homes → slice_index_or (accepted_of r) m [] ≡ accepted_in m r.history
   -- There is one of each for each worker and session.
   pub seats : map (λ l. l.seat) r.logs.items ≡ numbers 0 (producers_in plan)
   pub replies : length (replies_of r) ≡ length (connections_of plan)

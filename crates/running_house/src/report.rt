@@ -10,7 +10,7 @@ ghost use Rattle.house_floor.specs.Left.{IsServiceOf, LeavesAll};
 ghost use Rattle.reckoning.specs.Produced.{IsProduceOf};
 ghost use Rattle.lane_work.specs.Consuming.{items_of};
 ghost use Rattle.running_house.specs.Agree.{Agrees, accepted_of, notes_of, texts_of};
-ghost use Rattle.reckoning.specs.Shelves.{AreNumbered, AreToldOnce};
+ghost use Rattle.reckoning.specs.Shelves.{AreNumbered, AreToldOnce, HasAccepted, IsTaught};
 ghost use Rattle.running_house.specs.inner.Agree.{AreTexts, IsFloorFor, IsNumbered};
 ghost use Rattle.running_house.specs.Plan.{of_reckoning, producers_in};
 ghost use Rattle.running_house.specs.Refusals.{MayCome};
@@ -24,10 +24,11 @@ use envelope::Directory;
 use house_floor::{Baskets, Floor, Ran};
 use house_history::{Front, Naming};
 use locked_mailbox::LockedMailbox;
-use reckoning::{Books, Fault, Remains, Shelves, balance, learn_all, remains_of, take_out};
+use reckoning::{
+    Books, Fault, Remains, Shelves, balance, learn_all, remains_of, take_out, unlock_all,
+};
 use settings::Config;
 use std::alloc::{AllocError, Global};
-use std::sync::Mutex;
 
 // What a session said, where it said one text.
 fn text_of(mut said: Vec<Vec<u8>>) -> Vec<u8>
@@ -95,7 +96,8 @@ fn compare<B: Naming>(
         (map (λ t. t.items) books.taken.items)) log.notes) r.logs.items) }
     ensures same { IfOk result (λ r. (r.replies ≡ books.replies) × (r.logs ≡ books.logs)
         × (r.sessions ≡ besides.sessions) × (r.closed.lanes ≡ books.closed.lanes)
-        × (r.closed.channels ≡ books.closed.channels) × (r.history ≡ besides.history)) }
+        × (r.closed.channels ≡ books.closed.channels) × (r.history ≡ besides.history)
+        × (r.accepted ≡ shelves.accepted)) }
     ensures fault { IfErr result (λ fault. (fault ≡ WorkFault.NoMemory)
         ⊎ (fault ≡ WorkFault.Torn)) }
 {
@@ -148,10 +150,11 @@ fn report_on<B: Naming>(
     alloc: Global,
     plan: &Plan,
     directory: &Directory,
-    mailboxes: Vec<Mutex<LockedMailbox<B>>>,
+    unlocked: Vec<LockedMailbox<B>>,
     mut books: Books<B>,
     history: Front<B>,
 ) -> Result<Report<B>, WorkFault>
+    requires taught { All (IsTaught history) unlocked.items }
     requires shards { directory.now.shards ≤ vec_len books.taken }
     requires workers { length plan.now.workers.items ≤ vec_len books.replies }
     ensures lists { IfOk result (λ r.
@@ -160,6 +163,7 @@ fn report_on<B: Naming>(
     ensures met { IfOk result (λ r.
         ListsMet directory.now (length plan.now.sessions.items == 0) (notes_of r)
         (map (λ t. items_of t.items) books.taken.items) (accepted_of r) (texts_of r)) }
+    ensures accepted { IfOk result (λ r. AllAt (HasAccepted history) 0 r.accepted.items) }
     ensures numbered { IfOk result (IsNumbered plan.now.config.first_uid) }
     ensures refusals { IfOk result (λ r.
         All (λ log. All (MayCome plan.now.config directory.now (accepted_of r)
@@ -174,7 +178,7 @@ fn report_on<B: Naming>(
     ensures fault { IfErr result (λ fault. (known : Fault) × (fault ≡ of_reckoning known)) }
 {
     let sessions = part_sessions(alloc, &mut books.replies, plan.workers.len())?;
-    let shelves = take_out(alloc, mailboxes)?;
+    let shelves = take_out(alloc, unlocked, &history)?;
     compare(
         alloc,
         directory,
@@ -222,7 +226,8 @@ pub(crate) fn report_of<B: Naming>(
     } = ran;
     stands.destroy_empty();
     posts.destroy_empty();
+    let unlocked = unlock_all(alloc, mailboxes, &mut history);
     learn_all(&mut worked, &mut history);
     let books = balance(alloc, lanes, channels, worked, consumed, baskets)?;
-    report_on(alloc, plan, &directory, mailboxes, books, history)
+    report_on(alloc, plan, &directory, unlocked?, books, history)
 }

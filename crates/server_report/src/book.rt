@@ -106,7 +106,13 @@ impl<'a, R: Wait> LogBook<'a, R> {
     }
 
     // Writes the line of a copy that a session has appended. Answers whether memory sufficed.
-    fn write_appended(&mut self, key: CopyKey, mailbox: u8, verdict: Verdict) -> bool {
+    fn write_appended(
+        &mut self,
+        key: CopyKey,
+        mailbox: u8,
+        bytes: usize,
+        verdict: Verdict,
+    ) -> bool {
         self.scratch.clear();
         let names = self.names;
         append_copy(
@@ -114,7 +120,7 @@ impl<'a, R: Wait> LogBook<'a, R> {
             names.appender(key, mailbox),
             key.message,
             mailbox,
-            None,
+            Some(bytes),
             verdict,
             &mut self.scratch,
         )
@@ -161,13 +167,13 @@ impl<'a, R: Wait> Notebook for LogBook<'a, R> {
         }
     }
 
-    fn note_one(&mut self, key: CopyKey, mailbox: u8, verdict: Verdict) {
+    fn note_one(&mut self, key: CopyKey, mailbox: u8, bytes: usize, verdict: Verdict) {
         if !self.log.is_on() {
             return;
         }
         self.log.count_message(self.rt, &[verdict]);
         if self.log.keeps_lines() {
-            let is_written = self.write_appended(key, mailbox, verdict);
+            let is_written = self.write_appended(key, mailbox, bytes, verdict);
             self.hand_over(is_written, 1);
         }
     }

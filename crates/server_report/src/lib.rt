@@ -1,5 +1,5 @@
-//! What a server tells the people who run it: a line for each thing that happens, how many there were of each, and over HTTP what it is
-//! doing now, as a page and as figures for a monitor. No connection of mail is served here, and nothing here is waited for by those who bring
+//! What a server tells the people who run it: a line for each thing that happens, how many there were of each, and what it is doing now. That is
+//! told over HTTP, as a page and as figures for a monitor. No connection of mail is served here, and nothing here is waited for by those who bring
 //! mail.
 #![tactic(auto)]
 

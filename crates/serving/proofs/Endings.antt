@@ -1,5 +1,5 @@
 -- What a house came to, from what its producers and its clerks left and how it was closed.
-use Rattle.std.proofs.Common.{◌≡◌, ◌<◌, ◌≤◌, ◌+◌, ◌++◌, ◌∙◌, ◌||◌, ℕ, zero, suc, Bool, true, false, List, [], ◌∷◌, All, Some, length, map, slice_get, slice_index_or, ap, refl, sym, subst, arith, Result, Ok, Err}
+use Rattle.std.proofs.Common.{◌≡◌, ◌<◌, ◌≤◌, ◌+◌, ◌++◌, ◌∙◌, ◌||◌, ℕ, zero, suc, Bool, true, false, List, [], ◌∷◌, All, Option, Some, length, map, slice_get, slice_index_or, ap, refl, sym, subst, arith, Result, Ok, Err}
 use Rattle.std.specs.Prelude.{IfOk}
 use Rattle.std.specs.List.{list_any}
 use Rattle.std.proofs.lemmas.List.{map-append}
@@ -49,8 +49,9 @@ use Rattle.reckoning.specs.Histories.{AreBacked}
 use Rattle.serving_workers.specs.Closing.{GoOn, WasClosed}
 use Rattle.serving_workers.specs.Leaving.{HasServedClients, HasServedMail, IsServed}
 use Rattle.serving_workers.specs.declared.accepting.Served.{Served}
-use Rattle.serving_workers.specs.Finished.{Finished}
-use Rattle.serving.specs.Left.{HasLeft, WasAnswered, answers, histories}
+use Rattle.serving_workers.specs.Finished.{Finished, told_of}
+use Rattle.serving_workers.specs.Lines.{Told}
+use Rattle.serving.specs.Left.{HasLeft, IsWorkerOf, WasAnswered, answers, histories}
 use Rattle.serving.specs.declared.fault.ServeFault.{ServeFault}
 use Rattle.serving.specs.inner.Ending.{CameTo, FirstTakeMail, WereEmptied, WereHeardOut}
 
@@ -78,22 +79,22 @@ pub all_take : {A : Type 0} (f : A → Bool) (xs : List A) → All (λ x. f x �
 all_take {A} f [] all = All-nil (λ (mark : Bool). mark ≡ false)
 all_take {A} f (x ∷ xs) all = (All-head (λ (y : A). f y ≡ true) x xs all, all_take f xs (All-tail (λ (y : A). f y ≡ true) x xs all))
 
-takes_mail : {B : Type 0} (workers n : ℕ) (served : List (Served B)) (s : Served B) → FirstTakeMail workers (map (λ s. s.mail) served) → n < workers → slice_get served n ≡ Some s → s.mail ≡ true
+takes_mail : {B L : Type 0} (workers n : ℕ) (served : List (Served B L)) (s : Served B L) → FirstTakeMail workers (map (λ s. s.mail) served) → n < workers → slice_get served n ≡ Some s → s.mail ≡ true
 takes_mail zero n served s first under at = absurd (omega (arith, under))
 takes_mail (suc workers) n [] s first under at = absurd first
-takes_mail (suc workers) zero (x ∷ served) s first under at = (let same : x ≡ s = cc in ap (λ (y : Served _). y.mail) (sym same) ∙ first.0)
+takes_mail (suc workers) zero (x ∷ served) s first under at = (let same : x ≡ s = cc in ap (λ (y : Served _ _). y.mail) (sym same) ∙ first.0)
 takes_mail (suc workers) (suc n) (x ∷ served) s first under at = takes_mail workers n served s first.1 (omega (arith, under)) at
 
-takes_none : {B : Type 0} (workers n : ℕ) (served : List (Served B)) (s : Served B) → FirstTakeMail workers (map (λ s. s.mail) served) → workers ≤ n → slice_get served n ≡ Some s → s.mail ≡ false
+takes_none : {B L : Type 0} (workers n : ℕ) (served : List (Served B L)) (s : Served B L) → FirstTakeMail workers (map (λ s. s.mail) served) → workers ≤ n → slice_get served n ≡ Some s → s.mail ≡ false
 takes_none zero n [] s first past at = absurd (cc)
 takes_none zero zero (x ∷ served) s first past at =
-    (let same : x ≡ s = cc in ap (λ (y : Served _). y.mail) (sym same) ∙ All-head (λ (m : Bool). m ≡ false) x.mail (map (λ s. s.mail) served) first)
+    (let same : x ≡ s = cc in ap (λ (y : Served _ _). y.mail) (sym same) ∙ All-head (λ (m : Bool). m ≡ false) x.mail (map (λ s. s.mail) served) first)
 takes_none zero (suc n) (x ∷ served) s first past at = takes_none zero n served s (All-tail (λ (m : Bool). m ≡ false) x.mail (map (λ s. s.mail) served) first) (omega arith) at
 takes_none (suc workers) n [] s first past at = absurd first
 takes_none (suc workers) zero (x ∷ served) s first past at = absurd (omega (arith, past))
 takes_none (suc workers) (suc n) (x ∷ served) s first past at = takes_none workers n served s first.1 (omega (arith, past)) at
 
-there : {B : Type 0} (workers n : ℕ) (served : List (Served B)) → FirstTakeMail workers (map (λ s. s.mail) served) → n < workers → n < length served
+there : {B L : Type 0} (workers n : ℕ) (served : List (Served B L)) → FirstTakeMail workers (map (λ s. s.mail) served) → n < workers → n < length served
 there zero n served first under = absurd (omega (arith, under))
 there (suc workers) n [] first under = absurd first
 there (suc workers) zero (x ∷ served) first under = omega arith
@@ -101,7 +102,7 @@ there (suc workers) (suc n) (x ∷ served) first under = (let h = there workers 
 
 -- ---- at a position
 
-untorn : {B : Type 0} (served : List (Served B)) (n : ℕ) (s : Served B) → list_any (λ s. s.torn) served ≡ false → slice_get served n ≡ Some s → s.torn ≡ false
+untorn : {B L : Type 0} (served : List (Served B L)) (n : ℕ) (s : Served B L) → list_any (λ s. s.torn) served ≡ false → slice_get served n ≡ Some s → s.torn ≡ false
 untorn [] n s none at = absurd (cc)
 untorn (x ∷ served) n s none at = by_case x.torn refl none (λ rest k there. untorn served k s rest there) n at where
   both : (b others : Bool) → (b || others) ≡ false → (b ≡ false) × (others ≡ false)
@@ -110,24 +111,24 @@ untorn (x ∷ served) n s none at = by_case x.torn refl none (λ rest k there. u
 
   by_case : (b : Bool) → x.torn ≡ b → (b || list_any (λ s. s.torn) served) ≡ false → (list_any (λ s. s.torn) served ≡ false → (k : ℕ) → slice_get served k ≡ Some s → s.torn ≡ false)
       → (n : ℕ) → slice_get (x ∷ served) n ≡ Some s → s.torn ≡ false
-  by_case b is none others zero at = (let same : x ≡ s = cc in ap (λ (y : Served _). y.torn) (sym same) ∙ is ∙ (both b (list_any (λ s. s.torn) served) none).0)
+  by_case b is none others zero at = (let same : x ≡ s = cc in ap (λ (y : Served _ _). y.torn) (sym same) ∙ is ∙ (both b (list_any (λ s. s.torn) served) none).0)
   by_case b is none others (suc n) at = others (both b (list_any (λ s. s.torn) served) none).1 n at
 
-heard_at : {B : Type 0} (served : List (Served B)) (all : List (List (Entry Noted))) (n : ℕ) (s : Served B) → GoOn (map (λ s. received s.receiver) served) all → slice_get served n ≡ Some s
+heard_at : {B L : Type 0} (served : List (Served B L)) (all : List (List (Entry Noted))) (n : ℕ) (s : Served B L) → GoOn (map (λ s. received s.receiver) served) all → slice_get served n ≡ Some s
     → IsStartOf (received s.receiver) (slice_index_or all n [])
 heard_at [] all n s go at = absurd (cc)
 heard_at (x ∷ served) [] n s go at = absurd go
-heard_at (x ∷ served) (list ∷ all) zero s go at = (let same : x ≡ s = cc in subst (λ (y : Served _). IsStartOf (received y.receiver) list) same go.0)
+heard_at (x ∷ served) (list ∷ all) zero s go at = (let same : x ≡ s = cc in subst (λ (y : Served _ _). IsStartOf (received y.receiver) list) same go.0)
 heard_at (x ∷ served) (list ∷ all) (suc n) s go at = heard_at served all n s go.1 at
 
-backed_at : {B : Type 0} (first : ℕ) (served : List (Served B)) (front : List Event) (all : List (List (Entry Noted))) (n : ℕ) (s : Served B) → AreBacked front first (map (λ s. s.ended.items) served) all → slice_get served n ≡ Some s
+backed_at : {B L : Type 0} (first : ℕ) (served : List (Served B L)) (front : List Event) (all : List (List (Entry Noted))) (n : ℕ) (s : Served B L) → AreBacked front first (map (λ s. s.ended.items) served) all → slice_get served n ≡ Some s
     → IsBacked (first + n) front (slice_index_or all n []) (map said s.ended.items)
 backed_at first [] front all n s are at = absurd (cc)
 backed_at first (x ∷ served) front [] n s are at = absurd are
 backed_at first (x ∷ served) front (list ∷ all) zero s are at =
     let same : x ≡ s = cc in
     let here : first ≡ first + 0 = omega arith in
-    subst (λ (p : ℕ). IsBacked p front list (map said s.ended.items)) here (subst (λ (y : Served _). IsBacked first front list (map said y.ended.items)) same are.0)
+    subst (λ (p : ℕ). IsBacked p front list (map said s.ended.items)) here (subst (λ (y : Served _ _). IsBacked first front list (map said y.ended.items)) same are.0)
 backed_at first (x ∷ served) front (list ∷ all) (suc n) s are at =
     let next : suc first + n ≡ first + suc n = omega arith in
     subst (λ (p : ℕ). IsBacked p front (slice_index_or all n []) (map said s.ended.items)) next (backed_at (suc first) served front all n s are.1 at)
@@ -135,21 +136,33 @@ backed_at first (x ∷ served) front (list ∷ all) (suc n) s are at =
 -- ---- what a worker's connections came to
 
 -- more was heard since
-mail_later : (house : Premises) (seat : ℕ) (heard hears : List (Entry Noted)) (words : List (List (Entry Job))) → IsStartOf heard hears → HasServedMail house seat heard words
-    → HasServedMail house seat hears words
-mail_later house seat heard hears words grew has = record {
-  connections = has.connections;
-  sent = has.sent;
-  served = (
-    has.served.0,
-    has.served.1,
-    record {
-      noted = tt;
-      lanes = λ lane under. let b = has.served.2.lanes lane under in (b.0, were_put_later house.directory (room_at house.rooms lane) seat lane heard hears grew b.1, b.2);
-    },
-  );
-  ended = has.ended;
-}
+mail_later : (house : Premises) (seat : ℕ) (line : Told) (heard hears : List (Entry Noted)) (words : List (List (Entry Job))) → IsStartOf heard hears → HasServedMail house seat line heard words
+    → HasServedMail house seat line hears words
+mail_later house seat line heard hears words grew has =
+    let was = has.served in record {
+      connections = has.connections;
+      sent = has.sent;
+      served = record {
+        judged = was.judged;
+        spoken = was.spoken;
+        over = was.over;
+        conversed = was.conversed;
+        books = record {
+          noted = tt;
+          lanes = λ lane under. let b = was.books.lanes lane under in (b.0, were_put_later house.directory (room_at house.rooms lane) seat lane heard hears grew b.1, b.2);
+        };
+      };
+      ended = has.ended;
+    }
+
+-- what is told of a line stands at its producer's position
+line_at : {B L : Type 0} (told : L → Told) (served : List (Served B L)) (n : ℕ) (s : Served B L) (line : L) → slice_get served n ≡ Some s → s.line ≡ Some line
+    → slice_get (map (λ s. told_of told s.line) served) n ≡ Some (Some (told line))
+line_at told [] n s line at is = absurd (cc)
+line_at told (x ∷ served) zero s line at is =
+    let same : x ≡ s = cc in
+    ap (λ (y : Served _ _). Some (told_of told y.line)) same ∙ ap (λ (o : Option _). Some (told_of told o)) is
+line_at told (x ∷ served) (suc n) s line at is = line_at told served n s line at is
 
 -- the same of a berth
 clients_later : (house : Premises) (seat : ℕ) (heard hears : List (Entry Noted)) (words : List (List (Entry Job))) → IsStartOf heard hears → HasServedClients house seat heard words
@@ -202,16 +215,16 @@ services_of floor n [] all = tt
 services_of floor n (c ∷ cs) all =
     (record { each = λ lane at. ([], All-nil (λ (e : List (Entry Noted)). e ≡ []), all.0.each lane at) }, services_of floor (suc n) cs all.1)
 
-module _ {B : Type 0} (floor : Floor B) (workers : ℕ) (served : List (Served B)) (d : Dismissed B) (finished : Finished) (all : AllAt (IsServed floor) 0 served)
+module _ {B L : Type 0} (told : L → Told) (floor : Floor B) (workers : ℕ) (served : List (Served B L)) (d : Dismissed B) (finished : Finished) (all : AllAt (IsServed told floor) 0 served)
     (each : length served ≡ length floor.depot.channels.items) (first : FirstTakeMail workers (map (λ s. s.mail) served)) (count : length d.consumed.items ≡ length floor.office.lanes.items)
-    (services : d.in_order ≡ true → AllAt (IsService floor.office.lanes.items floor.depot) 0 d.consumed.items) (was : WasClosed floor served d finished) where
+    (services : d.in_order ≡ true → AllAt (IsService floor.office.lanes.items floor.depot) 0 d.consumed.items) (was : WasClosed told floor served d finished) where
   -- what producer n left, and that what it said is what was taken
-  left_by : (n : ℕ) → n < length served → (s : Served B) × (slice_get served n ≡ Some s) × IsServed floor n s × (map said s.ended.items ≡ map (of n) (histories finished))
+  left_by : (n : ℕ) → n < length served → (s : Served B L) × (slice_get served n ≡ Some s) × IsServed told floor n s × (map said s.ended.items ≡ map (of n) (histories finished))
   left_by n under =
       let s = some_at served n under in
       let e : 0 + n ≡ n = omega arith in
-      let is : IsServed floor n s.0 = subst (λ (i : ℕ). IsServed floor i s.0) e (at_position (IsServed floor) 0 n served s.0 all s.1) in
-      let within = in_at (λ (x : Served B). x.ended.items) served was.lanes.0 n s.0 was.lanes.1 s.1 in
+      let is : IsServed told floor n s.0 = subst (λ (i : ℕ). IsServed told floor i s.0) e (at_position (IsServed told floor) 0 n served s.0 all s.1) in
+      let within = in_at (λ (x : Served B L). x.ended.items) served was.lanes.0 n s.0 was.lanes.1 s.1 in
       (s.0, s.1, is, said_is_taken floor.office.lanes.items n s.0.ended.items (histories finished) is.ended (are_heard was.lanes.2 s.0.ended.items within))
 
   clients_of : (n : ℕ) → workers ≤ n → n < length served → HasServedClients (premises_of floor.office) n (slice_index_or (answers finished) n []) (map (of n) (histories finished))
@@ -221,12 +234,16 @@ module _ {B : Type 0} (floor : Floor B) (workers : ℕ) (served : List (Served B
       clients_later (premises_of floor.office) n (received s.0.receiver) (slice_index_or (answers finished) n []) (map (of n) (histories finished)) (heard_at served (answers finished) n s.0 was.heard s.1)
       (subst (λ (words : List (List (Entry Job))). HasServedClients (premises_of floor.office) n (received s.0.receiver) words) s.3 clients)
 
-  mail_of : (n : ℕ) → n < workers → HasServedMail (premises_of floor.office) n (slice_index_or (answers finished) n []) (map (of n) (histories finished))
+  mail_of : (n : ℕ) → n < workers → IsWorkerOf (premises_of floor.office) n finished
   mail_of n under =
       let s = left_by n (there workers n served first under) in
       let mail = s.2.mail (takes_mail workers n served s.0 first under s.1) (untorn served n s.0 was.producers s.1) in
-      mail_later (premises_of floor.office) n (received s.0.receiver) (slice_index_or (answers finished) n []) (map (of n) (histories finished)) (heard_at served (answers finished) n s.0 was.heard s.1)
-      (subst (λ (words : List (List (Entry Job))). HasServedMail (premises_of floor.office) n (received s.0.receiver) words) s.3 mail)
+      let line = told mail.0 in record {
+        line = line;
+        here = ap (λ (lines : List (Option Told)). slice_get lines n) was.lines ∙ line_at told served n s.0 mail.0 s.1 mail.1;
+        served = mail_later (premises_of floor.office) n line (received s.0.receiver) (slice_index_or (answers finished) n []) (map (of n) (histories finished)) (heard_at served (answers finished) n s.0 was.heard s.1)
+            (subst (λ (words : List (List (Entry Job))). HasServedMail (premises_of floor.office) n line (received s.0.receiver) words) s.3 mail.2);
+      }
 
   -- what it put and heard the history has
   backed_by : (n : ℕ) → n < length served → IsBacked n finished.front (slice_index_or (answers finished) n []) (map (of n) (histories finished))
@@ -247,6 +264,8 @@ module _ {B : Type 0} (floor : Floor B) (workers : ℕ) (served : List (Served B
     channels = heard_out was.channels.2.2;
     legal = was.legal;
     backed = λ n under. backed_by n (omega (arith, under, each));
+    mailboxes = was.mailboxes;
+    each_mailbox = was.each_mailbox;
   }
 
 -- what a house on this floor has left is what these settings ask for
@@ -266,6 +285,8 @@ has_left config sizes floor workers guests finished is host most same producers 
       workers = omega (arith, channels, of_channels, producers);
       legal = came.legal;
       backed = λ n under. came.backed n (omega (arith, channels, under));
+      mailboxes = came.mailboxes;
+      each_mailbox = came.each_mailbox ∙ homes;
       mail = λ n under. came.mail n (omega (arith, under, same));
       clients = λ n past under. came.clients n (omega (arith, past, same)) (omega (arith, channels, under));
       answered = λ s p lane channel. subst (λ (m : ℕ). WasAnswered m s p (slice_index_or (histories finished) s []) (slice_index_or (answers finished) p [])) homes

@@ -1,5 +1,5 @@
 -- What a server has left that stopped in order: what was taken of its queues, to their end, and the one history that all its threads shared.
-use Rattle.std.specs.Prelude.{◌≡◌, ◌<◌, ◌≤◌, ◌++◌, ℕ, List, [], ◌∷◌, length, map, slice_index_or}
+use Rattle.std.specs.Prelude.{◌≡◌, ◌<◌, ◌≤◌, ◌++◌, ℕ, List, [], ◌∷◌, Some, length, map, slice_get, slice_index_or, vec_len}
 use Rattle.delivery_token.specs.declared.Job.{Job}
 use Rattle.delivery_token.specs.declared.log.Noted.{Noted}
 use Rattle.house_history.specs.Legal.{Legal}
@@ -14,7 +14,10 @@ use Rattle.lane_work.specs.Backing.{IsBacked}
 use Rattle.settings.specs.Settings.{directory_for}
 use Rattle.settings.specs.declared.config.Config.{Config}
 use Rattle.serving_workers.specs.Leaving.{HasServedClients, HasServedMail}
+use Rattle.house_floor.specs.Crew.{AllAt}
+use Rattle.reckoning.specs.Shelves.{IsRecorded}
 use Rattle.serving_workers.specs.Finished.{Finished}
+use Rattle.serving_workers.specs.Lines.{Told}
 
 -- of each shard, all that was taken from its lane
 abbrev pub histories : Finished → List (List (Entry Job))
@@ -37,18 +40,27 @@ pub record IsSetAs (config : Config) (house : Premises) : Type 0 where
   pub host : house.host ≡ config.host.items
   pub max_message : house.max_message ≡ config.max_message
 
+-- Producer n had a line, at which its connections came in.
+pub record IsWorkerOf (house : Premises) (n : ℕ) (finished : Finished) : Type 0 where
+  pub line : Told
+  pub here : slice_get finished.lines n ≡ Some (Some line)
+  pub served : HasServedMail house n line (slice_index_or (answers finished) n []) (map (of n) (histories finished))
+
 pub record HasLeft (config : Config) (finished : Finished) : Type 0 where
   pub house : Premises
   pub set : IsSetAs config house
   -- There was a lane for each shard, and the first of the producers were the workers.
   pub shards : length finished.lanes.items ≡ (directory_for config).shards
   pub workers : config.workers ≤ length finished.channels.items
-  -- The one history of all threads is legal, and has what each producer put and heard, and nothing else of its seat.
+  -- The one history of all threads is legal, and has what each producer put and heard, and nothing else of its seat. Of each mailbox it has just what happened there, and the mailbox is as
+  -- that leaves it.
   pub legal : Legal finished.front
   pub backed : (n : ℕ) → n < length finished.channels.items → IsBacked n finished.front (slice_index_or (answers finished) n []) (map (of n) (histories finished))
-  -- What was taken of a worker from each lane is what its connections submitted, one after another with the serials from 0 on, and then its end; and the verdict on
+  pub mailboxes : AllAt (IsRecorded finished.front) 0 finished.mailboxes.items
+  pub each_mailbox : vec_len finished.mailboxes ≡ length (directory_for config).homes
+  -- What was taken of a worker from each lane is what the connections at its line submitted, one after another with the serials from 0 on, and then its end; and the verdict on
   -- each of these copies came on its channel.
-  pub mail : (n : ℕ) → n < config.workers → HasServedMail house n (slice_index_or (answers finished) n []) (map (of n) (histories finished))
+  pub mail : (n : ℕ) → n < config.workers → IsWorkerOf house n finished
   -- So it is of each berth: what was taken of it is what its clients appended, one client after another with the serials from 0 on.
   pub clients : (n : ℕ) → config.workers ≤ n → n < length finished.channels.items
       → HasServedClients house n (slice_index_or (answers finished) n []) (map (of n) (histories finished))

@@ -1,17 +1,20 @@
 //! What the threads of a server use, made before the first of them. What they do with it stands elsewhere.
 
 ghost use Rattle.std.specs.Prelude.{◌≡◌, ◌≤◌, ◌<◌, ◌+◌, [], All, IfOk, length, vec_len, vec_capacity};
+ghost use Rattle.serving_workers.specs.Leaving.{IsOutfit};
+ghost use Rattle.serving_workers.specs.Lines.{IsFresh};
 
 use crate::sessions::ClientBerth;
 use crate::visiting::{Sign, signs_of};
 use clerks::{Hall, Staff};
 use house_floor::Floor;
 use house_history::Naming;
+use locked_mailbox::LockedMailbox;
 use server_report::Presence;
-use serving_workers::{Buffers, Hired, Served};
+use serving_workers::{Buffers, Hired, Line, Lines, Outfit, Served};
 use std::alloc::{AllocError, Global};
 use std::sync::{Arc, Wait};
-use workers_sync::{Grip, Sleeper};
+use workers_sync::{Grip, Listening, Sleeper};
 
 /// So many bytes of a mail connection are read at once.
 const MAIL_BUFFER: usize = 131_072;
@@ -30,14 +33,24 @@ fn buffer_of(alloc: Global, size: usize) -> Result<Buffers, AllocError>
     })
 }
 
-// The same for each of so many workers' connections.
-fn buffers_for(alloc: Global, workers: usize) -> Result<Vec<Buffers>, AllocError>
-    ensures count { IfOk result (λ bs. vec_len bs ≡ workers) }
-    ensures room { IfOk result (λ bs. All (λ b. 0 < length b.input.items) bs.items) }
+// What a worker takes mail in with, which has this line.
+fn outfit_of<L: Line>(alloc: Global, line: L) -> Result<Outfit<L>, AllocError>
+    requires { IsFresh (L.told line) }
+    ensures { IfOk result (IsOutfit L.told) }
 {
-    let mut all = Vec::with_capacity(alloc, workers)?;
-    for _ in 0..workers {
-        all.push_reserved(buffer_of(alloc, MAIL_BUFFER)?);
+    let buffers = buffer_of(alloc, MAIL_BUFFER)?;
+    Ok(Outfit { line, buffers })
+}
+
+// The same for each of these lines.
+fn outfits_for<L: Line>(alloc: Global, lines: Vec<L>) -> Result<Vec<Outfit<L>>, AllocError>
+    requires { All (λ line. IsFresh (L.told line)) lines.items }
+    ensures count { IfOk result (λ os. vec_len os ≡ vec_len lines) }
+    ensures each { IfOk result (λ os. All (λ o. IsOutfit L.told o) os.items) }
+{
+    let mut all = Vec::with_capacity(alloc, lines.len())?;
+    for line in lines {
+        all.push_reserved(outfit_of(alloc, line)?);
     }
     Ok(all)
 }
@@ -87,9 +100,9 @@ pub(crate) fn grips_of_all(
 
 /// What the threads take in with what comes.
 #[derive(Drop)]
-pub(crate) struct Equipment {
-    /// For each worker's connections.
-    pub(crate) buffers: Vec<Buffers>,
+pub(crate) struct Equipment<L> {
+    /// For each worker.
+    pub(crate) outfits: Vec<Outfit<L>>,
     /// For each berth's clients.
     pub(crate) client_buffers: Vec<Vec<u8>>,
 }
@@ -105,14 +118,15 @@ fn client_buffers_for(alloc: Global, berths: usize) -> Result<Vec<Vec<u8>>, Allo
     Ok(all)
 }
 
-/// What so many workers and berths take in with. An error where memory is refused.
-pub(crate) fn equip(alloc: Global, workers: usize, berths: usize) -> Result<Equipment, AllocError>
-    ensures buffers { IfOk result (λ e. All (λ b. 0 < length b.input.items) e.buffers.items
-        × (vec_len e.buffers ≡ workers)) }
+/// What workers with these lines and so many berths take in with. An error where memory is refused.
+fn equip<L: Line>(alloc: Global, lines: Vec<L>, berths: usize) -> Result<Equipment<L>, AllocError>
+    requires { All (λ line. IsFresh (L.told line)) lines.items }
+    ensures outfits { IfOk result (λ e. All (λ o. IsOutfit L.told o) e.outfits.items
+        × (vec_len e.outfits ≡ vec_len lines)) }
     ensures clients { IfOk result (λ e. vec_len e.client_buffers ≡ berths) }
 {
     Ok(Equipment {
-        buffers: buffers_for(alloc, workers)?,
+        outfits: outfits_for(alloc, lines)?,
         client_buffers: client_buffers_for(alloc, berths)?,
     })
 }
@@ -150,17 +164,17 @@ fn shared_berths<'a, B: Naming, R: Wait>(
 
 /// Room for the producers' threads, and the berths.
 #[derive(Drop)]
-pub(crate) struct Crowd<'a, B: Naming, R: Wait> {
-    pub(crate) hired: Vec<Hired<'a, B>>,
+pub(crate) struct Crowd<'a, B: Naming, R: Wait, L: Line> {
+    pub(crate) hired: Vec<Hired<'a, B, L>>,
     pub(crate) berths: Vec<SharedBerth<'a, B, R>>,
 }
 
 /// Room for so many producers' threads, and a berth for each of these bells. An error where memory is refused.
-pub(crate) fn crowd_for<'a, B: Naming, R: Wait>(
+pub(crate) fn crowd_for<'a, B: Naming, R: Wait, L: Line>(
     alloc: Global,
     producers: usize,
     bells: &[Sleeper],
-) -> Result<Crowd<'a, B, R>, AllocError>
+) -> Result<Crowd<'a, B, R, L>, AllocError>
     ensures hired { IfOk result (λ c. (c.hired.items ≡ []) × (producers ≤ vec_capacity c.hired)) }
     ensures berths { IfOk result (λ c. vec_len c.berths ≡ length bells.now) }
 {
@@ -170,26 +184,32 @@ pub(crate) fn crowd_for<'a, B: Naming, R: Wait>(
 }
 
 /// All that is made before the first thread.
-pub(crate) struct Rooms<B: Naming, H: Hall> {
+pub(crate) struct Rooms<B: Naming, H: Hall, L> {
     pub(crate) grips: Grips,
-    pub(crate) equipment: Equipment,
-    pub(crate) served: Vec<Served<B>>,
+    pub(crate) equipment: Equipment<L>,
+    pub(crate) served: Vec<Served<B, L>>,
     pub(crate) staff: Staff<B, H>,
     pub(crate) signs: Vec<Sign>,
     pub(crate) presences: Vec<Presence>,
+    /// For the mailboxes, once they are out of their locks.
+    pub(crate) unlocked: Vec<LockedMailbox<B>>,
+    /// For the producers' lines, once nobody comes in there any more.
+    pub(crate) lines: Vec<Option<L>>,
 }
 
-/// What so many workers and berths of a house want before the first thread; the berths have these bells. An error where memory is refused.
-pub(crate) fn make_rooms<B: Naming, H: Hall>(
+/// What so many workers and berths of a house want before the first thread; the berths have these bells, and the workers' lines are at that
+/// listener. An error where memory is refused.
+pub(crate) fn make_rooms<B: Naming, H: Hall, L: Line, D: Lines<L> + Drop>(
     floor: &Floor<B>,
+    mail: D,
+    lmtp: &Arc<Listening>,
     workers: usize,
     berths: usize,
     bells: &[Sleeper],
-) -> Result<Rooms<B, H>, AllocError>
+) -> Result<Rooms<B, H, L>, AllocError>
     requires few { workers + berths < 256 }
-    ensures buffers { IfOk result (λ r.
-        All (λ b. 0 < length b.input.items) r.equipment.buffers.items
-        × (vec_len r.equipment.buffers ≡ workers)) }
+    ensures outfits { IfOk result (λ r. All (λ o. IsOutfit L.told o) r.equipment.outfits.items
+        × (vec_len r.equipment.outfits ≡ workers)) }
     ensures grips { IfOk result (λ r. (vec_len r.grips.mail ≡ workers)
         × (vec_len r.grips.clients ≡ berths)) }
     ensures clients { IfOk result (λ r. vec_len r.equipment.client_buffers ≡ berths) }
@@ -201,12 +221,18 @@ pub(crate) fn make_rooms<B: Naming, H: Hall>(
         × (length floor.now.office.lanes.items ≤ vec_capacity r.staff.rooms)) }
     ensures stands { IfOk result (λ r. (r.staff.stands.items ≡ [])
         × (length floor.now.office.lanes.items ≤ vec_capacity r.staff.stands)) }
+    ensures unlocked { IfOk result (λ r. (r.unlocked.items ≡ [])
+        × (vec_len floor.now.depot.mailboxes ≤ vec_capacity r.unlocked)) }
+    ensures lines { IfOk result (λ r. (r.lines.items ≡ [])
+        × (workers + berths ≤ vec_capacity r.lines)) }
 {
     let alloc = floor.alloc;
     let grips = grips_of_all(alloc, workers, berths)?;
-    let equipment = equip(alloc, workers, berths)?;
+    let equipment = equip(alloc, mail.lines(alloc, lmtp, workers)?, berths)?;
     let signs = signs_of(alloc, bells)?;
     let presences = presences_of(alloc, workers)?;
+    let unlocked = Vec::with_capacity(alloc, floor.depot.mailboxes.len())?;
+    let lines = Vec::with_capacity(alloc, workers + berths)?;
     let served = Vec::with_capacity(alloc, workers + berths)?;
     let Ok(staff) = Staff::with_room(alloc, floor.office.lanes.len()) else {
         served.destroy_empty();
@@ -219,5 +245,7 @@ pub(crate) fn make_rooms<B: Naming, H: Hall>(
         staff,
         signs,
         presences,
+        unlocked,
+        lines,
     })
 }

@@ -12,7 +12,7 @@ ghost use Rattle.house_floor.specs.Crew.{AllAt, IsCrew, IsHouse, IsPost};
 ghost use Rattle.house_floor.specs.Opening.{AreBaskets};
 ghost use Rattle.lane_work.specs.Rooms.{AreRooms};
 ghost use Rattle.clerks.specs.Keeping.{parts_of};
-ghost use Rattle.serving_workers.specs.Leaving.{IsHired, IsServed, has_thread, serves_mail};
+ghost use Rattle.serving_workers.specs.Leaving.{IsHired, IsOutfit, IsServed, has_thread, serves_mail};
 ghost use Rattle.serving.specs.inner.Dealing.{IsDealt};
 ghost use Rattle.serving.specs.inner.Ending.{CameTo, FirstTakeMail};
 
@@ -33,8 +33,8 @@ use line_io::Sink;
 use reckoning::abandon;
 use server_report::{Held, Log};
 use serving_workers::{
-    Begun, Buffers, Finished, Hired, Mark, Served, Workplace, close_all, join_producers, packed,
-    start_workers,
+    Begun, Finished, Hired, Line, Lines, Mark, Outfit, Rest, Served, Workplace, close_all,
+    join_producers, packed, start_workers,
 };
 use shard_queue::SenderEnded;
 use std::io::{Read, Write};
@@ -46,8 +46,8 @@ use workers_sync::Sleeper;
 
 // What the threads of the producers leave; or their posts, where there was no memory to note the threads in, or no thread for the log, and
 // none of them was started.
-struct Over<B: Naming> {
-    served: Vec<Served<B>>,
+struct Over<B: Naming, L> {
+    served: Vec<Served<B, L>>,
     posts: Vec<Post<B>>,
     // Whether each thread that was tried could be made.
     all_started: bool,
@@ -58,8 +58,8 @@ struct Over<B: Naming> {
 }
 
 // The threads of the producers once all stand, and whoever said so.
-struct Begin<'s, 'o, B: Naming, W: Sink> {
-    hired: Vec<Hired<'s, B>>,
+struct Begin<'s, 'o, B: Naming, L: Line, W: Sink> {
+    hired: Vec<Hired<'s, B, L>>,
     // Whether each thread could be made.
     all_started: bool,
     // Whether all was said of the listeners.
@@ -68,31 +68,38 @@ struct Begin<'s, 'o, B: Naming, W: Sink> {
 }
 
 // What the threads of the producers leave, and whoever said that they stood.
-struct Left<'o, B: Naming, W: Sink> {
-    over: Over<B>,
+struct Left<'o, B: Naming, L, W: Sink> {
+    over: Over<B, L>,
     announcer: Announcer<'o, W>,
 }
 
 // What is dealt to the threads, and room for what the producers leave.
-struct Dealt<B: Naming> {
+struct Dealt<B: Naming, L> {
     posts: Vec<Post<B>>,
     // The berths' ends of their bells.
     bells: Vec<Sleeper>,
-    equipment: Equipment,
-    served: Vec<Served<B>>,
+    equipment: Equipment<L>,
+    served: Vec<Served<B, L>>,
 }
 
 // Starts all threads, and says whether each could be made. Nobody is accepted while the start is held, as the caller does. Where one couldn't
 // be made the mark is set, so nobody is served.
-fn start_all<'s, E, B: Naming + Send + Sync, H: Hall + Send, R: Threads + Wait + Sync>(
+fn start_all<
+    's,
+    E,
+    B: Naming + Send + Sync,
+    H: Hall + Send,
+    R: Threads + Wait + Sync,
+    L: Line + Send + 's,
+>(
     scope: &thread::Scope<'s, E>,
     rt: &'s R,
     site: &'s Site<B, H>,
     posts: Vec<Post<B>>,
-    buffers: Vec<Buffers>,
+    outfits: Vec<Outfit<L>>,
     furnishings: Furnishings<'s, B, R>,
-    hired: Vec<Hired<'s, B>>,
-) -> (Vec<Hired<'s, B>>, bool)
+    hired: Vec<Hired<'s, B, L>>,
+) -> (Vec<Hired<'s, B, L>>, bool)
     requires lanes { H.lanes ≡ Some site.now.workplace.floor.office.lanes.items }
     requires depot { H.depot ≡ Some (parts_of site.now.workplace.floor.depot) }
     requires house { IsHouse site.now.workplace.floor
@@ -101,8 +108,8 @@ fn start_all<'s, E, B: Naming + Send + Sync, H: Hall + Send, R: Threads + Wait +
         ≡ length site.now.workplace.floor.depot.channels.items }
     requires posts { AllAt (IsPost site.now.workplace.floor) 0 posts.items
         × (vec_len posts ≡ length site.now.workplace.floor.depot.channels.items) }
-    requires buffers { All (λ b. 0 < length b.input.items) buffers.items
-        × (vec_len buffers ≡ length site.now.grips.mail.items) }
+    requires outfits { All (λ o. IsOutfit L.told o) outfits.items
+        × (vec_len outfits ≡ length site.now.grips.mail.items) }
     requires client_grips { length site.now.grips.clients.items ≡ length site.now.guests.items }
     requires berths { vec_len furnishings.berths ≡ length site.now.guests.items }
     requires bells { (vec_len furnishings.bells ≡ length site.now.guests.items)
@@ -110,22 +117,22 @@ fn start_all<'s, E, B: Naming + Send + Sync, H: Hall + Send, R: Threads + Wait +
     requires room { (hired.items ≡ [])
         × (length site.now.workplace.floor.depot.channels.items ≤ vec_capacity hired) }
     requires imap { All (λ v. v.user < vec_len site.now.imap) site.now.guests.items }
-    ensures hired { AllAt (IsHired site.now.workplace.floor) 0 result.0.items }
+    ensures hired { AllAt (IsHired L.told site.now.workplace.floor) 0 result.0.items }
     ensures mail { FirstTakeMail (length site.now.grips.mail.items)
         (map serves_mail result.0.items) }
     ensures count { vec_len result.0 ≡ length site.now.workplace.floor.depot.channels.items }
     ensures all { result.1 ≡ true → list_all has_thread result.0.items ≡ true }
 {
-    let Begun { hired, posts } = start_workers::<E, B, H, R>(
+    let Begun { hired, posts } = start_workers::<E, B, H, R, L>(
         scope,
         rt,
         &site.workplace,
         &site.grips.mail,
         posts,
-        buffers,
+        outfits,
         hired,
     );
-    start_berths::<E, B, H, R>(scope, rt, site, furnishings, posts, hired)
+    start_berths::<E, B, H, R, L>(scope, rt, site, furnishings, posts, hired)
 }
 
 // Starts all threads, and writes the lines that tell of the listeners. Nobody is accepted before that: all threads wait for the start,
@@ -138,18 +145,19 @@ fn start_and_tell<
     B: Naming + Send + Sync,
     H: Hall + Send,
     R: Threads + Wait + Sync,
+    L: Line + Send + 's,
     W: Sink,
 >(
     scope: &thread::Scope<'s, E>,
     rt: &'s R,
     site: &'s Site<B, H>,
     posts: Vec<Post<B>>,
-    buffers: Vec<Buffers>,
+    outfits: Vec<Outfit<L>>,
     furnishings: Furnishings<'s, B, R>,
-    hired: Vec<Hired<'s, B>>,
+    hired: Vec<Hired<'s, B, L>>,
     lines: &[u8],
     announcer: Announcer<'o, W>,
-) -> Begin<'s, 'o, B, W>
+) -> Begin<'s, 'o, B, L, W>
     requires lanes { H.lanes ≡ Some site.now.workplace.floor.office.lanes.items }
     requires depot { H.depot ≡ Some (parts_of site.now.workplace.floor.depot) }
     requires house { IsHouse site.now.workplace.floor
@@ -158,8 +166,8 @@ fn start_and_tell<
         ≡ length site.now.workplace.floor.depot.channels.items }
     requires posts { AllAt (IsPost site.now.workplace.floor) 0 posts.items
         × (vec_len posts ≡ length site.now.workplace.floor.depot.channels.items) }
-    requires buffers { All (λ b. 0 < length b.input.items) buffers.items
-        × (vec_len buffers ≡ length site.now.grips.mail.items) }
+    requires outfits { All (λ o. IsOutfit L.told o) outfits.items
+        × (vec_len outfits ≡ length site.now.grips.mail.items) }
     requires client_grips { length site.now.grips.clients.items ≡ length site.now.guests.items }
     requires berths { vec_len furnishings.berths ≡ length site.now.guests.items }
     requires bells { (vec_len furnishings.bells ≡ length site.now.guests.items)
@@ -168,7 +176,7 @@ fn start_and_tell<
         × (length site.now.workplace.floor.depot.channels.items ≤ vec_capacity hired) }
     requires imap { All (λ v. v.user < vec_len site.now.imap) site.now.guests.items }
     requires live { W.failed announcer.output.now ≡ false }
-    ensures hired { AllAt (IsHired site.now.workplace.floor) 0 result.hired.items }
+    ensures hired { AllAt (IsHired L.told site.now.workplace.floor) 0 result.hired.items }
     ensures mail { FirstTakeMail (length site.now.grips.mail.items)
         (map serves_mail result.hired.items) }
     ensures count { vec_len result.hired ≡ length site.now.workplace.floor.depot.channels.items }
@@ -183,12 +191,12 @@ fn start_and_tell<
         lines.now }
 {
     let _not_yet = site.workplace.mark.start.lock(rt);
-    let (hired, all_started) = start_all::<E, B, H, R>(
+    let (hired, all_started) = start_all::<E, B, H, R, L>(
         scope,
         rt,
         site,
         posts,
-        buffers,
+        outfits,
         furnishings,
         hired,
     );
@@ -221,7 +229,11 @@ fn start_and_tell<
 }
 
 // What is left where no thread of a producer was tried: for want of memory, or since a thread before them could not be made.
-fn untried<B: Naming>(served: Vec<Served<B>>, posts: Vec<Post<B>>, all_started: bool) -> Over<B>
+fn untried<B: Naming, L>(
+    served: Vec<Served<B, L>>,
+    posts: Vec<Post<B>>,
+    all_started: bool,
+) -> Over<B, L>
     ensures left { (result.served ≡ served) × (result.posts ≡ posts) }
     ensures none { (result.none_started ≡ true) × (result.all_started ≡ all_started)
         × (result.is_told ≡ false) }
@@ -248,20 +260,20 @@ fn end_log<B: Naming, H: Hall, R: Wait>(rt: &R, site: &Site<B, H>) {
 }
 
 // The end is awaited, if it was said that the house serves; all threads are stopped, and the producers are joined.
-fn stop_and_join<'s, 'o, B: Naming, H: Hall, R: Threads + Wait, I: Read + Drop, W: Sink>(
+fn stop_and_join<'s, 'o, B: Naming, H: Hall, R: Threads + Wait, L: Line, I: Read + Drop, W: Sink>(
     rt: &R,
     site: &'s Site<B, H>,
-    begin: Begin<'s, 'o, B, W>,
-    served: Vec<Served<B>>,
+    begin: Begin<'s, 'o, B, L, W>,
+    served: Vec<Served<B, L>>,
     stop: I,
-) -> Left<'o, B, W>
-    requires hired { AllAt (IsHired site.now.workplace.floor) 0 begin.hired.items
+) -> Left<'o, B, L, W>
+    requires hired { AllAt (IsHired L.told site.now.workplace.floor) 0 begin.hired.items
         × (vec_len begin.hired ≡ length site.now.workplace.floor.depot.channels.items) }
     requires mail { FirstTakeMail (length site.now.grips.mail.items)
         (map serves_mail begin.hired.items) }
     requires room { (served.items ≡ [])
         × (length site.now.workplace.floor.depot.channels.items ≤ vec_capacity served) }
-    ensures served { AllAt (IsServed site.now.workplace.floor) 0 result.over.served.items ×
+    ensures served { AllAt (IsServed L.told site.now.workplace.floor) 0 result.over.served.items ×
         (vec_len result.over.served ≡ length site.now.workplace.floor.depot.channels.items)
         × (result.over.posts.items ≡ []) }
     ensures mail { FirstTakeMail (length site.now.grips.mail.items) (map (λ s.
@@ -302,6 +314,7 @@ fn in_scope<
     B: Naming + Send + Sync,
     H: Hall + Send,
     R: Threads + Wait + Sync,
+    L: Line + Send + 's,
     I: Read + Drop,
     W: Sink,
     F: Write + Drop + Send + 's,
@@ -309,12 +322,12 @@ fn in_scope<
     scope: &thread::Scope<'s, E>,
     rt: &'s R,
     site: &'s Site<B, H>,
-    dealt: ManuallyDrop<Dealt<B>>,
+    dealt: ManuallyDrop<Dealt<B, L>>,
     writing: Writing<F>,
     stop: I,
     lines: &[u8],
     announcer: Announcer<'o, W>,
-) -> Left<'o, B, W>
+) -> Left<'o, B, L, W>
     requires lanes { H.lanes ≡ Some site.now.workplace.floor.office.lanes.items }
     requires depot { H.depot ≡ Some (parts_of site.now.workplace.floor.depot) }
     requires house { IsHouse site.now.workplace.floor
@@ -323,11 +336,11 @@ fn in_scope<
         ≡ length site.now.workplace.floor.depot.channels.items }
     requires client_grips { length site.now.grips.clients.items ≡ length site.now.guests.items }
     requires imap { All (λ v. v.user < vec_len site.now.imap) site.now.guests.items }
-    requires dealt { IsDealt site.now.workplace.floor (length site.now.grips.mail.items)
+    requires dealt { IsDealt L.told site.now.workplace.floor (length site.now.grips.mail.items)
         (length site.now.guests.items) (manually_drop_value dealt) }
     requires live { W.failed announcer.output.now ≡ false }
     ensures served { result.over.none_started ≡ false
-        → AllAt (IsServed site.now.workplace.floor) 0 result.over.served.items ×
+        → AllAt (IsServed L.told site.now.workplace.floor) 0 result.over.served.items ×
         (vec_len result.over.served ≡ length site.now.workplace.floor.depot.channels.items)
         × (result.over.posts.items ≡ []) }
     ensures mail { result.over.none_started ≡ false
@@ -367,7 +380,7 @@ fn in_scope<
         return Left { over, announcer };
     }
     let Equipment {
-        buffers,
+        outfits,
         client_buffers,
     } = equipment;
     let furnishings = Furnishings {
@@ -375,12 +388,12 @@ fn in_scope<
         bells,
         buffers: client_buffers,
     };
-    let begin = start_and_tell::<E, B, H, R, W>(
+    let begin = start_and_tell::<E, B, H, R, L, W>(
         scope,
         rt,
         site,
         posts,
-        buffers,
+        outfits,
         furnishings,
         hired,
         lines,
@@ -389,23 +402,38 @@ fn in_scope<
     stop_and_join(rt, site, begin, served, stop)
 }
 
+// What is dealt to the threads, for a closure to hold.
+fn parcel_of<B: Naming, H: Hall, L: Line>(
+    site: &Site<B, H>,
+    dealt: Dealt<B, L>,
+) -> ManuallyDrop<Dealt<B, L>>
+    requires { IsDealt L.told site.now.workplace.floor (length site.now.grips.mail.items)
+        (length site.now.guests.items) dealt }
+    ensures { IsDealt L.told site.now.workplace.floor (length site.now.grips.mail.items)
+        (length site.now.guests.items) (manually_drop_value result) }
+{
+    let _ = site;
+    packed(dealt)
+}
+
 // The scope of all threads, in which it is said that they stand.
 fn serve_in_threads<
     B: Naming + Send + Sync,
     H: Hall + Send,
     R: Threads + Wait + Sync,
+    L: Line + Send,
     I: Read + Drop,
     W: Sink,
     F: Write + Drop + Send,
 >(
     rt: &R,
     site: &Site<B, H>,
-    dealt: Dealt<B>,
+    dealt: Dealt<B, L>,
     writing: Writing<F>,
     stop: I,
     lines: &[u8],
     output: &mut W,
-) -> Over<B>
+) -> Over<B, L>
     requires lanes { H.lanes ≡ Some site.now.workplace.floor.office.lanes.items }
     requires depot { H.depot ≡ Some (parts_of site.now.workplace.floor.depot) }
     requires house { IsHouse site.now.workplace.floor
@@ -414,11 +442,11 @@ fn serve_in_threads<
         ≡ length site.now.workplace.floor.depot.channels.items }
     requires client_grips { length site.now.grips.clients.items ≡ length site.now.guests.items }
     requires imap { All (λ v. v.user < vec_len site.now.imap) site.now.guests.items }
-    requires dealt { IsDealt site.now.workplace.floor (length site.now.grips.mail.items)
+    requires dealt { IsDealt L.told site.now.workplace.floor (length site.now.grips.mail.items)
         (length site.now.guests.items) dealt }
     requires live { W.failed output.old ≡ false }
     ensures served { result.none_started ≡ false
-        → AllAt (IsServed site.now.workplace.floor) 0 result.served.items ×
+        → AllAt (IsServed L.told site.now.workplace.floor) 0 result.served.items ×
         (vec_len result.served ≡ length site.now.workplace.floor.depot.channels.items)
         × (result.posts.items ≡ []) }
     ensures mail { result.none_started ≡ false
@@ -433,12 +461,13 @@ fn serve_in_threads<
     ensures all { result.is_told ≡ true
         → Appends (W.taken output.old) (W.taken output.new) lines.now }
 {
-    let dealt = packed(dealt);
+    let dealt = parcel_of(site, dealt);
     let announcer = Announcer { output };
     let Left { over, announcer } = thread::scope(
         thread::scope_env(),
         rt,
-        |scope| -> Left<'_, B, W>
+        |scope| -> Left<'_, B, L, W>
+            requires sends { IsSend L.row × IsSend L.Input.row × IsSend L.Output.row }
             requires hall { IsSend B.row × IsSync B.row × IsSync R.row × (H.lanes
                 ≡ Some site.now.workplace.floor.office.lanes.items)
                 × (H.depot ≡ Some (parts_of site.now.workplace.floor.depot)) }
@@ -450,11 +479,12 @@ fn serve_in_threads<
                 ≡ length site.now.guests.items }
             requires imap { All (λ v.
                 v.user < vec_len site.now.imap) site.now.guests.items }
-            requires dealt { IsDealt site.now.workplace.floor (length site.now.grips.mail.items)
-                (length site.now.guests.items) (manually_drop_value dealt) }
+            requires dealt { IsDealt L.told site.now.workplace.floor
+                (length site.now.grips.mail.items) (length site.now.guests.items)
+                (manually_drop_value dealt) }
             requires live { W.failed announcer.output.now ≡ false }
             ensures served { result.over.none_started ≡ false
-                → AllAt (IsServed site.entry.now.workplace.floor) 0 result.over.served.items ×
+                → AllAt (IsServed L.told site.entry.now.workplace.floor) 0 result.over.served.items ×
                 (vec_len result.over.served ≡ length site.entry.now.workplace.floor.depot.channels.items)
                 × (result.over.posts.items ≡ []) }
             ensures mail { result.over.none_started ≡ false
@@ -513,11 +543,11 @@ fn give_up<B: Naming>(
 }
 
 // What the end of a house comes to: what it has left, where nothing was amiss.
-fn told<B: Naming>(
+fn told<B: Naming, L: Line>(
     all_started: bool,
     is_told: bool,
-    finished: Option<Finished<B>>,
-) -> Result<Finished<B>, ServeFault>
+    finished: Option<Finished<B, L>>,
+) -> Result<Finished<B, L>, ServeFault>
     ensures spawn { all_started ≡ false → result ≡ Err ServeFault.Spawn }
     ensures device { all_started ≡ true → is_told ≡ false → result ≡ Err ServeFault.Device }
     ensures torn { all_started ≡ true → is_told ≡ true → finished ≡ None
@@ -537,18 +567,53 @@ fn told<B: Naming>(
     Ok(left)
 }
 
+// Spends a house of which no producer was started.
+fn spend<B: Naming, H: Hall, L: Drop>(
+    floor: Floor<B>,
+    staff: Staff<B, H>,
+    posts: Vec<Post<B>>,
+    rest: Rest<B, L>,
+    consumed: Vec<Consumed<B>>,
+    baskets: Baskets<B>,
+) -> ServeFault
+    requires lanes { H.lanes ≡ Some floor.office.lanes.items }
+    requires depot { H.depot ≡ Some (parts_of floor.depot) }
+    requires house { IsHouse floor (length floor.depot.channels.items) }
+    requires some { (0 < length floor.depot.channels.items)
+        × (0 < length floor.office.lanes.items) }
+    requires clerks { vec_len staff.clerks ≡ length floor.office.lanes.items }
+    requires rooms { AreRooms (length floor.office.lanes.items)
+        (length floor.depot.channels.items) staff.rooms }
+    requires stands { (staff.stands.items ≡ [])
+        × (length floor.office.lanes.items ≤ vec_capacity staff.stands) }
+    requires posts { AllAt (IsPost floor) 0 posts.items
+        × (vec_len posts ≡ length floor.depot.channels.items) }
+    requires none { (rest.worked.items ≡ []) × (consumed.items ≡ []) }
+    requires baskets { AreBaskets (length floor.depot.channels.items)
+        (length floor.office.lanes.items) baskets }
+    ensures { result ≡ ServeFault.NoMemory }
+{
+    let Rest {
+        worked,
+        unlocked: _,
+        lines: _,
+    } = rest;
+    let stands = stand_down(&floor, staff);
+    give_up(floor, worked, consumed, stands, posts, baskets)
+}
+
 // Closes the house that the threads have left, and hands out what it has left, or spends it where none was started. Ok says that nothing was
 // amiss.
-fn close_or_spend<B: Naming, H: Hall, R: Wait>(
+fn close_or_spend<B: Naming, H: Hall, R: Wait, L: Line>(
     rt: &R,
     site: Site<B, H>,
     rooms: Vec<Vec<SenderEnded<Answer<B>>>>,
     stands: Vec<Stand<B>>,
-    over: Over<B>,
-    worked: Vec<Worked<B>>,
+    over: Over<B, L>,
+    rest: Rest<B, L>,
     consumed: Vec<Consumed<B>>,
     baskets: Baskets<B>,
-) -> Result<Finished<B>, ServeFault>
+) -> Result<Finished<B, L>, ServeFault>
     requires lanes { H.lanes ≡ Some site.workplace.floor.office.lanes.items }
     requires depot { H.depot ≡ Some (parts_of site.workplace.floor.depot) }
     requires house { IsHouse site.workplace.floor
@@ -562,15 +627,19 @@ fn close_or_spend<B: Naming, H: Hall, R: Wait>(
     requires stands { (stands.items ≡ [])
         × (length site.workplace.floor.office.lanes.items ≤ vec_capacity stands) }
     requires served { over.none_started ≡ false
-        → AllAt (IsServed site.workplace.floor) 0 over.served.items ×
+        → AllAt (IsServed L.told site.workplace.floor) 0 over.served.items ×
         (vec_len over.served ≡ length site.workplace.floor.depot.channels.items) × (over.posts.items ≡ []) }
     requires mail { over.none_started ≡ false
         → FirstTakeMail (length site.grips.mail.items) (map (λ s. s.mail) over.served.items) }
     requires none_started { over.none_started ≡ true
         → AllAt (IsPost site.workplace.floor) 0 over.posts.items ×
         (vec_len over.posts ≡ length site.workplace.floor.depot.channels.items) × (over.served.items ≡ []) }
-    requires worked { (worked.items ≡ [])
-        × (length site.workplace.floor.depot.channels.items ≤ vec_capacity worked) }
+    requires worked { (rest.worked.items ≡ [])
+        × (length site.workplace.floor.depot.channels.items ≤ vec_capacity rest.worked) }
+    requires unlocked { (rest.unlocked.items ≡ [])
+        × (vec_len site.workplace.floor.depot.mailboxes ≤ vec_capacity rest.unlocked) }
+    requires lines { (rest.lines.items ≡ [])
+        × (length site.workplace.floor.depot.channels.items ≤ vec_capacity rest.lines) }
     requires consumed { (consumed.items ≡ [])
         × (length site.workplace.floor.office.lanes.items ≤ vec_capacity consumed) }
     requires baskets { AreBaskets (length site.workplace.floor.depot.channels.items)
@@ -616,8 +685,7 @@ fn close_or_spend<B: Naming, H: Hall, R: Wait>(
     } = over;
     if none_started {
         served.destroy_empty();
-        let stands = stand_down(&floor, staff);
-        let fault = give_up(floor, worked, consumed, stands, posts, baskets);
+        let fault = spend(floor, staff, posts, rest, consumed, baskets);
         return Err(if all_started {
             fault
         } else {
@@ -626,12 +694,12 @@ fn close_or_spend<B: Naming, H: Hall, R: Wait>(
     }
     posts.destroy_empty();
     let dismissed = dismiss_all(rt, &gate, &floor, staff, consumed);
-    let finished = close_all(rt, floor, served, worked, dismissed, baskets);
+    let finished = close_all(rt, floor, served, rest, dismissed, baskets);
     told(all_started, is_told, finished)
 }
 
 /// Who is to serve in a house.
-pub(crate) struct Manning<F> {
+pub(crate) struct Manning<F, D> {
     /// So many workers, the first of the producers.
     pub(crate) workers: usize,
     /// So many copies of a message each of them puts at once.
@@ -642,6 +710,8 @@ pub(crate) struct Manning<F> {
     pub(crate) bells: Vec<Sleeper>,
     /// How many berths each user has.
     pub(crate) sessions: u8,
+    /// Who gives each worker its line.
+    pub(crate) mail: D,
     /// What happens is told there.
     pub(crate) log: Log,
     /// Who writes that, and where to.
@@ -658,20 +728,22 @@ pub(crate) fn run_house_in<
     B: Naming + Send + Sync,
     H: Hall + Send,
     R: Threads + Wait + Sync,
+    L: Line + Send,
+    D: Lines<L> + Drop,
     I: Read + Drop,
     W: Sink,
     F: Write + Drop + Send,
 >(
     rt: &R,
     floor: Floor<B>,
-    manning: Manning<F>,
+    manning: Manning<F, D>,
     crew: Crew<B>,
     baskets: Baskets<B>,
     sockets: Sockets,
     stop: I,
     lines: Vec<u8>,
     output: &mut W,
-) -> Result<Finished<B>, ServeFault>
+) -> Result<Finished<B, L>, ServeFault>
     requires lanes { H.lanes ≡ Some floor.office.lanes.items }
     requires depot { H.depot ≡ Some (parts_of floor.depot) }
     requires house { IsHouse floor (length floor.depot.channels.items) }
@@ -699,6 +771,7 @@ pub(crate) fn run_house_in<
         guests,
         bells,
         sessions,
+        mail,
         log,
         writing,
     } = manning;
@@ -710,7 +783,14 @@ pub(crate) fn run_house_in<
         unmanned,
     } = crew;
     unmanned.destroy_empty();
-    let Ok(rooms) = make_rooms::<B, H>(&floor, workers, guests.len(), &bells) else {
+    let Ok(rooms) = make_rooms::<B, H, L, D>(
+        &floor,
+        mail,
+        &sockets.lmtp,
+        workers,
+        guests.len(),
+        &bells,
+    ) else {
         return Err(give_up(floor, worked, consumed, stands, posts, baskets));
     };
     let Rooms {
@@ -720,6 +800,8 @@ pub(crate) fn run_house_in<
         staff,
         signs,
         presences,
+        unlocked,
+        lines: room,
     } = rooms;
     let Staff {
         clerks,
@@ -760,5 +842,10 @@ pub(crate) fn run_house_in<
         served,
     };
     let over = serve_in_threads(rt, &site, dealt, writing, stop, &lines, output);
-    close_or_spend(rt, site, rooms, stands, over, worked, consumed, baskets)
+    let rest = Rest {
+        worked,
+        unlocked,
+        lines: room,
+    };
+    close_or_spend(rt, site, rooms, stands, over, rest, consumed, baskets)
 }

@@ -24,14 +24,15 @@ use house_history::Naming;
 use line_io::Sink;
 use mailbox::{History, Limits};
 use server_report::Log;
-use serving_workers::Finished;
+use serving_workers::{Finished, Line, Lines, SocketLine, SocketLines};
 use settings::{Config, ConfigFault, directory_of};
 use std::alloc::Global;
 use std::io::{Read, Write};
 use std::marker::Brand;
 use std::net::{Net, TcpListener, TcpStream};
-use std::sync::Wait;
+use std::sync::{Arc, Wait};
 use std::thread::Threads;
+use workers_sync::Listening;
 
 /// Whether whoever starts the server said which UIDVALIDITY its mailboxes have.
 #[derive(Clone, Copy, Debug, PartialEq, Eq)]
@@ -135,8 +136,9 @@ fn listen<R: Net<Listener = TcpListener, Stream = TcpStream>>(
 }
 
 // All that a server has before its house: whom it is for, its listeners, where what happens is told, and who writes that.
-struct Ready<F> {
+struct Ready<F, D> {
     layout: Layout,
+    mail: D,
     listeners: Listeners,
     log: Log,
     writing: Writing<F>,
@@ -147,6 +149,8 @@ struct Ready<F> {
 fn serve_in<
     B: Naming + Send + Sync,
     R: Threads + Wait + Sync,
+    L: Line + Send,
+    D: Lines<L> + Drop,
     I: Read + Drop,
     W: Sink,
     F: Write + Drop + Send,
@@ -155,10 +159,10 @@ fn serve_in<
     alloc: Global,
     history: house_history::Opened,
     config: &Config,
-    ready: Ready<F>,
+    ready: Ready<F, D>,
     stop: I,
     output: &mut W,
-) -> Result<Finished<B>, ServeFault>
+) -> Result<Finished<B, L>, ServeFault>
     requires history { history ≡ B.book }
     requires range { IsInRange config.now }
     requires directory { ready.layout.directory ≡ directory_for config.now }
@@ -180,6 +184,7 @@ fn serve_in<
 {
     let Ready {
         layout,
+        mail,
         listeners,
         log,
         writing,
@@ -201,18 +206,21 @@ fn serve_in<
         guests,
         bells: sleepers,
         sessions: config.sessions,
+        mail,
         log,
         writing,
     };
-    run_house_in::<B, Brand, R, I, W, F>(
+    run_house_in::<B, Brand, R, L, D, I, W, F>(
         rt, floor, manning, crew, baskets, sockets, stop, lines, output,
     )
 }
 
 /// What a server begins with.
-pub struct Beginning {
+pub struct Beginning<D> {
     /// The history of its house, which was just opened.
     pub history: house_history::Opened,
+    /// Who gives each worker the line at which its mail connections come in.
+    pub mail: D,
     /// Whether it was said which UIDVALIDITY its mailboxes have.
     pub uidvalidity: Uidvalidity,
     /// What is told of what happens.
@@ -226,6 +234,8 @@ pub struct Beginning {
 pub fn serve_house<
     B: Naming + Send + Sync,
     R: Net<Listener = TcpListener, Stream = TcpStream> + Threads + Wait + Sync,
+    L: Line + Send,
+    D: Lines<L> + Drop,
     I: Read + Drop,
     W: Sink,
     F: Write + Drop + Send,
@@ -233,11 +243,11 @@ pub fn serve_house<
     rt: &R,
     alloc: Global,
     config: &Config,
-    beginning: Beginning,
+    beginning: Beginning<D>,
     stop: I,
     output: &mut W,
     errors: F,
-) -> Result<Finished<B>, ServeFault>
+) -> Result<Finished<B, L>, ServeFault>
     // The history goes by this name, the settings are within their ranges, and the output hasn't failed.
     requires history { beginning.history ≡ B.book }
     requires range { IsInRange config.now }
@@ -270,6 +280,7 @@ pub fn serve_house<
 {
     let Beginning {
         history,
+        mail,
         uidvalidity,
         report,
     } = beginning;
@@ -283,13 +294,14 @@ pub fn serve_house<
         uidvalidity,
     )?;
     let Records { log, scribe } = records_for(rt, alloc, report)?;
-    serve_in::<B, R, I, W, F>(
+    serve_in::<B, R, L, D, I, W, F>(
         rt,
         alloc,
         history,
         config,
         Ready {
             layout: Layout { directory, guests },
+            mail,
             listeners: Listeners { sockets, lines },
             log,
             writing: Writing { scribe, errors },
@@ -310,7 +322,7 @@ fn serve_named<
     rt: &R,
     alloc: Global,
     config: &Config,
-    beginning: Beginning,
+    beginning: Beginning<SocketLines>,
     stop: I,
     output: &mut W,
     errors: F,
@@ -333,7 +345,10 @@ fn serve_named<
     ensures all { OnOk result (HasAnnounced config.now beginning.report.status beginning.uidvalidity
         (W.taken output.old) (W.taken output.new)) }
 {
-    match serve_house::<B, R, I, W, F>(rt, alloc, config, beginning, stop, output, errors) {
+    let served = serve_house::<B, R, SocketLine<Arc<Listening>>, SocketLines, I, W, F>(
+        rt, alloc, config, beginning, stop, output, errors,
+    );
+    match served {
         Ok(_left) => Ok(()),
         Err(fault) => Err(fault),
     }
@@ -405,6 +420,7 @@ pub fn serve<
 {
     let beginning = Beginning {
         history: house_history::Opened::new(),
+        mail: SocketLines,
         uidvalidity,
         report,
     };

@@ -4,6 +4,7 @@
 ghost use Rattle.std.specs.Prelude.{◌≡◌, ◌≤◌, ◌<◌, ◌+◌, ℕ, [], All, IfSome, List, Option, Some, false, length, map, slice_get, true, vec_len, vec_capacity};
 ghost use Rattle.std.specs.List.{list_all};
 ghost use Rattle.std.specs.Mem.{manually_drop_value};
+ghost use Rattle.std.specs.Thread.{IsSend};
 ghost use Rattle.house_floor.specs.Crew.{AllAt, IsHouse, IsPost};
 ghost use Rattle.lane_work.specs.Couriers.{IsReady, IsSameDesk};
 ghost use Rattle.shard_queue.specs.Permits.{said};
@@ -28,7 +29,9 @@ use imap_stream::{Berth, Hush, Visit};
 use lane_work::{Context, Desk, LaneCourier, Summons, end_all};
 use line_io::{Sink, Watched};
 use server_report::{Happened, LogBook, Presence};
-use serving_workers::{Door, Hired, Mark, Served, Serves, have_threads, packed};
+use serving_workers::{
+    Call, Door, Hired, Line, Mark, Served, Serves, SocketLine, have_threads, packed,
+};
 use session_thread::LockedStore;
 use shard_queue::Ended;
 use std::mem::ManuallyDrop;
@@ -36,7 +39,7 @@ use std::net::TcpStream;
 use std::sync::{Arc, Wait};
 use std::thread;
 use std::thread::Threads;
-use workers_sync::{Actor, Courier, Grip, Pace, Patience, Sleeper, Timely, prepare};
+use workers_sync::{Actor, Courier, Grip, Listening, Pace, Patience, Sleeper, Timely};
 
 /// Where a client's answers go.
 type ClientOutput<'a> = Signed<'a, Watched<Timely<TcpStream>>>;
@@ -63,9 +66,9 @@ pub(crate) struct Gateway<'s, B: Naming> {
     pub(crate) floor: &'s Floor<B>,
     pub(crate) gate: &'s Unhindered,
     /// Where the clients of its user come in.
+    pub(crate) listening: &'s Listening,
+    /// What its thread goes by.
     pub(crate) door: Door<'s>,
-    /// For the connection that the berth's thread has at hand.
-    pub(crate) grip: &'s Grip,
     /// The berth's number among all of the house, from 0.
     pub(crate) session: u8,
     /// The number of its user.
@@ -95,8 +98,9 @@ fn gateway_of<B: Naming, H: Hall>(site: &Site<B, H>, session: u8) -> Gateway<'_,
 {
     let berth = usize::from(session);
     let user = site.guests[berth].user;
+    let listening = &site.imap[usize::from(user)];
     let door = Door {
-        listening: &site.imap[usize::from(user)],
+        grip: &site.grips.clients[berth],
         mark: &site.workplace.mark,
         pause: &site.workplace.pause,
         log: &site.workplace.log,
@@ -106,8 +110,8 @@ fn gateway_of<B: Naming, H: Hall>(site: &Site<B, H>, session: u8) -> Gateway<'_,
     Gateway {
         floor: &site.workplace.floor,
         gate: &site.gate,
+        listening,
         door,
-        grip: &site.grips.clients[berth],
         session,
         user,
         sign: site.signs.get(berth),
@@ -222,19 +226,15 @@ fn serve_client<'a, B: Naming, R: Wait, C: Courier>(
     courier: &mut C,
     gateway: Gateway<'a, B>,
     stream: &TcpStream,
+    output: Watched<Timely<TcpStream>>,
     buffer: &mut [u8],
 ) -> Happened
     requires ready { C.ready courier.old }
+    requires live { ⟦<Watched<Timely<TcpStream>> as Sink>⟧.failed output ≡ false }
     ensures ready { C.ready courier.new }
     ensures kept { (first : C) → C.kept first courier.old → C.kept first courier.new }
 {
-    if prepare(stream, Patience::Endless).is_err() {
-        return Happened::Broken;
-    }
-    let Ok(answers) = stream.try_clone() else {
-        return Happened::Broken;
-    };
-    let output = Signed::new(Watched::new(Timely::new(answers)), gateway.sign);
+    let output = Signed::new(output, gateway.sign);
     let Some(visit) = open_visit(rt, gateway, output) else {
         return Happened::OutOfMemory;
     };
@@ -248,23 +248,26 @@ fn receive<'a, B: Naming, R: Wait, C: Courier>(
     berth: &ClientBerth<'a, B, R>,
     courier: &mut C,
     gateway: Gateway<'a, B>,
-    stream: &TcpStream,
+    line: &SocketLine<&'a Listening>,
+    call: Call<TcpStream, Watched<Timely<TcpStream>>>,
     buffer: &mut [u8],
 )
     requires ready { C.ready courier.old }
+    requires live { ⟦<Watched<Timely<TcpStream>> as Sink>⟧.failed call.output ≡ false }
     ensures ready { C.ready courier.new }
     ensures kept { (first : C) → C.kept first courier.old → C.kept first courier.new }
 {
-    if gateway.grip.hold(rt, stream) && !gateway.door.is_shut() {
+    let Call { input, output } = call;
+    if line.hold(rt, gateway.door.grip, &input) && !gateway.door.is_shut() {
         let visitor = visitor_of(gateway);
         visitor.open(rt);
         gateway.door.show(gateway.serial);
-        let end = serve_client(rt, berth, courier, gateway, stream, buffer);
+        let end = serve_client(rt, berth, courier, gateway, &input, output, buffer);
         visitor.tell(rt, end);
-        gateway.door.part(stream, buffer);
+        gateway.door.part(line, &input, buffer);
         gateway.door.hide();
     }
-    gateway.grip.clear(rt);
+    gateway.door.grip.clear(rt);
 }
 
 // One client after another, each with the next serial from 0 on, the first once all threads stand, until the house stops, or something came
@@ -293,28 +296,29 @@ fn answer_clients<'a, B: Naming, R: Wait, S: Summons>(
         (map put_by courier.new.desk.permits.items) }
 {
     let door = gateway.door;
+    let mut line = SocketLine::new(gateway.listening, Patience::Endless);
     door.mark.await_start(rt);
     for serial in 0..u64::MAX {
         if courier.is_torn {
             return;
         }
-        let Some(stream) = door.next(rt) else {
+        let Some(call) = door.next(rt, &mut line) else {
             return;
         };
         courier.serial = serial;
         let gateway = Gateway { serial, ..gateway };
         let buffer = buffer.as_mut_slice();
-        receive(rt, berth, courier, gateway, &stream, buffer);
+        receive(rt, berth, courier, gateway, &line, call, buffer);
     }
 }
 
 // Ends the permits of a berth that serves nobody any more. It hears no end of its channel: those come when all have ended.
-fn leave<B: Naming, R: Wait, S: Summons>(
+fn leave<B: Naming, R: Wait, S: Summons, L>(
     courier: LaneCourier<'_, B, R, S, LogBook<'_, R>>,
     gate: &Unhindered,
     session: u8,
     room: Vec<Ended<Letter<B>>>,
-) -> Served<B>
+) -> Served<B, L>
     requires permits { ArePermits courier.context.office.now.lanes.items courier.desk.number
         courier.desk.permits.items }
     requires room { (room.items ≡ [])
@@ -359,11 +363,12 @@ fn leave<B: Naming, R: Wait, S: Summons>(
         dispatch,
         torn,
         mail: false,
+        line: None,
     }
 }
 
 // The life of the thread that answers: its clients, who append by way of the lanes, and then the end of its permits.
-fn attend_there<'a, B: Naming, H: Hall, R: Wait>(
+fn attend_there<'a, B: Naming, H: Hall, R: Wait, L: Line>(
     rt: &'a R,
     site: &'a Site<B, H>,
     berth: Arc<ClientBerth<'a, B, R>>,
@@ -371,7 +376,7 @@ fn attend_there<'a, B: Naming, H: Hall, R: Wait>(
     number: u8,
     post: ManuallyDrop<Post<B>>,
     buffer: Vec<u8>,
-) -> ManuallyDrop<Served<B>>
+) -> ManuallyDrop<Served<B, L>>
     requires lanes { H.lanes ≡ Some site.now.workplace.floor.office.lanes.items }
     requires depot { H.depot ≡ Some (parts_of site.now.workplace.floor.depot) }
     requires house { IsHouse site.now.workplace.floor
@@ -381,7 +386,7 @@ fn attend_there<'a, B: Naming, H: Hall, R: Wait>(
     requires session { session < length site.now.guests.items }
     requires grips { length site.now.grips.clients.items ≡ length site.now.guests.items }
     requires imap { All (λ v. v.user < vec_len site.now.imap) site.now.guests.items }
-    ensures served { IsServed site.now.workplace.floor number (manually_drop_value result) }
+    ensures served { IsServed L.told site.now.workplace.floor number (manually_drop_value result) }
     ensures mail { (manually_drop_value result).mail ≡ false }
 {
     let (floor, gate) = (&site.workplace.floor, &site.gate);
@@ -421,7 +426,14 @@ fn watch_clients<'a, B: Naming, R: Wait>(
 
 // Starts the thread of a berth that answers. Where none can be made the house's mark has to be set before what came of it can be had: so
 // nobody is served there, and its permits are ended here.
-fn start_answering<'s, E, B: Naming + Send + Sync, H: Hall + Send, R: Threads + Wait + Sync>(
+fn start_answering<
+    's,
+    E,
+    B: Naming + Send + Sync,
+    H: Hall + Send,
+    R: Threads + Wait + Sync,
+    L: Line + Send + 's,
+>(
     scope: &thread::Scope<'s, E>,
     rt: &'s R,
     site: &'s Site<B, H>,
@@ -430,7 +442,7 @@ fn start_answering<'s, E, B: Naming + Send + Sync, H: Hall + Send, R: Threads + 
     number: u8,
     post: Post<B>,
     buffer: Vec<u8>,
-) -> Hired<'s, B>
+) -> Hired<'s, B, L>
     requires lanes { H.lanes ≡ Some site.now.workplace.floor.office.lanes.items }
     requires depot { H.depot ≡ Some (parts_of site.now.workplace.floor.depot) }
     requires house { IsHouse site.now.workplace.floor
@@ -440,7 +452,7 @@ fn start_answering<'s, E, B: Naming + Send + Sync, H: Hall + Send, R: Threads + 
     requires session { session < length site.now.guests.items }
     requires grips { length site.now.grips.clients.items ≡ length site.now.guests.items }
     requires imap { All (λ v. v.user < vec_len site.now.imap) site.now.guests.items }
-    ensures hired { IsHired site.now.workplace.floor number result }
+    ensures hired { IsHired L.told site.now.workplace.floor number result }
     ensures mail { serves_mail result ≡ false }
 {
     let floor = &site.workplace.floor;
@@ -450,9 +462,24 @@ fn start_answering<'s, E, B: Naming + Send + Sync, H: Hall + Send, R: Threads + 
         number,
         mail: false,
     };
-    match scope.spawn_with(promise, move || {
-        attend_there::<B, H, R>(rt, site, berth, session, number, parcel, buffer)
-    }) {
+    match scope.spawn_with(
+        promise,
+        move || -> ManuallyDrop<Served<B, L>>
+            requires sends { IsSend L.Input.row × IsSend L.Output.row }
+            requires lanes { H.lanes ≡ Some site.now.workplace.floor.office.lanes.items }
+            requires depot { H.depot ≡ Some (parts_of site.now.workplace.floor.depot) }
+            requires house { IsHouse site.now.workplace.floor
+                (length site.now.workplace.floor.depot.channels.items) }
+            requires number { number < length site.now.workplace.floor.depot.channels.items }
+            requires post { IsPost site.now.workplace.floor number (manually_drop_value parcel) }
+            requires session { session < length site.now.guests.items }
+            requires grips { length site.now.grips.clients.items ≡ length site.now.guests.items }
+            requires imap { All (λ v. v.user < vec_len site.now.imap) site.now.guests.items }
+            ensures served { IsServed L.told site.entry.now.workplace.floor number
+                (manually_drop_value result) }
+            ensures mail { (manually_drop_value result).mail ≡ false }
+        { attend_there::<B, H, R, L>(rt, site, berth, session, number, parcel, buffer) },
+    ) {
         Ok(child) => Hired::There(child),
         Err(refused) => {
             site.workplace.mark.set();
@@ -470,7 +497,7 @@ fn start_watching<'s, E, B: Naming + Send + Sync, R: Threads + Wait + Sync>(
     gateway: Gateway<'s, B>,
     bell: Sleeper,
 ) -> bool {
-    let (mark, grip) = (gateway.door.mark, gateway.grip);
+    let (mark, grip) = (gateway.door.mark, gateway.door.grip);
     let watches = scope.spawn(move || watch_clients(rt, &berth, &bell, mark, grip));
     if watches.is_err() {
         mark.set();
@@ -499,14 +526,15 @@ pub(crate) fn start_berths<
     B: Naming + Send + Sync,
     H: Hall + Send,
     R: Threads + Wait + Sync,
+    L: Line + Send + 's,
 >(
     scope: &thread::Scope<'s, E>,
     rt: &'s R,
     site: &'s Site<B, H>,
     mut furnishings: Furnishings<'s, B, R>,
     mut posts: Vec<Post<B>>,
-    mut hired: Vec<Hired<'s, B>>,
-) -> (Vec<Hired<'s, B>>, bool)
+    mut hired: Vec<Hired<'s, B, L>>,
+) -> (Vec<Hired<'s, B, L>>, bool)
     requires lanes { H.lanes ≡ Some site.now.workplace.floor.office.lanes.items }
     requires depot { H.depot ≡ Some (parts_of site.now.workplace.floor.depot) }
     requires house { IsHouse site.now.workplace.floor
@@ -519,11 +547,11 @@ pub(crate) fn start_berths<
         × (vec_len posts ≡ length site.now.guests.items) }
     requires all { vec_len hired + length site.now.guests.items
         ≡ length site.now.workplace.floor.depot.channels.items }
-    requires hired { AllAt (IsHired site.now.workplace.floor) 0 hired.items
+    requires hired { AllAt (IsHired L.told site.now.workplace.floor) 0 hired.items
         × (length site.now.workplace.floor.depot.channels.items ≤ vec_capacity hired) }
     requires mail { All (λ h. serves_mail h ≡ true) hired.items }
     requires imap { All (λ v. v.user < vec_len site.now.imap) site.now.guests.items }
-    ensures hired { AllAt (IsHired site.now.workplace.floor) 0 result.0.items }
+    ensures hired { AllAt (IsHired L.told site.now.workplace.floor) 0 result.0.items }
     ensures mail { FirstTakeMail (vec_len hired.entry) (map serves_mail result.0.items) }
     ensures count { vec_len result.0 ≡ length site.now.workplace.floor.depot.channels.items }
     ensures all { result.1 ≡ true → list_all has_thread result.0.items ≡ true }
@@ -536,7 +564,7 @@ pub(crate) fn start_berths<
         let (bell, buffer) = (furnishings.bells.remove(0), furnishings.buffers.remove(0));
         let number = hired.len() as u8;
         let post = posts.remove(0);
-        let one = start_answering::<E, B, H, R>(
+        let one = start_answering::<E, B, H, R, L>(
             scope, rt, site, reader, session, number, post, buffer,
         );
         hired.push_reserved(one);

@@ -7,14 +7,15 @@ ghost use Rattle.serving.specs.inner.Faults.{IsOfSocket};
 
 use crate::fault::{ServeFault, device_or_memory};
 use crate::page::Page;
-use std::alloc::Global;
+use std::alloc::{AllocError, Global};
 use std::net::{Net, TcpListener, TcpStream};
+use std::sync::Arc;
 use workers_sync::{Listening, Pause};
 
 /// Where connections come in, and a pause for threads that can't accept one.
 #[derive(Drop)]
 pub(crate) struct Sockets {
-    pub(crate) lmtp: Listening,
+    pub(crate) lmtp: Arc<Listening>,
     /// For each user, in the order of their numbers.
     pub(crate) imap: Vec<Listening>,
     pub(crate) pause: Pause,
@@ -188,10 +189,14 @@ pub(crate) fn open_sockets<R: Net<Listener = TcpListener, Stream = TcpStream>>(
 {
     let Bindings { mail, users } = bind_all(rt, alloc, lmtp_port, imap_port, users)?;
     let PageBinding { page, port } = bind_page(rt, status)?;
+    let lmtp = match Arc::new(alloc, mail.listening) {
+        Ok(lmtp) => lmtp,
+        Err(refused) => return Err(AllocError::from(refused).into()),
+    };
     match Pause::new(rt) {
         Ok(pause) => Ok(Open {
             sockets: Sockets {
-                lmtp: mail.listening,
+                lmtp,
                 imap: users.listening,
                 pause,
                 page,

@@ -10,14 +10,14 @@ use clerks::Hall;
 use house_history::Naming;
 use line_io::{Sink, Watched};
 use server_report::{Answer, HEAD_ROOM, Reply, hear, tell};
-use serving_workers::Door;
+use serving_workers::{Door, SocketLine};
 use std::alloc::{AllocError, Global};
 use std::net::TcpStream;
 use std::sync::Wait;
 use std::thread::Threads;
 use std::time::Duration;
 use std::{io, thread};
-use workers_sync::Timely;
+use workers_sync::{Listening, Patience, Timely};
 
 /// So many seconds whoever asks may say nothing, or take nothing.
 const PATIENCE: u64 = 5;
@@ -101,12 +101,13 @@ fn attend<B: Naming, H: Hall, R: Wait>(
     site: &Site<B, H>,
     page: &Page,
     door: &Door<'_>,
+    line: &SocketLine<&Listening>,
     stream: &TcpStream,
 ) {
     if page.grip.hold(rt, stream) && !door.is_shut() && prepare(stream).is_ok() {
         converse(rt, site, stream);
         let mut dropped = [0u8; LAST_ROOM];
-        door.part(stream, &mut dropped);
+        door.part(line, stream, &mut dropped);
     }
     page.grip.clear(rt);
 }
@@ -114,19 +115,20 @@ fn attend<B: Naming, H: Hall, R: Wait>(
 // Tells one peer after another, the first once all threads stand, until the house stops.
 fn tell_each<'s, B: Naming, H: Hall, R: Wait>(rt: &R, site: &'s Site<B, H>, page: &'s Page) {
     let door = Door {
-        listening: &page.listening,
+        grip: &page.grip,
         mark: &site.workplace.mark,
         pause: &site.workplace.pause,
         log: &site.workplace.log,
         names: site.workplace.names(),
         presence: None,
     };
+    let mut line = SocketLine::new(&page.listening, Patience::Limited);
     door.mark.await_start(rt);
     for _ in rt.forever() {
-        let Some(stream) = door.next(rt) else {
+        let Some(call) = door.next(rt, &mut line) else {
             return;
         };
-        attend(rt, site, page, &door, &stream);
+        attend(rt, site, page, &door, &line, &call.input);
     }
     unreachable!()
 }

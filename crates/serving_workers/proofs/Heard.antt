@@ -1,5 +1,5 @@
 -- What the workers leave, said of its parts in lists of their own.
-use Rattle.std.proofs.Common.{◌≡◌, ◌<◌, ◌≤◌, ◌+◌, ◌++◌, ◌∙◌, ◌&&◌, ℕ, suc, Bool, true, false, append-nil, append_assoc, List, [], ◌∷◌, All, length, length-append, map, drop, take, sym, ap, refl, slice_index_or, subst, Vec, vec_len, arith}
+use Rattle.std.proofs.Common.{◌≡◌, ◌<◌, ◌≤◌, ◌+◌, ◌++◌, ◌∙◌, ◌&&◌, ℕ, suc, Bool, true, false, append-nil, append_assoc, List, Option, [], ◌∷◌, All, length, length-append, map, drop, take, sym, ap, refl, slice_index_or, subst, Vec, vec_len, arith}
 use Rattle.std.specs.List.{list_all}
 use mathlib.Core.List.{IsPrefix}
 use Rattle.std.specs.Global.{Global}
@@ -48,11 +48,24 @@ first_of [] rest x some is less = absurd (omega (arith, some))
 first_of {A} (y ∷ ys) rest x some is less = ap (λ (v : A). v ∷ ys) (sym is) ∙ ap (λ (v : List A). x ∷ v) (sym less)
 
 -- one producer more was heard out
-pub one_more : {B : Type 0} (done new : List (Worked B)) (w : Worked B) (left rest : List (Served B)) (s : Served B) (all : List (List (Ended Job))) → map (λ w. w.ended.items) done ++ map (λ s. s.ended.items) left ≡ all
+pub one_more : {B L : Type 0} (done new : List (Worked B)) (w : Worked B) (left rest : List (Served B L)) (s : Served B L) (all : List (List (Ended Job))) → map (λ w. w.ended.items) done ++ map (λ s. s.ended.items) left ≡ all
     → 0 < length left → s ≡ slice_index_or left 0 s → rest ≡ drop 1 left → new ≡ done ++ w ∷ [] → w.ended ≡ s.ended → map (λ w. w.ended.items) new ++ map (λ s. s.ended.items) rest ≡ all
 one_more done new w left rest s all before some is less more same =
-    laid_items (λ (w : Worked _). w.ended.items) (λ (s : Served _). s.ended.items) done new all left rest s w before (first_of left rest s some is less) more
+    laid_items (λ (w : Worked _). w.ended.items) (λ (s : Served _ _). s.ended.items) done new all left rest s w before (first_of left rest s some is less) more
     (ap (λ (v : Vec (Ended Job) Global). v.items) same)
+
+-- and its line stands behind those of the others
+pub one_line : {B L : Type 0} (done new : List (Option L)) (line : Option L) (left rest : List (Served B L)) (s : Served B L) (all : List (Option L)) → done ++ map (λ s. s.line) left ≡ all
+    → 0 < length left → s ≡ slice_index_or left 0 s → rest ≡ drop 1 left → new ≡ done ++ line ∷ [] → line ≡ s.line → new ++ map (λ s. s.line) rest ≡ all
+one_line {L = L} done new line left rest s all before some is less more same =
+    let first : left ≡ s ∷ rest = first_of left rest s some is less in
+    let tail : List (Option L) = map (λ (s : Served _ _). s.line) rest in
+    ap (λ (l : List (Option L)). l ++ tail) more ∙ (append_assoc done (line ∷ []) tail ∙ (ap (λ (o : Option L). done ++ o ∷ tail) same
+    ∙ (ap (λ (l : List (Served _ _)). done ++ map (λ (s : Served _ _). s.line) l) (sym first) ∙ before)))
+
+pub all_lines : {B L : Type 0} (done all : List (Option L)) (left : List (Served B L)) → length left ≡ 0 → done ++ map (λ s. s.line) left ≡ all → done ≡ all
+all_lines done all [] none are = sym (append-nil done) ∙ are
+all_lines done all (s ∷ left) none are = absurd (omega (arith, none))
 
 -- ---- what was heard
 
@@ -70,22 +83,22 @@ go_on_at (first ∷ all) (x ∷ front) back old new grew are = (are.0, go_on_at 
 abbrev of_worked : {B : Type 0} → Worked B → List (Entry Noted)
 of_worked w = received w.receiver
 
-abbrev of_served : {B : Type 0} → Served B → List (Entry Noted)
+abbrev of_served : {B L : Type 0} → Served B L → List (Entry Noted)
 of_served s = received s.receiver
 
-pub one_heard : {B : Type 0} (done new : List (Worked B)) (w : Worked B) (left rest : List (Served B)) (s : Served B) (all : List (List (Entry Noted))) → GoOn all (map of_worked done ++ map of_served left)
+pub one_heard : {B L : Type 0} (done new : List (Worked B)) (w : Worked B) (left rest : List (Served B L)) (s : Served B L) (all : List (List (Entry Noted))) → GoOn all (map of_worked done ++ map of_served left)
     → 0 < length left → s ≡ slice_index_or left 0 s → rest ≡ drop 1 left → new ≡ done ++ w ∷ [] → IsStartOf (received s.receiver) (received w.receiver)
     → GoOn all (map of_worked new ++ map of_served rest)
 one_heard done new w left rest s all before some is less more grew =
     let first : left ≡ s ∷ rest = first_of left rest s some is less in
-    let was : GoOn all (map of_worked done ++ received s.receiver ∷ map of_served rest) = subst (λ (l : List (Served _)). GoOn all (map of_worked done ++ map of_served l)) first before in
+    let was : GoOn all (map of_worked done ++ received s.receiver ∷ map of_served rest) = subst (λ (l : List (Served _ _)). GoOn all (map of_worked done ++ map of_served l)) first before in
     let now = go_on_at all (map of_worked done) (map of_served rest) (received s.receiver) (received w.receiver) grew was in
     let e : map of_worked new ++ map of_served rest ≡ map of_worked done ++ received w.receiver ∷ map of_served rest =
     ap (λ (l : List (List (Entry Noted))). l ++ map of_served rest) (ap (λ (l : List (Worked _)). map of_worked l) more ∙ map-append of_worked done (w ∷ []))
     ∙ append_assoc (map of_worked done) (received w.receiver ∷ []) (map of_served rest) in
     subst (GoOn all) (sym e) now
 
-pub all_heard : {B : Type 0} (all : List (List (Entry Noted))) (done : List (Worked B)) (left : List (Served B)) → length left ≡ 0 → GoOn all (map of_worked done ++ map of_served left) → GoOn all (map of_worked done)
+pub all_heard : {B L : Type 0} (all : List (List (Entry Noted))) (done : List (Worked B)) (left : List (Served B L)) → length left ≡ 0 → GoOn all (map of_worked done ++ map of_served left) → GoOn all (map of_worked done)
 all_heard all done [] none are = subst (GoOn all) (append-nil (map of_worked done)) are
 all_heard all done (s ∷ left) none are = absurd (omega (arith, none))
 

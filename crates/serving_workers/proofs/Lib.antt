@@ -3,3 +3,4 @@ pub mod Lives
 mod Heard
 mod Wholes
 mod Mail
+mod Spoken

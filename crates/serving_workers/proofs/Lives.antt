@@ -7,6 +7,7 @@ use Rattle.shard_queue.specs.Reply.{IsReceiver, received}
 use Rattle.lane_work.specs.Backing.{IsBackedBy}
 use Rattle.lane_work.specs.Permits.{AreEnded}
 use Rattle.house_floor.specs.declared.floor.Floor.{Floor}
+use Rattle.serving_workers.specs.Lines.{Told}
 use Rattle.serving_workers.specs.declared.accepting.Served.{Served}
 use Rattle.shard_queue.specs.Permits.{said}
 use Rattle.lane_work.specs.Speaking.{premises_of}
@@ -16,15 +17,15 @@ use Rattle.house_floor.proofs.Finding.{found_at}
 pub here_at : {A : Type 0} (xs : List A) (i n : ℕ) (d : A) → i ≡ n → n < length xs → slice_get xs n ≡ Some (slice_index_or xs i d)
 here_at xs i n d same under = slice_get-get_or xs n d under ∙ ap (λ k. Some (slice_index_or xs k d)) (sym same)
 
-pub served_by : {B : Type 0} (floor : Floor B) (i n number : ℕ) (c : ReplyChannel Noted) (s r : Served B) → i ≡ n → number ≡ n → r ≡ s
+pub served_by : {B L : Type 0} (told : L → Told) (floor : Floor B) (i n number : ℕ) (c : ReplyChannel Noted) (s r : Served B L) → i ≡ n → number ≡ n → r ≡ s
     → AreEnded floor.office.lanes.items number s.ended.items → IsReceiver (slice_index_or floor.depot.channels.items i c) s.receiver
-    → (s.mail ≡ true → s.torn ≡ false → HasServedMail (premises_of floor.office) number (received s.receiver) (map said s.ended.items))
+    → (s.mail ≡ true → s.torn ≡ false → (line : L) × (s.line ≡ Some line) × HasServedMail (premises_of floor.office) number (told line) (received s.receiver) (map said s.ended.items))
     → (s.mail ≡ false → s.torn ≡ false → HasServedClients (premises_of floor.office) number (received s.receiver) (map said s.ended.items))
-    → IsBackedBy n s.dispatch (received s.receiver) (map said s.ended.items) → IsServed floor n r
-served_by floor i n number c s r same of is ended hears mail clients backed = subst (IsServed floor n) (sym is) (record {
+    → IsBackedBy n s.dispatch (received s.receiver) (map said s.ended.items) → IsServed told floor n r
+served_by {L = L} told floor i n number c s r same of is ended hears mail clients backed = subst (IsServed told floor n) (sym is) (record {
   ended = subst (λ (p : ℕ). AreEnded floor.office.lanes.items p s.ended.items) of ended;
   receiver = λ channel at. subst (λ (x : ReplyChannel Noted). IsReceiver x s.receiver) (found_at floor.depot.channels.items i n c channel same at) hears;
-  mail = λ a b. subst (λ (p : ℕ). HasServedMail (premises_of floor.office) p (received s.receiver) (map said s.ended.items)) of (mail a b);
+  mail = λ a b. subst (λ (p : ℕ). (line : L) × (s.line ≡ Some line) × HasServedMail (premises_of floor.office) p (told line) (received s.receiver) (map said s.ended.items)) of (mail a b);
   clients = λ a b. subst (λ (p : ℕ). HasServedClients (premises_of floor.office) p (received s.receiver) (map said s.ended.items)) of (clients a b);
   backed = backed;
 })

@@ -1,5 +1,5 @@
 -- What is known of a house that was closed with nothing amiss.
-use Rattle.std.specs.Prelude.{◌≡◌, List, [], ◌∷◌, true, false, map}
+use Rattle.std.specs.Prelude.{◌≡◌, List, [], ◌∷◌, true, false, length, map, vec_len}
 use Rattle.std.specs.List.{list_any}
 use Rattle.delivery_token.specs.declared.Job.{Job}
 use Rattle.delivery_token.specs.declared.log.Noted.{Noted}
@@ -14,8 +14,11 @@ use Rattle.clerks.specs.declared.staff.Dismissed.{Dismissed}
 use Rattle.house_floor.specs.declared.floor.Floor.{Floor}
 use Rattle.reckoning.specs.Closing.{AreChannelsClosedWith, AreClosedWith}
 use Rattle.reckoning.specs.Histories.{AreBacked}
+use Rattle.reckoning.specs.Shelves.{IsRecorded}
+use Rattle.house_floor.specs.Crew.{AllAt}
 use Rattle.serving_workers.specs.declared.accepting.Served.{Served}
-use Rattle.serving_workers.specs.Finished.{Finished}
+use Rattle.serving_workers.specs.Finished.{Finished, told_of}
+use Rattle.serving_workers.specs.Lines.{Told}
 
 -- each of these lists goes on from the one at its position
 abbrev pub GoOn : (before after : List (List (Entry Noted))) → Type 0
@@ -26,7 +29,8 @@ GoOn (first ∷ before) (list ∷ after) = IsStartOf first list × GoOn before a
 
 -- Each clerk stood in its place, and nobody met what he didn't await. These are what was taken of each queue: each lane was closed with what the producers
 -- left of their permits there and with its consumer's, each reply channel with what the clerks left of theirs and with its own receiver.
-pub record WasClosed {B : Type 0} (floor : Floor B) (served : List (Served B)) (dismissed : Dismissed B) (finished : Finished) : Type 0 where
+-- `told`: what a line tells
+pub record WasClosed {B L : Type 0} (told : L → Told) (floor : Floor B) (served : List (Served B L)) (dismissed : Dismissed B) (finished : Finished) : Type 0 where
   pub in_order : dismissed.in_order ≡ true
   pub producers : list_any (λ s. s.torn) served ≡ false
   pub clerks : list_any (λ c. c.torn) dismissed.consumed.items ≡ false
@@ -38,3 +42,8 @@ pub record WasClosed {B : Type 0} (floor : Floor B) (served : List (Served B)) (
   -- the house's history, as far as it is handed out, is legal, and has all of that
   pub legal : Legal finished.front
   pub backed : AreBacked finished.front 0 (map (λ s. s.ended.items) served) (map reply_history finished.channels.items)
+  -- and of each mailbox, which stood at its number, just what happened there
+  pub mailboxes : AllAt (IsRecorded finished.front) 0 finished.mailboxes.items
+  pub each_mailbox : vec_len finished.mailboxes ≡ length floor.depot.mailboxes.items
+  -- what each worker's line tells
+  pub lines : finished.lines ≡ map (λ s. told_of told s.line) served

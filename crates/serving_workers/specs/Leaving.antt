@@ -1,12 +1,15 @@
 -- What the producers of a server leave.
-use Rattle.std.specs.Prelude.{◌≡◌, ℕ, ◌+◌, ◌++◌, Bool, true, false, List, [], Some, map, slice_get}
+use Rattle.std.specs.Prelude.{◌≡◌, ℕ, ◌<◌, ◌+◌, ◌++◌, ◌∷◌, Bool, true, false, List, [], Some, length, map, slice_get}
 use Rattle.std.specs.Mem.{manually_drop_value}
 use Rattle.workers_sync.specs.Carried.{Carried, judged_of}
 use Rattle.delivery_token.specs.declared.Job.{Job}
 use Rattle.delivery_token.specs.declared.Verdict.{Verdict}
 use Rattle.delivery_token.specs.declared.log.Noted.{Noted}
 use Rattle.lmtp_machine.specs.declared.reply.Reply.{Reply}
+use mathlib.Core.List.{IsPrefix}
 use Rattle.lmtp_machine.specs.Conversation.{Conversation}
+use Rattle.lmtp_machine.specs.Dialogue.{Phase}
+use Rattle.lmtp_machine.specs.Replies.{wire}
 use Rattle.shard_queue.specs.declared.ends.ReplyChannel.{ReplyChannel}
 use Rattle.shard_queue.specs.declared.lane.Entry.{Entry}
 use Rattle.shard_queue.specs.Permits.{said}
@@ -15,32 +18,49 @@ use Rattle.lane_work.specs.Backing.{IsBackedBy}
 use Rattle.lane_work.specs.Account.{AreBooks, AreBooksOf, HaveEnded, Premises, setting_at}
 use Rattle.lane_work.specs.Permits.{AreEnded}
 use Rattle.lane_work.specs.Speaking.{premises_of}
+use Rattle.lane_work.specs.Streaming.{last_words}
 use Rattle.lane_work.specs.Talk.{HasTaken, Judged}
 use Rattle.house_floor.specs.declared.floor.Floor.{Floor}
+use Rattle.serving_workers.specs.Lines.{IsFresh, Spoken, Told, WereOver}
+use Rattle.serving_workers.specs.declared.accepting.Outfit.{Outfit}
 use Rattle.serving_workers.specs.declared.accepting.Served.{Served}
 use Rattle.serving_workers.specs.declared.threads.Hired.{Hired}
 use Rattle.serving_workers.specs.declared.threads.Hired.TheVariants.{There, Here}
 
 -- ---- mail
 
--- So many connections of the worker with this seat, one after another, each with the next serial from 0 on: on each nothing was said, or bytes came that lead, in a conversation
--- with that seat and that serial, to messages that were judged. These are the messages of all, in their order.
-pub data HaveConversed (house : Premises) (seat : ℕ) : (connections : ℕ) → List Judged → Type 0 where
-  none : HaveConversed house seat 0 []
-  passed : {n : ℕ} {judged : List Judged} → HaveConversed house seat n judged → HaveConversed house seat (n + 1) judged
-  next : {n : ℕ} {judged : List Judged} (bytes : List ℕ) (replies : List Reply) (more : List Judged) (at : Conversation)
-      → HaveConversed house seat n judged → HasTaken (setting_at house seat n) house.directory bytes replies more at → HaveConversed house seat (n + 1) (judged ++ more)
+-- What of these replies was written to a connection of which these bytes were taken: all of it, where the output took all that was written to it, and perhaps behind it that the server
+-- shuts down; a beginning, where the output failed; and nothing, where memory was refused before it was greeted.
+pub data AreWritten (host bytes : List ℕ) (replies : List Reply) (phase : Phase) : (written : List ℕ) → (failed : Bool) → Type 0 where
+  all_written : AreWritten host bytes replies phase (wire host replies) false
+  with_last_words : AreWritten host bytes replies phase (wire host (replies ++ last_words phase)) false
+  cut_short : {written : List ℕ} → IsPrefix written (wire host (replies ++ last_words phase)) → AreWritten host bytes replies phase written true
+  never_greeted : bytes ≡ [] → AreWritten host bytes replies phase [] false
 
--- What was put on each lane is what these connections submitted, and the verdict on each copy that was put was heard.
-abbrev pub AreServed : Premises → (seat connections : ℕ) → (heard : List (Entry Noted)) → (sent : List (List (Entry Job))) → Type 0
-AreServed house seat connections heard sent =
-    (judged : List Judged) × HaveConversed house seat connections judged × AreBooks house.directory house.rooms seat judged (λ told. Unit {0}) heard sent
+-- So many connections of the worker with this seat, one after another, each with the next serial from 0 on: on each nothing was said, or bytes came that lead, in a conversation
+-- with that seat and that serial, to messages that were judged, and its replies were written. What was spoken on each, and the messages of all, in their order.
+pub data HaveConversed (house : Premises) (seat : ℕ) : (connections : ℕ) → List Spoken → List Judged → Type 0 where
+  none : HaveConversed house seat 0 [] []
+  passed : {n : ℕ} {spoken : List Spoken} {judged : List Judged} → HaveConversed house seat n spoken judged
+      → HaveConversed house seat (n + 1) (spoken ++ record { read = []; written = []; failed = false } ∷ []) judged
+  next : {n : ℕ} {spoken : List Spoken} {judged : List Judged} (bytes : List ℕ) (replies : List Reply) (more : List Judged) (at : Conversation) (dropped written : List ℕ) (failed : Bool)
+      → HaveConversed house seat n spoken judged → HasTaken (setting_at house seat n) house.directory bytes replies more at
+      → AreWritten house.host bytes replies at.standing.phase written failed
+      → HaveConversed house seat (n + 1) (spoken ++ record { read = bytes ++ dropped; written = written; failed = failed } ∷ []) (judged ++ more)
+
+-- So many connections came in at this line. What was put on each lane is what they submitted, and the verdict on each copy that was put was heard.
+pub record AreServed (house : Premises) (seat : ℕ) (line : Told) (connections : ℕ) (heard : List (Entry Noted)) (sent : List (List (Entry Job))) : Type 0 where
+  pub judged : List Judged
+  pub spoken : List Spoken
+  pub over : WereOver line spoken
+  pub conversed : HaveConversed house seat connections spoken judged
+  pub books : AreBooks house.directory house.rooms seat judged (λ told. Unit {0}) heard sent
 
 -- Of a worker that wasn't torn: what it said on each lane is what its connections submitted, and then its end.
-pub record HasServedMail (house : Premises) (seat : ℕ) (heard : List (Entry Noted)) (words : List (List (Entry Job))) : Type 0 where
+pub record HasServedMail (house : Premises) (seat : ℕ) (line : Told) (heard : List (Entry Noted)) (words : List (List (Entry Job))) : Type 0 where
   pub connections : ℕ
   pub sent : List (List (Entry Job))
-  pub served : AreServed house seat connections heard sent
+  pub served : AreServed house seat line connections heard sent
   pub ended : HaveEnded seat sent words
 
 -- ---- clients of a berth
@@ -65,25 +85,31 @@ pub record HasServedClients (house : Premises) (seat : ℕ) (heard : List (Entry
 
 -- ---- all of them
 
--- What producer n leaves: its ended permits on all lanes, and its end of its own channel. A worker's words are its connections' own, and those of another its clients'. The
--- history that the house shares has what it put and heard, and nothing else of its seat, however it came to its end.
-pub record IsServed {B : Type 0} (floor : Floor B) (n : ℕ) (s : Served B) : Type 0 where
+-- What producer n leaves: its ended permits on all lanes, and its end of its own channel. A worker's words are its connections' own, which came in at its line, and those of
+-- another its clients'. The history that the house shares has what it put and heard, and nothing else of its seat, however it came to its end. `told`: what a line tells
+pub record IsServed {B L : Type 0} (told : L → Told) (floor : Floor B) (n : ℕ) (s : Served B L) : Type 0 where
   pub ended : AreEnded floor.office.lanes.items n s.ended.items
   pub receiver : (channel : ReplyChannel Noted) → slice_get floor.depot.channels.items n ≡ Some channel → IsReceiver channel s.receiver
-  pub mail : s.mail ≡ true → s.torn ≡ false → HasServedMail (premises_of floor.office) n (received s.receiver) (map said s.ended.items)
+  pub mail : s.mail ≡ true → s.torn ≡ false
+      → (line : L) × (s.line ≡ Some line) × HasServedMail (premises_of floor.office) n (told line) (received s.receiver) (map said s.ended.items)
   pub clients : s.mail ≡ false → s.torn ≡ false → HasServedClients (premises_of floor.office) n (received s.receiver) (map said s.ended.items)
   pub backed : IsBackedBy n s.dispatch (received s.receiver) (map said s.ended.items)
 
+-- it has room to read into, and nobody came in at its line yet
+pub record IsOutfit {L : Type 0} (told : L → Told) (o : Outfit L) : Type 0 where
+  pub room : 0 < length o.buffers.input.items
+  pub fresh : IsFresh (told o.line)
+
 -- its thread will leave that, or it is there
-abbrev pub IsHired : {B : Type 0} → Floor B → ℕ → Hired B → Type 0
-IsHired floor n (There h) = (h.promise.floor.now ≡ floor) × (h.promise.number ≡ n)
-IsHired floor n (Here s) = IsServed floor n (manually_drop_value s)
+abbrev pub IsHired : {B L I O : Type 0} → (L → Told) → Floor B → ℕ → Hired B L I O → Type 0
+IsHired told floor n (There h) = (h.promise.floor.now ≡ floor) × (h.promise.number ≡ n)
+IsHired told floor n (Here s) = IsServed told floor n (manually_drop_value s)
 
 -- it is a worker, or was one
-abbrev pub serves_mail : {B : Type 0} → Hired B → Bool
+abbrev pub serves_mail : {B L I O : Type 0} → Hired B L I O → Bool
 serves_mail (There h) = h.promise.mail
 serves_mail (Here s) = (manually_drop_value s).mail
 
-abbrev pub has_thread : {B : Type 0} → Hired B → Bool
+abbrev pub has_thread : {B L I O : Type 0} → Hired B L I O → Bool
 has_thread (There h) = true
 has_thread (Here s) = false

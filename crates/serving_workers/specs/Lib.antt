@@ -1,4 +1,5 @@
 pub mod Closing
 pub mod Leaving
+pub mod Lines
 pub mod inner
 pub mod Finished

@@ -1,26 +1,28 @@
 //! A worker's life in a server: one connection after another, until the house stops, and then the end of its permit on each lane. What is
 //! said on a connection stands in `lane_work`.
 
-ghost use Rattle.std.specs.Prelude.{◌≡◌, ◌≢◌, Err, ◌≤◌, ◌<◌, ◌+◌, ℕ, [], true, false, All, length, map, vec_capacity};
+ghost use Rattle.std.specs.Prelude.{◌≡◌, ◌≢◌, Err, ◌≤◌, ◌<◌, ◌+◌, ℕ, [], Some, true, false, All, length, map, vec_capacity};
 ghost use Rattle.shard_queue.specs.Permits.{said};
 ghost use Rattle.shard_queue.specs.Reply.{IsReceiver, received};
 ghost use Rattle.lane_work.specs.Backing.{IsBackedBy, KeepsBacked};
 ghost use Rattle.lane_work.specs.Permits.{AreEnded, AreInForce, IsNew, put_by};
 ghost use Rattle.lane_work.specs.Speaking.{premises_of};
 ghost use Rattle.serving_workers.specs.Leaving.{AreServed, HasServedMail};
+ghost use Rattle.serving_workers.specs.Lines.{Closed, IsFresh, IsUnwritten, Told, Took};
 
 use crate::door::Door;
+use crate::line::{Call, Line};
 use house_history::{Answer, Letter, Naming};
 use lane_work::{Context, Desk, Dispatch, Ending, Producer, Summons, TalkFault, converse, end_all};
-use line_io::Watched;
+use line_io::Sink;
 use server_report::{Happened, LogBook};
 use shard_queue::{Ended, ReceiverPermit};
-use std::net::TcpStream;
+use std::io::Read;
 use std::sync::Wait;
-use workers_sync::{Gate, Grip, Pace, Patience, Timely, prepare};
+use workers_sync::{Gate, Pace};
 
 /// What a producer of a server leaves: a worker, or whoever else has a post.
-pub struct Served<B: Naming> {
+pub struct Served<B: Naming, L> {
     /// What is left of its permit on each lane.
     pub ended: Vec<Ended<Letter<B>>>,
     /// Its end of its reply channel.
@@ -33,6 +35,8 @@ pub struct Served<B: Naming> {
     pub torn: bool,
     /// Whether it is a worker, and took mail.
     pub mail: bool,
+    /// Where its connections came in, if it is a worker.
+    pub line: Option<L>,
 }
 
 /// Room that a worker uses for each connection anew.
@@ -42,6 +46,15 @@ pub struct Buffers {
     pub input: Vec<u8>,
     /// For what is said.
     pub output: Vec<u8>,
+}
+
+/// What a worker takes mail in with.
+#[derive(Drop)]
+pub struct Outfit<L> {
+    /// Where its connections come in.
+    pub line: L,
+    /// For each connection anew.
+    pub buffers: Buffers,
 }
 
 // Whether a connection ended with what the worker didn't await.
@@ -64,12 +77,12 @@ fn how_it_ended(ending: Result<Ending, TalkFault>) -> Happened {
 }
 
 // One connection, from its greeting to its end, and whether a verdict came that the worker didn't await.
-fn serve_one<B: Naming, R: Wait, G: Gate, S: Summons>(
+fn serve_one<B: Naming, R: Wait, G: Gate, S: Summons, I: Read, O: Sink>(
     context: &Context<'_, B, R, S>,
     producer: &mut Producer<'_, B, G, LogBook<'_, R>>,
     serial: u64,
     door: &Door<'_>,
-    stream: &TcpStream,
+    call: &mut Call<I, O>,
     buffers: &mut Buffers,
 ) -> bool
     requires permits { AreInForce context.now.office.now.directory
@@ -80,35 +93,35 @@ fn serve_one<B: Naming, R: Wait, G: Gate, S: Summons>(
         ≡ length context.now.office.now.lanes.items }
     requires host { length context.now.office.now.host.items < 256 }
     requires room { 0 < length buffers.old.input.items }
+    requires live { O.failed call.old.output ≡ false }
     ensures permits { AreInForce context.now.office.now.directory
         context.now.office.now.lanes.items producer.old.desk.number
         producer.new.desk.permits.items }
     ensures receiver { IsReceiver context.now.channel.now producer.new.desk.receiver }
     ensures number { producer.new.desk.number ≡ producer.old.desk.number }
     ensures room { length buffers.new.input.items ≡ length buffers.old.input.items }
-    ensures mail { result ≡ false
-        → AreServed (premises_of context.now.office.now) producer.old.desk.number serial (received
-        producer.old.desk.receiver)
-        (map put_by producer.old.desk.permits.items)
-        → AreServed (premises_of context.now.office.now) producer.old.desk.number (serial
+
+    // What a line tells before this connection came, since then, and since it is over; nothing was written to it yet.
+    ensures mail { result ≡ false → (before since after : Told)
+        → Took before since (I.remaining call.old.input)
+        → IsUnwritten since (O.taken call.old.output)
+        → Closed since after (O.taken call.new.output) (O.failed call.new.output)
+        → AreServed (premises_of context.now.office.now) producer.old.desk.number before serial
+        (received producer.old.desk.receiver) (map put_by producer.old.desk.permits.items)
+        → AreServed (premises_of context.now.office.now) producer.old.desk.number after (serial
         + 1) (received producer.new.desk.receiver) (map put_by producer.new.desk.permits.items) }
     ensures backed { KeepsBacked producer.old.desk producer.new.desk }
 {
-    if prepare(stream, Patience::Limited).is_err() {
-        return false;
-    }
     let number = producer.desk.number;
     producer
         .book
         .tell_connection(number, serial, Happened::Open);
-    let mut input = stream;
-    let mut output = Watched::new(Timely::new(stream));
     let ending = converse(
         context,
         producer,
         serial,
-        &mut input,
-        &mut output,
+        &mut call.input,
+        &mut call.output,
         &door.mark.stop,
         buffers.input.as_mut_slice(),
         &mut buffers.output,
@@ -120,15 +133,65 @@ fn serve_one<B: Naming, R: Wait, G: Gate, S: Summons>(
 
 // The connection that was accepted is at hand while it is served. Whoever stops the house sets its mark first and then looks for what is
 // at hand, so a thread has to look at the mark behind that.
-fn attend<B: Naming, R: Wait, G: Gate, S: Summons>(
+fn attend<B: Naming, R: Wait, G: Gate, S: Summons, L: Line>(
     context: &Context<'_, B, R, S>,
     producer: &mut Producer<'_, B, G, LogBook<'_, R>>,
     serial: u64,
     door: &Door<'_>,
-    grip: &Grip,
-    stream: &TcpStream,
+    line: &L,
+    call: &mut Call<L::Input, L::Output>,
     buffers: &mut Buffers,
 ) -> bool
+    requires permits { AreInForce context.now.office.now.directory
+        context.now.office.now.lanes.items producer.old.desk.number
+        producer.old.desk.permits.items }
+    requires receiver { IsReceiver context.now.channel.now producer.old.desk.receiver }
+    requires lanes { context.now.office.now.directory.shards
+        ≡ length context.now.office.now.lanes.items }
+    requires host { length context.now.office.now.host.items < 256 }
+    requires room { 0 < length buffers.old.input.items }
+    requires live { L.Output.failed call.old.output ≡ false }
+    ensures permits { AreInForce context.now.office.now.directory
+        context.now.office.now.lanes.items producer.old.desk.number
+        producer.new.desk.permits.items }
+    ensures receiver { IsReceiver context.now.channel.now producer.new.desk.receiver }
+    ensures number { producer.new.desk.number ≡ producer.old.desk.number }
+    ensures room { length buffers.new.input.items ≡ length buffers.old.input.items }
+    ensures mail { result ≡ false → (before since after : Told)
+        → Took before since (L.Input.remaining call.old.input)
+        → IsUnwritten since (L.Output.taken call.old.output)
+        → Closed since after (L.Output.taken call.new.output)
+        (L.Output.failed call.new.output)
+        → AreServed (premises_of context.now.office.now) producer.old.desk.number before serial
+        (received producer.old.desk.receiver) (map put_by producer.old.desk.permits.items)
+        → AreServed (premises_of context.now.office.now) producer.old.desk.number after (serial
+        + 1) (received producer.new.desk.receiver) (map put_by producer.new.desk.permits.items) }
+    ensures backed { KeepsBacked producer.old.desk producer.new.desk }
+{
+    if !line.hold(context.rt, door.grip, &call.input) {
+        return false;
+    }
+    if door.is_shut() {
+        door.grip.clear(context.rt);
+        return false;
+    }
+    door.show(serial);
+    let torn = serve_one(context, producer, serial, door, call, buffers);
+    door.part(line, &call.input, buffers.input.as_mut_slice());
+    door.hide();
+    door.grip.clear(context.rt);
+    torn
+}
+
+// The same of the next connection that comes in at the line; and then it is over. None once the house stops.
+fn attend_next<B: Naming, R: Wait, G: Gate, S: Summons, L: Line>(
+    context: &Context<'_, B, R, S>,
+    producer: &mut Producer<'_, B, G, LogBook<'_, R>>,
+    serial: u64,
+    door: &Door<'_>,
+    line: &mut L,
+    buffers: &mut Buffers,
+) -> Option<bool>
     requires permits { AreInForce context.now.office.now.directory
         context.now.office.now.lanes.items producer.old.desk.number
         producer.old.desk.permits.items }
@@ -143,36 +206,31 @@ fn attend<B: Naming, R: Wait, G: Gate, S: Summons>(
     ensures receiver { IsReceiver context.now.channel.now producer.new.desk.receiver }
     ensures number { producer.new.desk.number ≡ producer.old.desk.number }
     ensures room { length buffers.new.input.items ≡ length buffers.old.input.items }
-    ensures mail { result ≡ false
-        → AreServed (premises_of context.now.office.now) producer.old.desk.number serial (received
-        producer.old.desk.receiver)
+    ensures none { result ≡ None → (producer.new ≡ producer.old)
+        × (L.told line.new ≡ L.told line.old) }
+    ensures mail { result ≡ Some false
+        → AreServed (premises_of context.now.office.now) producer.old.desk.number
+        (L.told line.old) serial (received producer.old.desk.receiver)
         (map put_by producer.old.desk.permits.items)
-        → AreServed (premises_of context.now.office.now) producer.old.desk.number (serial
-        + 1) (received producer.new.desk.receiver) (map put_by producer.new.desk.permits.items) }
+        → AreServed (premises_of context.now.office.now) producer.old.desk.number
+        (L.told line.new) (serial + 1) (received producer.new.desk.receiver)
+        (map put_by producer.new.desk.permits.items) }
     ensures backed { KeepsBacked producer.old.desk producer.new.desk }
 {
-    if !grip.hold(context.rt, stream) {
-        return false;
-    }
-    if door.is_shut() {
-        grip.clear(context.rt);
-        return false;
-    }
-    door.show(serial);
-    let torn = serve_one(context, producer, serial, door, stream, buffers);
-    door.part(stream, buffers.input.as_mut_slice());
-    door.hide();
-    grip.clear(context.rt);
-    torn
+    let mut call = door.next(context.rt, line)?;
+    let torn = attend(context, producer, serial, door, line, &mut call, buffers);
+    let Call { input: _, output } = call;
+    line.close(output);
+    Some(torn)
 }
 
 // Serves one connection after another until the house stops, the first once all threads stand, each with the next serial, and answers whether a verdict came that it
 // didn't await: then it serves nobody any more.
-fn serve_all<B: Naming, R: Wait, G: Gate, S: Summons>(
+fn serve_all<B: Naming, R: Wait, G: Gate, S: Summons, L: Line>(
     context: &Context<'_, B, R, S>,
     producer: &mut Producer<'_, B, G, LogBook<'_, R>>,
     door: &Door<'_>,
-    grip: &Grip,
+    line: &mut L,
     buffers: &mut Buffers,
 ) -> bool
     requires permits { AreInForce context.now.office.now.directory
@@ -189,21 +247,21 @@ fn serve_all<B: Naming, R: Wait, G: Gate, S: Summons>(
     ensures receiver { IsReceiver context.now.channel.now producer.new.desk.receiver }
     ensures number { producer.new.desk.number ≡ producer.old.desk.number }
     ensures mail { result ≡ false
-        → AreServed (premises_of context.now.office.now) producer.old.desk.number 0 (received
-        producer.old.desk.receiver)
+        → AreServed (premises_of context.now.office.now) producer.old.desk.number
+        (L.told line.old) 0 (received producer.old.desk.receiver)
         (map put_by producer.old.desk.permits.items)
         → (connections : ℕ)
-        × AreServed (premises_of context.now.office.now) producer.old.desk.number connections
-        (received producer.new.desk.receiver)
+        × AreServed (premises_of context.now.office.now) producer.old.desk.number
+        (L.told line.new) connections (received producer.new.desk.receiver)
         (map put_by producer.new.desk.permits.items) }
     ensures backed { KeepsBacked producer.old.desk producer.new.desk }
 {
     door.mark.await_start(context.rt);
     for serial in 0..u64::MAX {
-        let Some(stream) = door.next(context.rt) else {
+        let Some(torn) = attend_next(context, producer, serial, door, line, buffers) else {
             return false;
         };
-        if attend(context, producer, serial, door, grip, &stream, buffers) {
+        if torn {
             return true;
         }
     }
@@ -215,15 +273,14 @@ fn serve_all<B: Naming, R: Wait, G: Gate, S: Summons>(
 /// its channel: those come when all workers have ended. What becomes of the copies, and of the connections, is told to the door's log.
 ///
 /// `room`, which is empty, has room for what is left of each permit.
-pub(crate) fn serve_until_stopped<B: Naming, R: Wait, G: Gate, S: Summons>(
+pub(crate) fn serve_until_stopped<B: Naming, R: Wait, G: Gate, S: Summons, L: Line>(
     context: &Context<'_, B, R, S>,
     pace: Pace<'_, G>,
     desk: Desk<B>,
     room: Vec<Ended<Letter<B>>>,
     door: &Door<'_>,
-    grip: &Grip,
-    mut buffers: Buffers,
-) -> Served<B>
+    outfit: Outfit<L>,
+) -> Served<B, L>
     requires permits { AreInForce context.now.office.now.directory
         context.now.office.now.lanes.items desk.number
         desk.permits.items }
@@ -233,22 +290,28 @@ pub(crate) fn serve_until_stopped<B: Naming, R: Wait, G: Gate, S: Summons>(
     requires host { length context.now.office.now.host.items < 256 }
     requires room { (room.items ≡ []) × (length context.now.office.now.lanes.items
         ≤ vec_capacity room) }
-    requires input { 0 < length buffers.input.items }
+    requires input { 0 < length outfit.buffers.input.items }
+    requires fresh { IsFresh (L.told outfit.line) }
     ensures ended { AreEnded context.now.office.now.lanes.items desk.number result.ended.items }
     ensures receiver { IsReceiver context.now.channel.now result.receiver }
     ensures mail { result.mail ≡ true }
     ensures served { All IsNew desk.permits.items → result.torn ≡ false
-        → HasServedMail (premises_of context.now.office.now) desk.number (received result.receiver)
-        (map said result.ended.items) }
+        → (line : L) × (result.line ≡ Some line)
+        × HasServedMail (premises_of context.now.office.now) desk.number (L.told line) (received
+        result.receiver) (map said result.ended.items) }
     ensures backed { All IsNew desk.permits.items → received desk.receiver ≡ []
         → desk.dispatch.sent ≡ []
         → IsBackedBy desk.dispatch.number result.dispatch (received result.receiver)
         (map said result.ended.items) }
 {
     desk.dispatch.is_kept();
+    let Outfit {
+        mut line,
+        mut buffers,
+    } = outfit;
     let book = LogBook::new(context.rt, context.alloc, door.log, door.names);
     let mut producer = Producer { pace, desk, book };
-    let torn = serve_all(context, &mut producer, door, grip, &mut buffers);
+    let torn = serve_all(context, &mut producer, door, &mut line, &mut buffers);
     let Producer {
         mut pace,
         desk,
@@ -277,5 +340,6 @@ pub(crate) fn serve_until_stopped<B: Naming, R: Wait, G: Gate, S: Summons>(
         dispatch,
         torn,
         mail: true,
+        line: Some(line),
     }
 }

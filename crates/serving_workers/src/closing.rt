@@ -1,7 +1,7 @@
 //! The house that the producers of a server leave: the shards' ends are heard, and each queue is closed with what all producers and clerks
 //! left. No thread runs any more.
 
-ghost use Rattle.std.specs.Prelude.{◌≡◌, ◌<◌, ◌≤◌, [], All, IfSome, length, map, true, vec_len, vec_capacity};
+ghost use Rattle.std.specs.Prelude.{◌≡◌, ◌<◌, ◌≤◌, [], All, IfSome, Some, false, length, map, true, vec_len, vec_capacity};
 ghost use Rattle.std.specs.List.{list_all, list_any};
 ghost use Rattle.shard_queue.specs.Reply.{received};
 ghost use Rattle.shard_queue.specs.Shared.{IsStartOf};
@@ -11,30 +11,41 @@ ghost use Rattle.house_floor.specs.Crew.{AllAt, IsHouse};
 ghost use Rattle.house_floor.specs.Opening.{AreBaskets};
 ghost use Rattle.serving_workers.specs.Closing.{GoOn, WasClosed};
 ghost use Rattle.serving_workers.specs.Leaving.{IsServed};
+ghost use Rattle.serving_workers.specs.Finished.{told_of};
 ghost use Rattle.serving_workers.specs.inner.Leaving.{HasHeard, is_whole};
 
 use crate::accepting::Served;
+use crate::line::Line;
 use clerks::{Dismissed, Unhindered};
 use delivery_token::WorkerLog;
 use house_floor::{Baskets, Floor, Ran, Started};
-use house_history::{Front, Naming};
+use house_history::{Answer, Front, Letter, Naming};
 use lane_work::{Consumed, Fate, Worked, hear_ends};
-use reckoning::{Closes, Closings, Remains, abandon, close_queues, learn_all, remains_of};
+use locked_mailbox::LockedMailbox;
+use reckoning::{
+    Closes, Remains, abandon, are_recorded, close_queues, learn_all, remains_of, unlock_into,
+};
+use shard_queue::{Closed, ReplyClosed};
 use std::marker::Model;
 use std::sync::Wait;
 use workers_sync::{Actor, Pace};
 
 /// What a house came to in which nothing went amiss.
 #[derive(Drop)]
-pub struct Finished<B: Naming> {
+pub struct Finished<B: Naming, L: Line> {
     /// What was taken of each queue, to its end.
     pub closes: Closes<B>,
+    /// The mailboxes, by their numbers.
+    pub mailboxes: Vec<LockedMailbox<B>>,
+    /// Of each producer where its connections came in, if it is a worker.
+    pub lines: Vec<Option<L>>,
     /// How the house's history begins, with all that a producer put and heard.
     pub front: Front<B>,
 }
 
-impl<B: Naming> Model for Finished<B> {
-    ghost use Rattle.serving_workers.specs.Finished.{Finished};
+impl<B: Naming, L: Line> Model for Finished<B, L> {
+    ghost use Rattle.std.specs.Prelude.{map};
+    ghost use Rattle.serving_workers.specs.Finished.{Finished, told_of};
 
     ghost Value = { Finished };
 
@@ -42,6 +53,8 @@ impl<B: Naming> Model for Finished<B> {
       lanes = f.closes.lanes;
       channels = f.closes.channels;
       front = f.front;
+      mailboxes = f.mailboxes;
+      lines = map (told_of L.told) f.lines.items;
     } };
 }
 
@@ -52,19 +65,26 @@ fn fate_of(quiet: bool) -> Fate
     if quiet { Fate::Whole } else { Fate::Torn }
 }
 
+// A producer that has heard the end of each shard, and where its connections came in, if it is a worker.
+struct HeardOut<B: Naming, L> {
+    worked: Worked<B>,
+    line: Option<L>,
+}
+
 // A producer hears the end of each shard, which each clerk has sent it. Of its replies and verdicts nothing was kept. Its fate says whether
 // it heard these ends alone.
-fn hear_out<B: Naming, R: Wait>(
+fn hear_out<B: Naming, R: Wait, L: Line>(
     rt: &R,
     floor: &Floor<B>,
     number: u8,
-    served: Served<B>,
-) -> Worked<B>
+    served: Served<B, L>,
+) -> HeardOut<B, L>
     requires there { number < length floor.now.depot.channels.items }
-    requires served { IsServed floor.now number served }
-    ensures heard { HasHeard floor.now number result }
-    ensures ended { result.ended ≡ served.ended }
-    ensures grew { IsStartOf (received served.receiver) (received result.receiver) }
+    requires served { IsServed L.told floor.now number served }
+    ensures heard { HasHeard floor.now number result.worked }
+    ensures ended { result.worked.ended ≡ served.ended }
+    ensures grew { IsStartOf (received served.receiver) (received result.worked.receiver) }
+    ensures line { result.line ≡ served.line }
 {
     let Served {
         ended,
@@ -73,32 +93,37 @@ fn hear_out<B: Naming, R: Wait>(
         dispatch,
         torn: _,
         mail: _,
+        line,
     } = served;
     let gate = Unhindered;
     let mut pace = Pace::new(&gate, Actor::Worker(number));
     let channel = &floor.depot.channels[usize::from(number)];
     let shards = floor.office.lanes.len();
     let quiet = hear_ends(rt, &mut pace, channel, &mut receiver, ends, shards);
-    Worked {
+    let worked = Worked {
         ended,
         receiver,
         replies: Vec::new(floor.alloc),
         log: WorkerLog::new(floor.alloc, number),
         dispatch,
         fate: fate_of(quiet),
-    }
+    };
+    HeardOut { worked, line }
 }
 
-// The same of all producers. `worked`, which is empty, has room for all.
-fn hear_all_out<B: Naming, R: Wait>(
+// The same of all producers. `worked` and `lines`, which are empty, have room for all.
+fn hear_all_out<B: Naming, R: Wait, L: Line>(
     rt: &R,
     floor: &Floor<B>,
-    served: Vec<Served<B>>,
+    served: Vec<Served<B, L>>,
     mut worked: Vec<Worked<B>>,
+    lines: &mut Vec<Option<L>>,
 ) -> Vec<Worked<B>>
     requires house { IsHouse floor.now (vec_len served) }
-    requires served { AllAt (IsServed floor.now) 0 served.items }
+    requires served { AllAt (IsServed L.told floor.now) 0 served.items }
     requires room { (worked.items ≡ []) × (vec_len served ≤ vec_capacity worked) }
+    requires lines { (lines.old.items ≡ []) × (vec_len served ≤ vec_capacity lines.old) }
+    ensures lines { lines.new.items ≡ map (λ s. s.line) served.items }
     ensures worked { AllAt (HasHeard floor.now) 0 result.items }
     ensures count { vec_len result ≡ vec_len served }
     ensures ended { map (λ w. w.ended.items) result.items ≡ map (λ s. s.ended.items) served.items }
@@ -108,14 +133,19 @@ fn hear_all_out<B: Naming, R: Wait>(
     let mut left = served;
     for number in 0..left.len() {
         let one = left.remove(0);
-        worked.push_reserved(hear_out(rt, floor, number as u8, one));
+        let HeardOut {
+            worked: heard,
+            line,
+        } = hear_out(rt, floor, number as u8, one);
+        worked.push_reserved(heard);
+        lines.push_reserved(line);
     }
     left.destroy_empty();
     worked
 }
 
 // Whether a producer heard a verdict that it didn't await.
-fn is_producer_torn<B: Naming>(served: &[Served<B>]) -> bool
+fn is_producer_torn<B: Naming, L: Line>(served: &[Served<B, L>]) -> bool
     ensures { result ≡ list_any (λ s. s.torn) served.now }
 {
     served.iter().any(|one| one.torn)
@@ -170,24 +200,73 @@ fn spend_house<B: Naming>(
     abandon(alloc, floor, ran, baskets);
 }
 
+/// Room for what is handed out of a house: for as many as there are of each, and empty.
+pub struct Rest<B: Naming, L> {
+    /// For each producer.
+    pub worked: Vec<Worked<B>>,
+    /// For each mailbox.
+    pub unlocked: Vec<LockedMailbox<B>>,
+    /// For each producer.
+    pub lines: Vec<Option<L>>,
+}
+
+// Whether nothing was amiss.
+fn is_well(is_producer_torn: bool, is_clerk_torn: bool, quiet: bool, recorded: bool) -> bool
+    ensures { result ≡ true → (is_producer_torn ≡ false) × (is_clerk_torn ≡ false)
+        × (quiet ≡ true) × (recorded ≡ true) }
+{
+    !is_producer_torn && !is_clerk_torn && quiet && recorded
+}
+
+// What is handed out, where nothing was amiss and each queue could be closed.
+fn finish<B: Naming, L: Line>(
+    well: bool,
+    lanes: Option<Vec<Closed<Letter<B>>>>,
+    channels: Option<Vec<ReplyClosed<Answer<B>>>>,
+    mailboxes: Vec<LockedMailbox<B>>,
+    lines: Vec<Option<L>>,
+    front: Front<B>,
+) -> Option<Finished<B, L>>
+    ensures well { IfSome result (λ f. well ≡ true) }
+    ensures closes { IfSome result (λ f. (lanes ≡ Some f.lanes) × (channels ≡ Some f.channels)) }
+    ensures rest { IfSome result (λ f. (f.mailboxes ≡ mailboxes) × (f.front ≡ front)
+        × (f.lines ≡ map (told_of L.told) lines.items)) }
+{
+    if !well {
+        return None;
+    }
+    let lanes = lanes?;
+    let channels = channels?;
+    Some(Finished {
+        closes: Closes { lanes, channels },
+        mailboxes,
+        lines,
+        front,
+    })
+}
+
 /// Closes the house that the producers and the clerks have left: each producer hears the end of each shard, and each queue is closed with what
 /// is left of all permits. What was taken of each queue is handed out where all went well: each clerk stood in its place, nobody met what he
-/// didn't await, and each queue could be closed; and with it how the house's history begins, which has what each producer put and heard. Where it
-/// didn't, all of the house is spent all the same.
+/// didn't await, behind each lock lay the mailbox of that number, and each queue could be closed; and with it the mailboxes, the lines, and how
+/// the house's history begins, which has what each producer put and heard and what happened in each mailbox. Where it didn't, all of the house
+/// is spent all the same.
 ///
-/// `worked`, which is empty, has room for all producers.
-pub fn close_all<B: Naming, R: Wait>(
+/// `rest` has room for all that is handed out.
+pub fn close_all<B: Naming, R: Wait, L: Line>(
     rt: &R,
     floor: Floor<B>,
-    served: Vec<Served<B>>,
-    worked: Vec<Worked<B>>,
+    served: Vec<Served<B, L>>,
+    rest: Rest<B, L>,
     dismissed: Dismissed<B>,
     baskets: Baskets<B>,
-) -> Option<Finished<B>>
+) -> Option<Finished<B, L>>
     requires house { IsHouse floor (vec_len served) }
     requires some { (0 < vec_len served) × (0 < length floor.office.lanes.items) }
-    requires served { AllAt (IsServed floor) 0 served.items }
-    requires room { (worked.items ≡ []) × (vec_len served ≤ vec_capacity worked) }
+    requires served { AllAt (IsServed L.told floor) 0 served.items }
+    requires worked { (rest.worked.items ≡ []) × (vec_len served ≤ vec_capacity rest.worked) }
+    requires unlocked { (rest.unlocked.items ≡ [])
+        × (vec_len floor.depot.mailboxes ≤ vec_capacity rest.unlocked) }
+    requires lines { (rest.lines.items ≡ []) × (vec_len served ≤ vec_capacity rest.lines) }
     requires consumed { vec_len dismissed.consumed ≡ length floor.office.lanes.items }
     requires permits { dismissed.in_order ≡ true
         → AreConsumers floor.office.lanes.items (map (λ c. c.permit) dismissed.consumed.items) }
@@ -196,51 +275,40 @@ pub fn close_all<B: Naming, R: Wait>(
     requires senders { All (λ c. vec_len c.senders
         ≡ length floor.depot.channels.items) dismissed.consumed.items }
     requires baskets { AreBaskets (vec_len served) (length floor.office.lanes.items) baskets }
-    ensures { IfSome result (WasClosed floor served.items dismissed) }
+    ensures { IfSome result (WasClosed L.told floor served.items dismissed) }
 {
     let alloc = floor.alloc;
     let is_producer_torn = is_producer_torn(&served);
-    let mut worked = hear_all_out(rt, &floor, served, worked);
-    let mut front = floor.depot.front.again();
-    learn_all(&mut worked, &mut front);
+    let Rest {
+        worked,
+        unlocked,
+        mut lines,
+    } = rest;
+    let mut worked = hear_all_out(rt, &floor, served, worked, &mut lines);
     let Dismissed { consumed, in_order } = dismissed;
     if !in_order {
         spend_house(floor, worked, consumed, baskets);
         return None;
     }
     let is_clerk_torn = is_clerk_torn(&consumed);
-    let are_quiet = are_quiet(&worked);
+    let quiet = are_quiet(&worked);
+    let mut front = floor.depot.front.again();
     let Remains {
         directory: _,
         lanes,
         channels,
-        mailboxes: _,
+        mailboxes,
     } = remains_of(floor);
-    let Closings {
-        lanes,
-        channels,
-        replies: _,
-        logs: _,
-        taken: _,
-        worst: _,
-    } = close_queues(alloc, lanes, channels, worked, consumed, baskets);
-    if is_producer_torn {
-        return None;
-    }
-    if is_clerk_torn {
-        return None;
-    }
-    if !are_quiet {
-        return None;
-    }
-    let Some(lanes) = lanes else {
-        return None;
-    };
-    let Some(channels) = channels else {
-        return None;
-    };
-    Some(Finished {
-        closes: Closes { lanes, channels },
+    let mut mailboxes = unlock_into(mailboxes, unlocked, &mut front);
+    learn_all(&mut worked, &mut front);
+    let recorded = are_recorded(&mut mailboxes, &front);
+    let closings = close_queues(alloc, lanes, channels, worked, consumed, baskets);
+    finish(
+        is_well(is_producer_torn, is_clerk_torn, quiet, recorded),
+        closings.lanes,
+        closings.channels,
+        mailboxes,
+        lines,
         front,
-    })
+    )
 }

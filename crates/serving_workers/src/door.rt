@@ -1,17 +1,18 @@
-//! What a thread that accepts connections needs beside the house: where they come, the mark that the house stops, and a pause. What is
-//! done with a connection stands elsewhere.
+//! What a thread that accepts connections needs beside the house and its line: the mark that the house stops, and a pause. What is done with
+//! a connection stands elsewhere.
 
+ghost use Rattle.std.specs.Prelude.{◌≡◌, false, IfSome, None};
+ghost use Rattle.serving_workers.specs.Lines.{IsUnwritten, Took};
+
+use crate::line::{Call, Line};
 use crate::mark::Mark;
 use server_report::{Log, Names, Presence};
-use std::net::TcpStream;
 use std::sync::Wait;
-use workers_sync::{Listening, Pause, farewell};
+use workers_sync::{Grip, Pause};
 
-/// Where connections come in.
+/// What a thread goes by that accepts connections.
 #[derive(Clone, Copy)]
 pub struct Door<'a> {
-    /// Where they are accepted.
-    pub listening: &'a Listening,
     /// The house's mark, which is set before the listener is shut.
     pub mark: &'a Mark,
     /// Waited for where the system has no room for one more connection, and for the last words of a peer.
@@ -20,6 +21,8 @@ pub struct Door<'a> {
     pub log: &'a Log,
     /// By what the log tells connections apart.
     pub names: Names<'a>,
+    /// For the connection at hand, for whoever stops the house.
+    pub grip: &'a Grip,
     /// What whoever accepts here shows of the connection at hand.
     pub presence: Option<&'a Presence>,
 }
@@ -30,15 +33,21 @@ impl<'a> Door<'a> {
         self.mark.is_set()
     }
 
-    /// Waits for the next connection; None once the house stops. Where the system has no room for one more it is tried again after a
-    /// pause.
-    pub fn next<R: Wait>(&self, rt: &R) -> Option<TcpStream> {
+    /// Waits for the next connection of a line; None once the house stops. Where there is none to be had it is tried again after a pause.
+    pub fn next<R: Wait, L: Line>(&self, rt: &R, line: &mut L) -> Option<Call<L::Input, L::Output>>
+        ensures took { IfSome result (λ call. Took (L.told line.old) (L.told line.new)
+            (L.Input.remaining call.input)) }
+        ensures fresh { IfSome result (λ call. (L.Output.failed call.output ≡ false)
+            × IsUnwritten (L.told line.new) (L.Output.taken call.output)) }
+        ensures ready { IfSome result (λ call. L.ready line.new) }
+        ensures none { result ≡ None → L.told line.new ≡ L.told line.old }
+    {
         for _ in rt.forever() {
             if self.is_shut() {
                 return None;
             }
-            if let Ok(stream) = self.listening.accept() {
-                return Some(stream);
+            if let Some(call) = line.accept() {
+                return Some(call);
             }
             if !self.is_shut() {
                 self.pause.wait();
@@ -71,11 +80,11 @@ impl<'a> Door<'a> {
     /// Leaves a connection so that its peer can read what was said last. As the house stops the peer has a pause first: what it was
     /// sending comes in meanwhile and is dropped, where behind the connection's end it would be answered by a reset, which takes from the
     /// peer what it has not read yet.
-    pub fn part(&self, stream: &TcpStream, buffer: &mut [u8]) {
+    pub fn part<L: Line>(&self, line: &L, input: &L::Input, buffer: &mut [u8]) {
         self.show_parting();
         if self.is_shut() {
             self.pause.wait();
         }
-        farewell(stream, buffer);
+        line.part(input, buffer);
     }
 }

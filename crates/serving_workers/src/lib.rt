@@ -5,14 +5,16 @@
 mod accepting;
 mod closing;
 mod door;
+mod line;
 mod mark;
 mod parcels;
 mod threads;
 mod workplace;
 
-pub use accepting::{Buffers, Served};
-pub use closing::{Finished, close_all};
+pub use accepting::{Buffers, Outfit, Served};
+pub use closing::{Finished, Rest, close_all};
 pub use door::Door;
+pub use line::{Call, Line, Lines, Listens, SocketLine, SocketLines};
 pub use mark::Mark;
 pub use parcels::packed;
 pub use threads::{Begun, Hired, Serves, have_threads, join_producers, start_workers};

@@ -3,12 +3,15 @@
 
 ghost use Rattle.std.specs.Prelude.{ℕ, ◌≡◌, ◌≤◌, ◌<◌, ◌+◌, All, Some, [], length, map, true, vec_len, vec_capacity};
 ghost use Rattle.std.specs.Mem.{manually_drop_value};
+ghost use Rattle.std.specs.Thread.{IsSend};
 ghost use Rattle.house_floor.specs.Crew.{AllAt, IsHouse, IsPost};
 ghost use Rattle.std.specs.List.{list_all};
 ghost use Rattle.clerks.specs.Keeping.{parts_of};
-ghost use Rattle.serving_workers.specs.Leaving.{IsHired, IsServed, has_thread, serves_mail};
+ghost use Rattle.serving_workers.specs.Leaving.{IsHired, IsOutfit, IsServed, has_thread, serves_mail};
+ghost use Rattle.serving_workers.specs.Lines.{IsFresh};
 
-use crate::accepting::{Buffers, Served, serve_until_stopped};
+use crate::accepting::{Outfit, Served, serve_until_stopped};
+use crate::line::Line;
 use crate::parcels::packed;
 use crate::workplace::Workplace;
 use clerks::{Hall, Unhindered};
@@ -32,46 +35,47 @@ pub struct Serves<'a, B: Naming> {
     pub mail: bool,
 }
 
-impl<'a, B: Naming> Promise<ManuallyDrop<Served<B>>> for Serves<'a, B> {
+impl<'a, B: Naming, L: Line> Promise<ManuallyDrop<Served<B, L>>> for Serves<'a, B> {
     ghost use Rattle.std.specs.Prelude.{◌≡◌};
     ghost use Rattle.std.specs.Mem.{manually_drop_value};
     ghost use Rattle.serving_workers.specs.Leaving.{IsServed};
 
-    ghost kept_by = { λ p r. IsServed p.floor.now p.number (manually_drop_value r) × ((manually_drop_value r).mail ≡ p.mail) };
+    ghost kept_by = { λ p r. IsServed L.told p.floor.now p.number (manually_drop_value r) × ((manually_drop_value r).mail ≡ p.mail) };
 }
 
 /// A producer's thread, or what came of it where there is none.
 #[derive(Drop)]
-pub enum Hired<'a, B: Naming> {
+pub enum Hired<'a, B: Naming, L: Line> {
     /// Its thread, which leaves what the producer does.
-    There(thread::PromisedHandle<ManuallyDrop<Served<B>>, Serves<'a, B>>),
+    There(thread::PromisedHandle<ManuallyDrop<Served<B, L>>, Serves<'a, B>>),
     /// No thread could be made: what it leaves, that served nobody.
-    Here(ManuallyDrop<Served<B>>),
+    Here(ManuallyDrop<Served<B, L>>),
 }
 
 /// Whether each of these producers has a thread.
-pub fn have_threads<B: Naming>(hired: &[Hired<'_, B>]) -> bool
+pub fn have_threads<B: Naming, L: Line>(hired: &[Hired<'_, B, L>]) -> bool
     ensures { result ≡ list_all has_thread hired.now }
 {
     hired.iter().all(|one| matches!(one, Hired::There(_)))
 }
 
 // A worker's life.
-fn serve_there<B: Naming, H: Hall, R: Wait>(
+fn serve_there<'a, B: Naming, H: Hall, R: Wait, L: Line>(
     rt: &R,
-    workplace: &Workplace<B, H>,
-    grip: &Grip,
+    workplace: &'a Workplace<B, H>,
+    grip: &'a Grip,
     number: u8,
     post: ManuallyDrop<Post<B>>,
-    buffers: Buffers,
-) -> ManuallyDrop<Served<B>>
+    outfit: Outfit<L>,
+) -> ManuallyDrop<Served<B, L>>
     requires lanes { H.lanes ≡ Some workplace.now.floor.office.lanes.items }
     requires depot { H.depot ≡ Some (parts_of workplace.now.floor.depot) }
     requires house { IsHouse workplace.now.floor (length workplace.now.floor.depot.channels.items) }
     requires number { number < length workplace.now.floor.depot.channels.items }
     requires post { IsPost workplace.now.floor number (manually_drop_value post) }
-    requires input { 0 < length buffers.input.items }
-    ensures served { IsServed workplace.now.floor number (manually_drop_value result) }
+    requires input { 0 < length outfit.buffers.input.items }
+    requires fresh { IsFresh (L.told outfit.line) }
+    ensures served { IsServed L.told workplace.now.floor number (manually_drop_value result) }
     ensures mail { (manually_drop_value result).mail ≡ true }
 {
     let Post { desk, room } = ManuallyDrop::into_inner(post);
@@ -85,28 +89,36 @@ fn serve_there<B: Naming, H: Hall, R: Wait>(
         summons: &summons,
         channel: &floor.depot.channels[usize::from(number)],
     };
-    let door = workplace.door(number);
-    packed(serve_until_stopped(&context, pace, desk, room, &door, grip, buffers))
+    let door = workplace.door(number, grip);
+    packed(serve_until_stopped(&context, pace, desk, room, &door, outfit))
 }
 
 // Starts a worker's thread. Where none can be made the house's mark has to be set before what came of it can be had: so the worker serves
 // nobody, and its permits are ended here.
-fn start_worker<'s, E, B: Naming + Send + Sync, H: Hall + Send, R: Threads + Wait + Sync>(
+fn start_worker<
+    's,
+    E,
+    B: Naming + Send + Sync,
+    H: Hall + Send,
+    R: Threads + Wait + Sync,
+    L: Line + Send + 's,
+>(
     scope: &thread::Scope<'s, E>,
     rt: &'s R,
     workplace: &'s Workplace<B, H>,
     grip: &'s Grip,
     number: u8,
     post: Post<B>,
-    buffers: Buffers,
-) -> Hired<'s, B>
+    outfit: Outfit<L>,
+) -> Hired<'s, B, L>
     requires lanes { H.lanes ≡ Some workplace.now.floor.office.lanes.items }
     requires depot { H.depot ≡ Some (parts_of workplace.now.floor.depot) }
     requires house { IsHouse workplace.now.floor (length workplace.now.floor.depot.channels.items) }
     requires number { number < length workplace.now.floor.depot.channels.items }
     requires post { IsPost workplace.now.floor number post }
-    requires input { 0 < length buffers.input.items }
-    ensures hired { IsHired workplace.now.floor number result }
+    requires input { 0 < length outfit.buffers.input.items }
+    requires fresh { IsFresh (L.told outfit.line) }
+    ensures hired { IsHired L.told workplace.now.floor number result }
     ensures mail { serves_mail result ≡ true }
 {
     let parcel = packed(post);
@@ -115,9 +127,23 @@ fn start_worker<'s, E, B: Naming + Send + Sync, H: Hall + Send, R: Threads + Wai
         number,
         mail: true,
     };
-    match scope.spawn_with(promise, move || {
-        serve_there::<B, H, R>(rt, workplace, grip, number, parcel, buffers)
-    }) {
+    match scope.spawn_with(
+        promise,
+        move || -> ManuallyDrop<Served<B, L>>
+            requires sends { IsSend L.Input.row × IsSend L.Output.row }
+            requires lanes { H.lanes ≡ Some workplace.now.floor.office.lanes.items }
+            requires depot { H.depot ≡ Some (parts_of workplace.now.floor.depot) }
+            requires house { IsHouse workplace.now.floor
+                (length workplace.now.floor.depot.channels.items) }
+            requires number { number < length workplace.now.floor.depot.channels.items }
+            requires post { IsPost workplace.now.floor number (manually_drop_value parcel) }
+            requires input { 0 < length outfit.buffers.input.items }
+            requires fresh { IsFresh (L.told outfit.line) }
+            ensures served { IsServed L.told workplace.entry.now.floor number
+                (manually_drop_value result) }
+            ensures mail { (manually_drop_value result).mail ≡ true }
+        { serve_there::<B, H, R, L>(rt, workplace, grip, number, parcel, outfit) },
+    ) {
         Ok(child) => Hired::There(child),
         Err(refused) => {
             workplace.mark.set();
@@ -126,17 +152,24 @@ fn start_worker<'s, E, B: Naming + Send + Sync, H: Hall + Send, R: Threads + Wai
     }
 }
 
-// Starts the thread of the next worker, with the first of these posts and of these buffers, and puts it behind those in `hired`, which has
+// Starts the thread of the next worker, with the first of these posts and of these outfits, and puts it behind those in `hired`, which has
 // room for it.
-fn start_next<'s, E, B: Naming + Send + Sync, H: Hall + Send, R: Threads + Wait + Sync>(
+fn start_next<
+    's,
+    E,
+    B: Naming + Send + Sync,
+    H: Hall + Send,
+    R: Threads + Wait + Sync,
+    L: Line + Send + 's,
+>(
     scope: &thread::Scope<'s, E>,
     rt: &'s R,
     workplace: &'s Workplace<B, H>,
     grip: &'s Grip,
     number: u8,
     posts: &mut Vec<Post<B>>,
-    buffers: &mut Vec<Buffers>,
-    hired: &mut Vec<Hired<'s, B>>,
+    outfits: &mut Vec<Outfit<L>>,
+    hired: &mut Vec<Hired<'s, B, L>>,
 )
     requires lanes { H.lanes ≡ Some workplace.now.floor.office.lanes.items }
     requires depot { H.depot ≡ Some (parts_of workplace.now.floor.depot) }
@@ -144,30 +177,30 @@ fn start_next<'s, E, B: Naming + Send + Sync, H: Hall + Send, R: Threads + Wait 
     requires number { number < length workplace.now.floor.depot.channels.items }
     requires posts { AllAt (IsPost workplace.now.floor) number posts.old.items
         × (0 < vec_len posts.old) }
-    requires buffers { All (λ b. 0 < length b.input.items) buffers.old.items
-        × (0 < vec_len buffers.old) }
-    requires hired { AllAt (IsHired workplace.now.floor) 0 hired.old.items × (vec_len hired.old
-        ≡ number) }
+    requires outfits { All (λ o. IsOutfit L.told o) outfits.old.items
+        × (0 < vec_len outfits.old) }
+    requires hired { AllAt (IsHired L.told workplace.now.floor) 0 hired.old.items
+        × (vec_len hired.old ≡ number) }
     requires mail { All (λ h. serves_mail h ≡ true) hired.old.items }
     requires room { vec_len hired.old < vec_capacity hired.old }
     ensures posts { AllAt (IsPost workplace.now.floor) (number + 1) posts.new.items
         × (vec_len posts.new + 1 ≡ vec_len posts.old) }
-    ensures buffers { All (λ b. 0 < length b.input.items) buffers.new.items
-        × (vec_len buffers.new + 1 ≡ vec_len buffers.old) }
-    ensures hired { AllAt (IsHired workplace.now.floor) 0 hired.new.items × (vec_len hired.new
-        ≡ number + 1) }
+    ensures outfits { All (λ o. IsOutfit L.told o) outfits.new.items
+        × (vec_len outfits.new + 1 ≡ vec_len outfits.old) }
+    ensures hired { AllAt (IsHired L.told workplace.now.floor) 0 hired.new.items
+        × (vec_len hired.new ≡ number + 1) }
     ensures mail { All (λ h. serves_mail h ≡ true) hired.new.items }
     ensures room { vec_capacity hired.new ≡ vec_capacity hired.old }
 {
     let post = posts.remove(0);
-    let own = buffers.remove(0);
+    let own = outfits.remove(0);
     hired.push_reserved(start_worker(scope, rt, workplace, grip, number, post, own));
 }
 
 /// The workers' threads, and what is left of the posts.
-pub struct Begun<'a, B: Naming> {
+pub struct Begun<'a, B: Naming, L: Line> {
     /// For each worker its thread, or what came of it: in their order, with room for all producers.
-    pub hired: Vec<Hired<'a, B>>,
+    pub hired: Vec<Hired<'a, B, L>>,
     /// The posts of the other producers, in their order.
     pub posts: Vec<Post<B>>,
 }
@@ -175,15 +208,22 @@ pub struct Begun<'a, B: Naming> {
 /// Starts a thread for each worker, a grip for each, in their order, with the first of these posts. The others are given back, and so is
 /// the list of threads, in which there is room for all posts. None of them accepts anybody while the start of the workplace's mark is held, as whoever
 /// calls it does. Where a thread can't be made the mark is set, so no worker serves anybody.
-pub fn start_workers<'s, E, B: Naming + Send + Sync, H: Hall + Send, R: Threads + Wait + Sync>(
+pub fn start_workers<
+    's,
+    E,
+    B: Naming + Send + Sync,
+    H: Hall + Send,
+    R: Threads + Wait + Sync,
+    L: Line + Send + 's,
+>(
     scope: &thread::Scope<'s, E>,
     rt: &'s R,
     workplace: &'s Workplace<B, H>,
     grips: &'s [Grip],
     mut posts: Vec<Post<B>>,
-    mut buffers: Vec<Buffers>,
-    mut hired: Vec<Hired<'s, B>>,
-) -> Begun<'s, B>
+    mut outfits: Vec<Outfit<L>>,
+    mut hired: Vec<Hired<'s, B, L>>,
+) -> Begun<'s, B, L>
     // The workplace's floor is a house, and that of its clerks' hall.
     requires lanes { H.lanes ≡ Some workplace.now.floor.office.lanes.items }
     requires depot { H.depot ≡ Some (parts_of workplace.now.floor.depot) }
@@ -192,17 +232,17 @@ pub fn start_workers<'s, E, B: Naming + Send + Sync, H: Hall + Send, R: Threads 
     // There are no more workers than producers.
     requires grips { length grips.now ≤ length workplace.now.floor.depot.channels.items }
 
-    // Each producer has its post, by its number, with nothing put or heard yet; and each worker has room to read into.
+    // Each producer has its post, by its number, with nothing put or heard yet; and each worker has room to read into, and its line, where nobody came yet.
     requires posts { AllAt (IsPost workplace.now.floor) 0 posts.items
         × (vec_len posts ≡ length workplace.now.floor.depot.channels.items) }
-    requires buffers { All (λ b. 0 < length b.input.items) buffers.items
-        × (vec_len buffers ≡ length grips.now) }
+    requires outfits { All (λ o. IsOutfit L.told o) outfits.items
+        × (vec_len outfits ≡ length grips.now) }
     requires room { (hired.items ≡ [])
         × (length workplace.now.floor.depot.channels.items ≤ vec_capacity hired) }
 
     // For each worker, by its number: its thread, which will leave what that producer leaves, or what it has left without one.
     // Each is a worker's, who leaves what its connections submitted, one connection after another with serials from 0 on.
-    ensures hired { AllAt (IsHired workplace.now.floor) 0 result.hired.items }
+    ensures hired { AllAt (IsHired L.told workplace.now.floor) 0 result.hired.items }
     ensures count { vec_len result.hired ≡ length grips.now }
     ensures mail { All (λ h. serves_mail h ≡ true) result.hired.items }
     ensures room { length workplace.now.floor.depot.channels.items ≤ vec_capacity result.hired }
@@ -220,15 +260,20 @@ pub fn start_workers<'s, E, B: Naming + Send + Sync, H: Hall + Send, R: Threads 
             &grips[position],
             position as u8,
             &mut posts,
-            &mut buffers,
+            &mut outfits,
             &mut hired,
         );
     }
     Begun { hired, posts }
 }
 
-fn join_producer<B: Naming, R: Threads>(rt: &R, floor: &Floor<B>, hired: Hired<'_, B>) -> Served<B>
-    ensures served { (n : ℕ) → IsHired floor.now n hired.entry → IsServed floor.now n result }
+fn join_producer<B: Naming, R: Threads, L: Line>(
+    rt: &R,
+    floor: &Floor<B>,
+    hired: Hired<'_, B, L>,
+) -> Served<B, L>
+    ensures served { (n : ℕ) → IsHired L.told floor.now n hired.entry
+        → IsServed L.told floor.now n result }
     ensures mail { result.mail ≡ serves_mail hired.entry }
 {
     match hired {
@@ -238,19 +283,19 @@ fn join_producer<B: Naming, R: Threads>(rt: &R, floor: &Floor<B>, hired: Hired<'
 }
 
 /// Waits for each producer's end. `served`, which is empty, has room for all.
-pub fn join_producers<B: Naming, R: Threads>(
+pub fn join_producers<B: Naming, R: Threads, L: Line>(
     rt: &R,
     floor: &Floor<B>,
-    hired: Vec<Hired<'_, B>>,
-    mut served: Vec<Served<B>>,
-) -> Vec<Served<B>>
+    hired: Vec<Hired<'_, B, L>>,
+    mut served: Vec<Served<B, L>>,
+) -> Vec<Served<B, L>>
     // Each is a producer's thread, by its number, or what that has left without one.
-    requires hired { AllAt (IsHired floor.now) 0 hired.items }
+    requires hired { AllAt (IsHired L.told floor.now) 0 hired.items }
     requires room { (served.items ≡ []) × (vec_len hired ≤ vec_capacity served) }
 
     // Each producer left, by its number, its ended permits on all lanes, and its end of its own reply channel; a worker left what it
     // said on each lane.
-    ensures served { AllAt (IsServed floor.now) 0 result.items }
+    ensures served { AllAt (IsServed L.told floor.now) 0 result.items }
     ensures mail { map (λ s. s.mail) result.items ≡ map serves_mail hired.entry.items }
     ensures count { vec_len result ≡ vec_len hired.entry }
 {

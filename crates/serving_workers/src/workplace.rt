@@ -9,8 +9,8 @@ use clerks::{Clerk, Clerks, Hall, Unhindered};
 use house_floor::Floor;
 use house_history::Naming;
 use server_report::{Log, Names, Presence};
-use std::sync::Mutex;
-use workers_sync::{Listening, Pause};
+use std::sync::{Arc, Mutex};
+use workers_sync::{Grip, Listening, Pause};
 
 /// What all producers of a server work with, and those who close it. It is made before the first of their threads. It owns what it holds:
 /// a closure that captures a reference to a struct with borrows in it loses what is proved of its result.
@@ -21,8 +21,8 @@ pub struct Workplace<B: Naming, H: Hall> {
     pub clerks: Vec<Mutex<Clerk<B, H>>>,
     /// Behind so many copies of one message a clerk is summoned (`copies_at_once`).
     pub at_once: usize,
-    /// Where mail comes in.
-    pub lmtp: Listening,
+    /// Where mail comes in; each worker's line is at it.
+    pub lmtp: Arc<Listening>,
     /// Set once the house stops.
     pub mark: Mark,
     /// For threads that can't accept a connection, and for last words.
@@ -63,10 +63,10 @@ impl<B: Naming, H: Hall> Workplace<B, H> {
         }
     }
 
-    /// Where mail comes in, for the worker of this number.
-    pub fn door(&self, number: u8) -> Door<'_> {
+    /// What the worker of this number goes by, who has this grip.
+    pub fn door<'a>(&'a self, number: u8, grip: &'a Grip) -> Door<'a> {
         Door {
-            listening: &self.lmtp,
+            grip,
             mark: &self.mark,
             pause: &self.pause,
             log: &self.log,

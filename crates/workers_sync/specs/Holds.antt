@@ -1,8 +1,6 @@
 -- What a call does to the mailbox that it finds, as under a lock, and to a client's handle: what a client does is one event of the mailbox, and so is
 -- the delivery of a copy.
 use Rattle.std.specs.Prelude.{◌≡◌, ℕ, ◌+◌, ◌-◌, ◌^◌, ◌<◌, ◌≤◌, Bool, true, false, List, [], ◌∷◌, ◌++◌, length, drop, min, Option, Some, None, IsSome, Result, Ok, Err, option_map, if◌then◌else◌}
-use Rattle.std.specs.Borrow.{MutBor}
-use Rattle.std.specs.Fn.{Once}
 use Rattle.change_ring.specs.declared.change.Change.{Change}
 use Rattle.change_ring.specs.declared.change.Flags.{Flags}
 use Rattle.change_ring.specs.declared.flag_op.FlagOp.{FlagOp}
@@ -30,18 +28,6 @@ use Rattle.mailbox.specs.declared.clients.Row.{Row}
 -- one finds nothing is said.
 abbrev pub UnderLock : (Mailbox → Mailbox → Type 0) → Type 0
 UnderLock P = (found : Mailbox) × (left : Mailbox) × P found left
-
--- at `&mut`s to x and y the call may give r, and leave x' and y' there
-pub record ReturnsLent {F T A R : Type 0} (g : Once F (MutBor T × (MutBor A × Unit {0})) (R × (MutBor T × (MutBor A × Unit {0})))) (f : F) (x : T) (y : A) (r : R) (x' : T) (y' : A) : Type 0 where
-  pub shown : MutBor T
-  pub shows : shown.now ≡ x
-  pub lent : MutBor A
-  pub lends : lent.now ≡ y
-  pub left : MutBor T
-  pub back : MutBor A
-  pub met : g.post f (shown, (lent, tt)) (r, (left, (back, tt)))
-  pub leaves : left.now ≡ x'
-  pub gives : back.now ≡ y'
 
 -- The mailbox that was found and the one that was left: both keep what every mailbox keeps, and the log went on by these changes, on every
 -- log for which the mailbox stood. No copy was delivered.

@@ -1,12 +1,11 @@
-//! Where the threads of a house wait, for one another or for a peer: the gate that each actor passes before its events, the courier that takes a
-//! session's message to its mailbox, the bell that wakes a session, the lock of a mailbox and what one call does while it is held, and the sockets
-//! of a server. No thread is started here.
+//! Where the threads of a house wait, for one another or for a peer. The gate that each actor passes before its events, the courier that takes a
+//! session's message to its mailbox, the bell that wakes a session, what one call does to a mailbox that is held, and the sockets of a server are
+//! here. No thread is started here.
 #![tactic(auto)]
 
 mod bell;
 mod calls;
 mod courier;
-mod door;
 mod grip;
 mod listening;
 mod pace;
@@ -17,7 +16,6 @@ mod waiting;
 pub use bell::{SessionBell, Sleeper, ring_each};
 pub use calls::{alter, count, deliver, enter, expunge, feed, leave, read, view};
 pub use courier::{Courier, Lost};
-pub use door::{under, under_with};
 pub use grip::Grip;
 pub use listening::Listening;
 pub use pace::{Actor, Gate, Pace};

@@ -1,15 +1,17 @@
 -- What bodies and proofs say besides: what is dealt to the threads of a server.
-use Rattle.std.specs.Prelude.{◌≡◌, ◌<◌, ◌≤◌, ℕ, [], All, length, vec_len, vec_capacity}
+use Rattle.std.specs.Prelude.{◌≡◌, ◌≤◌, ℕ, [], All, length, vec_len, vec_capacity}
 use Rattle.house_floor.specs.Crew.{AllAt, IsPost}
 use Rattle.house_floor.specs.declared.floor.Floor.{Floor}
 use Rattle.serving.specs.declared.run.Dealt.{Dealt}
+use Rattle.serving_workers.specs.Leaving.{IsOutfit}
+use Rattle.serving_workers.specs.Lines.{Told}
 
--- a post for each producer and room for what it leaves; for each worker a buffer, and for each berth one and its end of its bell
-pub record IsDealt {B : Type 0} (floor : Floor B) (workers berths : ℕ) (dealt : Dealt B) : Type 0 where
+-- a post for each producer and room for what it leaves; for each worker its outfit, and for each berth a buffer and its end of its bell
+pub record IsDealt {B L : Type 0} (told : L → Told) (floor : Floor B) (workers berths : ℕ) (dealt : Dealt B L) : Type 0 where
   pub posts : AllAt (IsPost floor) 0 dealt.posts.items
   pub each_post : vec_len dealt.posts ≡ length floor.depot.channels.items
   pub served : (dealt.served.items ≡ []) × (length floor.depot.channels.items ≤ vec_capacity dealt.served)
-  pub buffers : All (λ b. 0 < length b.input.items) dealt.equipment.buffers.items
-  pub each_worker : vec_len dealt.equipment.buffers ≡ workers
+  pub outfits : All (λ o. IsOutfit told o) dealt.equipment.outfits.items
+  pub each_worker : vec_len dealt.equipment.outfits ≡ workers
   pub bells : vec_len dealt.bells ≡ berths
   pub client_buffers : vec_len dealt.equipment.client_buffers ≡ berths

@@ -1,5 +1,5 @@
 -- What bodies and proofs say besides: what a house that served came to, by what was taken of its queues.
-use Rattle.std.specs.Prelude.{◌≡◌, ◌<◌, ◌≤◌, ◌++◌, ℕ, zero, suc, Bool, List, [], ◌∷◌, All, true, false, length, map, slice_index_or}
+use Rattle.std.specs.Prelude.{◌≡◌, ◌<◌, ◌≤◌, ◌++◌, ℕ, zero, suc, Bool, List, [], ◌∷◌, All, true, false, length, map, slice_index_or, vec_len}
 use Rattle.delivery_token.specs.declared.Job.{Job}
 use Rattle.delivery_token.specs.declared.log.Noted.{Noted}
 use Rattle.shard_queue.specs.Closing.{IsWhole}
@@ -17,9 +17,11 @@ use Rattle.lane_work.specs.Speaking.{premises_of}
 use Rattle.house_floor.specs.declared.floor.Floor.{Floor}
 use Rattle.house_history.specs.Legal.{Legal}
 use Rattle.lane_work.specs.Backing.{IsBacked}
-use Rattle.serving_workers.specs.Leaving.{HasServedClients, HasServedMail}
+use Rattle.house_floor.specs.Crew.{AllAt}
+use Rattle.reckoning.specs.Shelves.{IsRecorded}
+use Rattle.serving_workers.specs.Leaving.{HasServedClients}
 use Rattle.serving_workers.specs.Finished.{Finished}
-use Rattle.serving.specs.Left.{WasAnswered, answers, histories}
+use Rattle.serving.specs.Left.{IsWorkerOf, WasAnswered, answers, histories}
 
 -- All that was put on each of these lanes was taken, each of its producers has put its end, and nobody else put anything.
 abbrev pub WereEmptied : List (ShardQueue Job) → List (Closed Job) → Type 0
@@ -37,9 +39,9 @@ WereHeardOut (channel ∷ channels) (c ∷ closed) = IsWhole (senders_of channel
 
 -- What a house has left, the first of whose producers are so many workers.
 pub record CameTo {B : Type 0} (floor : Floor B) (workers : ℕ) (finished : Finished) : Type 0 where
-  -- What was taken of a worker from each lane is what its connections submitted, one after another with the serials from 0 on, and then its end; and the verdict on
+  -- What was taken of a worker from each lane is what the connections at its line submitted, one after another with the serials from 0 on, and then its end; and the verdict on
   -- each of these copies came on its channel.
-  pub mail : (n : ℕ) → n < workers → HasServedMail (premises_of floor.office) n (slice_index_or (answers finished) n []) (map (of n) (histories finished))
+  pub mail : (n : ℕ) → n < workers → IsWorkerOf (premises_of floor.office) n finished
   -- So it is of each berth: what was taken of it is what its clients appended, one client after another with the serials from 0 on.
   pub clients : (n : ℕ) → workers ≤ n → n < length floor.depot.channels.items
       → HasServedClients (premises_of floor.office) n (slice_index_or (answers finished) n []) (map (of n) (histories finished))
@@ -49,9 +51,11 @@ pub record CameTo {B : Type 0} (floor : Floor B) (workers : ℕ) (finished : Fin
   -- Nothing else was on a lane or on a channel, and nothing was left there.
   pub lanes : WereEmptied floor.office.lanes.items finished.lanes.items
   pub channels : WereHeardOut floor.depot.channels.items finished.channels.items
-  -- The house's history is legal, and has what each producer put and heard, and nothing else of its seat.
+  -- The house's history is legal, and has what each producer put and heard, and nothing else of its seat; and of each mailbox just what happened there.
   pub legal : Legal finished.front
   pub backed : (n : ℕ) → n < length floor.depot.channels.items → IsBacked n finished.front (slice_index_or (answers finished) n []) (map (of n) (histories finished))
+  pub mailboxes : AllAt (IsRecorded finished.front) 0 finished.mailboxes.items
+  pub each_mailbox : vec_len finished.mailboxes ≡ length floor.depot.mailboxes.items
 
 -- ---- on the way there
 

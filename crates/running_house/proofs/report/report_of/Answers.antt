@@ -1,4 +1,4 @@
-use Rattle.std.proofs.Common.{◌==◌, ◌∙◌, All, map, length, refl, sym, ap, subst, arith}
+use Rattle.std.proofs.Common.{rules, ◌==◌, ◌∙◌, All, map, length, refl, sym, ap, subst, arith}
 use Rattle.std.proofs.lemmas.List.{length-map}
 use Rattle.lane_work.specs.Consuming.{items_of}
 use Rattle.lane_work.specs.declared.consumer.Consumed.{Consumed}
@@ -9,6 +9,9 @@ use Rattle.reckoning.proofs.Parts.{consumers_of, ended_of, receivers_of, sender_
 use Rattle.house_floor.specs.Crew.{AllAt}
 use Rattle.house_history.specs.Legal.{Legal}
 use Rattle.reckoning.specs.Histories.{IsKnownIn}
+use Rattle.reckoning.specs.Shelves.{HasAccepted, IsTaught}
+use Rattle.reckoning.proofs.Histories.{taught_later}
+use Rattle.std.proofs.lemmas.List.Elements.{All-weaker}
 use Rattle.reckoning.specs.Produced.{IsProduceOf}
 use Rattle.running_house.specs.Lists.{ListsAgree}
 use Rattle.running_house.specs.Walk.{ListsMet}
@@ -53,6 +56,13 @@ balance-requires-clause-senders g c =
     subst (λ v. AreSenderEndedHands v.items 0 (map (λ (d : Consumed _). d.senders.items) cs.items)) (sym c.remains_of-directory.ensures.channels)
     (sender_hands_of c.args.floor 0 cs.items c.requires.consumed (omega (arith, count, ok)))
 
+pub report_on-requires-clause-taught : goal.report_on-requires-clause-taught
+report_on-requires-clause-taught g c =
+    let before = c.unlock_all-unlocked.new.front in
+    let now = c.learn_all.new.front in
+    let all : All (IsTaught before) c.in_ok-unlocked.field-0.items = search rules in
+    All-weaker (IsTaught before) (IsTaught now) (taught_later before now c.learn_all.ensures.before) c.in_ok-unlocked.field-0.items all
+
 pub returns-clause-agrees : goal.returns-clause-agrees
 returns-clause-agrees g c =
     let ws = c.learn_all.new.worked in
@@ -67,7 +77,8 @@ returns-clause-agrees g c =
     (subst (λ v. IsBalanced c.remains_of-directory.result.lanes.items v.items ws.items cs.items books) c.remains_of-directory.ensures.channels c.in_ok-books.ensures.balanced) in
     let producers = sym ws.ok.0 ∙ (as_many ∙ c.requires.all.worked) in
     let laid = ap length balanced.replies ∙ length-map ws.items (λ (w : Worked _). w.replies) in
-    if_ok c.report_on.result (both _ _ c.report_on.result c.report_on.ensures.lists (both _ _ c.report_on.result c.report_on.ensures.met (both _ _ c.report_on.result c.report_on.ensures.numbered c.report_on.ensures.refusals))) c.report_on.ensures.parts
+    if_ok c.report_on.result (both _ _ c.report_on.result c.report_on.ensures.lists (both _ _ c.report_on.result c.report_on.ensures.met (both _ _ c.report_on.result c.report_on.ensures.numbered
+    (both _ _ c.report_on.result c.report_on.ensures.refusals c.report_on.ensures.accepted)))) c.report_on.ensures.parts
     (λ r lists parts. agrees c.args.plan.now c.args.floor c.requires.floor ws.items cs.items worked c.requires.consumed
     producers (sym cs.ok.0 ∙ c.requires.all.consumed) books balanced
     r parts.0 parts.1 parts.2 parts.3 parts.4
@@ -76,5 +87,6 @@ returns-clause-agrees g c =
     (subst (λ d. ListsAgree d whole (notes_of r) (map (λ t. items_of t.items) books.taken.items) (accepted_of r) (texts_of r)) c.remains_of-directory.ensures.directory lists.0)
     (subst (λ d. ListsMet d whole (notes_of r) (map (λ t. items_of t.items) books.taken.items) (accepted_of r) (texts_of r)) c.remains_of-directory.ensures.directory lists.1.0)
     lists.1.1.0
-    (subst (λ d. All (λ log. All (MayCome c.args.plan.now.config d (accepted_of r) (map (λ t. t.items) books.taken.items)) log.notes) r.logs.items) c.remains_of-directory.ensures.directory lists.1.1.1)
-    (subst (λ h. All (IsKnownIn h) ws.items) (sym parts.6) known) (subst Legal (sym parts.6) c.learn_all.ensures.legal))
+    (subst (λ d. All (λ log. All (MayCome c.args.plan.now.config d (accepted_of r) (map (λ t. t.items) books.taken.items)) log.notes) r.logs.items) c.remains_of-directory.ensures.directory lists.1.1.1.0)
+    (subst (λ h. All (IsKnownIn h) ws.items) (sym parts.6) known) (subst Legal (sym parts.6) c.learn_all.ensures.legal)
+    (subst (λ h. AllAt (HasAccepted h) 0 r.accepted.items) (sym parts.6) lists.1.1.1.1))

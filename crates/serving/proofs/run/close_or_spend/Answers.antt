@@ -1,6 +1,5 @@
 use Rattle.std.proofs.Common.{◌≡◌, true, false, length, subst, Err, Option, arith}
 use Rattle.std.specs.Prelude.{IfOk, IfSome, OnOk}
-use Rattle.house_floor.proofs.Leaving.{posts_left}
 use Rattle.serving_workers.specs.Finished.{Finished}
 use Rattle.serving.specs.declared.fault.ServeFault.TheVariants as faults
 use Rattle.serving_workers.specs.Closing.{WasClosed}
@@ -8,11 +7,6 @@ use Rattle.serving.specs.inner.Ending.{CameTo}
 use Rattle.serving.proofs.Endings.{came_to}
 use Rattle.serving.proofs.Serving.{by_end}
 use Rattle.serving.proofs.run.close_or_spend.Goals as goal
-
-pub give_up-fault-requires-clause-posts : goal.give_up-fault-requires-clause-posts
-give_up-fault-requires-clause-posts g c =
-    let dealt = c.requires.none_started c.if-none_started.true in
-    (dealt.1, posts_left c.args.site.workplace.floor 0 c.args.over.posts.items dealt.0)
 
 pub returns-clause-setting : goal.returns-clause-setting
 returns-clause-setting g c fault =
@@ -25,13 +19,14 @@ returns-clause-whole g c =
     let workers = length site.grips.mail.items in
     let served = c.args.over.served in
     let dismissed = c.dismiss_all-dismissed.result in
+    let told = g.L.Line.told in
     let left = c.requires.served c.if-none_started.false in
     let each : length served.items ≡ length site.workplace.floor.depot.channels.items = (let n = left.1 in omega (arith, n, served.ok.0)) in
     let count : length dismissed.consumed.items ≡ length site.workplace.floor.office.lanes.items = (let n = c.dismiss_all-dismissed.ensures.count in omega (arith, n, dismissed.consumed.ok.0)) in
     by_end c.args.over.all_started c.args.over.is_told c.close_all-finished.result c.told.result (λ r. IfOk r (CameTo site.workplace.floor workers))
     c.told.ensures.spawn c.told.ensures.device c.told.ensures.torn c.told.ensures.done (λ all. tt) tt tt (λ taken said is.
-    came_to site.workplace.floor workers served.items dismissed taken left.0 each (c.requires.mail c.if-none_started.false) count c.dismiss_all-dismissed.ensures.services
-    (subst (λ (o : Option Finished). IfSome o (WasClosed site.workplace.floor served.items dismissed)) is c.close_all-finished.ensures))
+    came_to told site.workplace.floor workers served.items dismissed taken left.0 each (c.requires.mail c.if-none_started.false) count c.dismiss_all-dismissed.ensures.services
+    (subst (λ (o : Option Finished). IfSome o (WasClosed told site.workplace.floor served.items dismissed)) is c.close_all-finished.ensures))
 
 pub returns-clause-told : goal.returns-clause-told
 returns-clause-told g c =

@@ -1,4 +1,4 @@
-use Rattle.std.proofs.Common.{length, refl}
+use Rattle.std.proofs.Common.{rules, arith, length, refl}
 use Rattle.house_floor.proofs.Leaving.{posts_left, stands_left}
 use Rattle.serving.proofs.run.run_house_in.Goals as goal
 
@@ -9,3 +9,18 @@ give_up-requires-clause-stands g c =
 
 pub give_up-requires-clause-posts : goal.give_up-requires-clause-posts
 give_up-requires-clause-posts g c = (c.requires.crew.each_post, posts_left c.args.floor 0 c.args.crew.posts.items c.requires.crew.posts)
+
+pub serve_in_threads-over-requires-clause-dealt : goal.serve_in_threads-over-requires-clause-dealt
+serve_in_threads-over-requires-clause-dealt g c κs within =
+    let rooms = c.in-Ok.rooms in
+    let outfits = c.in-Ok.ensures.outfits in
+    let grips = c.in-Ok.ensures.grips.0 in
+    let bells = c.requires.guests in record {
+      posts = c.requires.crew.posts;
+      each_post = c.requires.crew.each_post;
+      served = search rules;
+      outfits = outfits.0;
+      each_worker = (let many = outfits.1 in omega (arith, many, grips, rooms.grips.mail.ok.0));
+      bells = omega (arith, bells, c.args.manning.guests.ok.0);
+      client_buffers = search rules;
+    }

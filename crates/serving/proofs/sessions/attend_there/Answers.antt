@@ -50,7 +50,7 @@ returns-clause-served g c =
     let now = c.answer_clients.new.courier in
     let left = c.leave.result in
     let numbered : now.desk.number ≡ c.args.number = life.same.2 ∙ is.number in
-    served_by floor c.from.result c.args.number now.desk.number c.index.result.now left _ same numbered c.packed.ensures
+    served_by g.L.Line.told floor c.from.result c.args.number now.desk.number c.index.result.now left _ same numbered c.packed.ensures
     (subst (λ (o : Office _). AreEnded o.lanes.items now.desk.number left.ended.items) life.same.0 c.leave.ensures.ended)
     (subst (λ (x : ReplyChannel Noted). IsReceiver x left.receiver) (life.same.1 ∙ c.index.ensures)
     (subst (λ (r : ReceiverPermit Noted). IsReceiver now.context.channel.now r) (sym c.leave.ensures.receiver) life.ready.1))

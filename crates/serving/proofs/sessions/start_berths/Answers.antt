@@ -21,7 +21,7 @@ loop-berth-preserved g c =
       search rules,
       search rules,
       search rules,
-      more_at (IsHired floor) 0 before.items c.push_reserved.new.self.items c.start_answering-one.result c.len-number.result c.push_reserved.ensures.items v.6 at c.start_answering-one.ensures.hired,
+      more_at (IsHired g.L.Line.told floor) 0 before.items c.push_reserved.new.self.items c.start_answering-one.result c.len-number.result c.push_reserved.ensures.items v.6 at c.start_answering-one.ensures.hired,
       search rules,
       more_without serves_mail (vec_len c.args.hired) before.items c.push_reserved.new.self.items c.start_answering-one.result c.push_reserved.ensures.items c.start_answering-one.ensures.mail v.8,
     )

@@ -10,19 +10,25 @@ loop-serial-preserved g c =
     let v = c.loop-serial.invariant in
     let office = c.args.context.now.office.now in
     let house = premises_of office in
-    let now = c.attend.new.producer.desk in (
-      subst (λ n. AreInForce office.directory office.lanes.items n now.permits.items) v.2 c.attend.ensures.permits,
-      c.attend.ensures.receiver,
-      c.attend.ensures.number ∙ v.2,
+    let line = g.L.Line.told c.loop-serial.line in
+    let next = g.L.Line.told c.attend_next.new.line in
+    let was = c.loop-serial.producer.desk in
+    let now = c.attend_next.new.producer.desk in (
+      subst (λ n. AreInForce office.directory office.lanes.items n now.permits.items) v.2 c.attend_next.ensures.permits,
+      c.attend_next.ensures.receiver,
+      c.attend_next.ensures.number ∙ v.2,
       search rules,
       λ begun.
-          let before = subst (λ n. AreServed house n c.loop-serial.serial (received c.loop-serial.producer.desk.receiver) (map put_by c.loop-serial.producer.desk.permits.items)) (sym v.2) (v.4 begun) in
-          subst (λ n. AreServed house n (c.loop-serial.serial + 1) (received now.receiver) (map put_by now.permits.items)) v.2 (c.attend.ensures.mail (search rules) before),
-      λ seat was. c.attend.ensures.backed seat (v.5 seat was),
+          let before = subst (λ n. AreServed house n line c.loop-serial.serial (received was.receiver) (map put_by was.permits.items)) (sym v.2) (v.4 begun) in
+          subst (λ n. AreServed house n next (c.loop-serial.serial + 1) (received now.receiver) (map put_by now.permits.items)) v.2 (c.attend_next.ensures.mail (search rules) before),
+      λ seat was. c.attend_next.ensures.backed seat (v.5 seat was),
     )
 
 pub returns-clause-mail : goal.returns-clause-mail
 returns-clause-mail g c is begun = (c.loop-serial.serial, c.loop-serial.invariant.4 begun)
 
-pub returns-then-attend-clause-backed : goal.returns-then-attend-clause-backed
-returns-then-attend-clause-backed g c seat was = c.attend.ensures.backed seat (c.loop-serial.invariant.5 seat was)
+pub returns-in_default-clause-backed : goal.returns-in_default-clause-backed
+returns-in_default-clause-backed g c seat was = c.attend_next.ensures.backed seat (c.loop-serial.invariant.5 seat was)
+
+pub returns-then-torn-clause-backed : goal.returns-then-torn-clause-backed
+returns-then-torn-clause-backed g c seat was = c.attend_next.ensures.backed seat (c.loop-serial.invariant.5 seat was)

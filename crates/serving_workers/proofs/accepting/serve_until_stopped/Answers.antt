@@ -12,8 +12,10 @@ returns-clause-served g c fresh is =
     let office = c.args.context.now.office.now in
     let number = c.args.desk.number in
     let now = c.serve_all-torn.new.producer.desk in
-    let served = c.serve_all-torn.ensures.mail is (mail_begins office number c.args.desk.receiver c.args.desk.permits.items fresh) in
-    mail_ends (premises_of office) number now.number served.0 (received now.receiver) (map put_by now.permits.items) (map said c.end_all-ended.result.items) c.serve_all-torn.ensures.number served.1 c.end_all-ended.ensures.said
+    let line = c.serve_all-torn.new.line in
+    let told = g.L.Line.told in
+    let served = c.serve_all-torn.ensures.mail is (mail_begins office number (told c.args.outfit.line) c.args.desk.receiver c.args.desk.permits.items fresh c.requires.fresh) in
+    (line, refl, mail_ends (premises_of office) number now.number served.0 (told line) (received now.receiver) (map put_by now.permits.items) (map said c.end_all-ended.result.items) c.serve_all-torn.ensures.number served.1 c.end_all-ended.ensures.said)
 
 -- the history has what it put and heard
 pub returns-clause-backed : goal.returns-clause-backed

@@ -1,8 +1,8 @@
-use Rattle.std.proofs.Common.{rules, ◌≡◌, ◌∷◌, sym, subst, vec_len, arith}
+use Rattle.std.proofs.Common.{rules, ◌≡◌, ◌∷◌, length, map, sym, subst, vec_len, arith}
 use Rattle.std.specs.Vec.Iter.{into_iter_items}
 use Rattle.house_floor.specs.Crew.{AllAt}
 use Rattle.house_floor.proofs.Positions.{head_at, more_at}
-use Rattle.reckoning.proofs.Laying.{laid_items}
+use Rattle.reckoning.proofs.Laying.{all_laid, laid_items}
 use Rattle.serving_workers.specs.Leaving.{IsHired, IsServed, serves_mail}
 use Rattle.serving_workers.specs.declared.accepting.Served.{Served}
 use Rattle.serving_workers.proofs.threads.join_producers.Goals as goal
@@ -12,11 +12,16 @@ loop-one-preserved g c =
     let v = c.loop-one.invariant in
     let floor = c.args.floor.now in
     let first : into_iter_items c.loop-one.one-iterator ≡ c.in-Some.one ∷ into_iter_items c.next.new.self = search rules in
-    let f = head_at (IsHired floor) (vec_len c.loop-one.served) (into_iter_items c.loop-one.one-iterator) (into_iter_items c.next.new.self) c.in-Some.one first v.0 in (
-      subst (λ n. AllAt (IsHired floor) n (into_iter_items c.next.new.self)) (sym c.push_reserved.ensures.len) f.1,
+    let f = head_at (IsHired g.L.Line.told floor) (vec_len c.loop-one.served) (into_iter_items c.loop-one.one-iterator) (into_iter_items c.next.new.self) c.in-Some.one first v.0 in (
+      subst (λ n. AllAt (IsHired g.L.Line.told floor) n (into_iter_items c.next.new.self)) (sym c.push_reserved.ensures.len) f.1,
       search rules,
       search rules,
-      more_at (IsServed floor) 0 c.loop-one.served.items c.push_reserved.new.self.items c.join_producer.result (vec_len c.loop-one.served) c.push_reserved.ensures.items v.3 (omega (arith, c.loop-one.served.ok.0)) (c.join_producer.ensures.served (vec_len c.loop-one.served) f.0),
-      laid_items (λ (s : Served _). s.mail) serves_mail c.loop-one.served.items c.push_reserved.new.self.items _ (into_iter_items c.loop-one.one-iterator) (into_iter_items c.next.new.self) c.in-Some.one c.join_producer.result
+      more_at (IsServed g.L.Line.told floor) 0 c.loop-one.served.items c.push_reserved.new.self.items c.join_producer.result (vec_len c.loop-one.served) c.push_reserved.ensures.items v.3 (omega (arith, c.loop-one.served.ok.0)) (c.join_producer.ensures.served (vec_len c.loop-one.served) f.0),
+      laid_items (λ (s : Served _ _). s.mail) serves_mail c.loop-one.served.items c.push_reserved.new.self.items _ (into_iter_items c.loop-one.one-iterator) (into_iter_items c.next.new.self) c.in-Some.one c.join_producer.result
           v.4 first c.push_reserved.ensures.items c.join_producer.ensures.mail,
     )
+
+pub returns-clause-mail : goal.returns-clause-mail
+returns-clause-mail g c =
+    let none : length (into_iter_items c.loop-one.one-iterator) ≡ 0 = search rules in
+    all_laid serves_mail (map (λ (s : Served _ _). s.mail) c.loop-one.served.items) _ (into_iter_items c.loop-one.one-iterator) none c.loop-one.invariant.4

@@ -6,7 +6,7 @@ use Rattle.serving_workers.proofs.threads.join_producers.Given as goal
 
 abbrev pub invariant-loop-one : goal.invariant-loop-one
 invariant-loop-one g l =
-    AllAt (IsHired l.floor) (vec_len l.served) (into_iter_items l.one-iterator)
+    AllAt (IsHired g.L.Line.told l.floor) (vec_len l.served) (into_iter_items l.one-iterator)
     × (into_iter_len l.one-iterator + vec_len l.served ≡ vec_len l.fn.hired) × (vec_len l.fn.hired ≤ vec_capacity l.served)
-    × AllAt (IsServed l.floor) 0 l.served.items
+    × AllAt (IsServed g.L.Line.told l.floor) 0 l.served.items
     × (map (λ s. s.mail) l.served.items ++ map serves_mail (into_iter_items l.one-iterator) ≡ map serves_mail l.fn.hired.items)

@@ -11,7 +11,7 @@ use Rattle.serving_workers.proofs.Lives.{here_at, served_by}
 use Rattle.serving_workers.proofs.threads.serve_there.Goals as goal
 
 pub serve_until_stopped-requires-clause-permits : goal.serve_until_stopped-requires-clause-permits
-serve_until_stopped-requires-clause-permits g c =
+serve_until_stopped-requires-clause-permits g c κs lives =
     let floor = c.args.workplace.now.floor in
     let post = c.into_inner-desk.result in
     let is : IsPost floor c.args.number post = subst (IsPost floor c.args.number) (sym c.into_inner-desk.ensures) c.requires.post in
@@ -19,7 +19,7 @@ serve_until_stopped-requires-clause-permits g c =
     (subst (λ (n : ℕ). ArePermits floor.office.lanes.items n permits) (sym is.number) is.permits, not_over floor.office.directory permits (new_live permits is.fresh))
 
 pub serve_until_stopped-requires-clause-receiver : goal.serve_until_stopped-requires-clause-receiver
-serve_until_stopped-requires-clause-receiver g c =
+serve_until_stopped-requires-clause-receiver g c κs lives =
     let floor = c.args.workplace.now.floor in
     let is : IsPost floor c.args.number c.into_inner-desk.result = subst (IsPost floor c.args.number) (sym c.into_inner-desk.ensures) c.requires.post in
     let same : c.from.result ≡ c.args.number = search rules in
@@ -31,7 +31,7 @@ returns-clause-served g c =
     let floor = c.args.workplace.now.floor in
     let is : IsPost floor c.args.number c.into_inner-desk.result = subst (IsPost floor c.args.number) (sym c.into_inner-desk.ensures) c.requires.post in
     let same : c.from.result ≡ c.args.number = search rules in
-    served_by floor c.from.result c.args.number c.into_inner-desk.result.desk.number c.index.result.now c.serve_until_stopped.result _ same is.number c.packed.ensures
+    served_by g.L.Line.told floor c.from.result c.args.number c.into_inner-desk.result.desk.number c.index.result.now c.serve_until_stopped.result _ same is.number c.packed.ensures
     c.serve_until_stopped.ensures.ended (subst (λ (x : ReplyChannel Noted). IsReceiver x c.serve_until_stopped.result.receiver) c.index.ensures c.serve_until_stopped.ensures.receiver)
     (λ mail whole. c.serve_until_stopped.ensures.served is.fresh whole)
     (λ none whole. absurd (let e : true ≡ false = sym c.serve_until_stopped.ensures.mail ∙ none in cc))

@@ -11,12 +11,12 @@ returns-clause-hired g c =
     let count = c.requires.hired.1 in
     let len = c.push_reserved.ensures.len in
     let at : c.args.number ≡ 0 + length had.items = omega (arith, count, had.ok.0) in (
-      more_at (IsHired c.args.workplace.now.floor) 0 had.items c.push_reserved.new.self.items c.start_worker.result c.args.number c.push_reserved.ensures.items c.requires.hired.0 at c.start_worker.ensures.hired,
+      more_at (IsHired g.L.Line.told c.args.workplace.now.floor) 0 had.items c.push_reserved.new.self.items c.start_worker.result c.args.number c.push_reserved.ensures.items c.requires.hired.0 at c.start_worker.ensures.hired,
       omega (arith, len, count),
     )
 
 pub returns-clause-mail : goal.returns-clause-mail
 returns-clause-mail g c =
-    let Mail : Hired _ → Type 0 = λ h. serves_mail h ≡ true in
+    let Mail : Hired _ _ _ _ → Type 0 = λ h. serves_mail h ≡ true in
     let one = All-cons Mail c.start_worker.result [] c.start_worker.ensures.mail (All-nil Mail) in
     subst (All Mail) (sym c.push_reserved.ensures.items) (All-append Mail c.args.hired.now.items (c.start_worker.result ∷ []) c.requires.mail one)
