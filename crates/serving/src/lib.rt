@@ -5,6 +5,7 @@
 
 mod announcing;
 mod berths;
+mod closing;
 mod equipment;
 mod fault;
 mod gathering;

@@ -1,22 +1,21 @@
 //! The threads of a server: workers first, then two for each berth of a session; it is waited for the end, all are stopped and joined, and
-//! the house is closed. What the threads do stands in `serving_workers` and `sessions`.
+//! the house is closed. What the threads do stands in `serving_workers` and `sessions`, the house's end in `closing`.
 
-ghost use Rattle.std.specs.Prelude.{ℕ, ◌≡◌, ◌≢◌, ◌≤◌, ◌<◌, ◌+◌, All, Err, None, Ok, OnOk, Option, Some, IfOk, IfSome, [], false, true, length, map, take, vec_len, vec_capacity};
+ghost use Rattle.std.specs.Prelude.{ℕ, ◌≡◌, ◌≢◌, ◌≤◌, ◌<◌, ◌+◌, All, Err, Ok, OnOk, Some, IfOk, [], false, true, length, map, take, vec_len, vec_capacity};
 ghost use Rattle.std.specs.Io.KnownBytes.{Appends};
 ghost use Rattle.std.specs.List.{list_all};
 ghost use Rattle.settings.specs.declared.config.ConfigFault.{ConfigFault};
-ghost use Rattle.house_floor.specs.Left.{IsPostLeft, IsStandLeft};
 ghost use Rattle.std.specs.Mem.{manually_drop_value};
 ghost use Rattle.std.specs.Thread.{IsSend, IsSync};
 ghost use Rattle.house_floor.specs.Crew.{AllAt, IsCrew, IsHouse, IsPost};
 ghost use Rattle.house_floor.specs.Opening.{AreBaskets};
-ghost use Rattle.lane_work.specs.Rooms.{AreRooms};
 ghost use Rattle.clerks.specs.Keeping.{parts_of};
 ghost use Rattle.serving_workers.specs.Leaving.{IsHired, IsOutfit, IsServed, has_thread, serves_mail};
 ghost use Rattle.serving.specs.inner.Dealing.{IsDealt};
 ghost use Rattle.serving.specs.inner.Ending.{CameTo, FirstTakeMail};
 
 use crate::announcing::Announcer;
+use crate::closing::{Over, close_or_spend, give_up};
 use crate::equipment::{Crowd, Equipment, Rooms, crowd_for, make_rooms};
 use crate::fault::ServeFault;
 use crate::reporting::{Writing, start_writing};
@@ -25,37 +24,21 @@ use crate::site::Site;
 use crate::sockets::Sockets;
 use crate::stopping::{await_end, bytes_held, longest_lane, stop_all};
 use crate::telling::start_telling;
-use clerks::{Hall, Staff, Unhindered, dismiss_all, hire_all, stand_down};
-use house_floor::{Baskets, Crew, Floor, Guest, Post, Ran, Stand, Started};
-use house_history::{Answer, Naming};
-use lane_work::{Consumed, Worked};
+use clerks::{Hall, Staff, Unhindered, hire_all};
+use house_floor::{Baskets, Crew, Floor, Guest, Post};
+use house_history::Naming;
 use line_io::Sink;
-use reckoning::abandon;
 use server_report::{Held, Log};
 use serving_workers::{
-    Begun, Finished, Hired, Line, Lines, Mark, Outfit, Rest, Served, Workplace, close_all,
-    join_producers, packed, start_workers,
+    Begun, Finished, Hired, Line, Lines, Mark, Outfit, Rest, Served, Workplace, join_producers,
+    packed, start_workers,
 };
-use shard_queue::SenderEnded;
 use std::io::{Read, Write};
 use std::mem::ManuallyDrop;
 use std::sync::Wait;
 use std::thread;
 use std::thread::Threads;
 use workers_sync::Sleeper;
-
-// What the threads of the producers leave; or their posts, where there was no memory to note the threads in, or no thread for the log, and
-// none of them was started.
-struct Over<B: Naming, L> {
-    served: Vec<Served<B, L>>,
-    posts: Vec<Post<B>>,
-    // Whether each thread that was tried could be made.
-    all_started: bool,
-    // Whether no producer was started.
-    none_started: bool,
-    // Whether all was said of the listeners.
-    is_told: bool,
-}
 
 // The threads of the producers once all stand, and whoever said so.
 struct Begin<'s, 'o, B: Naming, L: Line, W: Sink> {
@@ -508,194 +491,6 @@ fn serve_in_threads<
     );
     let Announcer { output: _told } = announcer;
     over
-}
-
-// Spends a house in which nothing ran.
-fn give_up<B: Naming>(
-    floor: Floor<B>,
-    worked: Vec<Worked<B>>,
-    consumed: Vec<Consumed<B>>,
-    stands: Vec<Stand<B>>,
-    posts: Vec<Post<B>>,
-    baskets: Baskets<B>,
-) -> ServeFault
-    requires some { (0 < length floor.depot.channels.items)
-        × (0 < length floor.office.lanes.items) }
-    requires none { (worked.items ≡ []) × (consumed.items ≡ []) }
-    requires stands { (vec_len stands ≡ length floor.office.lanes.items)
-        × All (IsStandLeft (length floor.depot.channels.items)) stands.items }
-    requires posts { (vec_len posts ≡ length floor.depot.channels.items)
-        × All (IsPostLeft (length floor.office.lanes.items)) posts.items }
-    requires baskets { AreBaskets (length floor.depot.channels.items)
-        (length floor.office.lanes.items) baskets }
-    ensures { result ≡ ServeFault.NoMemory }
-{
-    let alloc = floor.alloc;
-    let ran = Ran {
-        worked,
-        consumed,
-        stands,
-        posts,
-        started: Started::NoMemory,
-    };
-    abandon(alloc, floor, ran, baskets);
-    ServeFault::NoMemory
-}
-
-// What the end of a house comes to: what it has left, where nothing was amiss.
-fn told<B: Naming, L: Line>(
-    all_started: bool,
-    is_told: bool,
-    finished: Option<Finished<B, L>>,
-) -> Result<Finished<B, L>, ServeFault>
-    ensures spawn { all_started ≡ false → result ≡ Err ServeFault.Spawn }
-    ensures device { all_started ≡ true → is_told ≡ false → result ≡ Err ServeFault.Device }
-    ensures torn { all_started ≡ true → is_told ≡ true → finished ≡ None
-        → result ≡ Err ServeFault.Torn }
-    ensures done { IfSome finished (λ left. all_started ≡ true → is_told ≡ true
-        → result ≡ Ok left) }
-{
-    if !all_started {
-        return Err(ServeFault::Spawn);
-    }
-    if !is_told {
-        return Err(ServeFault::Device);
-    }
-    let Some(left) = finished else {
-        return Err(ServeFault::Torn);
-    };
-    Ok(left)
-}
-
-// Spends a house of which no producer was started.
-fn spend<B: Naming, H: Hall, L: Drop>(
-    floor: Floor<B>,
-    staff: Staff<B, H>,
-    posts: Vec<Post<B>>,
-    rest: Rest<B, L>,
-    consumed: Vec<Consumed<B>>,
-    baskets: Baskets<B>,
-) -> ServeFault
-    requires lanes { H.lanes ≡ Some floor.office.lanes.items }
-    requires depot { H.depot ≡ Some (parts_of floor.depot) }
-    requires house { IsHouse floor (length floor.depot.channels.items) }
-    requires some { (0 < length floor.depot.channels.items)
-        × (0 < length floor.office.lanes.items) }
-    requires clerks { vec_len staff.clerks ≡ length floor.office.lanes.items }
-    requires rooms { AreRooms (length floor.office.lanes.items)
-        (length floor.depot.channels.items) staff.rooms }
-    requires stands { (staff.stands.items ≡ [])
-        × (length floor.office.lanes.items ≤ vec_capacity staff.stands) }
-    requires posts { AllAt (IsPost floor) 0 posts.items
-        × (vec_len posts ≡ length floor.depot.channels.items) }
-    requires none { (rest.worked.items ≡ []) × (consumed.items ≡ []) }
-    requires baskets { AreBaskets (length floor.depot.channels.items)
-        (length floor.office.lanes.items) baskets }
-    ensures { result ≡ ServeFault.NoMemory }
-{
-    let Rest {
-        worked,
-        unlocked: _,
-        lines: _,
-    } = rest;
-    let stands = stand_down(&floor, staff);
-    give_up(floor, worked, consumed, stands, posts, baskets)
-}
-
-// Closes the house that the threads have left, and hands out what it has left, or spends it where none was started. Ok says that nothing was
-// amiss.
-fn close_or_spend<B: Naming, H: Hall, R: Wait, L: Line>(
-    rt: &R,
-    site: Site<B, H>,
-    rooms: Vec<Vec<SenderEnded<Answer<B>>>>,
-    stands: Vec<Stand<B>>,
-    over: Over<B, L>,
-    rest: Rest<B, L>,
-    consumed: Vec<Consumed<B>>,
-    baskets: Baskets<B>,
-) -> Result<Finished<B, L>, ServeFault>
-    requires lanes { H.lanes ≡ Some site.workplace.floor.office.lanes.items }
-    requires depot { H.depot ≡ Some (parts_of site.workplace.floor.depot) }
-    requires house { IsHouse site.workplace.floor
-        (length site.workplace.floor.depot.channels.items) }
-    requires some { (0 < length site.workplace.floor.depot.channels.items)
-        × (0 < length site.workplace.floor.office.lanes.items) }
-    requires clerks { vec_len site.workplace.clerks
-        ≡ length site.workplace.floor.office.lanes.items }
-    requires rooms { AreRooms (length site.workplace.floor.office.lanes.items)
-        (length site.workplace.floor.depot.channels.items) rooms }
-    requires stands { (stands.items ≡ [])
-        × (length site.workplace.floor.office.lanes.items ≤ vec_capacity stands) }
-    requires served { over.none_started ≡ false
-        → AllAt (IsServed L.told site.workplace.floor) 0 over.served.items ×
-        (vec_len over.served ≡ length site.workplace.floor.depot.channels.items) × (over.posts.items ≡ []) }
-    requires mail { over.none_started ≡ false
-        → FirstTakeMail (length site.grips.mail.items) (map (λ s. s.mail) over.served.items) }
-    requires none_started { over.none_started ≡ true
-        → AllAt (IsPost site.workplace.floor) 0 over.posts.items ×
-        (vec_len over.posts ≡ length site.workplace.floor.depot.channels.items) × (over.served.items ≡ []) }
-    requires worked { (rest.worked.items ≡ [])
-        × (length site.workplace.floor.depot.channels.items ≤ vec_capacity rest.worked) }
-    requires unlocked { (rest.unlocked.items ≡ [])
-        × (vec_len site.workplace.floor.depot.mailboxes ≤ vec_capacity rest.unlocked) }
-    requires lines { (rest.lines.items ≡ [])
-        × (length site.workplace.floor.depot.channels.items ≤ vec_capacity rest.lines) }
-    requires consumed { (consumed.items ≡ [])
-        × (length site.workplace.floor.office.lanes.items ≤ vec_capacity consumed) }
-    requires baskets { AreBaskets (length site.workplace.floor.depot.channels.items)
-        (length site.workplace.floor.office.lanes.items) baskets }
-    ensures setting { (fault : ConfigFault) → result ≢ Err (ServeFault.Config fault) }
-    ensures whole { IfOk result (CameTo site.workplace.floor (length site.grips.mail.items)) }
-    ensures told { OnOk result (over.is_told ≡ true) }
-    ensures unsaid { result ≡ Err ServeFault.Spawn → over.all_started ≡ false }
-    ensures untried { result ≡ Err ServeFault.NoMemory → over.none_started ≡ true }
-{
-    let Site {
-        workplace,
-        gate,
-        guests: _,
-        imap: _,
-        grips: _,
-        signs: _,
-        page: _,
-    } = site;
-    let Workplace {
-        floor,
-        clerks,
-        at_once: _,
-        lmtp: _,
-        mark: _,
-        pause: _,
-        log: _,
-        workers: _,
-        sessions: _,
-        presences: _,
-    } = workplace;
-    let staff = Staff {
-        clerks,
-        rooms,
-        stands,
-    };
-    let Over {
-        served,
-        posts,
-        all_started,
-        none_started,
-        is_told,
-    } = over;
-    if none_started {
-        served.destroy_empty();
-        let fault = spend(floor, staff, posts, rest, consumed, baskets);
-        return Err(if all_started {
-            fault
-        } else {
-            ServeFault::Spawn
-        });
-    }
-    posts.destroy_empty();
-    let dismissed = dismiss_all(rt, &gate, &floor, staff, consumed);
-    let finished = close_all(rt, floor, served, rest, dismissed, baskets);
-    told(all_started, is_told, finished)
 }
 
 /// Who is to serve in a house.

@@ -6,7 +6,7 @@ use Rattle.serving_workers.specs.Closing.{WasClosed}
 use Rattle.serving.specs.inner.Ending.{CameTo}
 use Rattle.serving.proofs.Endings.{came_to}
 use Rattle.serving.proofs.Serving.{by_end}
-use Rattle.serving.proofs.run.close_or_spend.Goals as goal
+use Rattle.serving.proofs.closing.close_or_spend.Goals as goal
 
 pub returns-clause-setting : goal.returns-clause-setting
 returns-clause-setting g c fault =

@@ -3,7 +3,7 @@ use Rattle.std.proofs.lemmas.List.Elements.{All-weaker}
 use Rattle.house_floor.specs.Left.{IsStandLeft}
 use Rattle.house_floor.specs.declared.floor.Stand.{Stand}
 use Rattle.house_floor.proofs.Leaving.{posts_left}
-use Rattle.serving.proofs.run.spend.Goals as goal
+use Rattle.serving.proofs.closing.spend.Goals as goal
 
 pub give_up-requires-clause-posts : goal.give_up-requires-clause-posts
 give_up-requires-clause-posts g c = (c.requires.posts.1, posts_left c.args.floor 0 c.args.posts.items c.requires.posts.0)

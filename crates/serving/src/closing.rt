@@ -1,0 +1,229 @@
+//! A house's end: it is closed once its threads are joined, and hands out what it has left; or it is spent, where no producer ran. How
+//! the threads are started and stopped stands in `run`.
+
+ghost use Rattle.std.specs.Prelude.{ℕ, ◌≡◌, ◌≢◌, ◌≤◌, ◌<◌, ◌+◌, All, Err, None, Ok, OnOk, Option, IfOk, IfSome, [], false, true, length, map, vec_len, vec_capacity};
+ghost use Rattle.settings.specs.declared.config.ConfigFault.{ConfigFault};
+ghost use Rattle.house_floor.specs.Left.{IsPostLeft, IsStandLeft};
+ghost use Rattle.house_floor.specs.Crew.{AllAt, IsHouse, IsPost};
+ghost use Rattle.house_floor.specs.Opening.{AreBaskets};
+ghost use Rattle.lane_work.specs.Rooms.{AreRooms};
+ghost use Rattle.clerks.specs.Keeping.{parts_of};
+ghost use Rattle.serving_workers.specs.Leaving.{IsServed};
+ghost use Rattle.serving.specs.inner.Ending.{CameTo, FirstTakeMail};
+
+use crate::fault::ServeFault;
+use crate::site::Site;
+use clerks::{Hall, Staff, dismiss_all, stand_down};
+use house_floor::{Baskets, Floor, Post, Ran, Stand, Started};
+use house_history::{Answer, Naming};
+use lane_work::{Consumed, Worked};
+use reckoning::abandon;
+use serving_workers::{Finished, Line, Rest, Served, Workplace, close_all};
+use shard_queue::SenderEnded;
+use std::sync::Wait;
+
+/// What the threads of the producers leave; or their posts, where there was no memory to note the threads in, or no thread for the log, and
+/// none of them was started.
+pub(crate) struct Over<B: Naming, L> {
+    /// What each thread of a producer has left, in their order.
+    pub(crate) served: Vec<Served<B, L>>,
+    /// The posts of producers that were not started.
+    pub(crate) posts: Vec<Post<B>>,
+    /// Whether each thread that was tried could be made.
+    pub(crate) all_started: bool,
+    /// Whether no producer was started.
+    pub(crate) none_started: bool,
+    /// Whether all was said of the listeners.
+    pub(crate) is_told: bool,
+}
+
+/// Spends a house in which nothing ran. Its fault is `NoMemory`.
+pub(crate) fn give_up<B: Naming>(
+    floor: Floor<B>,
+    worked: Vec<Worked<B>>,
+    consumed: Vec<Consumed<B>>,
+    stands: Vec<Stand<B>>,
+    posts: Vec<Post<B>>,
+    baskets: Baskets<B>,
+) -> ServeFault
+    requires some { (0 < length floor.depot.channels.items)
+        × (0 < length floor.office.lanes.items) }
+    requires none { (worked.items ≡ []) × (consumed.items ≡ []) }
+    requires stands { (vec_len stands ≡ length floor.office.lanes.items)
+        × All (IsStandLeft (length floor.depot.channels.items)) stands.items }
+    requires posts { (vec_len posts ≡ length floor.depot.channels.items)
+        × All (IsPostLeft (length floor.office.lanes.items)) posts.items }
+    requires baskets { AreBaskets (length floor.depot.channels.items)
+        (length floor.office.lanes.items) baskets }
+    ensures { result ≡ ServeFault.NoMemory }
+{
+    let alloc = floor.alloc;
+    let ran = Ran {
+        worked,
+        consumed,
+        stands,
+        posts,
+        started: Started::NoMemory,
+    };
+    abandon(alloc, floor, ran, baskets);
+    ServeFault::NoMemory
+}
+
+// What the end of a house comes to: what it has left, where nothing was amiss.
+fn told<B: Naming, L: Line>(
+    all_started: bool,
+    is_told: bool,
+    finished: Option<Finished<B, L>>,
+) -> Result<Finished<B, L>, ServeFault>
+    ensures spawn { all_started ≡ false → result ≡ Err ServeFault.Spawn }
+    ensures device { all_started ≡ true → is_told ≡ false → result ≡ Err ServeFault.Device }
+    ensures torn { all_started ≡ true → is_told ≡ true → finished ≡ None
+        → result ≡ Err ServeFault.Torn }
+    ensures done { IfSome finished (λ left. all_started ≡ true → is_told ≡ true
+        → result ≡ Ok left) }
+{
+    if !all_started {
+        return Err(ServeFault::Spawn);
+    }
+    if !is_told {
+        return Err(ServeFault::Device);
+    }
+    let Some(left) = finished else {
+        return Err(ServeFault::Torn);
+    };
+    Ok(left)
+}
+
+// Spends a house of which no producer was started.
+fn spend<B: Naming, H: Hall, L: Drop>(
+    floor: Floor<B>,
+    staff: Staff<B, H>,
+    posts: Vec<Post<B>>,
+    rest: Rest<B, L>,
+    consumed: Vec<Consumed<B>>,
+    baskets: Baskets<B>,
+) -> ServeFault
+    requires lanes { H.lanes ≡ Some floor.office.lanes.items }
+    requires depot { H.depot ≡ Some (parts_of floor.depot) }
+    requires house { IsHouse floor (length floor.depot.channels.items) }
+    requires some { (0 < length floor.depot.channels.items)
+        × (0 < length floor.office.lanes.items) }
+    requires clerks { vec_len staff.clerks ≡ length floor.office.lanes.items }
+    requires rooms { AreRooms (length floor.office.lanes.items)
+        (length floor.depot.channels.items) staff.rooms }
+    requires stands { (staff.stands.items ≡ [])
+        × (length floor.office.lanes.items ≤ vec_capacity staff.stands) }
+    requires posts { AllAt (IsPost floor) 0 posts.items
+        × (vec_len posts ≡ length floor.depot.channels.items) }
+    requires none { (rest.worked.items ≡ []) × (consumed.items ≡ []) }
+    requires baskets { AreBaskets (length floor.depot.channels.items)
+        (length floor.office.lanes.items) baskets }
+    ensures { result ≡ ServeFault.NoMemory }
+{
+    let Rest {
+        worked,
+        unlocked: _,
+        lines: _,
+    } = rest;
+    let stands = stand_down(&floor, staff);
+    give_up(floor, worked, consumed, stands, posts, baskets)
+}
+
+/// Closes the house that the threads have left, and hands out what it has left, or spends it where none was started. Ok says that nothing was
+/// amiss.
+///
+/// Errors, the first that holds: `NoMemory` where no producer was started, for want of memory, and `Spawn` where a thread could not be made;
+/// `Device` where not all lines could be written; `Torn` where a queue could not be closed. All of the house is spent then too.
+pub(crate) fn close_or_spend<B: Naming, H: Hall, R: Wait, L: Line>(
+    rt: &R,
+    site: Site<B, H>,
+    rooms: Vec<Vec<SenderEnded<Answer<B>>>>,
+    stands: Vec<Stand<B>>,
+    over: Over<B, L>,
+    rest: Rest<B, L>,
+    consumed: Vec<Consumed<B>>,
+    baskets: Baskets<B>,
+) -> Result<Finished<B, L>, ServeFault>
+    requires lanes { H.lanes ≡ Some site.workplace.floor.office.lanes.items }
+    requires depot { H.depot ≡ Some (parts_of site.workplace.floor.depot) }
+    requires house { IsHouse site.workplace.floor
+        (length site.workplace.floor.depot.channels.items) }
+    requires some { (0 < length site.workplace.floor.depot.channels.items)
+        × (0 < length site.workplace.floor.office.lanes.items) }
+    requires clerks { vec_len site.workplace.clerks
+        ≡ length site.workplace.floor.office.lanes.items }
+    requires rooms { AreRooms (length site.workplace.floor.office.lanes.items)
+        (length site.workplace.floor.depot.channels.items) rooms }
+    requires stands { (stands.items ≡ [])
+        × (length site.workplace.floor.office.lanes.items ≤ vec_capacity stands) }
+    requires served { over.none_started ≡ false
+        → AllAt (IsServed L.told site.workplace.floor) 0 over.served.items ×
+        (vec_len over.served ≡ length site.workplace.floor.depot.channels.items) × (over.posts.items ≡ []) }
+    requires mail { over.none_started ≡ false
+        → FirstTakeMail (length site.grips.mail.items) (map (λ s. s.mail) over.served.items) }
+    requires none_started { over.none_started ≡ true
+        → AllAt (IsPost site.workplace.floor) 0 over.posts.items ×
+        (vec_len over.posts ≡ length site.workplace.floor.depot.channels.items) × (over.served.items ≡ []) }
+    requires worked { (rest.worked.items ≡ [])
+        × (length site.workplace.floor.depot.channels.items ≤ vec_capacity rest.worked) }
+    requires unlocked { (rest.unlocked.items ≡ [])
+        × (vec_len site.workplace.floor.depot.mailboxes ≤ vec_capacity rest.unlocked) }
+    requires lines { (rest.lines.items ≡ [])
+        × (length site.workplace.floor.depot.channels.items ≤ vec_capacity rest.lines) }
+    requires consumed { (consumed.items ≡ [])
+        × (length site.workplace.floor.office.lanes.items ≤ vec_capacity consumed) }
+    requires baskets { AreBaskets (length site.workplace.floor.depot.channels.items)
+        (length site.workplace.floor.office.lanes.items) baskets }
+    ensures setting { (fault : ConfigFault) → result ≢ Err (ServeFault.Config fault) }
+    ensures whole { IfOk result (CameTo site.workplace.floor (length site.grips.mail.items)) }
+    ensures told { OnOk result (over.is_told ≡ true) }
+    ensures unsaid { result ≡ Err ServeFault.Spawn → over.all_started ≡ false }
+    ensures untried { result ≡ Err ServeFault.NoMemory → over.none_started ≡ true }
+{
+    let Site {
+        workplace,
+        gate,
+        guests: _,
+        imap: _,
+        grips: _,
+        signs: _,
+        page: _,
+    } = site;
+    let Workplace {
+        floor,
+        clerks,
+        at_once: _,
+        lmtp: _,
+        mark: _,
+        pause: _,
+        log: _,
+        workers: _,
+        sessions: _,
+        presences: _,
+    } = workplace;
+    let staff = Staff {
+        clerks,
+        rooms,
+        stands,
+    };
+    let Over {
+        served,
+        posts,
+        all_started,
+        none_started,
+        is_told,
+    } = over;
+    if none_started {
+        served.destroy_empty();
+        let fault = spend(floor, staff, posts, rest, consumed, baskets);
+        return Err(if all_started {
+            fault
+        } else {
+            ServeFault::Spawn
+        });
+    }
+    posts.destroy_empty();
+    let dismissed = dismiss_all(rt, &gate, &floor, staff, consumed);
+    let finished = close_all(rt, floor, served, rest, dismissed, baskets);
+    told(all_started, is_told, finished)
+}
