@@ -3,7 +3,7 @@ use Rattle.std.proofs.Common.{◌≡◌, ℕ, ◌<◌, ◌==◌, ◌&&◌, ◌||
 use mathlib.Core.Bool.{cond}
 use mathlib.Core.List.{IsPrefix}
 use Rattle.std.proofs.lemmas.List.{append-nil}
-use Rattle.std.proofs.lemmas.List.Elements.{Contains-push, filter_map-append}
+use Rattle.std.proofs.lemmas.List.Elements.{All-nil, All-push, Contains-push, filter_map-append}
 use Rattle.std.proofs.lemmas.List.Quantifiers.{all_pairs_push}
 use Rattle.std.proofs.lemmas.Bool.{cases_lt}
 use Rattle.std.proofs.lemmas.Bool.Decides.{nat_tests}
@@ -21,7 +21,7 @@ use Rattle.house_history.specs.declared.event.Event.TheVariants.{Sent, Withdrawn
 use Rattle.house_history.specs.declared.event.Step.{Step}
 use Rattle.house_history.specs.declared.event.Step.TheVariants.{Leave}
 use Rattle.house_history.specs.Events.{accepted_in, accepted_of, concerns, seat_key, ticket_key, sent_of, sent_by, step_of, life, judged_of, judged_in, arrives, logged, more, changes_from, changes_in}
-use Rattle.house_history.specs.Legal.{IsBefore, IsLife, unused, under_way, judged, withdrawn, Legal, WasJudged, WasWithdrawn}
+use Rattle.house_history.specs.Legal.{GivesUid, HasUid, IsBefore, IsLife, unused, under_way, judged, withdrawn, Legal, WasJudged, WasWithdrawn}
 use Rattle.house_history.specs.Views.{IsNotedIn, IsSettledIn}
 use Rattle.house_history.proofs.Logs.{legal_empty_log, legal_logged}
 use Rattle.house_history.proofs.Parts.{of_part, push_some, push_none, given_of, alone, came_from, there, flip, same, is_same, itself, or_left, or_right, or_first, or_second, or_cases}
@@ -137,6 +137,7 @@ sent_follows seen own other j t above fresh log legal pre mine theirs = let e : 
       lives = λ s. lives_go log e t [] (life_own t log other theirs ∙ fresh) (under_way j) (ap (λ (b : Bool). cond b (Some e) None) (itself t)) (λ k no'. ap (λ (b : Bool). cond b (Some e) None) no') legal.lives s (t == s) refl;
       judged_rise = λ m q. subst (AllPairs IsBefore) (sym (push_none (judged_of m q) log e refl)) (legal.judged_rise m q);
       logs = λ m. subst IsLegalLog (sym (changes_push m log e ∙ append-nil (changes_in m log))) (legal.logs m);
+      uids = All-push GivesUid log e legal.uids tt;
     }
 
 told : (a b m : ℕ) → ((m == a) ≡ true) ⊎ ((m == b) ≡ true) → (m ≡ a) ⊎ (m ≡ b)
@@ -172,14 +173,15 @@ judged_log : (own : List Event) (j : Job) (v : Verdict) (t : ℕ) → changes_in
 judged_log own j v t = changes_push j.mailbox own (Judged j v t) ∙ ap (λ (b : Bool). changes_in j.mailbox own ++ cond b (arrives j v) []) (itself j.mailbox)
 
 pub judged_follows : (seen own other : List Event) (j : Job) (v : Verdict) (t : ℕ) → life t other ≡ Sent j t ∷ [] → All (λ i. IsBefore i j) (judged_in j.mailbox j.key.seat own)
-    → IsLegalLog (changes_in j.mailbox own ++ arrives j v) → MayFollowBoth Legal concerns seen j.mailbox own (ticket_key t) other (Judged j v t)
-judged_follows seen own other j v t sent above fits log legal pre mine theirs = let e : Event = Judged j v t in
+    → IsLegalLog (changes_in j.mailbox own ++ arrives j v) → HasUid v → MayFollowBoth Legal concerns seen j.mailbox own (ticket_key t) other (Judged j v t)
+judged_follows seen own other j v t sent above fits uid log legal pre mine theirs = let e : Event = Judged j v t in
     let fits' : IsLegalLog (changes_in j.mailbox (own ++ e ∷ [])) = subst IsLegalLog (sym (judged_log own j v t)) fits in
     let above' : All (λ i. IsBefore i j) (judged_in j.mailbox j.key.seat log) = subst (All (λ i. IsBefore i j)) (sym (judged_own j.mailbox j.key.seat log own mine)) above in record {
       sent_rise = λ q. subst (AllPairs Rises) (sym (push_none (sent_of q) log e refl)) (legal.sent_rise q);
       lives = λ s. lives_go log e t (Sent j t ∷ []) (life_own t log other theirs ∙ sent) (judged j v) (ap (λ (b : Bool). cond b (Some e) None) (itself t)) (λ k no'. ap (λ (b : Bool). cond b (Some e) None) no') legal.lives s (t == s) refl;
       judged_rise = λ m q. judged_goes_on log j v t above' m q (j.mailbox == m) (j.key.seat == q) refl refl (legal.judged_rise m q);
       logs = λ m. logs_go_on log own j.mailbox e mine fits' (λ k no' l. ap (λ (b : Bool). cond b (arrives j v) []) (flip k j.mailbox no')) legal.logs m (m == j.mailbox) refl;
+      uids = All-push GivesUid log e legal.uids uid;
     }
 
 -- ---- a seat withdraws, a client removes
@@ -190,6 +192,7 @@ withdrawn_follows seen own j t sent log legal pre mine = let e : Event = Withdra
   lives = λ s. lives_go log e t (Sent j t ∷ []) (life_own t log own mine ∙ sent) (withdrawn j) (ap (λ (b : Bool). cond b (Some e) None) (itself t)) (λ k no'. ap (λ (b : Bool). cond b (Some e) None) no') legal.lives s (t == s) refl;
   judged_rise = λ m q. subst (AllPairs IsBefore) (sym (push_none (judged_of m q) log e refl)) (legal.judged_rise m q);
   logs = λ m. subst IsLegalLog (sym (changes_push m log e ∙ append-nil (changes_in m log))) (legal.logs m);
+  uids = All-push GivesUid log e legal.uids tt;
 }
 
 -- what a client's call logs fits the log of its mailbox
@@ -204,6 +207,7 @@ changed_follows seen own n c log legal pre mine = let e : Event = Changed n c in
       lives = λ s. subst (IsLife s) (sym (push_none (step_of s) log e refl)) (legal.lives s);
       judged_rise = λ m q. subst (AllPairs IsBefore) (sym (push_none (judged_of m q) log e refl)) (legal.judged_rise m q);
       logs = λ m. logs_go_on log own n e mine fits (λ k no' l. ap (λ (b : Bool). cond b (logged c (rows_of l)) []) (flip k n no')) legal.logs m (m == n) refl;
+      uids = All-push GivesUid log e legal.uids tt;
     }
 
 -- ---- what the calls of the tokens owe
@@ -226,11 +230,11 @@ part_concerns key number other_key j v t is is' here = subst (λ (n : ℕ × ℕ
     (two_are j.mailbox (ticket_key t) (λ m. concerns m (Judged j v t)) (λ m. refl))
 
 pub part_follows : (key number other_key : ℕ) (seen own other : List Event) (j : Job) (v : Verdict) (t : ℕ) → key ≡ number → other_key ≡ ticket_key t → j.mailbox ≡ number → life t other ≡ Sent j t ∷ []
-    → All (λ i. IsBefore i j) (judged_in number j.key.seat own) → IsLegalLog (changes_in number own ++ arrives j v) → MayFollowBoth Legal concerns seen key own other_key other (Judged j v t)
-part_follows key number other_key seen own other j v t is is' here sent above fits =
+    → All (λ i. IsBefore i j) (judged_in number j.key.seat own) → IsLegalLog (changes_in number own ++ arrives j v) → HasUid v → MayFollowBoth Legal concerns seen key own other_key other (Judged j v t)
+part_follows key number other_key seen own other j v t is is' here sent above fits uid =
     let above' : All (λ i. IsBefore i j) (judged_in j.mailbox j.key.seat own) = subst (λ (n : ℕ). All (λ i. IsBefore i j) (judged_in n j.key.seat own)) (sym here) above in
     let fits' : IsLegalLog (changes_in j.mailbox own ++ arrives j v) = subst (λ (n : ℕ). IsLegalLog (changes_in n own ++ arrives j v)) (sym here) fits in
-    subst (λ (n : ℕ × ℕ). MayFollowBoth Legal concerns seen n.0 own n.1 other (Judged j v t)) (λ i. ((here ∙ sym is) i, sym is' i)) (judged_follows seen own other j v t sent above' fits')
+    subst (λ (n : ℕ × ℕ). MayFollowBoth Legal concerns seen n.0 own n.1 other (Judged j v t)) (λ i. ((here ∙ sym is) i, sym is' i)) (judged_follows seen own other j v t sent above' fits' uid)
 
 pub ticket_concerns : (key t : ℕ) → key ≡ ticket_key t → ConcernsOne concerns key (Withdrawn t)
 ticket_concerns key t is = subst (λ (n : ℕ). ConcernsOne concerns n (Withdrawn t)) (sym is) (itself (ticket_key t), λ m e. same m (ticket_key t) e)
@@ -267,6 +271,7 @@ legal_empty = record {
   lives = λ t. unused;
   judged_rise = λ m p i j d less within. absurd (omega (arith, within));
   logs = λ m. legal_empty_log;
+  uids = All-nil GivesUid;
 }
 
 -- ---- laws

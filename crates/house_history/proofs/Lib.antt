@@ -2,3 +2,4 @@ pub mod Follow
 pub mod Logs
 pub mod Parts
 pub mod Standing
+pub mod Uids

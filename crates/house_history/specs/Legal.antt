@@ -1,12 +1,12 @@
 -- Which histories are legal.
-use Rattle.std.specs.Prelude.{◌≡◌, ℕ, List, [], ◌∷◌, AllPairs, Contains}
+use Rattle.std.specs.Prelude.{◌≡◌, ◌<◌, ◌^◌, ℕ, List, [], ◌∷◌, All, AllPairs, Contains}
 use Rattle.change_ring.specs.Log.{IsLegalLog}
 use Rattle.delivery_token.specs.Keys.{Below}
 use Rattle.delivery_token.specs.declared.Job.{Job}
 use Rattle.delivery_token.specs.declared.Verdict.{Verdict}
-use Rattle.delivery_token.specs.declared.Verdict.TheVariants.{Stored}
+use Rattle.delivery_token.specs.declared.Verdict.TheVariants.{Stored, Refused}
 use Rattle.house_history.specs.declared.event.Event.{Event}
-use Rattle.house_history.specs.declared.event.Event.TheVariants.{Sent, Withdrawn, Judged}
+use Rattle.house_history.specs.declared.event.Event.TheVariants.{Sent, Withdrawn, Judged, Changed}
 use Rattle.house_history.specs.Events.{changes_in, judged_in, life, sent_by}
 
 -- of one seat, i is before j
@@ -21,6 +21,17 @@ pub data IsLife (t : ℕ) : List Event → Type 0 where
   judged : (j : Job) (v : Verdict) → IsLife t (Sent j t ∷ Judged j v t ∷ [])
   withdrawn : (j : Job) → IsLife t (Sent j t ∷ Withdrawn t ∷ [])
 
+-- A UID is a number of 32 bits (RFC 9051, 2.3.1.1).
+abbrev pub HasUid : Verdict → Type 0
+HasUid (Stored uid) = uid < 2 ^ 32
+HasUid (Refused why) = Unit {0}
+
+abbrev pub GivesUid : Event → Type 0
+GivesUid (Sent j t) = Unit {0}
+GivesUid (Withdrawn t) = Unit {0}
+GivesUid (Judged j v t) = HasUid v
+GivesUid (Changed m s) = Unit {0}
+
 pub record Legal (log : List Event) : Type 0 where
   -- of each seat, the keys of what it sent rise
   pub sent_rise : (p : ℕ) → AllPairs (λ a b. IsBefore a.0 b.0) (sent_by p log)
@@ -30,6 +41,8 @@ pub record Legal (log : List Event) : Type 0 where
   pub judged_rise : (m p : ℕ) → AllPairs IsBefore (judged_in m p log)
   -- of each mailbox, the UIDs that it gave rise, and no change speaks of a message that isn't there
   pub logs : (m : ℕ) → IsLegalLog (changes_in m log)
+  -- and each of them is one
+  pub uids : All GivesUid log
 
 -- Words for what a history says of a copy. Each holds of any longer history too.
 

@@ -1,5 +1,5 @@
 //! What follows of a legal history. Each of these does nothing: its clause is a law.
-ghost use Rattle.std.specs.Prelude.{◌≡◌, ◌≢◌, ℕ, List, All, AllPairs, Contains};
+ghost use Rattle.std.specs.Prelude.{◌≡◌, ◌≢◌, ◌<◌, ◌^◌, ℕ, List, All, AllPairs, Contains};
 ghost use Rattle.std.specs.List.Sorted.{IsStrictlyIncreasing};
 ghost use Rattle.change_ring.specs.Log.{added};
 ghost use Rattle.delivery_token.specs.Keys.{Below};
@@ -13,8 +13,17 @@ ghost use Rattle.world.specs.Law.{IsPart};
 ghost use Rattle.house_history.specs.declared.event.Event.{Event};
 ghost use Rattle.house_history.specs.Events.{accepted_in, changes_in, judged_in, keys_of_seat, sent_by, sent_to, uids_of};
 ghost use Rattle.house_history.specs.Laws.{StandsAlone};
-ghost use Rattle.house_history.specs.Legal.{Legal, Stands, WasJudged, WasWithdrawn};
+ghost use Rattle.house_history.specs.Legal.{HasUid, Legal, Stands, WasJudged, WasWithdrawn};
 ghost use Rattle.house_history.specs.Views.{IsNotedIn, IsSettledIn};
+
+use delivery_token::Verdict;
+
+/// The UID that a verdict tells has 32 bits (RFC 9051, 2.3.1.1).
+pub fn uid_fits(verdict: Verdict)
+    ensures { HasUid verdict }
+{
+    let _ = verdict;
+}
 
 /// There is one verdict on a key in all mailboxes together, and one copy of it.
 pub fn one_verdict()
@@ -84,6 +93,12 @@ pub fn uids_rise()
     ensures { (history : List Event) (m : ℕ) → Legal history
         → IsStrictlyIncreasing (uids_of (accepted_in m history))
         × (added (changes_in m history) ≡ uids_of (accepted_in m history)) }
+{}
+
+/// Each UID that a mailbox gave has 32 bits (RFC 9051, 2.3.1.1).
+pub fn uids_fit()
+    ensures { (history : List Event) (m : ℕ) → Legal history
+        → All (λ (uid : ℕ). uid < 2 ^ 32) (added (changes_in m history)) }
 {}
 
 /// Of each seat, the copies on which there was a verdict in a mailbox are some of those that the seat sent there, in the order in which it sent them.

@@ -22,7 +22,7 @@ pub use front::{Front, HouseRule, Naming};
 pub use laws::{
     accepted_in_order, accepted_was_stored, judged_as_sent, judged_in_the_order_sent, no_key_twice,
     noted_is_own, one_copy_of_a_uid, one_verdict, refused_stands_nowhere, settled_is_final,
-    stands_once, uids_rise, withdrawn_never_judged,
+    stands_once, uid_fits, uids_fit, uids_rise, withdrawn_never_judged,
 };
 pub use letters::{Answer, Letter};
 pub use mailbox_part::MailboxPart;

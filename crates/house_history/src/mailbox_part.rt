@@ -11,6 +11,7 @@ ghost use Rattle.house_history.specs.Legal.{IsBefore, Legal, WasJudged};
 
 use crate::event::Event;
 use crate::front::{Front, HouseRule, Naming};
+use crate::laws::uid_fits;
 use crate::seat::Ticket;
 use change_ring::FlagOp;
 use delivery_token::{Job, Verdict};
@@ -155,6 +156,7 @@ impl<B: Naming> MailboxPart<B> {
             × WasJudged front.new job.now verdict }
         ensures all { part concerns self.old.number front.new ≡ self.new.events }
     {
+        uid_fits(verdict);
         let about = Judgement {
             job,
             verdict,

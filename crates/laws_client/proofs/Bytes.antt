@@ -3,7 +3,7 @@ use Rattle.std.proofs.Common.{◌≡◌, ℕ, ◌+◌, ◌-◌, ◌*◌, ◌%◌
 use Rattle.std.specs.Prelude.{reverse, decimal, Option, Some, None, if◌then◌else◌}
 use Rattle.std.specs.List.{list_all}
 use Rattle.std.proofs.lemmas.Bool.{false≢true, ne_eqb, le-leb}
-use Rattle.std.proofs.lemmas.Fmt.{decimal_by_steps}
+use Rattle.std.proofs.lemmas.Fmt.{decimal_by_steps_wide}
 use Rattle.std.proofs.lemmas.Grind.{reverse_onto}
 use Rattle.std.proofs.lemmas.List.{reverse-reverse, append-nil}
 use Rattle.std.proofs.lemmas.List.Folds.{list_all-append}
@@ -112,18 +112,24 @@ digit_more n ds h d = record {
   some = omega (arith, length-append ds ((48 + n % 10) ∷ []));
 }
 
-is_number : (n : ℕ) → n < 2 ^ 64 → IsNumber n (decimal n)
-is_number = decimal_by_steps IsNumber one_digit digit_more
+is_number : (n : ℕ) → n < 10 ^ 64 → IsNumber n (decimal n)
+is_number = decimal_by_steps_wide IsNumber one_digit digit_more
+
+pub decimal_word_wide : (n : ℕ) → n < 10 ^ 64 → list_all is_word (decimal n) ≡ true
+decimal_word_wide n h = (is_number n h).word
+
+wide : (n : ℕ) → n < 2 ^ 64 → n < 10 ^ 64
+wide n h = omega (arith, h)
 
 pub decimal_word : (n : ℕ) → n < 2 ^ 64 → list_all is_word (decimal n) ≡ true
-decimal_word n h = (is_number n h).word
+decimal_word n h = (is_number n (wide n h)).word
 
 number_of : (n : ℕ) (ds : List ℕ) → IsNumber n ds → number ds ≡ Some n
 number_of n [] d = absurd (omega (arith, d.some))
 number_of n (b ∷ bs) d = rw d.digits (ap (λ (m : ℕ). Some m) d.says)
 
 pub decimal_says : (n : ℕ) → n < 2 ^ 64 → number (decimal n) ≡ Some n
-decimal_says n h = number_of n (decimal n) (is_number n h)
+decimal_says n h = number_of n (decimal n) (is_number n (wide n h))
 
 pub decimal_digits : (n : ℕ) → n < 2 ^ 64 → list_all is_digit (decimal n) ≡ true
-decimal_digits n h = (is_number n h).digits
+decimal_digits n h = (is_number n (wide n h)).digits

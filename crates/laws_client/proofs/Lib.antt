@@ -90,3 +90,4 @@ mod Served
 mod ServedCurrent
 mod ServedFlags
 mod ServedStays
+mod ServedVisits

@@ -24,26 +24,27 @@ use Rattle.mailbox.specs.Stands.{IsKept}
 use Rattle.house_history.specs.declared.event.Event as house
 use Rattle.house_history.specs.declared.event.Event.TheVariants.{Judged}
 use Rattle.house_history.specs.Events.{changes_in}
-use Rattle.house_history.specs.Legal.{Stands as WasStored}
+use Rattle.house_history.specs.Legal.{Legal, Stands as WasStored}
 use Rattle.house_history.proofs.Parts.{same as same_number}
 use Rattle.house_history.proofs.Follow.{changes_grow}
 use Rattle.house_history.proofs.Standing.{same_copy}
+use Rattle.house_history.proofs.Uids.{uids_fit}
 use Rattle.workers_sync.specs.Holds.{HasCursor}
 use Rattle.imap_session.specs.Exchange.{Call, Answer, Enter, Look, Read, Count, Alter, Expunge, Feed, Leave, Entered, Looked, Found, Counted, Altered, Expunged, Fed, Left, Refused, Starved, Event, Standing, Turn}
 use Rattle.imap_session.specs.Commands.{unlimited}
 use Rattle.imap_session.specs.Store.{Met}
 use Rattle.session_thread.specs.declared.locked_store.Entry.{Entry}
-use Rattle.session_thread.specs.Locks.{Holds, LockedStore, entered_at, seeing}
+use Rattle.session_thread.specs.Locks.{HasOpening, HasRow, HasStatus, Holds, LockedStore, entered_at, seeing}
 use Rattle.session_thread.specs.SinceSelect.{IsUpToCursor, Opens, Shows, Tells, WasShown, WasShownIn, shown_since, shown_then}
 use Rattle.session_thread.proofs.SinceSelect.{by_call, since_select}
 use Rattle.laws_client.specs.Beliefs.{MayShow}
 use Rattle.laws_client.specs.Client.{Client}
 use Rattle.laws_client.specs.Clients.{IsRightAbout, Told, hears, hears_all}
 use Rattle.laws_client.specs.Fetches.{AreSmall, IsNumbered}
-use Rattle.laws_client.specs.ListTurns.{IsRowOf, Sees}
+use Rattle.laws_client.specs.ListTurns.{IsCounted, IsRowOf, Sees}
 use Rattle.laws_client.specs.RecordTurns.{Stands, VerdictsArePrinted, told_of}
 use Rattle.laws_client.specs.Talks.{Happening, leads_to}
-use Rattle.laws_client.specs.Served.{ArePrintable, CursorsStaySmall, FeedsReachTheEnd, HasSmallCursor, HasSmallUids, IsAtEnd, IsPrintable, ServedListsAreCurrent, ServedLives, ServedLivesAreKnown, ServedTextsStay, ServedTurnIsKnown, comes, turns, counted_by, counted_in, messages_in}
+use Rattle.laws_client.specs.Served.{CursorsStaySmall, FeedsReachTheEnd, HasSmallCursor, IsAtEnd, ServedListsAreCurrent, ServedLives, ServedLivesAreKnown, ServedTextsStay, ServedTurnIsKnown, comes, turns, counted_by, counted_in, messages_in}
 use Rattle.laws_client.proofs.Living.{hears_last}
 use Rattle.laws_client.proofs.Logs.{length_replay, small_front, small_replay, view_stays, view_then}
 use Rattle.laws_client.proofs.RecordKnown.{stands_still, turn_heard}
@@ -52,9 +53,9 @@ use Rattle.laws_client.proofs.ToldAll.{HearsAll, OpensSo}
 
 -- ---- small numbers
 
-small_of : (xs : List ℕ) → All (λ (uid : ℕ). uid < 2 ^ 64) xs → AreSmall xs
+small_of : (xs : List ℕ) → All (λ (uid : ℕ). uid < 2 ^ 32) xs → AreSmall xs
 small_of [] h = tt
-small_of (x ∷ xs) h = (All-head (λ (uid : ℕ). uid < 2 ^ 64) x xs h, small_of xs (All-tail (λ (uid : ℕ). uid < 2 ^ 64) x xs h))
+small_of (x ∷ xs) h = (let few = All-head (λ (uid : ℕ). uid < 2 ^ 32) x xs h in omega (arith, few), small_of xs (All-tail (λ (uid : ℕ). uid < 2 ^ 32) x xs h))
 
 abbrev pub Small : List house.Event → Type 0
 Small history = (m : ℕ) → AreSmall (added (changes_in m history))
@@ -64,8 +65,8 @@ small_before before after goes small m =
     let g = changes_grow m before after goes in
     small_front (added (changes_in m before)) (added g.0) (subst AreSmall (ap added (sym g.1) ∙ added-append (changes_in m before) g.0) (small m))
 
-pub small_uids : (history : List house.Event) → HasSmallUids history → Small history
-small_uids history h m = small_of (added (changes_in m history)) (h m)
+pub small_uids : (history : List house.Event) → Legal history → Small history
+small_uids history legal m = small_of (added (changes_in m history)) (uids_fit history m legal)
 
 length_added : (cs : List Change) → length (added cs) ≤ length cs
 length_added [] = omega arith
@@ -189,9 +190,9 @@ unmoved old new call fault is = (record { leads = ap counted_by is; fits = tt },
 met_view : (old : LockedStore) (here : Entry) (view : List ℕ) (changes : List Change) → old.entered ≡ Some here → Shows old.history here view changes → view ≡ counted_by old
 met_view old here view changes there shows = shows.met ∙ sym (ap (counted_in old.history) there)
 
-sees_entry : (old new : LockedStore) (call : Call) (opening : Opening) (shown : List Change) → Holds old call (Entered opening) new → Tells old (Entered opening) new → WasShown new [] → HasSmallCursor new → IsPrintable (Entered opening)
+sees_entry : (old new : LockedStore) (call : Call) (opening : Opening) (shown : List Change) → Holds old call (Entered opening) new → Tells old (Entered opening) new → WasShown new [] → HasSmallCursor new
     → SeesSo old call (Entered opening) new
-sees_entry old new (Enter m) opening shown h tells was small fine =
+sees_entry old new (Enter m) opening shown h tells was small =
     let handle : CursorHandle = h.2.0 in
     let here : Entry = record { mailbox = m; start = handle.at; handle = handle } in
     let there : new.entered ≡ Some here = ap (λ (p : LockedStore). p.entered) h.2.2 in
@@ -203,8 +204,11 @@ sees_entry old new (Enter m) opening shown h tells was small fine =
     told.count ∙ sym (length-map (rows_of log) (λ (row : change.Row). row.uid)) ∙ ap length (sym view) in
     let is = ap (λ (xs : List ℕ). length xs) (ap (counted_in new.history) there) in
     let most = few_at log handle.at in
-    (record { leads = tt; fits = tt }, record { count = count; few = omega (arith, count, is, most, few); uidvalidity = fine.1; uidnext = fine.0 })
-sees_entry old new _ opening shown h tells was small fine = absurd h
+    let fine : HasOpening opening = h.3 in
+    let next = fine.0 in
+    let validity = fine.1 in
+    (record { leads = tt; fits = tt }, record { count = count; few = omega (arith, count, is, most, few); uidvalidity = omega (arith, validity); uidnext = omega (arith, next) })
+sees_entry old new _ opening shown h tells was small = absurd h
 
 sees_look : (old new : LockedStore) (call : Call) (view : List ℕ) → Holds old call (Looked view) new → Tells old (Looked view) new → SeesSo old call (Looked view) new
 sees_look old new (Look by_uid set) view h tells =
@@ -226,19 +230,30 @@ row_uid uid f (m ∷ messages) row same e = by (m.uid == uid) refl (row_uid uid 
     by true is more found = ap (λ (o : Option Row). (some_row row o).uid) (sym found) ∙ same m ∙ eqb-true m.uid uid is
     by false is more found = more found
 
-row_of_uid : (uid : ℕ) (f : Message → Row) (messages : List Message) (row : Option Row) → ((m : Message) → (f m).uid ≡ m.uid) → row ≡ option_map f (message_with uid messages) → IsPrintable (Found row) → IsRowOf uid row
+row_of_uid : (uid : ℕ) (f : Message → Row) (messages : List Message) (row : Option Row) → ((m : Message) → (f m).uid ≡ m.uid) → row ≡ option_map f (message_with uid messages) → HasRow row → IsRowOf uid row
 row_of_uid uid f messages None same e fine = tt
 row_of_uid uid f messages (Some row) same e fine = (row_uid uid f messages row same (sym e), fine)
 
-sees_row : (old new : LockedStore) (call : Call) (row : Option Row) (shown : List Change) → Holds old call (Found row) new → IsPrefix old.history new.history → WasShown old shown → IsPrintable (Found row) → SeesSo old call (Found row) new
-sees_row old new (Read uid mark) row shown h goes was fine =
+sees_row : (old new : LockedStore) (call : Call) (row : Option Row) (shown : List Change) → Holds old call (Found row) new → IsPrefix old.history new.history → WasShown old shown → SeesSo old call (Found row) new
+sees_row old new (Read uid mark) row shown h goes was =
     let reads = h.1.2.2.0 in
-    (record { leads = counts_still old new shown h.0 goes was; fits = row_of_uid uid _ h.1.2.1.mailbox.messages row (λ m. refl) reads.answers fine }, tt)
-sees_row old new _ row shown h goes was fine = absurd h
+    (record { leads = counts_still old new shown h.0 goes was; fits = row_of_uid uid _ h.1.2.1.mailbox.messages row (λ m. refl) reads.answers h.2 }, tt)
+sees_row old new _ row shown h goes was = absurd h
 
-sees_count : (old new : LockedStore) (call : Call) (status : _) (shown : List Change) → Holds old call (Counted status) new → IsPrefix old.history new.history → WasShown old shown → IsPrintable (Counted status) → SeesSo old call (Counted status) new
-sees_count old new (Count m) status shown h goes was fine = (record { leads = counts_still old new shown h.0 goes was; fits = fine }, tt)
-sees_count old new _ status shown h goes was fine = absurd h
+-- what has the numbers of the code's types can be printed
+counted_so : (status : Status) → HasStatus status → IsCounted status
+counted_so status is = record {
+  messages = is.messages;
+  uidnext = (let few = is.uidnext in omega (arith, few));
+  uidvalidity = (let few = is.uidvalidity in omega (arith, few));
+  unseen = is.unseen;
+  deleted = is.deleted;
+  size = is.size;
+}
+
+sees_count : (old new : LockedStore) (call : Call) (status : _) (shown : List Change) → Holds old call (Counted status) new → IsPrefix old.history new.history → WasShown old shown → SeesSo old call (Counted status) new
+sees_count old new (Count m) status shown h goes was = (record { leads = counts_still old new shown h.0 goes was; fits = counted_so status h.3 }, tt)
+sees_count old new _ status shown h goes was = absurd h
 
 sees_flags : (old new : LockedStore) (call : Call) (flags : _) (shown : List Change) → Holds old call (Altered flags) new → IsPrefix old.history new.history → WasShown old shown → SeesSo old call (Altered flags) new
 sees_flags old new (Alter uid op) flags shown h goes was = (record { leads = counts_still old new shown h.0 goes was; fits = tt }, tt)
@@ -294,43 +309,43 @@ sees_feed old new (Feed limit) view changes shown (here, there, (next, (found, l
     (record { leads = (on.met, on.goes); fits = on.may }, tt)
 sees_feed old new _ view changes shown h goes tells was now small few = absurd h
 
-pub sees_call : (old new : LockedStore) (call : Call) (answer : Answer) (shown : List Change) → Holds old call answer new → WasShown old shown → HasSmallCursor old → IsPrintable answer → Small new.history → SeesSo old call answer new
-sees_call old new call answer shown h was at fine small =
+pub sees_call : (old new : LockedStore) (call : Call) (answer : Answer) (shown : List Change) → Holds old call answer new → WasShown old shown → HasSmallCursor old → Small new.history → SeesSo old call answer new
+sees_call old new call answer shown h was at small =
     let b = by_call old new call answer shown h was in
-    by answer h b.0 b.1 b.2 (small_call old new call answer h at) fine
+    by answer h b.0 b.1 b.2 (small_call old new call answer h at)
   where
-    by : (answer : Answer) → Holds old call answer new → IsPrefix old.history new.history → Tells old answer new → WasShown new (shown_then shown answer) → HasSmallCursor new → IsPrintable answer → SeesSo old call answer new
-    by (Entered opening) h goes tells now few fine = sees_entry old new call opening shown h tells now few fine
-    by (Looked view) h goes tells now few fine = sees_look old new call view h tells
-    by (Found row) h goes tells now few fine = sees_row old new call row shown h goes was fine
-    by (Counted status) h goes tells now few fine = sees_count old new call status shown h goes was fine
-    by (Altered flags) h goes tells now few fine = sees_flags old new call flags shown h goes was
-    by (Expunged view changes gone) h goes tells now few fine = sees_expunge old new call view changes gone shown h goes tells was now small few
-    by (Fed view changes) h goes tells now few fine = sees_feed old new call view changes shown h goes tells was now small few
-    by (Left gone) h goes tells now few fine = (record { leads = tt; fits = tt }, tt)
-    by (Refused fault) h goes tells now few fine = unmoved old new call fault (still old new call fault h)
-    by (Starved n) h goes tells now few fine = absurd (never old new call n h)
+    by : (answer : Answer) → Holds old call answer new → IsPrefix old.history new.history → Tells old answer new → WasShown new (shown_then shown answer) → HasSmallCursor new → SeesSo old call answer new
+    by (Entered opening) h goes tells now few = sees_entry old new call opening shown h tells now few
+    by (Looked view) h goes tells now few = sees_look old new call view h tells
+    by (Found row) h goes tells now few = sees_row old new call row shown h goes was
+    by (Counted status) h goes tells now few = sees_count old new call status shown h goes was
+    by (Altered flags) h goes tells now few = sees_flags old new call flags shown h goes was
+    by (Expunged view changes gone) h goes tells now few = sees_expunge old new call view changes gone shown h goes tells was now small few
+    by (Fed view changes) h goes tells now few = sees_feed old new call view changes shown h goes tells was now small few
+    by (Left gone) h goes tells now few = (record { leads = tt; fits = tt }, tt)
+    by (Refused fault) h goes tells now few = unmoved old new call fault (still old new call fault h)
+    by (Starved n) h goes tells now few = absurd (never old new call n h)
 
-pub hears_held : (old new : LockedStore) (events : List Event) (shown : List Change) → Met Holds old events new → WasShown old shown → HasSmallCursor old → ArePrintable events → Small new.history → HearsAll (counted_by old) events (counted_by new)
-hears_held old new [] shown met was at fine small = ap counted_by met
-hears_held old new (event ∷ events) shown (mid, one, more) was at (fine, rest) small =
+pub hears_held : (old new : LockedStore) (events : List Event) (shown : List Change) → Met Holds old events new → WasShown old shown → HasSmallCursor old → Small new.history → HearsAll (counted_by old) events (counted_by new)
+hears_held old new [] shown met was at small = ap counted_by met
+hears_held old new (event ∷ events) shown (mid, one, more) was at small =
     let b = by_call old mid event.call event.answer shown one was in
     let s = since_select mid new events (shown_then shown event.answer) more b.2 in
-    let sees = sees_call old mid event.call event.answer shown one was at fine (small_before mid.history new.history s.0 small) in
-    (counted_by mid, sees.0, sees.1, hears_held mid new events (shown_then shown event.answer) more b.2 (small_call old mid event.call event.answer one at) rest small)
+    let sees = sees_call old mid event.call event.answer shown one was at (small_before mid.history new.history s.0 small) in
+    (counted_by mid, sees.0, sees.1, hears_held mid new events (shown_then shown event.answer) more b.2 (small_call old mid event.call event.answer one at) small)
 
 -- ---- turns
 
 turn_held : (old new : LockedStore) (shown : List Change) (now : Standing) (happening : Happening) (turn : Turn) (client : Option Client) → WasShown old shown → HasSmallCursor old → Stands now
-    → VerdictsArePrinted happening → ArePrintable turn.events → Small new.history → leads_to now happening ≡ Some turn → Met Holds old turn.events new
+    → VerdictsArePrinted happening → Small new.history → leads_to now happening ≡ Some turn → Met Holds old turn.events new
     → IsRightAbout (counted_by old) client → IsRightAbout (counted_by new) (hears client (told_of now happening turn.bytes))
-turn_held old new shown now happening turn client was at stands printed fine small e met right =
+turn_held old new shown now happening turn client was at stands printed small e met right =
     let s = since_select old new turn.events shown met was in
-    turn_heard now (counted_by old) happening turn (counted_by new) client stands (numbered old (small_before old.history new.history s.0 small) at) printed e (hears_held old new turn.events shown met was at fine small) right
+    turn_heard now (counted_by old) happening turn (counted_by new) client stands (numbered old (small_before old.history new.history s.0 small) at) printed e (hears_held old new turn.events shown met was at small) right
 
 pub served_turn_is_known : ServedTurnIsKnown
-served_turn_is_known old new shown now happening turn client was at stands printed fine small e met right =
-    turn_held old new shown now happening turn client was at stands printed fine (small_uids new.history small) e met right
+served_turn_is_known old new shown now happening turn client was at stands printed legal e met right =
+    turn_held old new shown now happening turn client was at stands printed (small_uids new.history legal) e met right
 
 -- ---- a life
 
@@ -348,7 +363,7 @@ stands_in first began none stands comes = record {
   was = subst (λ (e : Option Entry). WasShownIn began.history e []) (sym none) refl;
   at = subst (λ (e : Option Entry). IfSome e (λ (here : Entry). here.handle.at ≤ 2 ^ 62)) (sym none) tt;
 }
-stands_in first began none stands (turns {now = now} {selection = selection} lives happening bytes turn next sent printed fine e met) =
+stands_in first began none stands (turns {now = now} {selection = selection} lives happening bytes turn next sent printed e met) =
     let K = stands_in first began none stands lives in record {
       stands = stands_still now happening turn K.stands e;
       shown = shown_since K.shown turn.events;
@@ -359,15 +374,15 @@ stands_in first began none stands (turns {now = now} {selection = selection} liv
 served_lives : (first : Standing) (began : LockedStore) {sent : List ℕ} {told : List Told} {now : Standing} {selection : LockedStore} → began.entered ≡ None → Stands first → Small selection.history
     → ServedLives first began sent told now selection → IsRightAbout (counted_by selection) (hears_all None told)
 served_lives first began none stands small comes = tt
-served_lives first began none stands small (turns {told = told} {now = now} {selection = selection} lives happening bytes turn next sent printed fine e met) =
+served_lives first began none stands small (turns {told = told} {now = now} {selection = selection} lives happening bytes turn next sent printed e met) =
     let K = stands_in first began none stands lives in
     let s = since_select selection next turn.events K.shown met K.was in
     let right = served_lives first began none stands (small_before selection.history next.history s.0 small) lives in
     subst (λ (c : Option Client). IsRightAbout (counted_by next) c) (sym (hears_last None told (told_of now happening turn.bytes)))
-    (turn_held selection next K.shown now happening turn (hears_all None told) K.was K.at K.stands printed fine small e met right)
+    (turn_held selection next K.shown now happening turn (hears_all None told) K.was K.at K.stands printed small e met right)
 
 pub served_lives_are_known : ServedLivesAreKnown
-served_lives_are_known first began sent told now selection none stands small lives = served_lives first began none stands (small_uids selection.history small) lives
+served_lives_are_known first began sent told now selection none stands legal lives = served_lives first began none stands (small_uids selection.history legal) lives
 
 -- ---- a Feed that shows all
 

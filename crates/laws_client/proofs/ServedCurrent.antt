@@ -48,20 +48,20 @@ served_done_reaches_the_end old new shown now line tag selected answers turn was
 -- a client that knows where it is has a session that has selected a mailbox
 knowing_served : (first : Standing) (began : LockedStore) {sent : List ℕ} {told : List Told} {now : Standing} {selection : LockedStore} → ServedLives first began sent told now selection → Known_selected (hears_all None told) now
 knowing_served first began comes = tt
-knowing_served first began (turns {told = heard} {now = now} lives happening bytes turn next sent printed fine e met) =
+knowing_served first began (turns {told = heard} {now = now} lives happening bytes turn next sent printed e met) =
     subst (λ (c : Option Client). Known_selected c turn.standing) (sym (hears_last None heard (told_of now happening turn.bytes)))
     (turn_sel now happening turn (hears_all None heard) e (knowing_served first began lives))
 
 pub served_commands_make_current : ServedCommandsMakeCurrent
-served_commands_make_current first began sent told now selection client line tag command answers turn next front here none stands small lives knows answer fine met kept reads_as shows bytes there =
+served_commands_make_current first began sent told now selection client line tag command answers turn next front here none stands legal lives knows answer met kept reads_as shows bytes there =
     let K = stands_in first began none stands lives in
     let chosen : Known_selected (Some client) now = subst (λ (c : Option Client). Known_selected c now) knows (knowing_served first began lives) in
     let end : IsAtEnd next here = of_entry (IsAtEnd next) next.entered here there
     (served_commands_reach_the_end selection next K.shown now line tag command chosen.0 answers turn front K.was chosen.1 answer met kept reads_as shows bytes) in
     let view : counted_by next ≡ messages_in here.mailbox next.history = served_lists_are_current next here there end in
     let after : IsRightAbout (counted_by next) (hears_all None (told ++ told_of now (Line line answers) turn.bytes ∷ [])) =
-    served_lives_are_known first began (sent ++ (line ++ crlf)) (told ++ told_of now (Line line answers) turn.bytes ∷ []) turn.standing next none stands small
-    (turns lives (Line line answers) (line ++ crlf) turn next refl tt fine answer met) in
+    served_lives_are_known first began (sent ++ (line ++ crlf)) (told ++ told_of now (Line line answers) turn.bytes ∷ []) turn.standing next none stands legal
+    (turns lives (Line line answers) (line ++ crlf) turn next refl tt answer met) in
     let told_is : told_of now (Line line answers) turn.bytes ≡ Answer_to line turn.bytes = ap (λ (o : Option (List ℕ)). told_line o line turn.bytes) kept in
     let heard : hears_all None (told ++ Answer_to line turn.bytes ∷ []) ≡ Some (reads client turn.bytes) =
     hears_last None told (Answer_to line turn.bytes) ∙ ap (λ (c : Option Client). hears c (Answer_to line turn.bytes)) knows ∙ ap (λ (r : Result (List ℕ × Command) ImapFault). answered (asked r) turn.bytes (Some client)) reads_as

@@ -32,7 +32,7 @@ use Rattle.laws_client.specs.Flags.{Believes, BelievesNow, FlagsOf, HasNow, Poin
 use Rattle.laws_client.specs.FlagTurns.{IfInside, shown_in}
 use Rattle.laws_client.specs.ListTurns.{Sees}
 use Rattle.laws_client.specs.RecordTurns.{Stands, VerdictsArePrinted, told_of}
-use Rattle.laws_client.specs.Served.{ArePrintable, HasSmallCursor, IsPrintable, ServedLives, comes, turns, counted_by, counted_in}
+use Rattle.laws_client.specs.Served.{HasSmallCursor, ServedLives, comes, turns, counted_by, counted_in}
 use Rattle.laws_client.specs.ServedFlags.{OfToldFlags, ServedFlagsAreCurrent, ServedFlagsAreFound, ServedFlagsHaveMoments, ServedLivesTellFlags, ServedTurnTellsFlags, place_in, place_of}
 use Rattle.laws_client.specs.Talks.{Happening, leads_to}
 use Rattle.laws_client.specs.Worlds.{IsRightOnFlags}
@@ -294,12 +294,12 @@ fed_moments old new (Feed limit) view changes shown later (here, there, (next, (
     shown_at old new here next (Feed limit) (Fed view changes) view changes shown later there is refl (of_entry (λ (e : Entry). Shows new.history e view changes) old.entered here there tells) was now goes ok sees tt
 fed_moments old new _ view changes shown later h tells was now goes ok sees = absurd h
 
-call_moments : (old new : LockedStore) (call : Call) (answer : Answer) (shown : List Change) (later : List house.Event) → Holds old call answer new → WasShown old shown → HasSmallCursor old → IsPrintable answer
+call_moments : (old new : LockedStore) (call : Call) (answer : Answer) (shown : List Change) (later : List house.Event) → Holds old call answer new → WasShown old shown → HasSmallCursor old
     → Legal later → Small later → IsPrefix new.history later → IfInside answer (MomentsAt later old call answer new)
-call_moments old new call answer shown later h was at fine legal small goes =
+call_moments old new call answer shown later h was at legal small goes =
     let b = by_call old new call answer shown h was in
     let before : IsPrefix old.history later = trans old.history new.history later b.0 goes in
-    let sees = (sees_call old new call answer shown h was at fine (small_before new.history later goes small)).0 in
+    let sees = (sees_call old new call answer shown h was at (small_before new.history later goes small)).0 in
     by answer h b.1 b.2 (sound_in old.history later old.entered shown legal before was)
     (subst (λ (view : List ℕ). Sees view (record { call = call; answer = answer }) (counted (place_in later new.entered))) (counted_later old shown later before was)
     (subst (λ (view : List ℕ). Sees (counted_by old) (record { call = call; answer = answer }) view) (counted_later new (shown_then shown answer) later goes b.2) sees))
@@ -319,15 +319,15 @@ call_moments old new call answer shown later h was at fine legal small goes =
     by (Refused fault) h told now ok sees tells = shows_none later old.entered new.entered call (Refused fault) (ap (λ (p : LockedStore). p.entered) (still old new call fault h)) refl ok sees tells
     by (Starved n) h told now ok sees tells = absurd (never old new call n h)
 
-held_moments : (old new : LockedStore) (events : List Event) (shown : List Change) (later : List house.Event) → Met Holds old events new → WasShown old shown → HasSmallCursor old → ArePrintable events
+held_moments : (old new : LockedStore) (events : List Event) (shown : List Change) (later : List house.Event) → Met Holds old events new → WasShown old shown → HasSmallCursor old
     → Legal later → Small later → IsPrefix new.history later → SeesAllMoments (place_in later old.entered) events (place_in later new.entered)
-held_moments old new [] shown later met was at fine legal small goes = ap (λ (p : LockedStore). place_in later p.entered) met
-held_moments old new (event ∷ events) shown later (mid, one, more) was at (fine, rest) legal small goes =
+held_moments old new [] shown later met was at legal small goes = ap (λ (p : LockedStore). place_in later p.entered) met
+held_moments old new (event ∷ events) shown later (mid, one, more) was at legal small goes =
     let b = by_call old mid event.call event.answer shown one was in
     let s = since_select mid new events (shown_then shown event.answer) more b.2 in (
       place_in later mid.entered,
-      call_moments old mid event.call event.answer shown later one was at fine legal small (trans mid.history new.history later s.0 goes),
-      held_moments mid new events (shown_then shown event.answer) later more b.2 (small_call old mid event.call event.answer one at) rest legal small goes,
+      call_moments old mid event.call event.answer shown later one was at legal small (trans mid.history new.history later s.0 goes),
+      held_moments mid new events (shown_then shown event.answer) later more b.2 (small_call old mid event.call event.answer one at) legal small goes,
     )
 
 -- a client that was right about flags is right about them by a longer history
@@ -344,23 +344,23 @@ right_later before later (Some here) shown (Some client) goes was (list, is, rig
 
 -- by any history that goes on from the one behind the turn
 turn_flags_in : (old new : LockedStore) (shown : List Change) (now : Standing) (happening : Happening) (turn : Turn) (client : Option Client) (later : List house.Event) → WasShown old shown → HasSmallCursor old → Stands now
-    → VerdictsArePrinted happening → ArePrintable turn.events → Small later → Legal later → IsPrefix new.history later → leads_to now happening ≡ Some turn → Met Holds old turn.events new
+    → VerdictsArePrinted happening → Small later → Legal later → IsPrefix new.history later → leads_to now happening ≡ Some turn → Met Holds old turn.events new
     → IsRightOnFlags (place_in later old.entered) client → IsRightOnFlags (place_in later new.entered) (hears client (told_of now happening turn.bytes))
-turn_flags_in old new shown now happening turn client later was at stands printed fine small legal goes e met right =
+turn_flags_in old new shown now happening turn client later was at stands printed small legal goes e met right =
     let s = since_select old new turn.events shown met was in
     let before = trans old.history new.history later s.0 goes in
     let view = counted_later old shown later before was in
     turn_moments now (place_in later old.entered) happening turn (place_in later new.entered) client stands
     (subst IsNumbered view (numbered old (small_before old.history later before small) at)) printed e
-    (held_moments old new turn.events shown later met was at fine legal small goes)
+    (held_moments old new turn.events shown later met was at legal small goes)
     (subst (λ (us : List ℕ). HearsAll us turn.events (counted (place_in later new.entered))) view
     (subst (λ (us : List ℕ). HearsAll (counted_by old) turn.events us) (counted_later new (shown_since shown turn.events) later goes s.1)
-    (hears_held old new turn.events shown met was at fine (small_before new.history later goes small)))) right
+    (hears_held old new turn.events shown met was at (small_before new.history later goes small)))) right
 
 pub served_turn_tells_flags : ServedTurnTellsFlags
-served_turn_tells_flags old new shown now happening turn client was at stands printed fine small legal e met right =
+served_turn_tells_flags old new shown now happening turn client was at stands printed legal e met right =
     let s = since_select old new turn.events shown met was in
-    turn_flags_in old new shown now happening turn client new.history was at stands printed fine (small_uids new.history small) legal ([], append-nil new.history) e met
+    turn_flags_in old new shown now happening turn client new.history was at stands printed (small_uids new.history legal) legal ([], append-nil new.history) e met
     (right_later old.history new.history old.entered shown client s.0 was right)
 
 -- ---- a life
@@ -368,13 +368,13 @@ served_turn_tells_flags old new shown now happening turn client was at stands pr
 lives_flags_in : (first : Standing) (began : LockedStore) (later : List house.Event) {sent : List ℕ} {told : List Told} {now : Standing} {selection : LockedStore} → began.entered ≡ None → Stands first → Small later → Legal later
     → ServedLives first began sent told now selection → IsPrefix selection.history later → IsRightOnFlags (place_in later selection.entered) (hears_all None told)
 lives_flags_in first began later none stands small legal comes goes = tt
-lives_flags_in first began later none stands small legal (turns {told = told} {now = now} {selection = selection} lives happening bytes turn next sent printed fine e met) goes =
+lives_flags_in first began later none stands small legal (turns {told = told} {now = now} {selection = selection} lives happening bytes turn next sent printed e met) goes =
     let K = stands_in first began none stands lives in
     let s = since_select selection next turn.events K.shown met K.was in
     subst (λ (c : Option Client). IsRightOnFlags (place_in later next.entered) c) (sym (hears_last None told (told_of now happening turn.bytes)))
-    (turn_flags_in selection next K.shown now happening turn (hears_all None told) later K.was K.at K.stands printed fine small legal goes e met
+    (turn_flags_in selection next K.shown now happening turn (hears_all None told) later K.was K.at K.stands printed small legal goes e met
     (lives_flags_in first began later none stands small legal lives (trans selection.history next.history later s.0 goes)))
 
 pub served_lives_tell_flags : ServedLivesTellFlags
-served_lives_tell_flags first began sent told now selection none stands small legal lives =
-    lives_flags_in first began selection.history none stands (small_uids selection.history small) legal lives ([], append-nil selection.history)
+served_lives_tell_flags first began sent told now selection none stands legal lives =
+    lives_flags_in first began selection.history none stands (small_uids selection.history legal) legal lives ([], append-nil selection.history)

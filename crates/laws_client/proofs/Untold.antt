@@ -15,7 +15,7 @@ use Rattle.laws_client.specs.Client.{Client, Messages, knowing, reads, told}
 use Rattle.laws_client.specs.Beliefs.{TellsNothing}
 use Rattle.laws_client.specs.Commands.{AreNames}
 use Rattle.laws_client.specs.ListTurns.{is_inner, IsCounted, IsPlain}
-use Rattle.laws_client.proofs.Bytes.{decimal_word, reads-append, whole_line, words_are_inner}
+use Rattle.laws_client.proofs.Bytes.{decimal_word_wide, reads-append, whole_line, words_are_inner}
 use Rattle.laws_client.proofs.LinesRead.{not_a_count}
 
 pub both_tell_nothing : (one two : List ℕ) → TellsNothing one → TellsNothing two → TellsNothing (one ++ two)
@@ -64,18 +64,18 @@ word_inner status.Unseen = refl
 word_inner status.Deleted = refl
 word_inner status.Size = refl
 
-number_small : (s : Status) (item : StatusItem) → IsCounted s → status_number s item < 2 ^ 64
-number_small s status.Messages h = h.messages
-number_small s status.UidNext h = h.uidnext
-number_small s status.UidValidity h = h.uidvalidity
-number_small s status.Unseen h = h.unseen
-number_small s status.Deleted h = h.deleted
-number_small s status.Size h = h.size
+number_small : (s : Status) (item : StatusItem) → IsCounted s → status_number s item < 10 ^ 64
+number_small s status.Messages h = omega (arith, h.messages)
+number_small s status.UidNext h = omega (arith, h.uidnext)
+number_small s status.UidValidity h = omega (arith, h.uidvalidity)
+number_small s status.Unseen h = omega (arith, h.unseen)
+number_small s status.Deleted h = omega (arith, h.deleted)
+number_small s status.Size h = omega (arith, h.size)
 
 text_inner : (s : Status) (item : StatusItem) → IsCounted s → list_all is_inner (status_text s item) ≡ true
 text_inner s item h =
     let n : ℕ = status_number s item in
-    inner_both (status_word item ++ codes " ") (decimal n) (word_inner item) (words_are_inner (decimal n) (decimal_word n (number_small s item h)))
+    inner_both (status_word item ++ codes " ") (decimal n) (word_inner item) (words_are_inner (decimal n) (decimal_word_wide n (number_small s item h)))
 
 texts_inner : (s : Status) (items : List StatusItem) → IsCounted s → list_all is_inner (spaced (map (status_text s) items)) ≡ true
 texts_inner s [] h = refl

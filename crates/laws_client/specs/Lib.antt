@@ -27,4 +27,5 @@ pub mod FlagLife
 pub mod Served
 pub mod ServedFlags
 pub mod ServedStays
+pub mod ServedVisits
 pub mod rows

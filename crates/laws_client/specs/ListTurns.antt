@@ -52,7 +52,8 @@ pub record IsCounted (status : Status) : Type 0 where
   pub uidvalidity : status.uidvalidity < 2 ^ 64
   pub unseen : status.unseen < 2 ^ 64
   pub deleted : status.deleted < 2 ^ 64
-  pub size : status.size < 2 ^ 64
+  -- it may have 128 bits, as the sum of the lengths of all texts
+  pub size : status.size < 2 ^ 128
 
 -- an answer that a store may give to a session that counts this view: what it shows may be shown, and what it read was asked for
 abbrev pub Fits : List ℕ → Call → Answer → Type 0

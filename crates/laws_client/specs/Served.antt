@@ -40,25 +40,6 @@ counted_in history (Some here) = view_at (changes_in here.mailbox history) here.
 abbrev pub counted_by : LockedStore → List ℕ
 counted_by selection = counted_in selection.history selection.entered
 
--- ---- what has to be small, so that each number in a session's lines can be printed
-
--- The numbers in an answer of the store can be printed. In the code they are machine numbers of at most 64 bits, but for the SIZE of a STATUS, which has 128: it is the sum of the lengths
--- of texts that are in memory.
-abbrev pub IsPrintable : Answer → Type 0
-IsPrintable (Entered opening) = (opening.uidnext < 2 ^ 64) × (opening.uidvalidity < 2 ^ 64)
-IsPrintable (Counted status) = IsCounted status
-IsPrintable (Found (Some row)) = length row.text < 2 ^ 64
-IsPrintable answer = Unit {0}
-
--- so can those in the answers to these calls
-abbrev pub ArePrintable : List Event → Type 0
-ArePrintable [] = Unit {0}
-ArePrintable (event ∷ events) = IsPrintable event.answer × ArePrintable events
-
--- each UID that a mailbox gave can be printed
-abbrev pub HasSmallUids : List house.Event → Type 0
-HasSmallUids history = (m : ℕ) → All (λ (uid : ℕ). uid < 2 ^ 64) (added (changes_in m history))
-
 -- The cursor's number is one that a mailbox can count up to: no log is longer.
 abbrev pub HasSmallCursor : LockedStore → Type 0
 HasSmallCursor selection = IfSome selection.entered (λ here. here.handle.at ≤ 2 ^ 62)
@@ -69,7 +50,7 @@ HasSmallCursor selection = IfSome selection.entered (λ here. here.handle.at ≤
 -- in it, and is right about what the session counts then.
 abbrev pub ServedTurnIsKnown : Type 0
 ServedTurnIsKnown = (old new : LockedStore) (shown : List Change) (now : Standing) (happening : Happening) (turn : Turn) (client : Option Client)
-    → WasShown old shown → HasSmallCursor old → Stands now → VerdictsArePrinted happening → ArePrintable turn.events → HasSmallUids new.history
+    → WasShown old shown → HasSmallCursor old → Stands now → VerdictsArePrinted happening → Legal new.history
     → leads_to now happening ≡ Some turn → Met Holds old turn.events new
     → IsRightAbout (counted_by old) client → IsRightAbout (counted_by new) (hears client (told_of now happening turn.bytes))
 
@@ -84,14 +65,14 @@ CursorsStaySmall = (old new : LockedStore) (events : List Event) → Met Holds o
 pub data ServedLives (first : Standing) (began : LockedStore) : List ℕ → List Told → Standing → LockedStore → Type 0 where
   comes : ServedLives first began [] [] first began
   turns : {sent : List ℕ} {told : List Told} {now : Standing} {selection : LockedStore} → ServedLives first began sent told now selection
-      → (happening : Happening) (bytes : List ℕ) (turn : Turn) (next : LockedStore) → IsSentFor happening bytes → VerdictsArePrinted happening → ArePrintable turn.events
+      → (happening : Happening) (bytes : List ℕ) (turn : Turn) (next : LockedStore) → IsSentFor happening bytes → VerdictsArePrinted happening
       → leads_to now happening ≡ Some turn → Met Holds selection turn.events next
       → ServedLives first began (sent ++ bytes) (told ++ told_of now happening turn.bytes ∷ []) turn.standing next
 
 -- Whatever its client sends and whatever others do, from where it was in no mailbox it is right about what the session counts at each moment.
 abbrev pub ServedLivesAreKnown : Type 0
 ServedLivesAreKnown = (first : Standing) (began : LockedStore) (sent : List ℕ) (told : List Told) (now : Standing) (selection : LockedStore)
-    → began.entered ≡ None → Stands first → HasSmallUids selection.history
+    → began.entered ≡ None → Stands first → Legal selection.history
     → ServedLives first began sent told now selection → IsRightAbout (counted_by selection) (hears_all None told)
 
 -- ---- when its list is the mailbox
@@ -131,8 +112,8 @@ ServedDoneReachesTheEnd = (old new : LockedStore) (shown : List Change) (now : S
 abbrev pub ServedCommandsMakeCurrent : Type 0
 ServedCommandsMakeCurrent = (first : Standing) (began : LockedStore) (sent : List ℕ) (told : List Told) (now : Standing) (selection : LockedStore) (client : Client)
     (line tag : List ℕ) (command : Command) (answers : List Answer) (turn : Turn) (next : LockedStore) (front : List ℕ) (here : Entry)
-    → began.entered ≡ None → Stands first → HasSmallUids next.history → ServedLives first began sent told now selection → hears_all None told ≡ Some client
-    → turn_of now line answers ≡ Some turn → ArePrintable turn.events → Met Holds selection turn.events next
+    → began.entered ≡ None → Stands first → Legal next.history → ServedLives first began sent told now selection → hears_all None told ≡ Some client
+    → turn_of now line answers ≡ Some turn → Met Holds selection turn.events next
     → kept_tag now ≡ None → read line ≡ Ok (tag, command) → shows_all command ≡ true → turn.bytes ≡ front ++ tagged tag (response_text (texts.Completed (verb_of command)))
     → next.entered ≡ Some here
     → (list : List Known) × (hears_all None (told ++ Answer_to line turn.bytes ∷ []) ≡ Some (knowing (Some list))) × IsRight (messages_in here.mailbox next.history) list

@@ -16,7 +16,7 @@ use Rattle.laws_client.specs.Client.{Client, Known, knowing}
 use Rattle.laws_client.specs.Clients.{Told, hears, hears_all}
 use Rattle.laws_client.specs.Flags.{BelievesNow, FlagsOf, HasNow, Point}
 use Rattle.laws_client.specs.RecordTurns.{Stands, VerdictsArePrinted, told_of}
-use Rattle.laws_client.specs.Served.{ArePrintable, HasSmallCursor, HasSmallUids, IsAtEnd, ServedLives, messages_in}
+use Rattle.laws_client.specs.Served.{HasSmallCursor, IsAtEnd, ServedLives, messages_in}
 use Rattle.laws_client.specs.Talks.{Happening, leads_to}
 use Rattle.laws_client.specs.Worlds.{IsRightOnFlags}
 
@@ -53,14 +53,14 @@ ServedFlagsHaveMoments = (old new : LockedStore) (call : Call) (answer : Answer)
 -- Whatever happens in a turn, and whatever others do between two holds of a lock: a client that was right about flags hears what is said, and is right about flags then.
 abbrev pub ServedTurnTellsFlags : Type 0
 ServedTurnTellsFlags = (old new : LockedStore) (shown : List Change) (now : Standing) (happening : Happening) (turn : Turn) (client : Option Client)
-    → WasShown old shown → HasSmallCursor old → Stands now → VerdictsArePrinted happening → ArePrintable turn.events → HasSmallUids new.history → Legal new.history
+    → WasShown old shown → HasSmallCursor old → Stands now → VerdictsArePrinted happening → Legal new.history
     → leads_to now happening ≡ Some turn → Met Holds old turn.events new
     → IsRightOnFlags (place_of old) client → IsRightOnFlags (place_of new) (hears client (told_of now happening turn.bytes))
 
 -- From where its session was in no mailbox it is right about flags at each moment of the session's life.
 abbrev pub ServedLivesTellFlags : Type 0
 ServedLivesTellFlags = (first : Standing) (began : LockedStore) (sent : List ℕ) (told : List Told) (now : Standing) (selection : LockedStore)
-    → began.entered ≡ None → Stands first → HasSmallUids selection.history → Legal selection.history
+    → began.entered ≡ None → Stands first → Legal selection.history
     → ServedLives first began sent told now selection → IsRightOnFlags (place_of selection) (hears_all None told)
 
 -- ---- flags as they are

@@ -4,6 +4,7 @@
 
 ghost use Rattle.laws_client.specs.ServedFlags.{ServedFlagsAreCurrent, ServedFlagsAreFound, ServedFlagsHaveMoments, ServedLivesTellFlags, ServedTurnTellsFlags};
 ghost use Rattle.laws_client.specs.ServedStays.{ServedSessionsStay};
+ghost use Rattle.laws_client.specs.ServedVisits.{VisitorsKeepUp, VisitsBegin, VisitsGoOn};
 ghost use Rattle.laws_client.specs.Served.{CursorsStaySmall, FeedsReachTheEnd, ServedCommandsMakeCurrent, ServedCommandsReachTheEnd, ServedDoneReachesTheEnd, ServedListsAreCurrent, ServedLivesAreKnown, ServedTextsStay, ServedTurnIsKnown};
 
 /// Between a SELECT and what ends it such a session stays in that mailbox, with the handle that it was given there: of that only the cursor's
@@ -15,7 +16,7 @@ pub fn served_sessions_stay()
 /// A client that knows which of its lines were SELECT, EXAMINE, CLOSE or UNSELECT keeps up with what its session counts, whatever
 /// it sends, whatever is refused, and whatever others do between two holds of a lock. Since a SELECT or EXAMINE was answered
 /// OK its list is as long as what the session counts, each UID that it knows is the one at that position, and no number was out
-/// of its list (RFC 9051, 2.3.1.2 and 7.5.1). It is asked that UIDs can be printed, and what the store answers.
+/// of its list (RFC 9051, 2.3.1.2 and 7.5.1).
 pub fn served_clients_keep_up()
     // A client that was right about what its session counts hears a turn, and is right about what the session counts then.
     ensures turn { ServedTurnIsKnown }
@@ -67,4 +68,17 @@ pub fn served_clients_know_flags()
 
     // At the end of the log all that it knows of flags is what they are.
     ensures current { ServedFlagsAreCurrent }
+{}
+
+/// So it is of each visit of a server's clients (`Visit` of `imap_stream`): what its calls do is such a life. Whoever makes the next call, `hear` or
+/// `look`, and whatever others did since the last, the client was told the greeting and then a life of a session over the one history; the
+/// output took all of that, or the first bytes of it where it failed. So the client is right about what its session counts, and about flags,
+/// at each moment. Of a client that is dismissed nothing is said behind its `BYE`.
+pub fn served_visits_are_lives()
+    // A visit whose client was greeted begins such a life, and each call of a visit that isn't over goes on with it.
+    ensures begin { VisitsBegin }
+    ensures go_on { VisitsGoOn }
+
+    // At each moment of it, whoever knows which of its lines were SELECT, EXAMINE, CLOSE or UNSELECT is right.
+    ensures right { VisitorsKeepUp }
 {}

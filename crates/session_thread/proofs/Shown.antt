@@ -21,7 +21,7 @@ use Rattle.locked_mailbox.specs.Locking.{Knows, on_ok}
 use Rattle.imap_session.specs.Exchange.{Alter, Altered, Answer, Count, Counted, Feed, Expunge, Found, Read}
 use Rattle.imap_session.specs.Store.{Feeds, Expunges, answer}
 use Rattle.session_thread.specs.declared.locked_store.Entry.{Entry}
-use Rattle.session_thread.specs.Locks.{DoesCountAt, HasItsText, Held, Holds, LockedStore, ShowsOf, StaysOut, another_there, entered_at, not_let_in, refused_here, says, says_nothing, seeing}
+use Rattle.session_thread.specs.Locks.{DoesCountAt, HasItsText, HasRow, HasStatus, Held, Holds, LockedStore, ShowsOf, StaysOut, another_there, entered_at, not_let_in, refused_here, says, says_nothing, seeing}
 use Rattle.session_thread.specs.inner.Entering.{DoesEnterAt, seen_behind}
 
 -- ---- of the log
@@ -104,9 +104,9 @@ expunges_from old here next uids before after (Err fault) seen new there is (fou
     ((stays old new here next there is s.still, refused_here here found.mailbox left.mailbox there s.refused), s.wrote)
 
 reads_from : (old new : LockedStore) (here : Entry) (uid : ℕ) (mark_seen : Bool) (r : Result (Option Row) MailFault) (seen : List Event) → old.entered ≡ Some here → new ≡ seeing old (seen_behind r old.history seen)
-    → Held old.history seen (λ m. on_ok r (Changed m (steps.Read uid mark_seen))) (λ found left. DoesRead found here.handle uid mark_seen r left × IfOk r (HasItsText seen found.number))
+    → Held old.history seen (λ m. on_ok r (Changed m (steps.Read uid mark_seen))) (λ found left. DoesRead found here.handle uid mark_seen r left × IfOk r (HasItsText seen found.number)) → IfOk r HasRow
     → Holds old (Read uid mark_seen) (answer Found r) new
-reads_from old new here uid mark_seen (Ok row) seen there is (found, left, s, k) =
+reads_from old new here uid mark_seen (Ok row) seen there is (found, left, s, k) fits =
     let h : seen ≡ new.history = sym (ap (λ (p : LockedStore). p.history) is) in (
       is ∙ ap (seeing old) h,
       (
@@ -119,8 +119,9 @@ reads_from old new here uid mark_seen (Ok row) seen there is (found, left, s, k)
           subst (λ (l : List Event). Knows found left (says (steps.Read uid mark_seen) found.mailbox.number) old.history l) h k,
         ),
       ),
+      fits,
     )
-reads_from old new here uid mark_seen (Err fault) seen there is (found, left, s, k) = (is, refused_here here found.mailbox left.mailbox there s.0)
+reads_from old new here uid mark_seen (Err fault) seen there is (found, left, s, k) fits = (is, refused_here here found.mailbox left.mailbox there s.0)
 
 alters_from : (old new : LockedStore) (here : Entry) (uid : ℕ) (op : FlagOp) (r : Result (Option Flags) MailFault) (seen : List Event) → old.entered ≡ Some here → new ≡ seeing old (seen_behind r old.history seen)
     → Held old.history seen (λ m. on_ok r (Changed m (steps.Alter uid op))) (λ found left. DoesAlter found here.handle uid op r left)
@@ -133,11 +134,11 @@ alters_from old new here uid op (Ok flags) seen there is (found, left, s, k) =
 alters_from old new here uid op (Err fault) seen there is (found, left, s, k) = (is, refused_here here found.mailbox left.mailbox there s)
 
 counts_from : (old new : LockedStore) (mailbox : ℕ) (r : Result Status MailFault) (seen : List Event) → mailbox < old.mailboxes → new ≡ seeing old (seen_behind r old.history seen)
-    → Held old.history seen says_nothing (λ found left. DoesCountAt mailbox found r left) → Holds old (Count mailbox) (answer Counted r) new
-counts_from old new mailbox (Ok status) seen there is (found, left, s, k) =
+    → Held old.history seen says_nothing (λ found left. DoesCountAt mailbox found r left) → IfOk r HasStatus → Holds old (Count mailbox) (answer Counted r) new
+counts_from old new mailbox (Ok status) seen there is (found, left, s, k) fits =
     let h : seen ≡ new.history = sym (ap (λ (p : LockedStore). p.history) is) in
-    (is ∙ ap (seeing old) h, there, (found, left, s, subst (λ (l : List Event). Knows found left [] old.history l) h k))
-counts_from old new mailbox (Err fault) seen there is (found, left, s, k) = (is, inr (there, (found.mailbox, left.mailbox, s)))
+    (is ∙ ap (seeing old) h, there, (found, left, s, subst (λ (l : List Event). Knows found left [] old.history l) h k), fits)
+counts_from old new mailbox (Err fault) seen there is (found, left, s, k) fits = (is, inr (there, (found.mailbox, left.mailbox, s)))
 
 pub stays_out : (old : LockedStore) (mailbox : ℕ) (fault : MailFault) (before seen : List Event) (said : ℕ → List Event) → old.entered ≡ None → mailbox < old.mailboxes
     → Held before seen said (λ found left. DoesEnterAt mailbox found (Err fault) left) → StaysOut old mailbox fault
@@ -163,11 +164,11 @@ expunges old here next uids before after r first second seen behind new there f 
 
 pub reads : (old new : LockedStore) (here : Entry) (uid : ℕ) (mark_seen : Bool) (r : Result (Option Row) MailFault) (first second seen behind : List Event) → old.entered ≡ Some here → first ≡ old.history → second ≡ old.history
     → behind ≡ seen_behind r second seen → new ≡ seeing old behind
-    → Held first seen (λ m. on_ok r (Changed m (steps.Read uid mark_seen))) (λ found left. DoesRead found here.handle uid mark_seen r left × IfOk r (HasItsText seen found.number))
+    → Held first seen (λ m. on_ok r (Changed m (steps.Read uid mark_seen))) (λ found left. DoesRead found here.handle uid mark_seen r left × IfOk r (HasItsText seen found.number)) → IfOk r HasRow
     → Holds old (Read uid mark_seen) (answer Found r) new
-reads old new here uid mark_seen r first second seen behind there f s b is h =
+reads old new here uid mark_seen r first second seen behind there f s b is h fits =
     reads_from old new here uid mark_seen r seen there (is ∙ ap (seeing old) (b ∙ ap (λ (l : List Event). seen_behind r l seen) s))
-    (subst (λ (l : List Event). Held l seen (λ m. on_ok r (Changed m (steps.Read uid mark_seen))) (λ found left. DoesRead found here.handle uid mark_seen r left × IfOk r (HasItsText seen found.number))) f h)
+    (subst (λ (l : List Event). Held l seen (λ m. on_ok r (Changed m (steps.Read uid mark_seen))) (λ found left. DoesRead found here.handle uid mark_seen r left × IfOk r (HasItsText seen found.number))) f h) fits
 
 pub alters : (old new : LockedStore) (here : Entry) (uid : ℕ) (op : FlagOp) (r : Result (Option Flags) MailFault) (first second seen behind : List Event) → old.entered ≡ Some here → first ≡ old.history → second ≡ old.history
     → behind ≡ seen_behind r second seen → new ≡ seeing old behind
@@ -179,7 +180,7 @@ alters old new here uid op r first second seen behind there f s b is h =
 
 pub counts : (old new : LockedStore) (mailbox : ℕ) (r : Result Status MailFault) (first second seen behind : List Event) → mailbox < old.mailboxes → first ≡ old.history → second ≡ old.history
     → behind ≡ seen_behind r second seen → new ≡ seeing old behind
-    → Held first seen says_nothing (λ found left. DoesCountAt mailbox found r left) → Holds old (Count mailbox) (answer Counted r) new
-counts old new mailbox r first second seen behind there f s b is h =
+    → Held first seen says_nothing (λ found left. DoesCountAt mailbox found r left) → IfOk r HasStatus → Holds old (Count mailbox) (answer Counted r) new
+counts old new mailbox r first second seen behind there f s b is h fits =
     counts_from old new mailbox r seen there (is ∙ ap (seeing old) (b ∙ ap (λ (l : List Event). seen_behind r l seen) s))
-    (subst (λ (l : List Event). Held l seen says_nothing (λ found left. DoesCountAt mailbox found r left)) f h)
+    (subst (λ (l : List Event). Held l seen says_nothing (λ found left. DoesCountAt mailbox found r left)) f h) fits

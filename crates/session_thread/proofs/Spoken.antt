@@ -15,6 +15,7 @@ use Rattle.imap_session.specs.Store.{AnswersVerdict}
 use Rattle.imap_session.specs.declared.connection.Progress.{Progress}
 use Rattle.imap_session.specs.Dialogue as dialogue
 use Rattle.imap_session.specs.Dialogue.{Dialogue, ImapConnection, StandsFor, Took, answer_room, may_follow, tag_len}
+use Rattle.house_history.specs.Legal.{HasUid}
 use Rattle.session_thread.specs.Locks.{Holds, LockedStore}
 use Rattle.session_thread.specs.Life.{Says, SaysInPart, Speaks, TellsVerdict, carried_of, hears, moment, short, takes, takes_more, unheard}
 
@@ -63,9 +64,9 @@ sent_of None append is = cc
 sent_of (Some s) append is = (s, refl, cc)
 
 pub told_verdict : (d : Dialogue) (append : Append) (verdict : Verdict) (old middle new : LockedStore) (before between after : List ℕ) (how : After) (was link : ImapConnection) → StandsFor was d → Some append ≡ option_map (λ (s : Sent). s.append) was.session.mailing.sent
-    → middle ≡ old → between ≡ before → dialogue.Hears Holds d verdict middle new between after how link
+    → middle ≡ old → between ≡ before → HasUid verdict → dialogue.Hears Holds d verdict middle new between after how link
     → (next : Dialogue) × StandsFor link next × TellsVerdict (carried_of append verdict) (moment d old before) (moment next new after)
-told_verdict d append verdict old middle new before between after how was link stands is store text h =
+told_verdict d append verdict old middle new before between after how was link stands is store text uid h =
     let s = sent_of was.session.mailing.sent append is in
     let selection = subst (λ (p : LockedStore). AnswersVerdict Holds d.standing verdict p new between after how h.next) store h.answered in (
       record { standing = h.next; begun = d.begun },
@@ -74,6 +75,7 @@ told_verdict d append verdict old middle new before between after how was link s
         sent = s.0;
         awaited = subst (λ (x : Standing). x.mailing.sent ≡ Some s.0) stands.session s.1;
         carries = ap (λ (a : Append). carried_of a verdict) s.2;
+        uid = uid;
         how = how;
         answered = subst (λ (b : List ℕ). AnswersVerdict Holds d.standing verdict old new b after how h.next) text selection;
         begun = refl;

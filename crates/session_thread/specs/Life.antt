@@ -15,6 +15,7 @@ use Rattle.imap_session.specs.Exchange.{Feed, Folder, Leave, Left, Refused, Sent
 use Rattle.imap_session.specs.Commands.{most_changes}
 use Rattle.imap_session.specs.Store.{AnswersVerdict, IdleTurns}
 use Rattle.imap_session.specs.Dialogue.{Answered, Dialogue, answer_room, may_follow, tag_len}
+use Rattle.house_history.specs.Legal.{HasUid}
 use Rattle.settings.specs.declared.step.Step.{Step}
 use Rattle.settings.specs.declared.step.Step.TheVariants.{Say, Await}
 use Rattle.session_thread.specs.Locks.{Holds, In, LockedStore, shown_in}
@@ -80,6 +81,7 @@ pub record TellsVerdict (one : Carried) (before after : Moment) : Type 0 where
   pub sent : Sent
   pub awaited : before.dialogue.standing.mailing.sent ≡ Some sent
   pub carries : one ≡ carried_of sent.append one.verdict
+  pub uid : HasUid one.verdict
   pub how : After
   pub answered : AnswersVerdict Holds before.dialogue.standing one.verdict before.selection after.selection before.text after.text how after.dialogue.standing
   pub begun : after.dialogue.begun ≡ before.dialogue.begun

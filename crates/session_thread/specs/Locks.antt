@@ -1,6 +1,6 @@
 -- What a session does to mailboxes behind locks: each call takes the lock of one mailbox, does one thing to it, says in the house's history what it did,
 -- and lets go.
-use Rattle.std.specs.Prelude.{◌≡◌, ◌≢◌, ℕ, ◌-◌, ◌<◌, ◌≤◌, ◌⊎◌, Bool, true, List, [], ◌∷◌, length, drop, min, Option, Some, None, IfSome, IsSome, Result, Ok, Err}
+use Rattle.std.specs.Prelude.{◌≡◌, ◌≢◌, ℕ, ◌-◌, ◌^◌, ◌<◌, ◌≤◌, ◌⊎◌, Bool, true, List, [], ◌∷◌, length, drop, min, Option, Some, None, IfSome, IsSome, Result, Ok, Err}
 use Rattle.change_ring.specs.declared.change.Change.{Change}
 use Rattle.change_ring.specs.Log.{view_at}
 use Rattle.change_ring.specs.Logged.{flags_logged, removals, removals_if, seen_logged}
@@ -13,6 +13,7 @@ use Rattle.mailbox.specs.Mailbox.{Mailbox, message_with, rows}
 use Rattle.mailbox.specs.Stands.{IsKept, Stands, next_of}
 use Rattle.mailbox.specs.declared.clients.MailFault.{MailFault}
 use Rattle.mailbox.specs.declared.clients.MailFault.TheVariants.{Stranger, Lapped, Spent, NoMemory}
+use Rattle.mailbox.specs.declared.clients.Opening.{Opening}
 use Rattle.mailbox.specs.declared.clients.Row.{Row}
 use Rattle.mailbox.specs.declared.mailbox.Status.{Status}
 use Rattle.house_history.specs.declared.event.Event.{Event}
@@ -102,6 +103,22 @@ LooksNot by_uid set Lapped found handle = ⊥
 LooksNot by_uid set Spent found handle = ⊥
 LooksNot by_uid set NoMemory found handle = IsKept found × (view : List ℕ) × HasCursor found handle view × (names_one by_uid set view ≡ true)
 
+-- The numbers in an answer are those of the code's types: 32 bits for a UID and a UIDVALIDITY (RFC 9051, 2.3.1.1), 64 for a count of messages or of a text's bytes. The SIZE of a
+-- STATUS has 128, since it is the sum of the lengths of texts.
+pub record HasStatus (status : Status) : Type 0 where
+  pub messages : status.messages < 2 ^ 64
+  pub uidnext : status.uidnext < 2 ^ 32
+  pub uidvalidity : status.uidvalidity < 2 ^ 32
+  pub unseen : status.unseen < 2 ^ 64
+  pub deleted : status.deleted < 2 ^ 64
+  pub size : status.size < 2 ^ 128
+
+abbrev pub HasOpening : Opening → Type 0
+HasOpening opening = (opening.uidnext < 2 ^ 32) × (opening.uidvalidity < 2 ^ 32)
+
+abbrev pub HasRow : Option Row → Type 0
+HasRow row = IfSome row (λ found. length found.text < 2 ^ 64)
+
 -- One call of a session over locks, with its answer. Of the mailbox nothing is known but what the call finds, and what the history says of it by then; and its
 -- number: the one that was asked for, and in a mailbox that was entered the handle's, which is that one. A call that is refused leaves the session as it was.
 abbrev pub Holds : LockedStore → Call → Answer → LockedStore → Type 0
@@ -109,6 +126,7 @@ Holds old (Enter m) (Entered opening) new =
     (old.entered ≡ None) × (m < old.mailboxes)
     × ((handle : CursorHandle) × Held old.history new.history says_nothing (λ found left. (found.number ≡ m) × Enters found opening left handle)
     × (new ≡ record { mailboxes = old.mailboxes; entered = Some (record { mailbox = m; start = handle.at; handle = handle }); history = new.history }))
+    × HasOpening opening
 Holds old (Enter m) (Refused fault) new = (new ≡ old) × StaysOut old m fault
 -- A look at the view, which is no event: nothing is changed. What it saw of the history is forgotten again.
 Holds old (Look by_uid set) (Looked view) new =
@@ -118,11 +136,12 @@ Holds old (Look by_uid set) (Refused fault) new =
 Holds old (Read uid mark) (Found row) new =
     (new ≡ seeing old new.history)
     × In old (λ here. Held old.history new.history (says (steps.Read uid mark)) (λ found left. Reads found here.handle uid mark row left × HasItsText new.history found.number row))
+    × HasRow row
 Holds old (Read uid mark) (Refused fault) new =
     (new ≡ old) × TurnsAway old (λ found handle. IsTooMany found (seen_logged mark (rows found) uid)) (λ found handle. IsSome (message_with uid found.messages)) fault
 -- nor is a count
 Holds old (Count m) (Counted status) new =
-    (new ≡ seeing old new.history) × (m < old.mailboxes) × Held old.history new.history says_nothing (λ found left. DoesCountAt m found (Ok status) left)
+    (new ≡ seeing old new.history) × (m < old.mailboxes) × Held old.history new.history says_nothing (λ found left. DoesCountAt m found (Ok status) left) × HasStatus status
 Holds old (Count m) (Refused fault) new =
     (new ≡ old) × ((old.mailboxes ≤ m) × (fault ≡ Stranger) ⊎ (m < old.mailboxes) × UnderLock (λ found left. DoesCountAt m found (Err fault) left))
 Holds old (Alter uid op) (Altered flags) new =

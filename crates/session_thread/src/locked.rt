@@ -10,7 +10,7 @@ ghost use Rattle.house_history.specs.declared.event.Event.{Event};
 ghost use Rattle.house_history.specs.declared.event.Step.TheVariants as steps;
 ghost use Rattle.locked_mailbox.specs.Locking.{Knows, on_ok};
 ghost use Rattle.workers_sync.specs.Holds.{DoesAlter, DoesExpunge, DoesFeed, DoesLeave, DoesLook, DoesRead, UnderLock};
-ghost use Rattle.session_thread.specs.Locks.{DoesCountAt, HasItsText, Held, LooksNot, says_nothing};
+ghost use Rattle.session_thread.specs.Locks.{DoesCountAt, HasItsText, HasOpening, HasRow, HasStatus, Held, LooksNot, says_nothing};
 ghost use Rattle.session_thread.specs.inner.Entering.{DoesEnterAt};
 
 use change_ring::{FlagOp, Flags};
@@ -21,6 +21,63 @@ use locked_mailbox::{LockedMailbox, under, under_with};
 use mailbox::{MailFault, Opening, Row, Status};
 use std::alloc::Global;
 use std::sync::{Mutex, Wait};
+
+// What is answered, whose numbers are of the code's types.
+fn opening_fits(opening: Opening) -> Opening
+    ensures same { result ≡ opening }
+    ensures fits { HasOpening result }
+{
+    opening
+}
+
+fn row_fits(row: Option<Row>) -> Option<Row>
+    ensures same { result ≡ row }
+    ensures fits { HasRow result }
+{
+    match row {
+        Some(row) => Some(row),
+        None => None,
+    }
+}
+
+fn each_fits(row: Result<Option<Row>, MailFault>) -> Result<Option<Row>, MailFault>
+    ensures same { result ≡ row }
+    ensures fits { IfOk result HasRow }
+{
+    match row {
+        Ok(row) => Ok(row_fits(row)),
+        Err(fault) => Err(fault),
+    }
+}
+
+fn counted(status: Status) -> Status
+    ensures same { result ≡ status }
+    ensures fits { HasStatus result }
+{
+    status
+}
+
+fn status_fits(status: Result<Status, MailFault>) -> Result<Status, MailFault>
+    ensures same { result ≡ status }
+    ensures fits { IfOk result HasStatus }
+{
+    match status {
+        Ok(status) => Ok(counted(status)),
+        Err(fault) => Err(fault),
+    }
+}
+
+fn entered_fits(
+    entered: Result<(CursorHandle, Opening), MailFault>,
+) -> Result<(CursorHandle, Opening), MailFault>
+    ensures same { result ≡ entered }
+    ensures fits { IfOk result (λ entered. HasOpening entered.1) }
+{
+    match entered {
+        Ok((handle, opening)) => Ok((handle, opening_fits(opening))),
+        Err(fault) => Err(fault),
+    }
+}
 
 // Lets a client into the mailbox that is held, where it has this number.
 fn enter_at<B: Naming>(
@@ -44,8 +101,9 @@ pub(crate) fn enter<B: Naming, R: Wait>(
     front: &mut Front<B>,
     number: u8,
 ) -> Result<(CursorHandle, Opening), MailFault>
-    ensures { Held front.old front.new says_nothing
+    ensures held { Held front.old front.new says_nothing
         (λ found left. DoesEnterAt number found result left) }
+    ensures fits { IfOk result (λ entered. HasOpening entered.1) }
 {
     let mut seen = front.again();
     let (entered, seen) = under(
@@ -63,7 +121,7 @@ pub(crate) fn enter<B: Naming, R: Wait>(
         },
     );
     *front = seen;
-    entered
+    entered_fits(entered)
 }
 
 // The messages that a set names, as the handle's client counts them, and what is seen of the history. Memory is wanted only where there is one.
@@ -147,10 +205,11 @@ pub(crate) fn read<B: Naming, R: Wait>(
     uid: u32,
     mark_seen: bool,
 ) -> Result<Option<Row>, MailFault>
-    ensures { Held front.old front.new
+    ensures held { Held front.old front.new
         (λ m. on_ok result (events.Changed m (steps.Read uid mark_seen)))
         (λ found left. DoesRead found handle.now uid mark_seen result left
         × IfOk result (HasItsText front.new found.number)) }
+    ensures fits { IfOk result HasRow }
 {
     let mut seen = front.again();
     let (row, seen) = under(
@@ -170,7 +229,7 @@ pub(crate) fn read<B: Naming, R: Wait>(
         },
     );
     *front = seen;
-    row
+    each_fits(row)
 }
 
 // Counts the mailbox that is held, where it has this number.
@@ -195,8 +254,9 @@ pub(crate) fn count<B: Naming, R: Wait>(
     front: &mut Front<B>,
     number: u8,
 ) -> Result<Status, MailFault>
-    ensures { Held front.old front.new says_nothing
+    ensures held { Held front.old front.new says_nothing
         (λ found left. DoesCountAt number found result left) }
+    ensures fits { IfOk result HasStatus }
 {
     let mut seen = front.again();
     let (status, seen) = under(
@@ -211,7 +271,7 @@ pub(crate) fn count<B: Naming, R: Wait>(
         },
     );
     *front = seen;
-    status
+    status_fits(status)
 }
 
 pub(crate) fn alter<B: Naming, R: Wait>(

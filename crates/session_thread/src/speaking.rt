@@ -11,7 +11,7 @@ ghost use Rattle.workers_sync.specs.Carried.{Carried};
 ghost use Rattle.session_thread.specs.Life.{Says, SaysInPart, TellsVerdict, moment};
 
 use crate::locked_store::LockedStore;
-use house_history::Naming;
+use house_history::{Naming, uid_fits};
 use imap_session::{After, ImapConnection};
 use std::alloc::Global;
 use std::sync::Wait;
@@ -53,6 +53,7 @@ fn hear_verdict<B: Naming, R: Wait, G: Gate, C: Courier>(
         unreachable!()
     };
     let verdict = store.carry(courier, append)?;
+    uid_fits(verdict);
     let Ok(_) = connection.appended(verdict, store, out) else {
         unreachable!()
     };

@@ -8,5 +8,5 @@ returns-clause-told g c = (
   c.in_ok-verdict.ensures.carried,
   λ d s.
       told_verdict d c.in-Some.append.now c.in_ok-verdict.verdict c.args.store.now c.carry.new.self c.appended.new.store c.args.out.now.items c.reserve.new.self.items c.appended.new.out.items c.in-Ok.field-0 c.args.connection.now c.appended.new.self s
-      c.in-Some.ensures c.in_ok-verdict.ensures.same c.in_ok-reserve.ensures.items (c.in-Ok.ensures.heard d s),
+      c.in-Some.ensures c.in_ok-verdict.ensures.same c.in_ok-reserve.ensures.items c.uid_fits.ensures (c.in-Ok.ensures.heard d s),
 )

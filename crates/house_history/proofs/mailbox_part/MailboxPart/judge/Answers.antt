@@ -25,7 +25,7 @@ add_both-requires-clause-may_follow g c = let j = c.args.job.now in let s = c.se
     let above : All (λ i. IsBefore i j) (judged_in s.number j.key.seat s.owner.own) = subst (λ (r : MailboxPart). All (λ i. IsBefore i j) (judged_in r.number j.key.seat r.events)) (sym c.self.view_is) c.requires.above in
     let fits : IsLegalLog (changes_in s.number s.owner.own ++ arrives j c.args.verdict) = subst (λ (r : MailboxPart). IsLegalLog (changes_in r.number r.events ++ arrives j c.args.verdict)) (sym c.self.view_is) c.requires.fits in
     let sent : life t.number t.owner.own ≡ events.Sent j t.number ∷ [] = ap (λ (v : Ticket). v.life) c.ticket.view_is ∙ (c.requires.sent ∙ ap (λ (n : ℕ). events.Sent j n ∷ []) (sym (ap (λ (v : Ticket). v.number) c.ticket.view_is))) in
-    part_follows s.owner.key s.number t.owner.key c.front.inside.seen.log s.owner.own t.owner.own j c.args.verdict t.number c.self.invariant.1 c.ticket.invariant.1 here sent above fits
+    part_follows s.owner.key s.number t.owner.key c.front.inside.seen.log s.owner.own t.owner.own j c.args.verdict t.number c.self.invariant.1 c.ticket.invariant.1 here sent above fits c.uid_fits.ensures
 
 pub returns-clause-seen : goal.returns-clause-seen
 returns-clause-seen g c = let t = c.ticket.inside in let added = c.add_both.ensures.seen.1 in let log = c.add_both.new.seen.log in let e : Event = events.Judged c.args.job.now c.args.verdict t.number in (

@@ -6,7 +6,7 @@ use Rattle.session_thread.proofs.locked_store.LockedStoreStore.enter.Goals as go
 
 pub returns-in_err-handle : goal.returns-in_err-handle
 returns-in_err-handle g c =
-    let u = c.in_err-handle.ensures in
+    let u = c.in_err-handle.ensures.held in
     let p = err_from_is_err_and c.from_residual.result c.from_residual.ensures.1 in
     rw (p.1, p.2) (
       c.self.view_is,

@@ -9,4 +9,4 @@ returns-clause-event g c =
     let v = c.self.view_is in
     let h = ap (λ (p : LockedStore). p.history) v in
     counts c.args.self.now _ c.args.mailbox c.count-status.result c.again-front.result c.again.result c.count-status.new.front c.seen_behind.result (omega (arith, c.if-from-self.false, ap (λ (p : LockedStore). p.mailboxes) v, c.from.ensures))
-    (c.again-front.ensures ∙ h) (c.again.ensures ∙ h) c.seen_behind.ensures (ap (λ (p : LockedStore). seeing p c.seen_behind.result) v) c.count-status.ensures
+    (c.again-front.ensures ∙ h) (c.again.ensures ∙ h) c.seen_behind.ensures (ap (λ (p : LockedStore). seeing p c.seen_behind.result) v) c.count-status.ensures.held c.count-status.ensures.fits

@@ -1,0 +1,74 @@
+-- The visits of a server's clients, call by call, as lives of their sessions.
+use Rattle.std.specs.Prelude.{◌≡◌, ℕ, Bool, true, false, List, [], ◌∷◌, ◌++◌, take, flat_map, Option, None}
+use Rattle.std.specs.Io.KnownBytes.{Appends}
+use Rattle.house_history.specs.Legal.{Legal}
+use Rattle.workers_sync.specs.Carried.{Carried}
+use Rattle.workers_sync.specs.declared.courier.Lost.{Lost}
+use Rattle.imap_session.specs.Exchange.{Folder, Standing, nothing_sent}
+use Rattle.imap_session.specs.Commands.{greeting}
+use Rattle.imap_session.specs.Dialogue.{Dialogue, StandsFor}
+use Rattle.session_thread.specs.Locks.{LockedStore}
+use Rattle.imap_stream.specs.Visits.{Hears, HearsInPart, IsGreeted, SendsAll, SendsFirst, ShowsAll, ShowsInPart, Tells, Visit, is_over}
+use Rattle.laws_client.specs.Clients.{IsRightAbout, Told, bytes_in, hears_all}
+use Rattle.laws_client.specs.RecordTurns.{Stands}
+use Rattle.laws_client.specs.Served.{ServedLives, counted_by}
+use Rattle.laws_client.specs.ServedFlags.{place_of}
+use Rattle.laws_client.specs.Worlds.{IsRightOnFlags}
+
+-- How a visit began: where its session stood, what its store had seen, and what its output had taken before.
+pub record Beginning : Type 0 where
+  pub first : Standing
+  pub store : LockedStore
+  pub taken : Option (List ℕ)
+
+-- what a session is as it is greeted, which has these mailboxes, and takes messages of at most so many bytes, or none
+abbrev pub greeted_with : Option ℕ → List Folder → Standing
+greeted_with most folders = record { folders = folders; selected = None; idling = None; ended = false; mailing = nothing_sent most }
+
+-- all that was said: the greeting, and what the client was told since
+abbrev pub said_in : List Told → List ℕ
+said_in told = greeting ++ flat_map bytes_in told
+
+-- The visit has come to this since its client was greeted, when it has heard all these bytes and was told all this.
+pub record HasLived (beginning : Beginning) (heard : List ℕ) (told : List Told) (visit : Visit) : Type 0 where
+  pub dialogue : Dialogue
+  pub stands : StandsFor visit.link dialogue
+  -- These bytes were answered, and with those behind them a line has begun. The others were lost: they came behind the end of the session, or the visit ended before they were answered.
+  pub answered : List ℕ
+  pub lost : List ℕ
+  pub all : heard ≡ (answered ++ dialogue.begun) ++ lost
+  pub none_lost : is_over visit ≡ false → lost ≡ []
+  pub lives : ServedLives beginning.first beginning.store answered told dialogue.standing visit.selection
+  pub legal : Legal visit.selection.history
+  -- The output took all that was said, or the first bytes of it where it failed: then the visit is over.
+  pub sent : ℕ
+  pub took : Appends beginning.taken visit.taken (take sent (said_in told))
+  pub took_all : visit.failed ≡ false → Appends beginning.taken visit.taken (said_in told)
+  pub failed : visit.closed ≡ false → visit.failed ≡ false
+
+-- A client that was greeted has begun its visit.
+abbrev pub VisitsBegin : Type 0
+VisitsBegin = (most : Option ℕ) (folders : List Folder) (store : LockedStore) (taken : Option (List ℕ)) (visit : Visit) → Legal store.history → IsGreeted most folders store taken visit
+    → HasLived (record { first = greeted_with most folders; store = store; taken = taken }) [] [] visit
+
+-- What a call does of a visit that isn't over: it hears this piece, as `hear`, or has a look, as `look`. It may stop within, and its output may fail; then the visit is over, but for
+-- want of memory in a look.
+pub data HasCalled (piece : List ℕ) (old new : Visit) : Type 0 where
+  heard : (carried : List Carried) → Tells (Hears piece carried) SendsAll old new → new.closed ≡ old.closed → HasCalled piece old new
+  heard_in_part : (why : Lost) → Tells (HearsInPart new.room piece why) SendsAll old new → new.closed ≡ true → HasCalled piece old new
+  heard_and_cut : (carried : List Carried) → Tells (Hears piece carried) SendsFirst old new → HasCalled piece old new
+  heard_in_part_and_cut : (why : Lost) → Tells (HearsInPart new.room piece why) SendsFirst old new → HasCalled piece old new
+  looked : piece ≡ [] → Tells ShowsAll SendsAll old new → new.closed ≡ old.closed → HasCalled piece old new
+  looked_in_part : piece ≡ [] → Tells (ShowsInPart new.room) SendsAll old new → new.closed ≡ old.closed → HasCalled piece old new
+  looked_and_cut : piece ≡ [] → Tells ShowsAll SendsFirst old new → HasCalled piece old new
+  looked_in_part_and_cut : piece ≡ [] → Tells (ShowsInPart new.room) SendsFirst old new → HasCalled piece old new
+
+-- Whoever makes the call, and whatever others did since the one before: the visit goes on, and its client was told something more, or nothing.
+abbrev pub VisitsGoOn : Type 0
+VisitsGoOn = (beginning : Beginning) (heard piece : List ℕ) (told : List Told) (old new : Visit) → HasLived beginning heard told old → is_over old ≡ false → HasCalled piece old new
+    → (more : List Told) × HasLived beginning (heard ++ piece) (told ++ more) new
+
+-- So at each moment of a visit its client is right about what the session counts, and about flags.
+abbrev pub VisitorsKeepUp : Type 0
+VisitorsKeepUp = (beginning : Beginning) (heard : List ℕ) (told : List Told) (visit : Visit) → beginning.store.entered ≡ None → Stands beginning.first → HasLived beginning heard told visit
+    → IsRightAbout (counted_by visit.selection) (hears_all None told) × IsRightOnFlags (place_of visit.selection) (hears_all None told)
