@@ -26,7 +26,7 @@ LIMITS = {
     "per mille of clauses that begin with a line over 100 columns": 0,
     "lines of proofs": 86000,
     "lines of docs/PROVING.md": 300,
-    "lines of code, definitions and proofs": 167000,
+    "lines of code, definitions and proofs": 168000,
     "files that name an option (ring_max)": 50,
     "files that name a setting of serve (lmtp_port)": 33,
     "files that name a refusal of a copy (MailboxFull)": 39,

@@ -349,7 +349,7 @@ went_on : (whole : Type 0) (P : Moment → Moment → Type 0) (beginning : Begin
     → LeadsTo P old said new → ((before after : Moment) → P before after → Leads whole piece before after) → (new.closed ≡ false → whole) → Sent old said new
     → (more : List Told) × HasLived beginning (heard ++ piece) (told ++ more) new
 went_on whole P beginning heard piece told old new said L over leads by wholly sends =
-    let open = is_open old.closed old.link.session.ended over in
+    let still_open = is_open old.closed old.link.session.ended over in
     let next = leads L.dialogue L.stands in
     let led = by (moment L.dialogue old.selection []) (moment next.0 new.selection said) next.2 in
     let g = led.goes in
@@ -357,7 +357,7 @@ went_on whole P beginning heard piece told old new said L over leads by wholly s
     let more : List Told = w.told in
     let is : said ≡ flat_map bytes_in more = g.text ∙ w.wrote in
     let lives = lives_on beginning.first beginning.store L.lives w.lives in
-    let live = L.failed open.0 in
+    let live = L.failed still_open.0 in
     let before : Appends beginning.taken old.taken (said_in told) = L.took_all live in
     let some : Appends beginning.taken new.taken (said_in told ++ take sends.count said) = Appends-trans beginning.taken old.taken new.taken (said_in told) (take sends.count said) before sends.took in (
       more,
@@ -395,7 +395,7 @@ visits_begin most folders store taken v legal g = record {
   lives = subst (λ (p : LockedStore). ServedLives (greeted_with most folders) store [] [] (greeted_with most folders) p) (sym g.store) comes;
   legal = subst (λ (p : LockedStore). Legal p.history) (sym g.store) legal;
   sent = length (said_in []);
-  took = subst (λ (l : List ℕ). Appends taken v.taken l) (sym (take-length (said_in [])) ) greeted;
+  took = subst (λ (l : List ℕ). Appends taken v.taken l) (sym (take-length (said_in []))) greeted;
   took_all = λ live. greeted;
   failed = λ goes. g.live;
 }

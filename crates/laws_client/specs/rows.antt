@@ -4,3 +4,4 @@ pub mod WholeRows
 pub mod ClientRows
 pub mod AnswerRows
 pub mod FlagRows
+pub mod ServedRows

@@ -4,14 +4,15 @@ use Rattle.std.specs.Prelude.{All, if◌then◌else◌, slice_index_or}
 use Rattle.std.proofs.lemmas.Bool.Decides.{nat_tests}
 use Rattle.std.proofs.lemmas.List.{length-map}
 use Rattle.std.proofs.lemmas.List.Concat.{flat_map-append}
-use Rattle.std.proofs.lemmas.List.Elements.{Contains-append_cases}
+use Rattle.std.proofs.lemmas.List.Elements.{All-weaker, Contains-append_cases}
 use Rattle.delivery_token.specs.declared.Job.{Job}
 use Rattle.delivery_token.specs.declared.Verdict.{Verdict}
 use Rattle.delivery_token.specs.declared.Verdict.TheVariants.{Stored}
 use Rattle.envelope.specs.Directory.{Directory}
 use Rattle.house_history.specs.declared.event.Event.{Event}
 use Rattle.house_history.specs.Legal.{Legal, WasJudged}
-use Rattle.house_history.proofs.Standing.{keys_in_order}
+use Rattle.house_history.specs.Laws.{StandsAlone}
+use Rattle.house_history.proofs.Standing.{alone_there, keys_in_order}
 use Rattle.lane_work.specs.Account.{Premises, setting_at}
 use Rattle.lane_work.specs.Backing.{StandAsTold, WordsStand}
 use Rattle.lane_work.specs.Copies.{told}
@@ -29,7 +30,7 @@ use Rattle.shard_queue.specs.Lane.{of}
 use Rattle.shard_queue.specs.Permits.{history as taken_of}
 use Rattle.laws_relay.specs.Handed.{Between, handed, handed_over}
 use Rattle.laws_relay.specs.ReplyLaws.{IsInLine}
-use Rattle.laws_relay.specs.Served.{ConnectionStands, ServedConcludes, ServedRelaysConclude, ServersConclude, WorkersConclude, bytes_on, replies_on}
+use Rattle.laws_relay.specs.Served.{BerthsConclude, ConnectionStands, ServedConcludes, ServedRelaysConclude, ServersConclude, WorkersConclude, bytes_on, replies_on}
 use Rattle.laws_relay.proofs.FateLaws.{taken_there}
 use Rattle.laws_relay.proofs.Names.{settings_are_in_line}
 use Rattle.laws_relay.proofs.Positions.{none_at}
@@ -199,3 +200,25 @@ servers_conclude workers config finished left range faultless n worker =
     ap (λ (d : Directory). d.shards) left.set.directory ∙ sym left.shards ∙ sym (length-map finished.lanes.items taken_of) ∙ sym (length-map (histories finished) (of n)) in
     let many = left.workers in
     workers left.house n (left.mail n worker).line (slice_index_or (answers finished) n []) (map (of n) (histories finished)) finished.front in_line some lanes (left.mail n worker).served (left.backed n (omega (arith, worker, many)))
+
+-- ---- a berth
+
+pub berths_conclude : WordsStand → BerthsConclude
+berths_conclude words_stand config finished left range n berth under =
+    let some : 0 < left.house.directory.shards = subst (λ (d : Directory). 0 < d.shards) (sym left.set.directory) (let few = range.shards.0 in omega (arith, few)) in
+    let lanes : left.house.directory.shards ≡ length (map (of n) (histories finished)) =
+    ap (λ (d : Directory). d.shards) left.set.directory ∙ sym left.shards ∙ sym (length-map finished.lanes.items taken_of) ∙ sym (length-map (histories finished) (of n)) in
+    let has = left.clients n berth under in
+    let backed = left.backed n under in
+    let as_many : left.house.directory.shards ≡ length has.sent = lanes ∙ ap length has.ended ∙ length-map has.sent (λ entries. entries ++ End n ∷ []) in
+    let stand : StandAsTold n finished.front has.served.0 =
+    words_stand left.house.directory left.house.rooms n has.served.0 finished.front (slice_index_or (answers finished) n []) has.sent (map (of n) (histories finished)) some as_many has.served.2 has.ended backed in
+    record {
+      clients = has.clients;
+      copies = has.served.0;
+      appended = has.served.1;
+      stand = stand;
+      once = All-weaker (λ (one : Job × Verdict). (uid : ℕ) → one.1 ≡ Stored uid → WasJudged finished.front one.0 (Stored uid)) (λ (one : Job × Verdict). (uid : ℕ) → one.1 ≡ Stored uid → StandsAlone finished.front one.0 uid)
+          (λ one stood uid is. alone_there finished.front one.0 uid backed.legal (stood uid is)) has.served.0 stand.stood;
+      in_order = λ mailbox. keys_in_order finished.front mailbox n backed.legal;
+    }

@@ -1,9 +1,10 @@
 -- What a relay may conclude of the mail connections of a server, by the bytes that it sent and was told there.
-use Rattle.std.specs.Prelude.{◌≡◌, ◌<◌, ◌≤◌, ◌==◌, ◌⊎◌, ℕ, Bool, true, false, List, [], ◌++◌, AllPairs, Contains, Option, Some, None, length, slice_get, slice_index_or, if◌then◌else◌}
+use Rattle.std.specs.Prelude.{◌≡◌, ◌<◌, ◌≤◌, ◌==◌, ◌⊎◌, ℕ, Bool, true, false, List, [], ◌++◌, All, AllPairs, Contains, Option, Some, None, length, slice_get, slice_index_or, if◌then◌else◌}
 use Rattle.delivery_token.specs.Keys.{Below}
 use Rattle.delivery_token.specs.declared.CopyKey.{CopyKey}
 use Rattle.delivery_token.specs.declared.Job.{Job}
 use Rattle.delivery_token.specs.declared.Verdict.{Verdict}
+use Rattle.delivery_token.specs.declared.Verdict.TheVariants.{Stored}
 use Rattle.delivery_token.specs.declared.log.Noted.{Noted}
 use Rattle.envelope.specs.Directory.{Directory}
 use Rattle.house_history.specs.declared.event.Event.{Event}
@@ -11,7 +12,7 @@ use Rattle.house_history.specs.Events.{accepted_in, keys_of_seat}
 use Rattle.house_history.specs.Laws.{StandsAlone}
 use Rattle.house_history.specs.Legal.{Legal, Stands, WasJudged}
 use Rattle.lane_work.specs.Account.{Premises, closings_of, setting_at}
-use Rattle.lane_work.specs.Backing.{HaveStood, IsBacked}
+use Rattle.lane_work.specs.Backing.{HaveStood, IsBacked, StandAsTold}
 use Rattle.lane_work.specs.Copies.{told}
 use Rattle.lane_work.specs.Talk.{HasTaken, Judged}
 use Rattle.lmtp_machine.specs.declared.reply.Reply.{Reply}
@@ -23,7 +24,7 @@ use Rattle.settings.specs.Settings.{IsInRange, config_fault}
 use Rattle.settings.specs.declared.config.Config.{Config}
 use Rattle.shard_queue.specs.declared.lane.Entry.{Entry}
 use Rattle.serving_workers.specs.Finished.{Finished}
-use Rattle.serving_workers.specs.Leaving.{AreWritten, HasServedMail, HaveConversed, next, none, passed}
+use Rattle.serving_workers.specs.Leaving.{AreWritten, HasServedMail, HaveAppended, HaveConversed, next, none, passed}
 use Rattle.serving_workers.specs.Lines.{Spoken, Told}
 use Rattle.serving.specs.Left.{HasLeft}
 use Rattle.laws_relay.specs.Concluding.{IsTextOf, key_at, message_at}
@@ -118,6 +119,23 @@ WorkersConclude = (house : Premises) (seat : ℕ) (line : Told) (heard : List (E
 abbrev pub ServersConclude : Type 0
 ServersConclude = (config : Config) (finished : Finished) (left : HasLeft config finished) → IsInRange config → config_fault config ≡ None
     → (n : ℕ) (worker : n < config.workers) → WorkerConcludes left.house n finished.front (left.mail n worker).served.served.conversed
+
+-- ---- what clients append
+
+-- Of a berth: just those messages that its clients appended stand of which Stored was told. They are the very messages, in the mailboxes that were named, with their texts and flags, each once, under the UID
+-- that was told, and in no other mailbox; and in each mailbox they stand in the order in which they were appended.
+pub record BerthConcludes (seat : ℕ) (history : List Event) : Type 0 where
+  pub clients : ℕ
+  pub copies : List (Job × Verdict)
+  pub appended : HaveAppended seat clients copies
+  pub stand : StandAsTold seat history copies
+  pub once : All (λ (one : Job × Verdict). (uid : ℕ) → one.1 ≡ Stored uid → StandsAlone history one.0 uid) copies
+  pub in_order : (mailbox : ℕ) → AllPairs Below (keys_of_seat seat (accepted_in mailbox history))
+
+-- So it is of each berth of a server that stopped in order.
+abbrev pub BerthsConclude : Type 0
+BerthsConclude = (config : Config) (finished : Finished) → HasLeft config finished → IsInRange config
+    → (n : ℕ) → config.workers ≤ n → n < length finished.channels.items → BerthConcludes n finished.front
 
 -- ---- a line that tells what came and what was said
 

@@ -2,3 +2,4 @@ pub mod ReplyRows
 pub mod HandedRows
 pub mod RecordRows
 pub mod AccountRows
+pub mod ServedRows

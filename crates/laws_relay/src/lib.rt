@@ -12,4 +12,6 @@ pub use account_laws::{
 };
 pub use record_laws::relays_may_conclude;
 pub use reply_laws::{connections_are_known, messages_are_known, replies_are_read};
-pub use served_laws::{lines_conclude, served_relays_conclude, servers_conclude, workers_conclude};
+pub use served_laws::{
+    berths_conclude, lines_conclude, served_relays_conclude, servers_conclude, workers_conclude,
+};

@@ -1,7 +1,7 @@
 //! Laws of what a relay may conclude of a server, by the one history that all its threads share, as functions that do nothing but rest on the
 //! laws of the crates below.
 
-ghost use Rattle.laws_relay.specs.Served.{LinesConclude, ServedRelaysConclude, ServersConclude, WorkersConclude};
+ghost use Rattle.laws_relay.specs.Served.{BerthsConclude, LinesConclude, ServedRelaysConclude, ServersConclude, WorkersConclude};
 
 use crate::account_laws::connections_of_accounts_are_known;
 use crate::reply_laws::messages_are_known;
@@ -36,6 +36,14 @@ pub fn servers_conclude()
     ensures { ServersConclude }
 {
     workers_conclude();
+}
+
+/// Of each berth of such a server just those messages that its clients appended stand of which Stored was told: the very messages, each once,
+/// under the UID that was told, in the order in which they were appended.
+pub fn berths_conclude()
+    ensures { BerthsConclude }
+{
+    books_stand();
 }
 
 /// So it is of the line of each worker, where it tells what came and what was said: each connection that came in there is one that was served, with
