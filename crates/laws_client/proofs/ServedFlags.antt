@@ -79,7 +79,7 @@ place_at new here is = ap (λ (e : Option Entry). (place_in new.history e).log) 
 
 found_row : (old new : LockedStore) (uid : ℕ) (mark : Bool) (row : Option Row) (shown : List Change) → WasShown old shown → Holds old (Read uid mark) (Found row) new → OfToldFlags (HasNow (place_of new).log) (Read uid mark) (Found row)
 found_row old new uid mark None shown was h = tt
-found_row old new uid mark (Some row) shown was (is, (here, there, (found, left, (reads, text), k))) =
+found_row old new uid mark (Some row) shown was (is, (here, there, (found, left, (reads, text), k)), fits) =
     let was_here = shown_to old.history old.entered here shown there was in
     let n : found.mailbox.number ≡ here.mailbox = of_number found.mailbox here.handle reads.known.0 reads.event.found_kept reads.known.1 ∙ was_here.handle in
     let has : flags_at uid (changes_in here.mailbox new.history) ≡ Some row.flags =

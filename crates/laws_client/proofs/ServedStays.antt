@@ -1,5 +1,5 @@
 -- A session's handle, hold by hold.
-use Rattle.std.proofs.Common.{◌≡◌, ◌<◌, ◌≤◌, ◌+◌, ◌-◌, ◌++◌, ◌∙◌, ◌&&◌, ℕ, Bool, true, false, append-nil, append_assoc, List, [], ◌∷◌, length, length-append, length-drop, arith, refl, sym, ap, subst, Option, Some}
+use Rattle.std.proofs.Common.{◌≡◌, ◌+◌, ◌-◌, ◌++◌, ◌∙◌, ◌&&◌, ℕ, Bool, true, false, append-nil, append_assoc, List, [], ◌∷◌, length, length-append, length-drop, arith, refl, sym, ap, subst, Option, Some}
 use Rattle.std.specs.List.{list_all}
 use Rattle.change_ring.specs.declared.change.Change.{Change}
 use Rattle.cursor_set.specs.Cursors.{CursorHandle}

@@ -1,38 +1,39 @@
 -- The life of a visit, call by call.
-use Rattle.std.proofs.Common.{◌≡◌, ◌⊎◌, inl, inr, ℕ, ◌+◌, ◌<◌, ◌≤◌, ◌^◌, Bool, true, false, ◌&&◌, ◌||◌, not, List, [], ◌∷◌, ◌++◌, length, take, drop, refl, sym, subst, ap, ◌∙◌, arith, append-nil, append_assoc, Option, Some, None, is_some}
+use Rattle.std.proofs.Common.{◌≡◌, ◌⊎◌, inl, inr, ℕ, suc, ◌+◌, Bool, true, false, ◌&&◌, ◌||◌, not, List, [], ◌∷◌, ◌++◌, length, take, drop, refl, sym, subst, ap, ◌∙◌, arith, append-nil, append_assoc, Option, Some, None, is_some}
 use Rattle.std.specs.Prelude.{flat_map}
 use Rattle.std.specs.Io.KnownBytes.{Appends}
-use Rattle.std.proofs.KnownBytes.{Appends-nil, Appends-trans}
+use Rattle.std.proofs.KnownBytes.{Appends-trans}
 use Rattle.std.proofs.Math.Seq.{drop-length, take-add, take-length}
 use Rattle.std.proofs.lemmas.Grind.{flat_map-append}
 use Rattle.std.proofs.lemmas.List.{take-append-drop}
 use Rattle.line_io.specs.Wire.{crlf}
 use Rattle.delivery_token.specs.declared.Verdict.{Verdict}
 use Rattle.delivery_token.specs.declared.Verdict.TheVariants.{Stored, Refused as Declined}
-use Rattle.mailbox.specs.declared.clients.MailFault.{MailFault}
 use Rattle.house_history.specs.Legal.{HasUid, Legal}
 use Rattle.workers_sync.specs.Carried.{Carried}
 use Rattle.workers_sync.specs.declared.courier.Lost.{Lost}
 use Rattle.imap_session.specs.declared.standing.After.{After}
-use Rattle.imap_session.specs.Exchange.{Call, Answer, Enter, Look, Read, Count, Alter, Expunge, Feed, Leave, Entered, Looked, Found, Counted, Altered, Expunged, Fed, Left, Refused, Starved, Event, Standing, Turn, is_idling, may_send, nothing_more}
+use Rattle.imap_session.specs.Exchange.{Call, Answer, Enter, Look, Read, Count, Alter, Expunge, Feed, Leave, Entered, Looked, Found, Counted, Altered, Expunged, Fed, Left, Refused, Starved, Event, Standing, Turn, may_send, nothing_more}
 use Rattle.imap_session.specs.Commands.{greeting, turn_of_long_line, with_bytes}
 use Rattle.imap_session.specs.Store.{Met}
 use Rattle.imap_session.specs.Dialogue as dialogue
 use Rattle.imap_session.specs.Dialogue.{Answered, AnswersOne, Converses, Dialogue, Sends, StandsFor, spelled}
+use Rattle.settings.specs.Settings.{directory_for}
 use Rattle.session_thread.specs.Locks.{Holds, LockedStore}
 use Rattle.session_thread.specs.Life as life
 use Rattle.session_thread.specs.Life.{HasShown, HasTurn, Moment, Says, SaysFirst, SaysInPart, Speaks, TellsVerdict, moment}
 use Rattle.imap_stream.specs.Visits.{GoesOnShowing, Hears, HearsInPart, IsGreeted, LeadsTo, SendsAll, SendsFirst, ShowsAll, ShowsInPart, Tells, Visit, is_over}
 use Rattle.imap_stream.specs.Visits as visit
-use Rattle.laws_client.specs.Clients.{Told, bytes_in, hears_all}
+use Rattle.laws_client.specs.Clients.{Told, bytes_in}
 use Rattle.laws_client.specs.Commands.{IsPrinted}
 use Rattle.laws_client.specs.Lives.{IsSentFor}
 use Rattle.laws_client.specs.RecordTurns.{VerdictsArePrinted, told_line, told_of}
 use Rattle.laws_client.specs.Talks.{Happening, leads_to}
 use Rattle.laws_client.specs.Talks as talk
 use Rattle.laws_client.specs.Served.{ServedLives, comes, turns}
-use Rattle.laws_client.specs.ServedVisits.{Beginning, HasCalled, HasLived, VisitorsKeepUp, VisitsBegin, VisitsGoOn, greeted_with, said_in}
+use Rattle.laws_client.specs.ServedVisits.{Beginning, HasCalled, HasLived, VisitorsKeepUp, VisitorsStand, VisitsBegin, VisitsGoOn, greeted_with, said_in}
 use Rattle.laws_client.specs.ServedVisits as visits
+use Rattle.laws_client.proofs.Folded.{folders_plain, settings_can_be_printed}
 use Rattle.laws_client.proofs.Served.{never, served_lives_are_known, still}
 use Rattle.laws_client.proofs.ServedFlags.{served_lives_tell_flags}
 
@@ -92,12 +93,12 @@ legal_lives first began legal (turns {selection = selection} lives happening byt
 
 -- ---- lives that follow one another
 
-lives_on : (first : Standing) (began : LockedStore) {sent more : List ℕ} {told further : List Told} {now next : Standing} {selection later : LockedStore}
+lives_on : (first : Standing) (began : LockedStore) {sent : List ℕ} {told : List Told} {now : Standing} {selection : LockedStore} {more : List ℕ} {further : List Told} {next : Standing} {later : LockedStore}
     → ServedLives first began sent told now selection → ServedLives now selection more further next later → ServedLives first began (sent ++ more) (told ++ further) next later
-lives_on first began {sent} {more} {told} {further} {now} {next} {selection} {later} one comes =
+lives_on first began {sent} {told} {now} {selection} one comes =
     subst (λ (s : List ℕ). ServedLives first began s (told ++ []) now selection) (sym (append-nil sent))
     (subst (λ (t : List Told). ServedLives first began sent t now selection) (sym (append-nil told)) one)
-lives_on first began {sent} {more} {told} {further} {now} {next} {selection} {later} one (turns {sent = s} {told = t} {now = n} {selection = x} lives happening bytes turn new sends printed e met) =
+lives_on first began {sent} {told} {now} {selection} one (turns {sent = s} {told = t} {now = n} {selection = x} lives happening bytes turn new sends printed e met) =
     let last : Told = told_of n happening turn.bytes in
     subst (λ (bs : List ℕ). ServedLives first began bs (told ++ (t ++ last ∷ [])) turn.standing new) (append_assoc sent s bytes)
     (subst (λ (ts : List Told). ServedLives first began ((sent ++ s) ++ bytes) ts turn.standing new) (append_assoc told t (last ∷ []))
@@ -332,8 +333,10 @@ is_open true ended e = cc
 is_open false ended e = (refl, e)
 
 take_behind : (a b : List ℕ) (n : ℕ) → take (length a + n) (a ++ b) ≡ a ++ take n b
-take_behind [] b n = refl
-take_behind (x ∷ a) b n = ap (λ (l : List ℕ). x ∷ l) (take_behind a b n)
+take_behind [] b n = ap (λ (k : ℕ). take k b) (omega arith)
+take_behind (x ∷ a) b n =
+    let on : suc (length a) + n ≡ suc (length a + n) = omega arith in
+    ap (λ (k : ℕ). take k (x ∷ (a ++ b))) on ∙ ap (λ (l : List ℕ). x ∷ l) (take_behind a b n)
 
 said_more : (told more : List Told) → said_in (told ++ more) ≡ said_in told ++ flat_map bytes_in more
 said_more told more = ap (λ (l : List ℕ). greeting ++ l) (flat_map-append bytes_in told more) ∙ sym (append_assoc greeting (flat_map bytes_in told) (flat_map bytes_in more))
@@ -424,6 +427,9 @@ visits_go_on beginning heard piece told old new L over (visits.looked_and_cut no
     looking beginning heard piece told new none (went_on Wholly ShowsAll beginning heard [] told old new t.said L over t.leads looks_leads (λ goes. tt) (sent_first old t.said new t.sends))
 visits_go_on beginning heard piece told old new L over (visits.looked_in_part_and_cut none t) =
     looking beginning heard piece told new none (went_on Wholly (ShowsInPart new.room) beginning heard [] told old new t.said L over t.leads (looks_in_part new.room) (λ goes. tt) (sent_first old t.said new t.sends))
+
+pub visitors_stand : VisitorsStand
+visitors_stand config most user range faultless = record { tags = (tt, tt, tt); names = folders_plain (directory_for config) user (settings_can_be_printed config range faultless).names }
 
 pub visitors_keep_up : VisitorsKeepUp
 visitors_keep_up beginning heard told v none stands L = (

@@ -1,5 +1,5 @@
 -- A client of a session over mailboxes behind locks, as a server's: what its session counts, and when the client is right about that.
-use Rattle.std.specs.Prelude.{◌≡◌, ◌⊎◌, ℕ, ◌<◌, ◌≤◌, ◌^◌, true, List, [], ◌∷◌, ◌++◌, length, map, All, Option, Some, None, IfSome, Ok}
+use Rattle.std.specs.Prelude.{◌≡◌, ◌⊎◌, ℕ, ◌<◌, ◌≤◌, ◌^◌, true, List, [], ◌∷◌, ◌++◌, length, map, Option, Some, None, IfSome, Ok}
 use mathlib.Core.List.{IsPrefix}
 use Rattle.change_ring.specs.declared.change.Change.{Change}
 use Rattle.change_ring.specs.Log as change
@@ -13,7 +13,7 @@ use Rattle.imap_grammar.specs.declared.command.Command.{Command}
 use Rattle.imap_grammar.specs.Verbs.{verb_of}
 use Rattle.imap_session.specs.declared.standing.Selected.{Selected}
 use Rattle.imap_session.specs.declared.texts.ResponseText.TheVariants as texts
-use Rattle.imap_session.specs.Exchange.{Answer, Counted, Entered, Event, Fed, Feed, Found, Standing, Turn, kept_tag, tagged}
+use Rattle.imap_session.specs.Exchange.{Answer, Event, Fed, Feed, Standing, Turn, kept_tag, tagged}
 use Rattle.imap_session.specs.Commands.{turn_of, unlimited}
 use Rattle.imap_session.specs.Texts.{response_text}
 use Rattle.imap_session.specs.Store.{Met}
@@ -24,7 +24,6 @@ use Rattle.laws_client.specs.Beliefs.{IsRight}
 use Rattle.laws_client.specs.Client.{Client, Known, knowing}
 use Rattle.laws_client.specs.Clients.{Answer as Answer_to, IsRightAbout, Told, has_ok, hears, hears_all}
 use Rattle.laws_client.specs.Current.{shows_all}
-use Rattle.laws_client.specs.ListTurns.{IsCounted}
 use Rattle.laws_client.specs.Lives.{IsSentFor}
 use Rattle.laws_client.specs.RecordTurns.{Stands, VerdictsArePrinted, told_of}
 use Rattle.laws_client.specs.Talks.{Happening, leads_to}

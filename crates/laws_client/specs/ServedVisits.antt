@@ -1,12 +1,15 @@
 -- The visits of a server's clients, call by call, as lives of their sessions.
-use Rattle.std.specs.Prelude.{◌≡◌, ℕ, Bool, true, false, List, [], ◌∷◌, ◌++◌, take, flat_map, Option, None}
+use Rattle.std.specs.Prelude.{◌≡◌, ℕ, true, false, List, [], ◌++◌, take, flat_map, Option, None}
 use Rattle.std.specs.Io.KnownBytes.{Appends}
 use Rattle.house_history.specs.Legal.{Legal}
 use Rattle.workers_sync.specs.Carried.{Carried}
 use Rattle.workers_sync.specs.declared.courier.Lost.{Lost}
+use Rattle.settings.specs.Settings.{IsInRange, config_fault, directory_for}
+use Rattle.settings.specs.declared.config.Config.{Config}
 use Rattle.imap_session.specs.Exchange.{Folder, Standing, nothing_sent}
 use Rattle.imap_session.specs.Commands.{greeting}
 use Rattle.imap_session.specs.Dialogue.{Dialogue, StandsFor}
+use Rattle.imap_session.specs.Folders.{folders_of}
 use Rattle.session_thread.specs.Locks.{LockedStore}
 use Rattle.imap_stream.specs.Visits.{Hears, HearsInPart, IsGreeted, SendsAll, SendsFirst, ShowsAll, ShowsInPart, Tells, Visit, is_over}
 use Rattle.laws_client.specs.Clients.{IsRightAbout, Told, bytes_in, hears_all}
@@ -67,6 +70,10 @@ pub data HasCalled (piece : List ℕ) (old new : Visit) : Type 0 where
 abbrev pub VisitsGoOn : Type 0
 VisitsGoOn = (beginning : Beginning) (heard piece : List ℕ) (told : List Told) (old new : Visit) → HasLived beginning heard told old → is_over old ≡ false → HasCalled piece old new
     → (more : List Told) × HasLived beginning (heard ++ piece) (told ++ more) new
+
+-- What a session has to know at first it knows, of whichever user it is, where nothing is wrong with the settings: the names of its mailboxes stand in lines.
+abbrev pub VisitorsStand : Type 0
+VisitorsStand = (config : Config) (most : Option ℕ) (user : List ℕ) → IsInRange config → config_fault config ≡ None → Stands (greeted_with most (folders_of (directory_for config) user))
 
 -- So at each moment of a visit its client is right about what the session counts, and about flags.
 abbrev pub VisitorsKeepUp : Type 0

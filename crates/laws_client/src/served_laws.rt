@@ -4,7 +4,7 @@
 
 ghost use Rattle.laws_client.specs.ServedFlags.{ServedFlagsAreCurrent, ServedFlagsAreFound, ServedFlagsHaveMoments, ServedLivesTellFlags, ServedTurnTellsFlags};
 ghost use Rattle.laws_client.specs.ServedStays.{ServedSessionsStay};
-ghost use Rattle.laws_client.specs.ServedVisits.{VisitorsKeepUp, VisitsBegin, VisitsGoOn};
+ghost use Rattle.laws_client.specs.ServedVisits.{VisitorsKeepUp, VisitorsStand, VisitsBegin, VisitsGoOn};
 ghost use Rattle.laws_client.specs.Served.{CursorsStaySmall, FeedsReachTheEnd, ServedCommandsMakeCurrent, ServedCommandsReachTheEnd, ServedDoneReachesTheEnd, ServedListsAreCurrent, ServedLivesAreKnown, ServedTextsStay, ServedTurnIsKnown};
 
 /// Between a SELECT and what ends it such a session stays in that mailbox, with the handle that it was given there: of that only the cursor's
@@ -78,6 +78,9 @@ pub fn served_visits_are_lives()
     // A visit whose client was greeted begins such a life, and each call of a visit that isn't over goes on with it.
     ensures begin { VisitsBegin }
     ensures go_on { VisitsGoOn }
+
+    // What it asks of the session's mailboxes is so where nothing is wrong with the settings.
+    ensures stand { VisitorsStand }
 
     // At each moment of it, whoever knows which of its lines were SELECT, EXAMINE, CLOSE or UNSELECT is right.
     ensures right { VisitorsKeepUp }

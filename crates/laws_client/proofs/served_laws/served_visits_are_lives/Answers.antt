@@ -1,4 +1,4 @@
-use Rattle.laws_client.proofs.ServedVisits.{visitors_keep_up, visits_begin, visits_go_on}
+use Rattle.laws_client.proofs.ServedVisits.{visitors_keep_up, visitors_stand, visits_begin, visits_go_on}
 use Rattle.laws_client.proofs.served_laws.served_visits_are_lives.Goals as goal
 
 pub returns-clause-begin : goal.returns-clause-begin
@@ -6,6 +6,9 @@ returns-clause-begin c = visits_begin
 
 pub returns-clause-go_on : goal.returns-clause-go_on
 returns-clause-go_on c = visits_go_on
+
+pub returns-clause-stand : goal.returns-clause-stand
+returns-clause-stand c = visitors_stand
 
 pub returns-clause-right : goal.returns-clause-right
 returns-clause-right c = visitors_keep_up
