@@ -8,7 +8,6 @@ use Rattle.std.proofs.lemmas.Option.{none-some}
 use Rattle.change_ring.specs.declared.change.Change.{Change}
 use Rattle.change_ring.specs.declared.change.Flags.{Flags}
 use Rattle.cursor_set.specs.Lines.{lines, position}
-use Rattle.delivery_token.specs.declared.Refusal.{Refusal}
 use Rattle.delivery_token.specs.declared.Verdict.{Verdict}
 use Rattle.delivery_token.specs.declared.Verdict.TheVariants as verdicts
 use Rattle.mailbox.specs.declared.clients.MailFault.{MailFault}
@@ -43,7 +42,7 @@ use Rattle.laws_client.proofs.Turns.{the_turn}
 use Rattle.laws_client.proofs.Untold.{folder_plain}
 use Rattle.laws_client.specs.Cuts.{EndsItself, IsOneAnswer, SaysBye, ends, leaves_open, opens}
 use Rattle.laws_client.proofs.CutBytes.{Ends, Passes, both_pass, passes_none, then_ends}
-use Rattle.laws_client.proofs.CutTexts.{bye_passes, continuing_passes, text_end, untagged_passes, flags_pass, lines_pass, list_passes, opening_passes, plain_end, plus_passes, row_passes, star_passes, status_passes, tagged_ends}
+use Rattle.laws_client.proofs.CutTexts.{bye_passes, continuing_passes, text_end, untagged_passes, flags_pass, lines_pass, list_passes, opening_passes, plain_end, row_passes, status_passes, tagged_ends}
 use Rattle.laws_client.proofs.LastLines.{IsWord}
 use Rattle.laws_client.proofs.LastTurns.{appended_inner}
 use Rattle.imap_session.specs.declared.texts.ResponseText.TheVariants as texts

@@ -1,6 +1,6 @@
 -- The answers into which a record cuts what was printed are those that the bytes allow.
 use Rattle.std.proofs.Common.{◌≡◌, inl, inr, ℕ, Bool, true, false, List, [], ◌∷◌, ◌++◌, refl, sym, ap, ◌∙◌, subst, Option, Some, None}
-use Rattle.std.specs.Prelude.{Ok, codes, flat_map, if◌then◌else◌}
+use Rattle.std.specs.Prelude.{Ok, flat_map, if◌then◌else◌}
 use Rattle.mailbox.specs.declared.clients.Row.{Row}
 use Rattle.world.specs.World.{Config, Event as WorldEvent, IsWorld, World}
 use Rattle.imap_session.specs.Commands.{greeting}

@@ -1,22 +1,21 @@
 -- What a session over locks was shown since its SELECT, by small histories: what the definitions say of them, and what they refuse.
-use Rattle.std.specs.Prelude.{◌≡◌, ℕ, codes, true, false, List, [], ◌∷◌, None, Some, Option}
+use Rattle.std.specs.Prelude.{◌≡◌, ℕ, codes, true, false, List, [], ◌∷◌, None, Some}
 use Rattle.std.proofs.Common.{refl, arith}
 use Rattle.change_ring.specs.declared.change.Change.{Change}
 use Rattle.change_ring.specs.declared.change.Change.TheVariants.{Add, Gone, Flags as SetFlags}
 use Rattle.change_ring.specs.declared.change.Flags.{Flags}
 use Rattle.change_ring.specs.Log.{no_flags}
-use Rattle.delivery_token.specs.declared.CopyKey.{CopyKey}
 use Rattle.delivery_token.specs.declared.Job.{Job}
 use Rattle.delivery_token.specs.declared.Verdict.TheVariants.{Stored, Refused as Declined}
 use Rattle.delivery_token.specs.declared.Refusal.TheVariants.{Full}
 use Rattle.mailbox.specs.declared.clients.MailFault.TheVariants.{NoMemory}
 use Rattle.house_history.specs.declared.event.Event.{Event}
-use Rattle.house_history.specs.declared.event.Event.TheVariants.{Sent, Withdrawn, Judged, Changed}
+use Rattle.house_history.specs.declared.event.Event.TheVariants.{Sent, Judged, Changed}
 use Rattle.house_history.specs.declared.event.Step.TheVariants as steps
 use Rattle.house_history.specs.Events.{changes_in}
 use Rattle.imap_session.specs.Exchange as ask
 use Rattle.session_thread.specs.declared.locked_store.Entry.{Entry}
-use Rattle.session_thread.specs.SinceSelect.{IsUpToCursor, WasShownIn, shown_since}
+use Rattle.session_thread.specs.SinceSelect.{WasShownIn, shown_since}
 use Rattle.laws_client.specs.Served.{counted_in, messages_in}
 
 abbrev pub seen : Flags
