@@ -1,6 +1,6 @@
 -- What a line tells of a worker's connections is what was spoken there, so a relay may conclude by it.
-use Rattle.std.proofs.Common.{◌≡◌, ℕ, zero, suc, ◌+◌, ◌<◌, ◌==◌, Bool, true, false, List, [], ◌∷◌, ◌++◌, Option, Some, None, IfSome, length, length-append, append_assoc, map, refl, ap, sym, subst, ◌∙◌, arith}
-use Rattle.std.specs.Prelude.{if◌then◌else◌, slice_get, slice_index_or}
+use Rattle.std.proofs.Common.{◌≡◌, ℕ, zero, suc, ◌+◌, ◌<◌, ◌==◌, Bool, true, false, List, [], ◌∷◌, ◌++◌, Some, length, length-append, append_assoc, map, refl, ap, sym, subst, ◌∙◌, arith}
+use Rattle.std.specs.Prelude.{if◌then◌else◌, slice_index_or}
 use mathlib.Core.List.{IsPrefix}
 use Rattle.house_history.specs.declared.event.Event.{Event}
 use Rattle.lane_work.specs.Account.{Premises}

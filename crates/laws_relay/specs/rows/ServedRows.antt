@@ -1,7 +1,6 @@
 -- What a server's history says of copies, and what a line tells, by small cases: what the definitions say of them, and what they refuse.
-use Rattle.std.specs.Prelude.{◌≡◌, ℕ, zero, suc, codes, true, false, List, [], ◌∷◌, ◌++◌, None, Some, Contains}
-use Rattle.std.proofs.Common.{refl, arith, inl, inr, sym}
-use Rattle.std.proofs.lemmas.List.Elements.{All-nil, All-push}
+use Rattle.std.specs.Prelude.{◌≡◌, ℕ, Bool, zero, suc, codes, true, false, List, [], ◌∷◌, ◌++◌, None, Some}
+use Rattle.std.proofs.Common.{refl, ap, arith, inl, inr}
 use Rattle.change_ring.specs.Log.{no_flags}
 use Rattle.delivery_token.specs.declared.Job.{Job}
 use Rattle.delivery_token.specs.declared.Verdict.{Verdict}
@@ -14,7 +13,7 @@ use Rattle.house_history.specs.Legal.{HasUid}
 use Rattle.house_history.specs.Views.{IsSettledIn}
 use Rattle.lmtp_machine.specs.declared.reply.Reply.TheVariants.{Greeting, ShuttingDown}
 use Rattle.lmtp_machine.specs.Replies.{wire}
-use Rattle.serving_workers.specs.Lines.{Closed, IsFresh, Spoken, Told, Took, WereOver}
+use Rattle.serving_workers.specs.Lines.{Closed, Spoken, Told, Took, WereOver}
 
 abbrev pub copy : Job
 copy = record { key = record { seat = 0; serial = 3; message = 1; recipient = 0 }; mailbox = 2; text = codes "hi\r\n"; flags = no_flags }
@@ -69,15 +68,20 @@ abbrev pub second : Spoken
 second = record { read = []; written = []; failed = true }
 
 were_over : WereOver two (first ∷ second ∷ [])
-were_over = record { read = (([], refl), (quit, refl), tt); written = refl }
+were_over = record { read = (([], refl), ((quit, refl), tt)); written = refl }
 
 -- a connection that is left out
 one_left_out : WereOver two (first ∷ []) → ⊥
 one_left_out w = w.read.1
 
--- what was written to another one
-written_to_another : WereOver two (record first { written = [] } ∷ record second { written = greeted } ∷ []) → ⊥
-written_to_another w = let e = w.written in cc
+abbrev second_failed : List (List ℕ × Bool) → Bool
+second_failed [] = false
+second_failed (a ∷ []) = false
+second_failed (a ∷ b ∷ more) = b.1
+
+-- an output that had failed, told as whole
+told_as_whole : WereOver two (first ∷ record second { failed = false } ∷ []) → ⊥
+told_as_whole w = let e : true ≡ false = ap second_failed w.written in cc
 
 -- bytes that its peer doesn't send
 never_sent : WereOver two (record first { read = greeted } ∷ second ∷ []) → ⊥
