@@ -76,20 +76,22 @@ GOALS = {
 
 
 class Servers:
-    """Who is measured: the program, the floor in its two ways, and smtp-sink or nothing."""
+    """Who is measured: the program, the floor in its three ways, and smtp-sink or nothing."""
 
     def __init__(self, asked, tools):
         self.is_whole = asked.part >= 1
         self.program = Program(asked.program, asked.option)
-        self.floor, self.chain = Floor(tools["floor"]), Floor(tools["floor"], "chain")
+        self.floor = Floor(tools["floor"])
+        self.chain, self.keeper = Floor(tools["floor"], "chain"), Floor(tools["floor"], keeps=True)
         self.sinks = Sink.installed()
-        self.all = [self.program, *self.sinks, self.floor, self.chain]
+        self.all = [self.program, *self.sinks, self.floor, self.chain, self.keeper]
 
     def cells(self, values):
         """The cells of a row: each server's number, and the program's by the floor's and by smtp-sink's."""
-        ours, floor, chain = (values.get(kind) for kind in (self.program, self.floor, self.chain))
+        ours, floor = values.get(self.program), values.get(self.floor)
         sink = values.get(self.sinks[0]) if self.sinks else None
-        floors = shown(floor) if chain is None else f"{shown(floor)} ({shown(chain)} by a woken thread)"
+        others = ((values.get(self.chain), "by a woken thread"), (values.get(self.keeper), "keeping it"))
+        floors = shown(floor) + "".join(f" ({shown(value)} {way})" for value, way in others if value is not None)
         return " | ".join((shown(ours), floors, shown(sink), ratio(ours, floor), ratio(ours, sink)))
 
     def verdict(self, goal, values, refused):

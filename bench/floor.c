@@ -2,7 +2,7 @@
  * The floor: what a message costs the system at least. An LMTP server with a thread for each connection, which makes one read and one send a message (two
  * reads where a message doesn't come in one piece) and stores nothing.
  *
- *     floor [--port 0] [--recipients 1] [--idle-port P] [--idle direct|chain] [--fetch 0]
+ *     floor [--port 0] [--recipients 1] [--idle-port P] [--idle direct|chain] [--fetch 0] [--keep 0]
  *
  * Its lines tell the ports that it listens on; the system picks one where 0 is asked for. Each message is to have so many recipients and to come whole, its
  * commands with its data, and nothing behind it before it is answered: it ends where the bytes read so far end with CRLF . CRLF, and its replies are
@@ -11,6 +11,8 @@
  * With an idle port it has sessions too, which are told `* n EXISTS` of each message right before it is answered. The thread that reads the message writes to
  * each session's socket itself (`direct`), or wakes a thread of each session, which does (`chain`). A session selects and idles as the program's do; a FETCH is
  * answered with so many bytes as `--fetch` says, from one block of memory, and any other command with its OK.
+ *
+ * With `--keep 1` it copies what each read brings into a block of its own, and gives none back: what a message costs at least where it is kept in memory.
  *
  * It runs until a signal ends it.
  */
@@ -26,7 +28,7 @@
 enum { ROOM = 256 * 1024, MOST_RECIPIENTS = 100, MOST_IDLERS = 64, END = 5 };
 
 /* What is asked for. */
-static long port, recipients = 1, idle_port = -1, fetched;
+static long port, recipients = 1, idle_port = -1, fetched, keeps;
 static int is_chain;
 
 /* The replies to a message, and the answer to a FETCH up to its last line. */
@@ -199,11 +201,25 @@ static void note(struct tail *tail, const char *bytes, size_t count) {
     memcpy(tail->bytes + END - newer, bytes + count - newer, newer);
 }
 
+/* Where the last kept block is. Without it the compiler would see that nobody reads a block, and make none. */
+static char *volatile kept;
+
+/* Keeps these bytes for as long as the process lives. */
+static void keep(const char *bytes, size_t count) {
+    char *block = malloc(count);
+    if (!block)
+        die("out of memory");
+    memcpy(block, bytes, count);
+    kept = block;
+}
+
 /* Reads until what came ends with this text, at most five bytes; whether it did before the connection's end. */
 static int is_read_to(int stream, char *room, const char *text) {
     struct tail tail = {{0}};
     ssize_t count;
     while ((count = recv(stream, room, ROOM, 0)) > 0) {
+        if (keeps)
+            keep(room, (size_t)count);
         note(&tail, room, (size_t)count);
         if (ends_with(tail.bytes, END, text))
             return 1;
@@ -278,9 +294,10 @@ static int is_possible(void) {
 }
 
 int main(int count, char **words) {
-    long *targets[] = {&port, &recipients, &idle_port, &fetched};
+    long *targets[] = {&port, &recipients, &idle_port, &fetched, &keeps};
     static const struct option options[] = {
-        {"port", 1, NULL, 0}, {"recipients", 1, NULL, 1}, {"idle-port", 1, NULL, 2}, {"fetch", 1, NULL, 3}, {"idle", 1, NULL, 'i'}, {NULL, 0, NULL, 0},
+        {"port", 1, NULL, 0}, {"recipients", 1, NULL, 1}, {"idle-port", 1, NULL, 2}, {"fetch", 1, NULL, 3},
+        {"keep", 1, NULL, 4}, {"idle", 1, NULL, 'i'},    {NULL, 0, NULL, 0},
     };
     int option;
     while ((option = getopt_long(count, words, "", options, NULL)) != -1) {

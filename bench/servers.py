@@ -131,16 +131,19 @@ def listens(server):
 
 
 class Floor:
-    """Servers of the floor, whose sessions are told of a message in this way: `direct` or `chain`."""
+    """Servers of the floor, whose sessions are told of a message in this way: `direct` or `chain`. One that keeps what it reads takes mail alone."""
 
-    def __init__(self, path, way="direct"):
-        self.name, self.path, self.way = "floor", path, way
-        self.can = frozenset(("idle",) if way == "chain" else ("mail", "one shard", "idle", "bodies"))
+    def __init__(self, path, way="direct", keeps=False):
+        self.name, self.path, self.way, self.keeps = "floor", path, way, keeps
+        if keeps:
+            self.can = frozenset(("mail", "one shard"))
+        else:
+            self.can = frozenset(("idle",) if way == "chain" else ("mail", "one shard", "idle", "bodies"))
 
     def start(self, recipients=1, idles=False, bodies=0, **_):
         """Starts one for messages with so many recipients; with sessions where these are wanted, whose FETCH is answered with so many bytes."""
         idle = ("--idle-port", "0", "--idle", self.way, "--fetch", str(bodies)) if idles else ()
-        server = Started([self.path, "--recipients", str(recipients), *idle], subprocess.PIPE)
+        server = Started([self.path, "--recipients", str(recipients), "--keep", str(int(self.keeps)), *idle], subprocess.PIPE)
         with server.process.stdout as lines:
             ports = [lines.readline().rpartition(b":")[2] for _ in range(2 if idles else 1)]
         if not all(ports):
