@@ -11,7 +11,7 @@ use Rattle.lmtp_machine.specs.Replies.{wire}
 use Rattle.serving_workers.specs.Leaving.{AreWritten, HaveConversed, all_written, next, none, passed}
 use Rattle.serving_workers.specs.Lines.{AreRead, Spoken, Told, WereOver}
 use Rattle.laws_relay.specs.Handed.{handed_over}
-use Rattle.laws_relay.specs.Served.{ConnectionConcludes, LineConcludes, LinesConclude, ServedConcludes, ServersConclude, WorkerConcludes, bytes_on, replies_on}
+use Rattle.laws_relay.specs.Served.{AreReplies, nothing_said, replied, ConnectionConcludes, LineConcludes, LinesConclude, ServedConcludes, ServersConclude, WorkerConcludes, bytes_on, replies_on}
 use Rattle.laws_relay.proofs.ServedWorkers.{earlier, is_this}
 
 abbrev quiet : Spoken
@@ -56,12 +56,13 @@ written_count (s ∷ spoken) = ap suc (written_count spoken)
 
 -- ---- what was spoken on each connection
 
--- these bytes were taken of it, and perhaps more was read, and these replies were written
-record WasSpoken (host : List ℕ) (bytes : List ℕ) (replies : List Reply) (one : Spoken) : Type 0 where
+-- these bytes were taken of it, and perhaps more was read, and these are the replies to them, which were written
+record WasSpoken (house : Premises) (seat serial : ℕ) (bytes : List ℕ) (replies : List Reply) (one : Spoken) : Type 0 where
   dropped : List ℕ
   phase : Phase
   read : one.read ≡ bytes ++ dropped
-  written : AreWritten host bytes replies phase one.written one.failed
+  are : AreReplies house seat serial bytes replies phase
+  written : AreWritten house.host bytes replies phase one.written one.failed
 
 spoken_count : {house : Premises} {seat connections : ℕ} {spoken : List Spoken} {judged : List Judged} → HaveConversed house seat connections spoken judged → length spoken ≡ connections
 spoken_count none = refl
@@ -70,32 +71,33 @@ spoken_count (next {n} {spoken} bytes replies more at dropped written failed bef
     length-append spoken (record { read = bytes ++ dropped; written = written; failed = failed } ∷ []) ∙ ap (λ k. k + 1) (spoken_count before)
 
 each_spoken : {house : Premises} {seat connections : ℕ} {spoken : List Spoken} {judged : List Judged} (conversed : HaveConversed house seat connections spoken judged) (serial : ℕ) → serial < connections
-    → WasSpoken house.host (bytes_on conversed serial) (replies_on conversed serial) (slice_index_or spoken serial quiet)
+    → WasSpoken house seat serial (bytes_on conversed serial) (replies_on conversed serial) (slice_index_or spoken serial quiet)
 each_spoken none serial under = absurd (omega (arith, under))
-each_spoken {house} (passed {n} {spoken} before) serial under = by (λ u. each_spoken before serial u) (serial == n) refl
+each_spoken {house} {seat} (passed {n} {spoken} before) serial under = by (λ u. each_spoken before serial u) (serial == n) refl
   where
-    by : (serial < n → WasSpoken house.host (bytes_on before serial) (replies_on before serial) (slice_index_or spoken serial quiet)) → (b : Bool) → (serial == n) ≡ b
-        → WasSpoken house.host (if b then [] else bytes_on before serial) (if b then [] else replies_on before serial) (slice_index_or (spoken ++ quiet ∷ []) serial quiet)
+    by : (serial < n → WasSpoken house seat serial (bytes_on before serial) (replies_on before serial) (slice_index_or spoken serial quiet)) → (b : Bool) → (serial == n) ≡ b
+        → WasSpoken house seat serial (if b then [] else bytes_on before serial) (if b then [] else replies_on before serial) (slice_index_or (spoken ++ quiet ∷ []) serial quiet)
     by others true this =
-        subst (WasSpoken house.host [] []) (sym (at_last spoken quiet serial quiet (is_this serial n this ∙ sym (spoken_count before))))
-        (record { dropped = []; phase = Start; read = refl; written = all_written })
+        subst (WasSpoken house seat serial [] []) (sym (at_last spoken quiet serial quiet (is_this serial n this ∙ sym (spoken_count before))))
+        (record { dropped = []; phase = Start; read = refl; are = nothing_said; written = all_written })
     by others false other =
         let u = earlier serial n under other in
-        subst (WasSpoken house.host (bytes_on before serial) (replies_on before serial))
+        subst (WasSpoken house seat serial (bytes_on before serial) (replies_on before serial))
         (sym (at_front spoken (quiet ∷ []) serial quiet (let e = spoken_count before in omega (arith, u, e)))) (others u)
-each_spoken {house} (next {n} {spoken} bytes replies more at dropped written failed before taken are) serial under = by (λ u. each_spoken before serial u) (serial == n) refl
+each_spoken {house} {seat} (next {n} {spoken} bytes replies more at dropped written failed before taken are) serial under = by (λ u. each_spoken before serial u) (serial == n) refl
   where
     one : Spoken
     one = record { read = bytes ++ dropped; written = written; failed = failed }
 
-    by : (serial < n → WasSpoken house.host (bytes_on before serial) (replies_on before serial) (slice_index_or spoken serial quiet)) → (b : Bool) → (serial == n) ≡ b
-        → WasSpoken house.host (if b then bytes else bytes_on before serial) (if b then replies else replies_on before serial) (slice_index_or (spoken ++ one ∷ []) serial quiet)
+    by : (serial < n → WasSpoken house seat serial (bytes_on before serial) (replies_on before serial) (slice_index_or spoken serial quiet)) → (b : Bool) → (serial == n) ≡ b
+        → WasSpoken house seat serial (if b then bytes else bytes_on before serial) (if b then replies else replies_on before serial) (slice_index_or (spoken ++ one ∷ []) serial quiet)
     by others true this =
-        subst (WasSpoken house.host bytes replies) (sym (at_last spoken one serial quiet (is_this serial n this ∙ sym (spoken_count before))))
-        (record { dropped = dropped; phase = at.standing.phase; read = refl; written = are })
+        let here : AreReplies house seat serial bytes replies at.standing.phase = subst (λ (k : ℕ). AreReplies house seat k bytes replies at.standing.phase) (sym (is_this serial n this)) (replied more at taken) in
+        subst (WasSpoken house seat serial bytes replies) (sym (at_last spoken one serial quiet (is_this serial n this ∙ sym (spoken_count before))))
+        (record { dropped = dropped; phase = at.standing.phase; read = refl; are = here; written = are })
     by others false other =
         let u = earlier serial n under other in
-        subst (WasSpoken house.host (bytes_on before serial) (replies_on before serial))
+        subst (WasSpoken house seat serial (bytes_on before serial) (replies_on before serial))
         (sym (at_front spoken (one ∷ []) serial quiet (let e = spoken_count before in omega (arith, u, e)))) (others u)
 
 -- ---- the line
@@ -112,6 +114,7 @@ one_concludes {house} {seat} history conversed worker serial under came read =
       replies = replies_on conversed serial;
       phase = was.phase;
       read = (was.dropped ++ read.0, is);
+      are = was.are;
       written = was.written;
       concludes = λ front untold e.
           subst (λ (l : List ℕ). ServedConcludes house.directory seat serial history (handed_over l front) (handed_over l all)) is (worker.each serial under (was.dropped ++ read.0) front untold e);

@@ -214,9 +214,6 @@ berths_conclude words_stand config finished left range n berth under =
     let stand : StandAsTold n finished.front has.served.0 =
     words_stand left.house.directory left.house.rooms n has.served.0 finished.front (slice_index_or (answers finished) n []) has.sent (map (of n) (histories finished)) some as_many has.served.2 has.ended backed in
     record {
-      clients = has.clients;
-      copies = has.served.0;
-      appended = has.served.1;
       stand = stand;
       once = All-weaker (λ (one : Job × Verdict). (uid : ℕ) → one.1 ≡ Stored uid → WasJudged finished.front one.0 (Stored uid)) (λ (one : Job × Verdict). (uid : ℕ) → one.1 ≡ Stored uid → StandsAlone finished.front one.0 uid)
           (λ one stood uid is. alone_there finished.front one.0 uid backed.legal (stood uid is)) has.served.0 stand.stood;

@@ -18,13 +18,13 @@ use Rattle.lane_work.specs.Talk.{HasTaken, Judged}
 use Rattle.lmtp_machine.specs.declared.reply.Reply.{Reply}
 use mathlib.Core.List.{IsPrefix}
 use Rattle.lmtp_machine.specs.Conversation.{Conversation}
-use Rattle.lmtp_machine.specs.Dialogue.{Phase}
+use Rattle.lmtp_machine.specs.Dialogue.{Phase, Start}
 use Rattle.lmtp_machine.specs.Replies.{wire}
 use Rattle.settings.specs.Settings.{IsInRange, config_fault}
 use Rattle.settings.specs.declared.config.Config.{Config}
 use Rattle.shard_queue.specs.declared.lane.Entry.{Entry}
 use Rattle.serving_workers.specs.Finished.{Finished}
-use Rattle.serving_workers.specs.Leaving.{AreWritten, HasServedMail, HaveAppended, HaveConversed, next, none, passed}
+use Rattle.serving_workers.specs.Leaving.{AreWritten, HasServedMail, HaveConversed, next, none, passed}
 use Rattle.serving_workers.specs.Lines.{Spoken, Told}
 use Rattle.serving.specs.Left.{HasLeft}
 use Rattle.laws_relay.specs.Concluding.{IsTextOf, key_at, message_at}
@@ -122,22 +122,26 @@ ServersConclude = (config : Config) (finished : Finished) (left : HasLeft config
 
 -- ---- what clients append
 
--- Of a berth: just those messages that its clients appended stand of which Stored was told. They are the very messages, in the mailboxes that were named, with their texts and flags, each once, under the UID
--- that was told, and in no other mailbox; and in each mailbox they stand in the order in which they were appended.
-pub record BerthConcludes (seat : ℕ) (history : List Event) : Type 0 where
-  pub clients : ℕ
-  pub copies : List (Job × Verdict)
-  pub appended : HaveAppended seat clients copies
+-- Of a berth, whose clients appended these messages, of which these verdicts were told: just those stand of which Stored was told. They are the very messages, in the mailboxes that were named, with
+-- their texts and flags, each once, under the UID that was told, and in no other mailbox; and in each mailbox they stand in the order in which they were appended.
+pub record BerthConcludes (seat : ℕ) (history : List Event) (copies : List (Job × Verdict)) : Type 0 where
   pub stand : StandAsTold seat history copies
   pub once : All (λ (one : Job × Verdict). (uid : ℕ) → one.1 ≡ Stored uid → StandsAlone history one.0 uid) copies
   pub in_order : (mailbox : ℕ) → AllPairs Below (keys_of_seat seat (accepted_in mailbox history))
 
--- So it is of each berth of a server that stopped in order.
+-- So it is of each berth of a server that stopped in order, and of the very messages that the server hands out as appended there: they are what was put on its lanes, and the verdicts are what
+-- came on its reply channel (`HasServedClients`).
 abbrev pub BerthsConclude : Type 0
-BerthsConclude = (config : Config) (finished : Finished) → HasLeft config finished → IsInRange config
-    → (n : ℕ) → config.workers ≤ n → n < length finished.channels.items → BerthConcludes n finished.front
+BerthsConclude = (config : Config) (finished : Finished) (left : HasLeft config finished) → IsInRange config
+    → (n : ℕ) (berth : config.workers ≤ n) (under : n < length finished.channels.items) → BerthConcludes n finished.front (left.clients n berth under).served.0
 
 -- ---- a line that tells what came and what was said
+
+-- These replies are what was said to these bytes in a conversation on the connection with this seat and serial, which stands in this phase then; or nothing was said there.
+pub data AreReplies (house : Premises) (seat serial : ℕ) : (bytes : List ℕ) → List Reply → Phase → Type 0 where
+  nothing_said : AreReplies house seat serial [] [] Start
+  replied : {bytes : List ℕ} {replies : List Reply} (judged : List Judged) (at : Conversation)
+      → HasTaken (setting_at house seat serial) house.directory bytes replies judged at → AreReplies house seat serial bytes replies at.standing.phase
 
 -- The connection with this serial, whose peer sends this, and to which that was written, whose output failed or didn't: what was written is the replies to the bytes that were taken of it,
 -- and perhaps at last that the server shuts down; and where the output failed, a beginning. By any beginning of the replies that it has read the peer may conclude.
@@ -146,6 +150,7 @@ pub record ConnectionConcludes (house : Premises) (seat serial : ℕ) (history :
   pub replies : List Reply
   pub phase : Phase
   pub read : IsPrefix taken came
+  pub are : AreReplies house seat serial taken replies phase
   pub written : AreWritten house.host taken replies phase said failed
   pub concludes : (front untold : List ℕ) → front ++ untold ≡ wire house.host replies
       → ServedConcludes house.directory seat serial history (handed_over came front) (handed_over came (wire house.host replies))
