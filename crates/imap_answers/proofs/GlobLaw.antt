@@ -8,6 +8,7 @@ use Rattle.envelope.proofs.Words.{both_true}
 use Rattle.envelope.specs.Bytes.{is_not_slash}
 use Rattle.envelope.specs.Grammar.{Many}
 use Rattle.imap_answers.specs.Answers.{Glob, end, any, level, same, some_rest, after_byte, matches, is_listed, name_answer, listed, asks_for_root, root_answer, list_answer}
+use Rattle.imap_answers.specs.declared.list.Listing.{Listing}
 
 -- ---- the relation and its test
 
@@ -87,20 +88,20 @@ matches_glob (p ∷ ps) name h = glob_case (p == 42) (p == 37) p ps name refl re
 
 -- ---- names
 
-pub listed_true : (pattern name : List ℕ) → is_listed pattern name ≡ true → listed pattern name ≡ name_answer name
-listed_true pattern name e = ap (λ (t : Bool). cond t (name_answer name) []) e
+pub listed_true : (listing : Listing) (pattern name : List ℕ) → is_listed pattern name ≡ true → listed listing pattern name ≡ name_answer listing name
+listed_true listing pattern name e = ap (λ (t : Bool). cond t (name_answer listing name) []) e
 
-pub listed_false : (pattern name : List ℕ) → is_listed pattern name ≡ false → listed pattern name ≡ []
-listed_false pattern name e = ap (λ (t : Bool). cond t (name_answer name) []) e
+pub listed_false : (listing : Listing) (pattern name : List ℕ) → is_listed pattern name ≡ false → listed listing pattern name ≡ []
+listed_false listing pattern name e = ap (λ (t : Bool). cond t (name_answer listing name) []) e
 
-each_listed : {X : Type 0} (f : X → List ℕ) (pattern : List ℕ) (xs : List X) → flat_map (listed pattern) (map f xs) ≡ flat_map (λ x. listed pattern (f x)) xs
-each_listed f pattern [] = refl
-each_listed f pattern (x ∷ xs) = ap (λ (l : List ℕ). listed pattern (f x) ++ l) (each_listed f pattern xs)
+each_listed : {X : Type 0} (f : X → List ℕ) (listing : Listing) (pattern : List ℕ) (xs : List X) → flat_map (listed listing pattern) (map f xs) ≡ flat_map (λ x. listed listing pattern (f x)) xs
+each_listed f listing pattern [] = refl
+each_listed f listing pattern (x ∷ xs) = ap (λ (l : List ℕ). listed listing pattern (f x) ++ l) (each_listed f listing pattern xs)
 
-pub list_names : {X : Type 0} (f : X → List ℕ) (reference pattern : List ℕ) (xs : List X) → asks_for_root reference pattern ≡ false
-    → list_answer reference pattern (map f xs) ≡ flat_map (λ x. listed (reference ++ pattern) (f x)) xs
-list_names f reference pattern xs e =
-    ap (λ (t : Bool). cond t root_answer (flat_map (listed (reference ++ pattern)) (map f xs))) e ∙ each_listed f (reference ++ pattern) xs
+pub list_names : {X : Type 0} (f : X → List ℕ) (listing : Listing) (reference pattern : List ℕ) (xs : List X) → asks_for_root reference pattern ≡ false
+    → list_answer listing reference pattern (map f xs) ≡ flat_map (λ x. listed listing (reference ++ pattern) (f x)) xs
+list_names f listing reference pattern xs e =
+    ap (λ (t : Bool). cond t (root_answer listing) (flat_map (listed listing (reference ++ pattern)) (map f xs))) e ∙ each_listed f listing (reference ++ pattern) xs
 
 pub drop_next : (at : ℕ) (ps : List ℕ) → 0 < at → drop 1 (take (length ps - (at - 1)) (drop (at - 1) ps)) ≡ drop at ps
 drop_next at ps h =

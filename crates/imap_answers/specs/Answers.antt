@@ -18,6 +18,8 @@ use Rattle.imap_grammar.specs.declared.items.FetchItem.{FetchItem}
 use Rattle.imap_grammar.specs.declared.items.FetchItem.TheVariants as fetch
 use Rattle.imap_grammar.specs.declared.items.StatusItem.{StatusItem}
 use Rattle.imap_grammar.specs.declared.items.StatusItem.TheVariants as status
+use Rattle.imap_answers.specs.declared.list.Listing.{Listing}
+use Rattle.imap_answers.specs.declared.list.Listing.TheVariants.{All, Subscribed}
 
 abbrev pub crlf : List ℕ
 crlf = 13 ∷ 10 ∷ []
@@ -128,6 +130,7 @@ status_number s status.UidValidity = s.uidvalidity
 status_number s status.Unseen = s.unseen
 status_number s status.Deleted = s.deleted
 status_number s status.Size = s.size
+status_number s status.Recent = 0
 
 abbrev pub status_text : Status → StatusItem → List ℕ
 status_text s item = status_word item ++ codes " " ++ decimal (status_number s item)
@@ -136,7 +139,7 @@ abbrev pub status_answer : List ℕ → List StatusItem → Status → List ℕ
 status_answer name items s =
     codes "* STATUS " ++ name ++ codes " (" ++ spaced (map (status_text s) items) ++ codes ")\r\n"
 
--- ---- LIST
+-- ---- LIST and LSUB
 
 -- the names that a pattern stands for: `*` stands for any bytes, and `%` for any but `/`
 pub data Glob : List ℕ → List ℕ → Type 0 where
@@ -169,20 +172,26 @@ is_inbox name = is_same name (codes "INBOX")
 abbrev pub is_listed : List ℕ → List ℕ → Bool
 is_listed pattern name = if is_inbox name then matches (lowercase pattern) (lowercase name) else matches pattern name
 
-abbrev pub name_answer : List ℕ → List ℕ
-name_answer name = codes "* LIST () \"/\" " ++ name ++ crlf
+-- what stands before a name
+abbrev pub list_front : Listing → List ℕ
+list_front All = codes "* LIST () \"/\" "
+list_front Subscribed = codes "* LSUB () \"/\" "
 
-abbrev pub listed : List ℕ → List ℕ → List ℕ
-listed pattern name = if is_listed pattern name then name_answer name else []
+abbrev pub name_answer : Listing → List ℕ → List ℕ
+name_answer listing name = list_front listing ++ name ++ crlf
+
+abbrev pub listed : Listing → List ℕ → List ℕ → List ℕ
+listed listing pattern name = if is_listed pattern name then name_answer listing name else []
 
 -- the question what separates levels
 abbrev pub asks_for_root : List ℕ → List ℕ → Bool
 asks_for_root reference pattern = (length reference == 0) && (length pattern == 0)
 
-abbrev pub root_answer : List ℕ
-root_answer = codes "* LIST (\\Noselect) \"/\" \"\"\r\n"
+abbrev pub root_answer : Listing → List ℕ
+root_answer All = codes "* LIST (\\Noselect) \"/\" \"\"\r\n"
+root_answer Subscribed = codes "* LSUB (\\Noselect) \"/\" \"\"\r\n"
 
--- what LIST answers about these names
-abbrev pub list_answer : List ℕ → List ℕ → List (List ℕ) → List ℕ
-list_answer reference pattern names =
-    if asks_for_root reference pattern then root_answer else flat_map (listed (reference ++ pattern)) names
+-- what LIST or LSUB answers about these names
+abbrev pub list_answer : Listing → List ℕ → List ℕ → List (List ℕ) → List ℕ
+list_answer listing reference pattern names =
+    if asks_for_root reference pattern then root_answer listing else flat_map (listed listing (reference ++ pattern)) names

@@ -14,7 +14,7 @@ mod words;
 
 pub use fetch::write_row;
 pub use laws::patterns_match_what_they_stand_for;
-pub use list::write_list;
+pub use list::{Listing, write_list};
 pub use opening::{OPENING_ROOM, put_opening};
 pub use status::write_status;
 pub use store::write_stored;

@@ -1,14 +1,33 @@
-//! The answer to LIST (RFC 9051, 6.3.9 and 7.3.1), and which names a pattern stands for.
+//! The answers to LIST (RFC 9051, 6.3.9 and 7.3.1) and LSUB (RFC 3501, 6.3.9 and 7.2.3), and which names a pattern stands for.
 //! Which names there are is told by whoever calls it.
 
 ghost use Rattle.std.specs.Prelude.{◌≡◌, ◌+◌, ◌<◌, ◌≤◌, ◌++◌, length, drop, IfOk, OnOk, OnErr, [], map, flat_map, vec_capacity};
 ghost use Rattle.std.specs.Io.{StartsWith};
-ghost use Rattle.imap_answers.specs.Answers.{matches, is_listed, listed, asks_for_root, list_answer, name_answer};
+ghost use Rattle.imap_answers.specs.Answers.{matches, is_listed, listed, asks_for_root, list_answer, name_answer, root_answer};
 ghost use Rattle.imap_answers.specs.inner.Globs.{is_wild, at_byte, Reached};
 
 use imap_grammar::Name;
 use line_io::append_parts;
 use std::alloc::{AllocError, Global};
+
+/// Which names are told.
+#[derive(Clone, Copy, Debug, PartialEq, Eq)]
+pub enum Listing {
+    /// Those of LIST: all that there are.
+    All,
+    /// Those of LSUB: a client is subscribed to all that there are.
+    Subscribed,
+}
+
+// The line that tells what separates levels.
+fn root_answer(listing: Listing) -> &'static [u8]
+    ensures { result.now ≡ root_answer listing }
+{
+    match listing {
+        Listing::All => b"* LIST (\\Noselect) \"/\" \"\"\r\n",
+        Listing::Subscribed => b"* LSUB (\\Noselect) \"/\" \"\"\r\n",
+    }
+}
 
 fn is_wild(p: u8) -> bool
     ensures { result ≡ is_wild p }
@@ -100,9 +119,9 @@ fn one_text(alloc: Global, first: &[u8], second: &[u8]) -> Result<Vec<u8>, Alloc
     Ok(whole)
 }
 
-/// Appends the line of a name, or nothing where memory is refused.
-fn write_name(name: &[u8], out: &mut Vec<u8>) -> Result<(), AllocError>
-    ensures ok { OnOk result (out.new.items ≡ out.old.items ++ name_answer name.now) }
+// Appends the line of a name that LIST tells, or nothing where memory is refused.
+fn write_one(name: &[u8], out: &mut Vec<u8>) -> Result<(), AllocError>
+    ensures ok { OnOk result (out.new.items ≡ out.old.items ++ name_answer Listing.All name.now) }
     ensures err { OnErr result (out.new.items ≡ out.old.items) }
     ensures room { vec_capacity out.old ≤ vec_capacity out.new }
 {
@@ -112,10 +131,41 @@ fn write_name(name: &[u8], out: &mut Vec<u8>) -> Result<(), AllocError>
     )
 }
 
+// Appends the line of a name that LSUB tells, or nothing where memory is refused.
+fn write_subscribed(name: &[u8], out: &mut Vec<u8>) -> Result<(), AllocError>
+    ensures ok { OnOk result (out.new.items ≡ out.old.items ++ name_answer Listing.Subscribed name.now) }
+    ensures err { OnErr result (out.new.items ≡ out.old.items) }
+    ensures room { vec_capacity out.old ≤ vec_capacity out.new }
+{
+    append_parts(
+        &[b"* LSUB () \"/\" ".as_slice(), name, b"\r\n".as_slice()],
+        out,
+    )
+}
+
+// Appends the line of a name, or nothing where memory is refused.
+fn write_name(listing: Listing, name: &[u8], out: &mut Vec<u8>) -> Result<(), AllocError>
+    ensures ok { OnOk result (out.new.items ≡ out.old.items ++ name_answer listing name.now) }
+    ensures err { OnErr result (out.new.items ≡ out.old.items) }
+    ensures room { vec_capacity out.old ≤ vec_capacity out.new }
+{
+    match listing {
+        Listing::All => write_one(name, out),
+        Listing::Subscribed => write_subscribed(name, out),
+    }
+}
+
 /// Appends the line of a name, if the pattern stands for it, or a part of it.
 #[tactic(auto, using(crate::proofs::GlobLaw::listed_true, crate::proofs::GlobLaw::listed_false))]
-fn put_name(alloc: Global, pattern: &[u8], name: &[u8], out: &mut Vec<u8>) -> Result<(), AllocError>
-    ensures ok { OnOk result (out.new.items ≡ out.old.items ++ listed pattern.now name.now) }
+fn put_name(
+    alloc: Global,
+    listing: Listing,
+    pattern: &[u8],
+    name: &[u8],
+    out: &mut Vec<u8>,
+) -> Result<(), AllocError>
+    ensures ok { OnOk result (out.new.items
+        ≡ out.old.items ++ listed listing pattern.now name.now) }
     ensures err { OnErr result (StartsWith out.new.items out.old.items) }
     ensures room { vec_capacity out.old ≤ vec_capacity out.new }
 {
@@ -123,24 +173,25 @@ fn put_name(alloc: Global, pattern: &[u8], name: &[u8], out: &mut Vec<u8>) -> Re
     if !listed {
         return Ok(());
     }
-    write_name(name, out)?;
+    write_name(listing, name, out)?;
     Ok(())
 }
 
 /// Appends the lines of the names that a pattern stands for, or a part of them.
 fn put_names(
     alloc: Global,
+    listing: Listing,
     pattern: &[u8],
     names: &[&[u8]],
     out: &mut Vec<u8>,
 ) -> Result<(), AllocError>
     ensures ok { OnOk result (out.new.items
-        ≡ out.old.items ++ flat_map (λ name. listed pattern.now name.now) names.now) }
+        ≡ out.old.items ++ flat_map (λ name. listed listing pattern.now name.now) names.now) }
     ensures err { OnErr result (StartsWith out.new.items out.old.items) }
     ensures room { vec_capacity out.old ≤ vec_capacity out.new }
 {
     for name in names {
-        put_name(alloc, pattern, name, out)?;
+        put_name(alloc, listing, pattern, name, out)?;
     }
     Ok(())
 }
@@ -151,35 +202,37 @@ fn asks_for_root(reference: &[u8], pattern: &[u8]) -> bool
     reference.is_empty() && pattern.is_empty()
 }
 
-/// Appends the answer to LIST, or a part of it.
+/// Appends the answer to LIST or LSUB, or a part of it.
 fn put_list(
     alloc: Global,
+    listing: Listing,
     reference: &[u8],
     pattern: &[u8],
     names: &[&[u8]],
     out: &mut Vec<u8>,
 ) -> Result<(), AllocError>
     ensures ok { OnOk result (out.new.items
-        ≡ out.old.items ++ list_answer reference.now pattern.now (map (λ name.
+        ≡ out.old.items ++ list_answer listing reference.now pattern.now (map (λ name.
         name.now) names.now)) }
     ensures err { OnErr result (StartsWith out.new.items out.old.items) }
     ensures room { vec_capacity out.old ≤ vec_capacity out.new }
 {
     if asks_for_root(reference, pattern) {
-        return append_parts(&[b"* LIST (\\Noselect) \"/\" \"\"\r\n".as_slice()], out);
+        return append_parts(&[root_answer(listing)], out);
     }
     let whole = one_text(alloc, reference, pattern)?;
-    put_names(alloc, &whole, names, out)?;
+    put_names(alloc, listing, &whole, names, out)?;
     Ok(())
 }
 
-/// Appends the answer to LIST about these names, in their order: a line for each that the reference
+/// Appends the answer to LIST or LSUB about these names, in their order: a line for each that the reference
 /// followed by the pattern stands for, where `*` stands for any bytes, `%` for any but `/`, and INBOX
 /// has no case. Where both are empty, the one line that tells what separates levels (RFC 9051, 6.3.9).
 ///
 /// Errors: `AllocError` where memory is refused; then `out` is as it was.
 pub fn write_list(
     alloc: Global,
+    listing: Listing,
     reference: &Name<'_>,
     pattern: &Name<'_>,
     names: &[&[u8]],
@@ -187,7 +240,7 @@ pub fn write_list(
 ) -> Result<(), AllocError>
     // The answer is `list_answer`, byte by byte. An error writes nothing, and the room of `out` never becomes less.
     ensures ok { OnOk result (out.new.items
-        ≡ out.old.items ++ list_answer reference.now pattern.now (map (λ name.
+        ≡ out.old.items ++ list_answer listing reference.now pattern.now (map (λ name.
         name.now) names.now)) }
     ensures err { OnErr result (out.new.items ≡ out.old.items) }
     ensures room { vec_capacity out.old ≤ vec_capacity out.new }
@@ -195,7 +248,7 @@ pub fn write_list(
     let before = out.len();
     let reference = reference.to_bytes(alloc)?;
     let pattern = pattern.to_bytes(alloc)?;
-    let Ok(()) = put_list(alloc, &reference, &pattern, names, out) else {
+    let Ok(()) = put_list(alloc, listing, &reference, &pattern, names, out) else {
         out.truncate(before);
         return Err(AllocError);
     };

@@ -25,6 +25,7 @@ fn status_word(item: StatusItem) -> &'static [u8]
         StatusItem::Unseen => b"UNSEEN",
         StatusItem::Deleted => b"DELETED",
         StatusItem::Size => b"SIZE",
+        StatusItem::Recent => b"RECENT",
     }
 }
 
@@ -38,6 +39,7 @@ fn status_number(status: &Status, item: StatusItem) -> u128
         StatusItem::Unseen => status.unseen as u128,
         StatusItem::Deleted => status.deleted as u128,
         StatusItem::Size => status.size,
+        StatusItem::Recent => 0,
     }
 }
 

@@ -1,13 +1,13 @@
 -- Parts of a command, one after the other: gaps, names, and the end of the line.
-use Rattle.std.proofs.Common.{◌≡◌, ℕ, Bool, true, false, cond, List, [], ◌++◌, refl, ap, sym, subst, ◌∙◌, append_assoc}
+use Rattle.std.proofs.Common.{◌≡◌, ℕ, Bool, false, cond, List, [], ◌++◌, refl, ap, sym, subst, ◌∙◌, append_assoc}
 use Rattle.std.specs.Prelude.{Some, None, ◌==◌}
 use Rattle.envelope.proofs.Begins.{gap_stops}
 use Rattle.envelope.proofs.Sound.{guard_some}
 use Rattle.envelope.proofs.Tokens.{Stops}
 use Rattle.envelope.specs.Bytes.{is_space, is_not_space}
 use Rattle.envelope.specs.Grammar.{Spaces, Gap, Exactly, Joined}
-use Rattle.imap_grammar.specs.Bytes.{is_atom, is_pattern}
-use Rattle.imap_grammar.specs.Grammar.{Name, Pattern}
+use Rattle.imap_grammar.specs.Bytes.{is_atom}
+use Rattle.imap_grammar.specs.Grammar.{Name, StringOf}
 use Rattle.imap_grammar.specs.Reading.{past_gap, string_at, is_blank, if_end}
 use Rattle.imap_grammar.proofs.Tokens.{excludes, not_true, stops_class, gap_again, string_again, string_starts}
 use Rattle.imap_grammar.proofs.Parens.{blank_again, blank_sound}
@@ -58,22 +58,14 @@ nothing_again x rest q = ap (if_end x) (q.parts ∙ ap (λ l. l ++ q.back) q.fir
 
 -- ---- names
 
-atom_not_space : (b : ℕ) → is_atom b ≡ true → is_space b ≡ false
-atom_not_space b e = not_true (b == 32) (excludes is_atom 32 refl b e)
-
-pattern_not_space : (b : ℕ) → is_pattern b ≡ true → is_space b ≡ false
-pattern_not_space b e = not_true (b == 32) (excludes is_pattern 32 refl b e)
+-- a string of a class with neither quotes nor spaces
+pub string_read : (class : ℕ → Bool) → class 34 ≡ false → class 32 ≡ false → (name : List ℕ) (P : List ℕ → Type 0) (bytes : List ℕ) → (q : Joined (StringOf class name) P bytes) → Stops is_not_space q.back
+    → (string_at class bytes ≡ Some (name, q.back)) × Stops is_space bytes
+string_read class quote blank name P bytes q s = (
+  ap (string_at class) q.parts ∙ string_again class name q.front q.back quote q.first (stops_class class blank q.back s),
+  subst (Stops is_space) (sym q.parts) (string_starts class (λ b e. not_true (b == 32) (excludes class 32 blank b e)) name q.front q.back q.first),
+)
 
 pub name_read : (name : List ℕ) (P : List ℕ → Type 0) (bytes : List ℕ) → (q : Joined (Name name) P bytes) → Stops is_not_space q.back
     → (string_at is_atom bytes ≡ Some (name, q.back)) × Stops is_space bytes
-name_read name P bytes q s = (
-  ap (string_at is_atom) q.parts ∙ string_again is_atom name q.front q.back refl q.first (stops_class is_atom refl q.back s),
-  subst (Stops is_space) (sym q.parts) (string_starts is_atom atom_not_space name q.front q.back q.first),
-)
-
-pub pattern_read : (name : List ℕ) (P : List ℕ → Type 0) (bytes : List ℕ) → (q : Joined (Pattern name) P bytes) → Stops is_not_space q.back
-    → (string_at is_pattern bytes ≡ Some (name, q.back)) × Stops is_space bytes
-pattern_read name P bytes q s = (
-  ap (string_at is_pattern) q.parts ∙ string_again is_pattern name q.front q.back refl q.first (stops_class is_pattern refl q.back s),
-  subst (Stops is_space) (sym q.parts) (string_starts is_pattern pattern_not_space name q.front q.back q.first),
-)
+name_read = string_read is_atom refl refl

@@ -16,9 +16,9 @@ use Rattle.envelope.specs.Bytes.{is_space, is_not_space}
 use Rattle.envelope.specs.Grammar.{Many, Some1, Spaces, Gap, Exactly, Keyword, Anything, AfterGap, Joined}
 use Rattle.envelope.specs.Reading.{◌>>=◌}
 use Rattle.imap_grammar.specs.Bytes.{is_atom, is_pattern}
-use Rattle.imap_grammar.specs.Grammar.{GivenDate, GivenFlags, LiteralIs, Name, Pattern, SetIs, ItemsAre, StatusItemIs, Separated, Parenthesized, FlagsAre, operation_word, flags_of, ChangeIs, ArgumentsOf}
+use Rattle.imap_grammar.specs.Grammar.{GivenDate, GivenFlags, LiteralIs, Name, StringOf, SetIs, ItemsAre, StatusItemIs, Separated, Parenthesized, FlagsAre, operation_word, flags_of, ChangeIs, ArgumentsOf}
 use Rattle.imap_grammar.specs.Items.{status_item_of}
-use Rattle.imap_grammar.specs.Reading.{past_gap, word_at, string_at, if_end, in_parentheses, set_at, name_alone, fetch_items_at, status_items_in, flags_at, operation_of, change_with, fetch_at, store_at, set_alone, list_at, status_at, command_at}
+use Rattle.imap_grammar.specs.Reading.{past_gap, word_at, string_at, if_end, in_parentheses, set_at, name_alone, fetch_items_at, status_items_in, flags_at, operation_of, change_with, fetch_at, store_at, set_alone, pair_at, status_at, command_at}
 use Rattle.imap_grammar.specs.Verbs.{alone, verb_of}
 use Rattle.imap_grammar.specs.declared.arguments.Operation.{Operation}
 use Rattle.imap_grammar.specs.declared.arguments.Operation.TheVariants as operations
@@ -33,7 +33,7 @@ use Rattle.imap_grammar.specs.declared.command.Command.{Command}
 use Rattle.imap_grammar.specs.declared.command.Command.TheVariants as say
 use Rattle.imap_grammar.proofs.AppendLaw.{AppendIs, append_again, append_sound}
 use Rattle.imap_grammar.specs.declared.command.Append.{Append}
-use Rattle.imap_grammar.proofs.Chains.{regroup, ungroup, behind, inside, past, gap_first, end_again, end_sound, nothing_again, name_read, pattern_read}
+use Rattle.imap_grammar.proofs.Chains.{regroup, ungroup, behind, inside, past, gap_first, end_again, end_sound, nothing_again, name_read, string_read}
 use Rattle.imap_grammar.proofs.Keywords.{word_length, word_clean, map_take, same_sound}
 use Rattle.imap_grammar.proofs.Tokens.{not_true, starts, many_joined, spaced_first, blank_first, gap_again, gap_sound, word_again, word_parts, string_sound}
 use Rattle.imap_grammar.proofs.SetLaw.{set_again, set_sound, set_bytes}
@@ -63,43 +63,44 @@ name_sound make c rest e =
     let s = string_sound is_atom refl a.0 b.0.0 b.0.1 b.1 in
     (b.0.0, d.0, record { front = g.gap; back = a.0; parts = g.parts; first = g.is; second = record { front = s.text; back = b.0.1; parts = s.parts; first = s.is; second = d.1 } })
 
--- ---- LIST
+-- ---- a name and another string
 
-list_made : List ℕ → List ℕ × List ℕ → Option Command
-list_made reference pattern = if_end (say.List reference pattern.0) pattern.1
+pair_made : (List ℕ → List ℕ → Command) → List ℕ → List ℕ × List ℕ → Option Command
+pair_made make name other = if_end (make name other.0) other.1
 
-list_next : List ℕ × List ℕ → Option Command
-list_next reference = past_gap reference.1 >>= (λ next. string_at is_pattern next >>= list_made reference.0)
+pair_next : (ℕ → Bool) → (List ℕ → List ℕ → Command) → List ℕ × List ℕ → Option Command
+pair_next class make name = past_gap name.1 >>= (λ next. string_at class next >>= pair_made make name.0)
 
-ListIs : List ℕ → List ℕ → List ℕ → Type 0
-ListIs reference pattern = Joined Gap (Joined (Name reference) (Joined Gap (Joined (Pattern pattern) Spaces)))
+PairIs : (ℕ → Bool) → List ℕ → List ℕ → List ℕ → Type 0
+PairIs class name other = Joined Gap (Joined (Name name) (Joined Gap (Joined (StringOf class other) Spaces)))
 
-list_again : (reference pattern rest : List ℕ) → ListIs reference pattern rest → list_at rest ≡ Some (say.List reference pattern)
-unfolding list_made list_next ListIs
-list_again reference pattern rest q =
+pair_again : (class : ℕ → Bool) → class 34 ≡ false → class 32 ≡ false → (make : List ℕ → List ℕ → Command) (name other rest : List ℕ) → PairIs class name other rest → pair_at class make rest ≡ Some (make name other)
+unfolding pair_made pair_next PairIs
+pair_again class quote blank make name other rest q =
     let r = q.second in
     let g = r.second in
     let p = g.second in
-    let n = name_read reference _ q.back r (gap_first _ r.back g) in
-    let m = pattern_read pattern Spaces g.back p (blank_first p.back p.second) in
-    ap (λ o. o >>= (λ start. string_at is_atom start >>= list_next)) (past _ rest q n.1)
-    ∙ ap (λ o. o >>= list_next) n.0
-    ∙ ap (λ o. o >>= (λ next. string_at is_pattern next >>= list_made reference)) (past _ r.back g m.1)
-    ∙ ap (λ o. o >>= list_made reference) m.0
-    ∙ end_again (say.List reference pattern) p.back p.second
+    let n = name_read name _ q.back r (gap_first _ r.back g) in
+    let m = string_read class quote blank other Spaces g.back p (blank_first p.back p.second) in
+    ap (λ o. o >>= (λ start. string_at is_atom start >>= pair_next class make)) (past _ rest q n.1)
+    ∙ ap (λ o. o >>= pair_next class make) n.0
+    ∙ ap (λ o. o >>= (λ next. string_at class next >>= pair_made make name)) (past _ r.back g m.1)
+    ∙ ap (λ o. o >>= pair_made make name) m.0
+    ∙ end_again (make name other) p.back p.second
 
-list_sound : (c : Command) (rest : List ℕ) → list_at rest ≡ Some c → (reference : List ℕ) × (pattern : List ℕ) × (say.List reference pattern ≡ c) × ListIs reference pattern rest
-unfolding list_made list_next ListIs
-list_sound c rest e =
-    let a = bind_some (past_gap rest) (λ start. string_at is_atom start >>= list_next) c e in
-    let b = bind_some (string_at is_atom a.0) list_next c a.2 in
-    let d = bind_some (past_gap b.0.1) (λ next. string_at is_pattern next >>= list_made b.0.0) c b.2 in
-    let f = bind_some (string_at is_pattern d.0) (list_made b.0.0) c d.2 in
-    let h = end_sound (say.List b.0.0 f.0.0) c f.0.1 f.2 in
+pair_sound : (class : ℕ → Bool) → class 34 ≡ false → (make : List ℕ → List ℕ → Command) (c : Command) (rest : List ℕ) → pair_at class make rest ≡ Some c
+    → (name : List ℕ) × (other : List ℕ) × (make name other ≡ c) × PairIs class name other rest
+unfolding pair_made pair_next PairIs
+pair_sound class quote make c rest e =
+    let a = bind_some (past_gap rest) (λ start. string_at is_atom start >>= pair_next class make) c e in
+    let b = bind_some (string_at is_atom a.0) (pair_next class make) c a.2 in
+    let d = bind_some (past_gap b.0.1) (λ next. string_at class next >>= pair_made make b.0.0) c b.2 in
+    let f = bind_some (string_at class d.0) (pair_made make b.0.0) c d.2 in
+    let h = end_sound (make b.0.0 f.0.0) c f.0.1 f.2 in
     let g = gap_sound rest a.0 a.1 in
     let s = string_sound is_atom refl a.0 b.0.0 b.0.1 b.1 in
     let i = gap_sound b.0.1 d.0 d.1 in
-    let t = string_sound is_pattern refl d.0 f.0.0 f.0.1 f.1 in (
+    let t = string_sound class quote d.0 f.0.0 f.0.1 f.1 in (
       b.0.0,
       f.0.0,
       h.0,
@@ -123,6 +124,17 @@ list_sound c rest e =
         };
       },
     )
+
+-- the arguments in their own order, and what is behind the last
+pair_regroup : (class : ℕ → Bool) (name other rest : List ℕ) → Joined (Joined Gap (Joined (Name name) (Joined Gap (StringOf class other)))) Spaces rest → PairIs class name other rest
+unfolding PairIs
+pair_regroup class name other rest q =
+    behind Gap _ _ (λ l p. behind (Name name) _ _ (λ l p. regroup Gap (StringOf class other) Spaces l p) l (regroup _ _ Spaces l p)) rest (regroup _ _ Spaces rest q)
+
+pair_ungroup : (class : ℕ → Bool) (name other rest : List ℕ) → PairIs class name other rest → Joined (Joined Gap (Joined (Name name) (Joined Gap (StringOf class other)))) Spaces rest
+unfolding PairIs
+pair_ungroup class name other rest q =
+    ungroup _ _ Spaces rest (behind Gap _ _ (λ l p. ungroup _ _ Spaces l (behind (Name name) _ _ (λ l p. ungroup Gap (StringOf class other) Spaces l p) l p)) rest q)
 
 -- ---- STATUS
 
@@ -499,15 +511,13 @@ append_ungroup a rest q =
     (behind (GivenFlags a.flags) _ _ (λ l p. ungroup GivenDate (LiteralIs a.literal) Spaces l p) l p)) l p)) l p)) rest q)
 
 pub command_again : (c : Command) (rest : List ℕ) → Joined (ArgumentsOf c) Spaces rest → command_at (verb_of c) rest ≡ Some c
-unfolding ListIs StatusIs FetchIs fetch_made store_made
-command_again say.Login rest q = refl
+unfolding PairIs StatusIs FetchIs fetch_made store_made
+command_again (say.Login user password) rest q = pair_again is_atom refl refl say.Login user password rest (pair_regroup is_atom user password rest q)
 command_again say.Authenticate rest q = refl
 command_again say.StartTls rest q = refl
 command_again (say.Select name) rest q = name_again say.Select name rest (regroup Gap (Name name) Spaces rest q)
 command_again (say.Examine name) rest q = name_again say.Examine name rest (regroup Gap (Name name) Spaces rest q)
-command_again (say.List reference pattern) rest q =
-    list_again reference pattern rest
-    (behind Gap _ _ (λ l p. behind (Name reference) _ _ (λ l p. regroup Gap (Pattern pattern) Spaces l p) l (regroup _ _ Spaces l p)) rest (regroup _ _ Spaces rest q))
+command_again (say.List reference pattern) rest q = pair_again is_pattern refl refl say.List reference pattern rest (pair_regroup is_pattern reference pattern rest q)
 command_again (say.Status name items) rest q =
     status_reads name items rest
     (behind Gap _ _ (λ l p. behind (Name name) _ _ (λ l p. regroup Gap (Parenthesized (Separated Gap StatusItemIs items)) Spaces l p) l (regroup _ _ Spaces l p)) rest (regroup _ _ Spaces rest q))
@@ -518,6 +528,9 @@ command_again (say.Fetch f) rest q =
     (behind Gap _ _ (λ l p. behind (SetIs f.set) _ _ (λ l p. regroup Gap (ItemsAre f.items) Spaces l p) l (regroup _ _ Spaces l p)) rest (regroup _ _ Spaces rest q))
 command_again (say.Store s) rest q = store_verb s.by_uid rest ∙ store_again s.by_uid s.set s.silent s.change rest (store_regroup s.set s.silent s.change rest q)
 command_again (say.Append a) rest q = append_again a rest (append_regroup a rest q)
+command_again (say.Lsub reference pattern) rest q = pair_again is_pattern refl refl say.Lsub reference pattern rest (pair_regroup is_pattern reference pattern rest q)
+command_again (say.Subscribe name) rest q = name_again say.Subscribe name rest (regroup Gap (Name name) Spaces rest q)
+command_again (say.Unsubscribe name) rest q = name_again say.Unsubscribe name rest (regroup Gap (Name name) Spaces rest q)
 command_again c rest q = nothing_again c rest q
 
 -- a command of this verb, and what it is spelled with
@@ -579,6 +592,7 @@ alone_fits verbs.Enable = tt
 alone_fits verbs.UidCopy = tt
 alone_fits verbs.UidMove = tt
 alone_fits verbs.UidSearch = tt
+alone_fits verbs.Lsub = tt
 alone_fits _ = (refl, nothing)
 
 alone_sound : (v : Verb) (o : Option Command) (c : Command) (rest : List ℕ) → IsAlone v o → (o >>= λ x. if_end x rest) ≡ Some c → Fits v c rest
@@ -586,24 +600,28 @@ alone_sound v None c rest f e = absurd cc
 alone_sound v (Some x) c rest f e = ended v x c rest (λ b. record { verb = f.0; is = f.1 rest b }) e
 
 pub command_sound : (v : Verb) (c : Command) (rest : List ℕ) → Stops is_not_space rest → command_at v rest ≡ Some c → Fits v c rest
-unfolding ListIs StatusIs fetch_made store_made
-command_sound verbs.Login c rest s e = subst (λ y. Fits verbs.Login y rest) (inside say.Login c e) (record { verb = refl; is = any_rest rest s })
+unfolding PairIs StatusIs fetch_made store_made
+command_sound verbs.Login c rest s e =
+    let k = pair_sound is_atom refl say.Login c rest e in
+    subst (λ y. Fits verbs.Login y rest) k.2 (record { verb = refl; is = pair_ungroup is_atom k.0 k.1 rest k.3 })
 command_sound verbs.Authenticate c rest s e = subst (λ y. Fits verbs.Authenticate y rest) (inside say.Authenticate c e) (record { verb = refl; is = any_rest rest s })
 command_sound verbs.StartTls c rest s e = subst (λ y. Fits verbs.StartTls y rest) (inside say.StartTls c e) (record { verb = refl; is = any_rest rest s })
 command_sound verbs.Select c rest s e = named verbs.Select say.Select c rest (λ name q. record { verb = refl; is = ungroup Gap (Name name) Spaces rest q }) e
 command_sound verbs.Examine c rest s e = named verbs.Examine say.Examine c rest (λ name q. record { verb = refl; is = ungroup Gap (Name name) Spaces rest q }) e
 command_sound verbs.List c rest s e =
-    let k = list_sound c rest e in
-    subst (λ y. Fits verbs.List y rest) k.2 (record {
-      verb = refl;
-      is = ungroup _ _ Spaces rest (behind Gap _ _ (λ l p. ungroup _ _ Spaces l (behind (Name k.0) _ _ (λ l p. ungroup Gap (Pattern k.1) Spaces l p) l p)) rest k.3);
-    })
+    let k = pair_sound is_pattern refl say.List c rest e in
+    subst (λ y. Fits verbs.List y rest) k.2 (record { verb = refl; is = pair_ungroup is_pattern k.0 k.1 rest k.3 })
 command_sound verbs.Status c rest s e =
     let k = status_spelled c rest e in
     subst (λ y. Fits verbs.Status y rest) k.2 (record {
       verb = refl;
       is = ungroup _ _ Spaces rest (behind Gap _ _ (λ l p. ungroup _ _ Spaces l (behind (Name k.0) _ _ (λ l p. ungroup Gap (Parenthesized (Separated Gap StatusItemIs k.1)) Spaces l p) l p)) rest k.3);
     })
+command_sound verbs.Lsub c rest s e =
+    let k = pair_sound is_pattern refl say.Lsub c rest e in
+    subst (λ y. Fits verbs.Lsub y rest) k.2 (record { verb = refl; is = pair_ungroup is_pattern k.0 k.1 rest k.3 })
+command_sound verbs.Subscribe c rest s e = named verbs.Subscribe say.Subscribe c rest (λ name q. record { verb = refl; is = ungroup Gap (Name name) Spaces rest q }) e
+command_sound verbs.Unsubscribe c rest s e = named verbs.Unsubscribe say.Unsubscribe c rest (λ name q. record { verb = refl; is = ungroup Gap (Name name) Spaces rest q }) e
 command_sound verbs.UidExpunge c rest s e =
     let k = expunge_sound c rest e in
     subst (λ y. Fits verbs.UidExpunge y rest) k.1 (record { verb = refl; is = ungroup Gap (SetIs k.0) Spaces rest k.2 })

@@ -431,7 +431,8 @@ status_lowered low =
     (cond (bytes_eq low (map to_ascii_lowercase (codes "UIDVALIDITY"))) (Some status.UidValidity)
     (cond (bytes_eq low (map to_ascii_lowercase (codes "UNSEEN"))) (Some status.Unseen)
     (cond (bytes_eq low (map to_ascii_lowercase (codes "DELETED"))) (Some status.Deleted)
-    (cond (bytes_eq low (map to_ascii_lowercase (codes "SIZE"))) (Some status.Size) None)))))
+    (cond (bytes_eq low (map to_ascii_lowercase (codes "SIZE"))) (Some status.Size)
+    (cond (bytes_eq low (map to_ascii_lowercase (codes "RECENT"))) (Some status.Recent) None))))))
 
 status_known : (x : StatusItem) → status_lowered (map to_ascii_lowercase (status_word x)) ≡ Some x
 unfolding status_lowered
@@ -441,6 +442,7 @@ status_known status.UidValidity = refl
 status_known status.Unseen = refl
 status_known status.Deleted = refl
 status_known status.Size = refl
+status_known status.Recent = refl
 
 pub status_again : (x : StatusItem) (w : List ℕ) → StatusItemIs x w → status_item_of w ≡ Some x
 unfolding status_lowered
@@ -460,7 +462,8 @@ status_sound x w e =
     (λ e. status_step (is_same w (codes "UNSEEN")) status.Unseen x w _ refl e
     (λ e. status_step (is_same w (codes "DELETED")) status.Deleted x w _ refl e
     (λ e. status_step (is_same w (codes "SIZE")) status.Size x w _ refl e
-    (λ e. absurd (let bad : None ≡ Some x = e in cc)))))))
+    (λ e. status_step (is_same w (codes "RECENT")) status.Recent x w _ refl e
+    (λ e. absurd (let bad : None ≡ Some x = e in cc))))))))
 
 status_clean : (c : ℕ) → to_ascii_lowercase c ≡ c → ((x : StatusItem) → Many (is_other c) (map to_ascii_lowercase (status_word x))) → (x : StatusItem) (w : List ℕ) → StatusItemIs x w → Many (is_other c) w
 status_clean c e f x w h = word_clean c e w _ h (f x)
@@ -472,6 +475,7 @@ status_spaces status.UidValidity = (refl, (refl, (refl, (refl, (refl, (refl, (re
 status_spaces status.Unseen = (refl, (refl, (refl, (refl, (refl, (refl, tt))))))
 status_spaces status.Deleted = (refl, (refl, (refl, (refl, (refl, (refl, (refl, tt)))))))
 status_spaces status.Size = (refl, (refl, (refl, (refl, tt))))
+status_spaces status.Recent = (refl, (refl, (refl, (refl, (refl, (refl, tt))))))
 
 status_closes : (x : StatusItem) → Many (is_other 41) (map to_ascii_lowercase (status_word x))
 status_closes status.Messages = (refl, (refl, (refl, (refl, (refl, (refl, (refl, (refl, tt))))))))
@@ -480,6 +484,7 @@ status_closes status.UidValidity = (refl, (refl, (refl, (refl, (refl, (refl, (re
 status_closes status.Unseen = (refl, (refl, (refl, (refl, (refl, (refl, tt))))))
 status_closes status.Deleted = (refl, (refl, (refl, (refl, (refl, (refl, (refl, tt)))))))
 status_closes status.Size = (refl, (refl, (refl, (refl, tt))))
+status_closes status.Recent = (refl, (refl, (refl, (refl, (refl, (refl, tt))))))
 
 status_some : (x : StatusItem) → 0 < length (status_word x)
 status_some status.Messages = omega arith
@@ -488,6 +493,7 @@ status_some status.UidValidity = omega arith
 status_some status.Unseen = omega arith
 status_some status.Deleted = omega arith
 status_some status.Size = omega arith
+status_some status.Recent = omega arith
 
 pub status_bare : (x : StatusItem) (w : List ℕ) → StatusItemIs x w → Some1 is_not_space w
 status_bare x w h = (let n = word_length (status_word x) w h in omega (arith, n, status_some x), status_clean 32 refl status_spaces x w h)

@@ -65,7 +65,7 @@ any_first l front back e (inl h) s = subst (Stops is_not_space) (sym (e ∙ ap (
 any_first l front back e (inr q) s = gap_stops q.front (q.back ++ back) l (e ∙ ap (λ x. x ++ back) q.parts ∙ append_assoc q.front q.back back) q.first
 
 arguments_first : (c : Command) (l : List ℕ) → Joined (ArgumentsOf c) Spaces l → Stops is_not_space l
-arguments_first say.Login l q = any_first l q.front q.back q.parts q.first q.second
+arguments_first (say.Login user password) l q = gap_first _ l q
 arguments_first say.Authenticate l q = any_first l q.front q.back q.parts q.first q.second
 arguments_first say.StartTls l q = any_first l q.front q.back q.parts q.first q.second
 arguments_first (say.Select name) l q = gap_first _ l q
@@ -76,6 +76,9 @@ arguments_first (say.UidExpunge set) l q = gap_first _ l q
 arguments_first (say.Fetch f) l q = gap_first _ l q
 arguments_first (say.Store s) l q = gap_first _ l q
 arguments_first (say.Append a) l q = gap_first _ l q
+arguments_first (say.Lsub reference pattern) l q = gap_first _ l q
+arguments_first (say.Subscribe name) l q = gap_first _ l q
+arguments_first (say.Unsubscribe name) l q = gap_first _ l q
 arguments_first _ l q = none_first l q
 
 kept_fetch : (by_uid : Bool) → is_left_out (cond by_uid verbs.UidFetch verbs.Fetch) ≡ false
@@ -95,11 +98,11 @@ kept _ = refl
 abbrev outcome : List ℕ → Verb → List ℕ → Result (List ℕ × Command) ImapFault
 outcome tag v rest = of_verb tag (Some (v, rest))
 
-offered_outcome : (tag : List ℕ) (v : Verb) (rest : List ℕ) → is_left_out v ≡ false → outcome tag v rest ≡ of_command tag (command_at v rest)
-offered_outcome tag v rest e = ap (λ (t : Bool). cond t (Err (LeftOut tag)) (of_command tag (command_at v rest))) e
+offered_outcome : (tag : List ℕ) (v : Verb) (rest : List ℕ) → is_left_out v ≡ false → outcome tag v rest ≡ of_command tag v (command_at v rest)
+offered_outcome tag v rest e = ap (λ (t : Bool). cond t (Err (LeftOut tag)) (of_command tag v (command_at v rest))) e
 
 left_outcome : (tag : List ℕ) (v : Verb) (rest : List ℕ) → is_left_out v ≡ true → outcome tag v rest ≡ Err (LeftOut tag)
-left_outcome tag v rest e = ap (λ (t : Bool). cond t (Err (LeftOut tag)) (of_command tag (command_at v rest))) e
+left_outcome tag v rest e = ap (λ (t : Bool). cond t (Err (LeftOut tag)) (of_command tag v (command_at v rest))) e
 
 -- a command's line is read as that command
 pub line_again : (tag : List ℕ) (c : Command) (line : List ℕ) → Line tag c line → read line ≡ Ok (tag, c)
@@ -107,23 +110,23 @@ line_again tag c line q =
     let rest = q.second.second.back in
     read_begun (Joined (ArgumentsOf c) Spaces) (arguments_first c) tag (verb_of c) line q
     ∙ offered_outcome tag (verb_of c) rest (kept c)
-    ∙ ap (of_command tag) (command_again c rest q.second.second.second)
+    ∙ ap (of_command tag (verb_of c)) (command_again c rest q.second.second.second)
 
 begun : (tag : List ℕ) (v : Verb) (line : List ℕ) → (q : BeginsWith tag v line) → read line ≡ outcome tag v q.second.second.back
 begun tag v line q = read_begun (AfterGap Anything) (λ l h. after_gap_stops Anything l h) tag v line q
 
 -- ---- what was read
 
-of_command_known : (tag t : List ℕ) (o : Option Command) → of_command tag o ≡ Err (Unknown t) → ⊥
-of_command_known tag t None e = cc
-of_command_known tag t (Some c) e = cc
+of_command_known : (tag t : List ℕ) (v : Verb) (o : Option Command) → of_command tag v o ≡ Err (Unknown t) → ⊥
+of_command_known tag t v None e = cc
+of_command_known tag t v (Some c) e = cc
 
-outcome_case : (b : Bool) (tag t : List ℕ) (o : Option Command) → cond b (Err (LeftOut tag)) (of_command tag o) ≡ Err (Unknown t) → ⊥
-outcome_case true tag t o e = cc
-outcome_case false tag t o e = of_command_known tag t o e
+outcome_case : (b : Bool) (tag t : List ℕ) (v : Verb) (o : Option Command) → cond b (Err (LeftOut tag)) (of_command tag v o) ≡ Err (Unknown t) → ⊥
+outcome_case true tag t v o e = cc
+outcome_case false tag t v o e = of_command_known tag t v o e
 
 outcome_known : (tag t : List ℕ) (v : Verb) (rest : List ℕ) → outcome tag v rest ≡ Err (Unknown t) → ⊥
-outcome_known tag t v rest e = outcome_case (is_left_out v) tag t (command_at v rest) e
+outcome_known tag t v rest e = outcome_case (is_left_out v) tag t v (command_at v rest) e
 
 -- a tag's end, the gap behind it and a verb
 gap_verb : (back rest : List ℕ) (v : Verb) (R : List ℕ → Type 0) → Stops is_not_space back → FoundVerb (after_spaces back) rest v → R rest → Joined Gap (Joined (VerbIs v) R) back
@@ -151,13 +154,13 @@ spelled line tag back rest v c o f e =
     with_verb line tag back rest (verb_of c) (Joined (ArgumentsOf c) Spaces) o g k.is
 
 command_case : (line tag back rest : List ℕ) (v : Verb) (o : Option Command) → command_at v rest ≡ o → is_left_out v ≡ false → Opened line tag back → FoundVerb (after_spaces back) rest v
-    → read line ≡ of_command tag o → Reads line (of_command tag o)
+    → read line ≡ of_command tag v o → Reads line (of_command tag v o)
 command_case line tag back rest v None e k o f r =
-    (v, k, begins line tag back rest v o f, λ c h. let ok = line_again tag c line h in let bad : Ok (tag, c) ≡ Err (Arguments tag) = sym ok ∙ r in cc)
+    (k, begins line tag back rest v o f, λ c h. let ok = line_again tag c line h in let bad : Ok (tag, c) ≡ Err (Arguments tag v) = sym ok ∙ r in cc)
 command_case line tag back rest v (Some c) e k o f r = spelled line tag back rest v c o f e
 
 left_case : (line tag back rest : List ℕ) (v : Verb) (b : Bool) → is_left_out v ≡ b → Opened line tag back → FoundVerb (after_spaces back) rest v
-    → read line ≡ cond b (Err (LeftOut tag)) (of_command tag (command_at v rest)) → Reads line (cond b (Err (LeftOut tag)) (of_command tag (command_at v rest)))
+    → read line ≡ cond b (Err (LeftOut tag)) (of_command tag v (command_at v rest)) → Reads line (cond b (Err (LeftOut tag)) (of_command tag v (command_at v rest)))
 left_case line tag back rest v true e o f r = (v, e, begins line tag back rest v o f)
 left_case line tag back rest v false e o f r = command_case line tag back rest v (command_at v rest) refl e o f r
 
@@ -205,7 +208,7 @@ unknown_only line tag back None e o n = refl
 unknown_only line tag back (Some c) e o n = absurd (n c.0 (begins line tag back c.1 c.0 o (verb_sound (after_spaces back) c.1 c.0 e)))
 
 arguments_only : (line tag : List ℕ) (v : Verb) (q : BeginsWith tag v line) (o : Option Command) → command_at v q.second.second.back ≡ o → ((c : Command) → Line tag c line → ⊥)
-    → of_command tag o ≡ Err (Arguments tag)
+    → of_command tag v o ≡ Err (Arguments tag v)
 arguments_only line tag v q None e n = refl
 arguments_only line tag v q (Some c) e n =
     let rest = q.second.second.back in
@@ -233,10 +236,10 @@ fault_only line (Unknown tag) h =
     let o : Opened line tag q.back = record { parts = q.parts ∙ ap (λ l. l ++ q.back) q.first.0; is = subst (TagIs tag) q.first.0 q.first; stops = stops } in
     ap read q.parts ∙ tagged tag q.front q.back q.first stops ∙ unknown_only line tag q.back (verb_at (after_spaces q.back)) refl o h.1
 fault_only line (LeftOut tag) h = begun tag h.0 line h.2 ∙ left_outcome tag h.0 h.2.second.second.back h.1
-fault_only line (Arguments tag) h =
-    begun tag h.0 line h.2
-    ∙ offered_outcome tag h.0 h.2.second.second.back h.1
-    ∙ arguments_only line tag h.0 h.2 (command_at h.0 h.2.second.second.back) refl h.3
+fault_only line (Arguments tag v) h =
+    begun tag v line h.1
+    ∙ offered_outcome tag v h.1.second.second.back h.0
+    ∙ arguments_only line tag v h.1 (command_at v h.1.second.second.back) refl h.2
 
 pub only : (line : List ℕ) (r : Result (List ℕ × Command) ImapFault) → Reads line r → r ≡ read line
 only line (Ok p) h = sym (line_again p.0 p.1 line h)

@@ -1,11 +1,16 @@
 -- One byte further.
-use Rattle.std.proofs.Common.{◌≡◌, ℕ, suc, ◌+◌, ◌<◌, Bool, true, false, cond, List, [], ◌∷◌, length, get_or, drop, ap}
-use Rattle.std.specs.Prelude.{Some, None, ◌==◌, ◌||◌}
+use Rattle.std.proofs.Common.{◌≡◌, ℕ, suc, ◌+◌, ◌<◌, Bool, true, false, cond, List, [], ◌∷◌, length, get_or, drop, ap, refl, sym}
+use Rattle.std.specs.Prelude.{Some, None, ◌==◌, ◌||◌, ◌&&◌}
 use Rattle.std.specs.Option.{option_map}
+use Rattle.std.proofs.lemmas.Bool.Decides.{Decides-eqb}
+use Rattle.std.specs.Bool.{Decides}
 use Rattle.envelope.specs.Directory.{unquoted}
 use Rattle.envelope.proofs.Steps.{drop_step}
 use Rattle.imap_grammar.specs.Bytes.{is_special, is_quotable}
 use Rattle.imap_grammar.specs.Reading.{quoted_len}
+use Rattle.std.specs.Str.{bytes_eq}
+use Rattle.envelope.specs.Reading.{past_byte}
+use Rattle.std.specs.Prelude.{Option}
 
 pub quoted_step : (e : Bool) (xs : List ℕ) (i : ℕ) → i < length xs
     → quoted_len e (drop i xs) ≡ cond e (cond (is_special (get_or xs i 0)) (option_map suc (quoted_len false (drop (i + 1) xs))) None)
@@ -18,3 +23,18 @@ pub unquoted_step : (e : Bool) (xs : List ℕ) (i : ℕ) → i < length xs
     (cond (get_or xs i 0 == 34) [] (cond (get_or xs i 0 == 92) (unquoted true (drop (i + 1) xs)) (get_or xs i 0 ∷ unquoted false (drop (i + 1) xs))))
 unquoted_step true xs i h = ap (unquoted true) (drop_step xs i h)
 unquoted_step false xs i h = ap (unquoted false) (drop_step xs i h)
+
+-- a text of one byte and others, and what is left of the other text behind that byte
+abbrev pub same_behind : Option (List ℕ) → List ℕ → Bool
+same_behind None xs = false
+same_behind (Some rest) xs = bytes_eq xs rest
+
+pub same_step : (b : ℕ) (xs ys : List ℕ) → bytes_eq (b ∷ xs) ys ≡ same_behind (past_byte b ys) xs
+same_step b xs [] = refl
+same_step b xs (y ∷ ys) = by (b == y) (y == b) (Decides-eqb b y) (Decides-eqb y b)
+  where
+    by : (t u : Bool) → Decides t (b ≡ y) → Decides u (y ≡ b) → t && bytes_eq xs ys ≡ same_behind (cond u (Some ys) None) xs
+    by true true d e = refl
+    by false false d e = refl
+    by true false d e = absurd (let bad : false ≡ true = e.1 (sym (d.0 refl)) in cc)
+    by false true d e = absurd (let bad : false ≡ true = d.1 (sym (e.0 refl)) in cc)

@@ -113,6 +113,7 @@ status_word status.UidValidity = codes "UIDVALIDITY"
 status_word status.Unseen = codes "UNSEEN"
 status_word status.Deleted = codes "DELETED"
 status_word status.Size = codes "SIZE"
+status_word status.Recent = codes "RECENT"
 
 abbrev pub StatusItemIs : StatusItem → Rule
 StatusItemIs item = Keyword (status_word item)
@@ -190,7 +191,7 @@ VerbIs verb = VerbWords (stands_behind_uid verb) (word_of verb)
 
 -- what follows the verb. A command that isn't here stands alone
 abbrev pub ArgumentsOf : Command → Rule
-ArgumentsOf say.Login = AfterGap Anything
+ArgumentsOf (say.Login user password) = Gap ⨾ Name user ⨾ Gap ⨾ Name password
 ArgumentsOf say.Authenticate = AfterGap Anything
 ArgumentsOf say.StartTls = AfterGap Anything
 ArgumentsOf (say.Select name) = Gap ⨾ Name name
@@ -201,6 +202,9 @@ ArgumentsOf (say.UidExpunge set) = Gap ⨾ SetIs set
 ArgumentsOf (say.Fetch fetch) = Gap ⨾ SetIs fetch.set ⨾ Gap ⨾ ItemsAre fetch.items
 ArgumentsOf (say.Store store) = Gap ⨾ SetIs store.set ⨾ Gap ⨾ ChangeIs store.silent store.change
 ArgumentsOf (say.Append append) = Gap ⨾ Name append.name ⨾ Gap ⨾ GivenFlags append.flags ⨾ GivenDate ⨾ LiteralIs append.literal
+ArgumentsOf (say.Lsub reference pattern) = Gap ⨾ Name reference ⨾ Gap ⨾ Pattern pattern
+ArgumentsOf (say.Subscribe name) = Gap ⨾ Name name
+ArgumentsOf (say.Unsubscribe name) = Gap ⨾ Name name
 ArgumentsOf _ = Exactly []
 
 -- a line that is this command under this tag. Spaces at its end say nothing
@@ -216,8 +220,8 @@ abbrev pub IsFault : List ℕ → ImapFault → Type 0
 IsFault line NoTag = (tag : List ℕ) → (TagIs tag ⨾ AfterGap Anything) line → ⊥
 IsFault line (Unknown tag) = (TagIs tag ⨾ AfterGap Anything) line × ((verb : Verb) → BeginsWith tag verb line → ⊥)
 IsFault line (LeftOut tag) = (verb : Verb) × (is_left_out verb ≡ true) × BeginsWith tag verb line
-IsFault line (Arguments tag) =
-    (verb : Verb) × (is_left_out verb ≡ false) × BeginsWith tag verb line × ((command : Command) → Line tag command line → ⊥)
+IsFault line (Arguments tag verb) =
+    (is_left_out verb ≡ false) × BeginsWith tag verb line × ((command : Command) → Line tag command line → ⊥)
 
 -- what a line is
 abbrev pub Reads : List ℕ → Result (List ℕ × Command) ImapFault → Type 0

@@ -84,10 +84,15 @@ status_item_of word =
     else if is_same word (codes "UNSEEN") then Some status.Unseen
     else if is_same word (codes "DELETED") then Some status.Deleted
     else if is_same word (codes "SIZE") then Some status.Size
+    else if is_same word (codes "RECENT") then Some status.Recent
     else None
 
 abbrev pub status_items_of : List ℕ → List StatusItem
 status_items_of text = filter_map status_item_of (words text)
+
+abbrev pub is_recent : StatusItem → Bool
+is_recent status.Recent = true
+is_recent _ = false
 
 -- ---- flags
 

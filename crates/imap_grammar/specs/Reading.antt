@@ -161,13 +161,14 @@ set_alone bytes = do
   set ← set_at (word_at start).0
   if_end (say.UidExpunge set) (word_at start).1
 
-abbrev pub list_at : List ℕ → Option Command
-list_at bytes = do
+-- a name, and a string of this class behind it
+abbrev pub pair_at : (ℕ → Bool) → (List ℕ → List ℕ → Command) → List ℕ → Option Command
+pair_at class make bytes = do
   start ← past_gap bytes
-  reference ← string_at is_atom start
-  next ← past_gap reference.1
-  pattern ← string_at is_pattern next
-  if_end (say.List reference.0 pattern.0) pattern.1
+  name ← string_at is_atom start
+  next ← past_gap name.1
+  other ← string_at class next
+  if_end (make name.0 other.0) other.1
 
 abbrev pub status_at : List ℕ → Option Command
 status_at bytes = do
@@ -233,12 +234,12 @@ append_at bytes = do
 
 -- what a verb says with what comes after it. What is left out says nothing
 abbrev pub command_at : Verb → List ℕ → Option Command
-command_at verbs.Login rest = Some say.Login
+command_at verbs.Login rest = pair_at is_atom say.Login rest
 command_at verbs.Authenticate rest = Some say.Authenticate
 command_at verbs.StartTls rest = Some say.StartTls
 command_at verbs.Select rest = name_alone say.Select rest
 command_at verbs.Examine rest = name_alone say.Examine rest
-command_at verbs.List rest = list_at rest
+command_at verbs.List rest = pair_at is_pattern say.List rest
 command_at verbs.Status rest = status_at rest
 command_at verbs.Fetch rest = fetch_at false rest
 command_at verbs.Store rest = store_at false rest
@@ -246,6 +247,9 @@ command_at verbs.UidFetch rest = fetch_at true rest
 command_at verbs.UidStore rest = store_at true rest
 command_at verbs.UidExpunge rest = set_alone rest
 command_at verbs.Append rest = append_at rest
+command_at verbs.Lsub rest = pair_at is_pattern say.Lsub rest
+command_at verbs.Subscribe rest = name_alone say.Subscribe rest
+command_at verbs.Unsubscribe rest = name_alone say.Unsubscribe rest
 command_at verb rest = alone verb >>= λ command. if_end command rest
 
 -- ---- the line
@@ -281,13 +285,13 @@ verb_at bytes =
     then second_at (after_spaces (word_at bytes).1)
     else alone_at bytes
 
-abbrev pub of_command : List ℕ → Option Command → Result (List ℕ × Command) ImapFault
-of_command tag None = Err (Arguments tag)
-of_command tag (Some command) = Ok (tag, command)
+abbrev pub of_command : List ℕ → Verb → Option Command → Result (List ℕ × Command) ImapFault
+of_command tag verb None = Err (Arguments tag verb)
+of_command tag verb (Some command) = Ok (tag, command)
 
 abbrev pub of_verb : List ℕ → Option (Verb × List ℕ) → Result (List ℕ × Command) ImapFault
 of_verb tag None = Err (Unknown tag)
-of_verb tag (Some read) = if is_left_out read.0 then Err (LeftOut tag) else of_command tag (command_at read.0 read.1)
+of_verb tag (Some read) = if is_left_out read.0 then Err (LeftOut tag) else of_command tag read.0 (command_at read.0 read.1)
 
 unfoldable pub read : List ℕ → Result (List ℕ × Command) ImapFault
 read line =

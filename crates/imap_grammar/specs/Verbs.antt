@@ -1,7 +1,7 @@
 -- The verbs: the word of each, whether it stands behind UID, whether it is offered here, and the command that it is.
 use Rattle.std.specs.Prelude.{ℕ, Bool, true, false, codes, List, [], ◌∷◌, Option, Some, None, if◌then◌else◌}
 use Rattle.imap_grammar.specs.declared.command.Verb.{Verb}
-use Rattle.imap_grammar.specs.declared.command.Verb.TheVariants.{Capability, Noop, Logout, Namespace, Idle, Login, Authenticate, StartTls, Select, Examine, List as ListNames, Status, Close, Unselect, Expunge, Fetch, Store, UidFetch, UidStore, UidExpunge, Append, Create, Delete, Rename, Subscribe, Unsubscribe, Copy, Move, Search, Enable, UidCopy, UidMove, UidSearch}
+use Rattle.imap_grammar.specs.declared.command.Verb.TheVariants.{Capability, Noop, Logout, Namespace, Idle, Login, Authenticate, StartTls, Select, Examine, List as ListNames, Status, Close, Unselect, Expunge, Fetch, Store, UidFetch, UidStore, UidExpunge, Append, Create, Delete, Rename, Subscribe, Unsubscribe, Copy, Move, Search, Enable, UidCopy, UidMove, UidSearch, Check, Lsub}
 use Rattle.imap_grammar.specs.declared.command.Command.{Command}
 use Rattle.imap_grammar.specs.declared.command.Command.TheVariants as say
 
@@ -40,6 +40,8 @@ word_of Enable = codes "ENABLE"
 word_of UidCopy = codes "COPY"
 word_of UidMove = codes "MOVE"
 word_of UidSearch = codes "SEARCH"
+word_of Check = codes "CHECK"
+word_of Lsub = codes "LSUB"
 
 -- the verb is UID and a second word
 abbrev pub stands_behind_uid : Verb → Bool
@@ -56,8 +58,6 @@ abbrev pub is_left_out : Verb → Bool
 is_left_out Create = true
 is_left_out Delete = true
 is_left_out Rename = true
-is_left_out Subscribe = true
-is_left_out Unsubscribe = true
 is_left_out Copy = true
 is_left_out Move = true
 is_left_out Search = true
@@ -71,13 +71,12 @@ is_left_out _ = false
 abbrev pub offered : List Verb
 offered =
     Capability ∷ Noop ∷ Logout ∷ Namespace ∷ Idle ∷ Login ∷ Authenticate ∷ StartTls ∷ Select ∷ Examine
-    ∷ ListNames ∷ Status ∷ Close ∷ Unselect ∷ Expunge ∷ Fetch ∷ Store ∷ Append ∷ []
+    ∷ ListNames ∷ Status ∷ Close ∷ Unselect ∷ Expunge ∷ Fetch ∷ Store ∷ Append ∷ Check ∷ Lsub ∷ Subscribe ∷ Unsubscribe ∷ []
 
 -- those of one word that aren't
 abbrev pub left_out : List Verb
 left_out =
-    Create ∷ Delete ∷ Rename ∷ Subscribe ∷ Unsubscribe ∷ Copy ∷ Move
-    ∷ Search ∷ Enable ∷ []
+    Create ∷ Delete ∷ Rename ∷ Copy ∷ Move ∷ Search ∷ Enable ∷ []
 
 -- those of UID and a second word
 abbrev pub behind_uid : List Verb
@@ -93,6 +92,7 @@ alone Idle = Some say.Idle
 alone Close = Some say.Close
 alone Unselect = Some say.Unselect
 alone Expunge = Some say.Expunge
+alone Check = Some say.Check
 alone _ = None
 
 -- the verb of a command
@@ -102,7 +102,7 @@ verb_of say.Noop = Noop
 verb_of say.Logout = Logout
 verb_of say.Namespace = Namespace
 verb_of say.Idle = Idle
-verb_of say.Login = Login
+verb_of (say.Login user password) = Login
 verb_of say.Authenticate = Authenticate
 verb_of say.StartTls = StartTls
 verb_of (say.Select name) = Select
@@ -116,3 +116,7 @@ verb_of (say.UidExpunge set) = UidExpunge
 verb_of (say.Fetch fetch) = if fetch.by_uid then UidFetch else Fetch
 verb_of (say.Store store) = if store.by_uid then UidStore else Store
 verb_of (say.Append append) = Append
+verb_of say.Check = Check
+verb_of (say.Lsub reference pattern) = Lsub
+verb_of (say.Subscribe name) = Subscribe
+verb_of (say.Unsubscribe name) = Unsubscribe

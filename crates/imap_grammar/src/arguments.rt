@@ -5,8 +5,8 @@ ghost use Rattle.std.specs.Prelude.{◌≡◌, ◌≤◌, length, take, false, t
 ghost use Rattle.std.specs.List.{list_all};
 ghost use Rattle.std.specs.Option.{option_copied, option_map};
 ghost use Rattle.envelope.specs.Reading.{first_is, some_len};
-ghost use Rattle.imap_grammar.specs.Reading.{is_of, quoted_len, string_len, string_at, in_parentheses, fetch_items_at, flags_at, operation_of, change_with, name_alone, list_at, status_at, fetch_at, store_at, set_alone, if_end, parens_at, flag_list_at, given_flags_at, past_quoted, past_date, literal_end, literal_at, append_at};
-ghost use Rattle.imap_grammar.specs.Bytes.{is_special, is_quotable, is_digit};
+ghost use Rattle.imap_grammar.specs.Reading.{is_of, quoted_len, string_len, string_at, in_parentheses, fetch_items_at, flags_at, operation_of, change_with, name_alone, pair_at, status_at, fetch_at, store_at, set_alone, if_end, parens_at, flag_list_at, given_flags_at, past_quoted, past_date, literal_end, literal_at, append_at};
+ghost use Rattle.imap_grammar.specs.Bytes.{is_atom, is_pattern, is_special, is_quotable, is_digit};
 ghost use Rattle.imap_grammar.specs.declared.command.Command.TheVariants as say;
 
 use crate::bytes::{Class, is_blank, is_tight, past_gap, run_len, word_at};
@@ -199,13 +199,53 @@ pub fn examine(bytes: &[u8]) -> Option<Command<'_>>
 
 /// What follows LIST.
 pub fn list(bytes: &[u8]) -> Option<Command<'_>>
-    ensures { result ≡ list_at bytes.now }
+    ensures { result ≡ pair_at is_pattern say.List bytes.now }
 {
     let start = past_gap(bytes)?;
     let (reference, rest) = string_at(Class::Atom, start)?;
     let next = past_gap(rest)?;
     let (pattern, rest) = string_at(Class::Pattern, next)?;
     if_end(Command::List { reference, pattern }, rest)
+}
+
+/// What follows LOGIN.
+pub fn login(bytes: &[u8]) -> Option<Command<'_>>
+    ensures { result ≡ pair_at is_atom say.Login bytes.now }
+{
+    let start = past_gap(bytes)?;
+    let (user, rest) = string_at(Class::Atom, start)?;
+    let next = past_gap(rest)?;
+    let (password, rest) = string_at(Class::Atom, next)?;
+    if_end(Command::Login { user, password }, rest)
+}
+
+/// What follows LSUB.
+pub fn lsub(bytes: &[u8]) -> Option<Command<'_>>
+    ensures { result ≡ pair_at is_pattern say.Lsub bytes.now }
+{
+    let start = past_gap(bytes)?;
+    let (reference, rest) = string_at(Class::Atom, start)?;
+    let next = past_gap(rest)?;
+    let (pattern, rest) = string_at(Class::Pattern, next)?;
+    if_end(Command::Lsub { reference, pattern }, rest)
+}
+
+/// What follows SUBSCRIBE.
+pub fn subscribe(bytes: &[u8]) -> Option<Command<'_>>
+    ensures { result ≡ name_alone say.Subscribe bytes.now }
+{
+    let start = past_gap(bytes)?;
+    let (name, rest) = string_at(Class::Atom, start)?;
+    if_end(Command::Subscribe(name), rest)
+}
+
+/// What follows UNSUBSCRIBE.
+pub fn unsubscribe(bytes: &[u8]) -> Option<Command<'_>>
+    ensures { result ≡ name_alone say.Unsubscribe bytes.now }
+{
+    let start = past_gap(bytes)?;
+    let (name, rest) = string_at(Class::Atom, start)?;
+    if_end(Command::Unsubscribe(name), rest)
 }
 
 /// What follows STATUS.

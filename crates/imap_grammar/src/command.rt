@@ -76,6 +76,10 @@ pub enum Verb {
     UidCopy,
     UidMove,
     UidSearch,
+    /// RFC 3501, 6.4.1.
+    Check,
+    /// RFC 3501, 6.3.9.
+    Lsub,
 }
 
 /// FETCH and UID FETCH (RFC 9051, 6.4.5 and 6.4.9).
@@ -89,6 +93,20 @@ pub struct Fetch<'a> {
     pub items: FetchItems<'a>,
 }
 
+impl<'a> Fetch<'a> {
+    ghost use Rattle.std.specs.Prelude.{◌≡◌, if◌then◌else◌};
+
+    fn verb(&self) -> Verb
+        ensures { result ≡ (if self.now.by_uid then Verb.UidFetch else Verb.Fetch) }
+    {
+        if self.by_uid {
+            Verb::UidFetch
+        } else {
+            Verb::Fetch
+        }
+    }
+}
+
 /// STORE and UID STORE (RFC 9051, 6.4.6 and 6.4.9).
 #[derive(Drop)]
 pub struct Store<'a> {
@@ -100,6 +118,20 @@ pub struct Store<'a> {
     pub silent: bool,
     /// What becomes of the flags of each.
     pub change: FlagOp,
+}
+
+impl<'a> Store<'a> {
+    ghost use Rattle.std.specs.Prelude.{◌≡◌, if◌then◌else◌};
+
+    fn verb(&self) -> Verb
+        ensures { result ≡ (if self.now.by_uid then Verb.UidStore else Verb.Store) }
+    {
+        if self.by_uid {
+            Verb::UidStore
+        } else {
+            Verb::Store
+        }
+    }
 }
 
 /// Bytes that the client sends behind the line, as the line announces them (RFC 9051, 4.3).
@@ -122,7 +154,7 @@ pub struct Append<'a> {
     pub literal: Literal,
 }
 
-/// A command (RFC 9051, 6). What follows LOGIN, AUTHENTICATE and STARTTLS is dropped.
+/// A command (RFC 9051, 6). What follows AUTHENTICATE and STARTTLS is dropped.
 #[derive(Drop)]
 pub enum Command<'a> {
     Capability,
@@ -131,7 +163,11 @@ pub enum Command<'a> {
     Namespace,
     /// RFC 2177.
     Idle,
-    Login,
+    /// RFC 9051, 6.2.3.
+    Login {
+        user: Name<'a>,
+        password: Name<'a>,
+    },
     Authenticate,
     StartTls,
     Select(Name<'a>),
@@ -151,6 +187,51 @@ pub enum Command<'a> {
     Fetch(Fetch<'a>),
     Store(Store<'a>),
     Append(Append<'a>),
+    /// RFC 3501, 6.4.1.
+    Check,
+    /// RFC 3501, 6.3.9: LIST of the mailboxes that are subscribed to.
+    Lsub {
+        reference: Name<'a>,
+        pattern: Name<'a>,
+    },
+    Subscribe(Name<'a>),
+    Unsubscribe(Name<'a>),
+}
+
+impl<'a> Command<'a> {
+    ghost use Rattle.std.specs.Prelude.{◌≡◌};
+    ghost use Rattle.imap_grammar.specs.Verbs.{verb_of};
+
+    /// The verb by which the client calls it.
+    pub fn verb(&self) -> Verb
+        ensures { result ≡ verb_of self.now }
+    {
+        match self {
+            Command::Capability => Verb::Capability,
+            Command::Noop => Verb::Noop,
+            Command::Logout => Verb::Logout,
+            Command::Namespace => Verb::Namespace,
+            Command::Idle => Verb::Idle,
+            Command::Login { .. } => Verb::Login,
+            Command::Authenticate => Verb::Authenticate,
+            Command::StartTls => Verb::StartTls,
+            Command::Select(_) => Verb::Select,
+            Command::Examine(_) => Verb::Examine,
+            Command::List { .. } => Verb::List,
+            Command::Status { .. } => Verb::Status,
+            Command::Close => Verb::Close,
+            Command::Unselect => Verb::Unselect,
+            Command::Expunge => Verb::Expunge,
+            Command::UidExpunge(_) => Verb::UidExpunge,
+            Command::Fetch(fetch) => fetch.verb(),
+            Command::Store(store) => store.verb(),
+            Command::Append(_) => Verb::Append,
+            Command::Check => Verb::Check,
+            Command::Lsub { .. } => Verb::Lsub,
+            Command::Subscribe(_) => Verb::Subscribe,
+            Command::Unsubscribe(_) => Verb::Unsubscribe,
+        }
+    }
 }
 
 /// Why a line is no command. The first that holds is the fault.
@@ -162,8 +243,8 @@ pub enum ImapFault<'a> {
     Unknown(Tag<'a>),
     /// The verb is of IMAP, and isn't offered here.
     LeftOut(Tag<'a>),
-    /// What follows the verb isn't right for it.
-    Arguments(Tag<'a>),
+    /// What follows this verb isn't right for it.
+    Arguments(Tag<'a>, Verb),
 }
 
 /// The verb of one word that is offered here.
@@ -206,6 +287,14 @@ pub(crate) fn offered(word: &[u8]) -> Option<Verb>
         Some(Verb::Store)
     } else if word.eq_ignore_ascii_case(b"APPEND") {
         Some(Verb::Append)
+    } else if word.eq_ignore_ascii_case(b"CHECK") {
+        Some(Verb::Check)
+    } else if word.eq_ignore_ascii_case(b"LSUB") {
+        Some(Verb::Lsub)
+    } else if word.eq_ignore_ascii_case(b"SUBSCRIBE") {
+        Some(Verb::Subscribe)
+    } else if word.eq_ignore_ascii_case(b"UNSUBSCRIBE") {
+        Some(Verb::Unsubscribe)
     } else {
         None
     }
@@ -221,10 +310,6 @@ pub(crate) fn left_out(word: &[u8]) -> Option<Verb>
         Some(Verb::Delete)
     } else if word.eq_ignore_ascii_case(b"RENAME") {
         Some(Verb::Rename)
-    } else if word.eq_ignore_ascii_case(b"SUBSCRIBE") {
-        Some(Verb::Subscribe)
-    } else if word.eq_ignore_ascii_case(b"UNSUBSCRIBE") {
-        Some(Verb::Unsubscribe)
     } else if word.eq_ignore_ascii_case(b"COPY") {
         Some(Verb::Copy)
     } else if word.eq_ignore_ascii_case(b"MOVE") {
@@ -268,8 +353,6 @@ pub(crate) fn is_left_out(verb: Verb) -> bool
         Verb::Create
             | Verb::Delete
             | Verb::Rename
-            | Verb::Subscribe
-            | Verb::Unsubscribe
             | Verb::Copy
             | Verb::Move
             | Verb::Search
@@ -293,6 +376,7 @@ pub(crate) fn alone<'a>(verb: Verb) -> Option<Command<'a>>
         Verb::Close => Some(Command::Close),
         Verb::Unselect => Some(Command::Unselect),
         Verb::Expunge => Some(Command::Expunge),
+        Verb::Check => Some(Command::Check),
         _ => None,
     }
 }

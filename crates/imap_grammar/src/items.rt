@@ -4,7 +4,7 @@
 ghost use Rattle.std.specs.Prelude.{◌≡◌, ◌++◌, ◌∷◌, [], IfOk, MatchOption, OnOk, is_some, option_to_list};
 ghost use Rattle.std.specs.List.{list_all, list_any};
 ghost use Rattle.envelope.specs.Reading.{words};
-ghost use Rattle.imap_grammar.specs.Items.{section_of, span_between, span_of, partial_of, body_of, fetch_item_of, fetch_items_of, marks_seen, status_item_of, status_items_of};
+ghost use Rattle.imap_grammar.specs.Items.{section_of, span_between, span_of, partial_of, body_of, fetch_item_of, fetch_items_of, marks_seen, is_recent, status_item_of, status_items_of};
 
 use crate::cut::cut_at;
 use crate::number::number_up_to;
@@ -58,6 +58,8 @@ pub enum StatusItem {
     Unseen,
     Deleted,
     Size,
+    /// Messages that no session was told of before: none (RFC 3501, 6.3.10).
+    Recent,
 }
 
 /// The items of a FETCH, as they stand in a line: in contracts the list of them.
@@ -200,6 +202,8 @@ fn status_item(word: &[u8]) -> Option<StatusItem>
         Some(StatusItem::Deleted)
     } else if word.eq_ignore_ascii_case(b"SIZE") {
         Some(StatusItem::Size)
+    } else if word.eq_ignore_ascii_case(b"RECENT") {
+        Some(StatusItem::Recent)
     } else {
         None
     }
@@ -277,6 +281,28 @@ fn items_mark_seen(text: &[u8]) -> bool
     false
 }
 
+fn word_is_recent(word: &[u8]) -> bool
+    ensures { result ≡ list_any is_recent (option_to_list (status_item_of word.now)) }
+{
+    match status_item(word) {
+        Some(StatusItem::Recent) => true,
+        _ => false,
+    }
+}
+
+fn items_have_recent(text: &[u8]) -> bool
+    ensures { result ≡ list_any is_recent (status_items_of text.now) }
+{
+    let mut rest = text;
+    while let Some((word, others)) = next_word(rest) {
+        if word_is_recent(word) {
+            return true;
+        }
+        rest = others;
+    }
+    false
+}
+
 // The first item that the words of a text are, and what stands behind its word.
 fn first_status_item(text: &[u8]) -> Option<(StatusItem, &[u8])>
     ensures { MatchOption result (status_items_of text.now ≡ []) (λ found. status_items_of text.now
@@ -326,7 +352,16 @@ impl<'a> FetchItems<'a> {
 
 impl<'a> StatusItems<'a> {
     ghost use Rattle.std.specs.Prelude.{◌≡◌, ◌∷◌, [], MatchOption};
+    ghost use Rattle.std.specs.List.{list_any};
+    ghost use Rattle.imap_grammar.specs.Items.{is_recent};
     ghost use Rattle.imap_grammar.specs.Reading.{status_items_in};
+
+    /// Whether RECENT is among them, which the standard profile doesn't have.
+    pub fn have_recent(&self) -> bool
+        ensures { result ≡ list_any is_recent self.now }
+    {
+        items_have_recent(self.spelled)
+    }
 
     /// The first item in the order in which they were asked, and those behind it. It takes no memory.
     pub fn split_first(&self) -> Option<(StatusItem, StatusItems<'a>)>

@@ -2,8 +2,10 @@
 //! Whether a mailbox has that name is told above.
 
 ghost use Rattle.std.specs.Prelude.{◌≡◌, IfOk, false};
+ghost use Rattle.std.specs.Str.{bytes_eq};
 ghost use Rattle.envelope.specs.Directory.{value_of, unquoted};
 
+use envelope::past_byte;
 use std::alloc::{AllocError, Global};
 use std::marker::Model;
 
@@ -28,6 +30,30 @@ fn unquoted(alloc: Global, text: &[u8]) -> Result<Vec<u8>, AllocError>
     Ok(value)
 }
 
+// Whether what stands in a quoted string, from behind its first quote, says these bytes.
+#[tactic(auto, using(crate::proofs::Steps::unquoted_step, crate::proofs::Steps::same_step))]
+fn is_unquoted(text: &[u8], bytes: &[u8]) -> bool
+    ensures { result ≡ bytes_eq (unquoted false text.now) bytes.now }
+{
+    let mut rest = bytes;
+    let mut escaped = false;
+    for b in text {
+        if !escaped && *b == b'"' {
+            return rest.is_empty();
+        }
+        if !escaped && *b == b'\\' {
+            escaped = true;
+        } else {
+            let Some(others) = past_byte(*b, rest) else {
+                return false;
+            };
+            rest = others;
+            escaped = false;
+        }
+    }
+    rest.is_empty()
+}
+
 /// A name or a pattern, as it stands in a line, plain or within quotes: in contracts the bytes that it says.
 #[derive(Drop)]
 pub struct Name<'a> {
@@ -44,12 +70,26 @@ impl<'a> Model for Name<'a> {
 }
 
 impl<'a> Name<'a> {
+    ghost use Rattle.std.specs.Prelude.{◌≡◌, IfOk};
+    ghost use Rattle.std.specs.Str.{bytes_eq};
+
     /// The name that is spelled so.
     pub(crate) fn of(spelled: &'a [u8]) -> Name<'a>
         ensures { result ≡ value_of spelled.now }
     {
         Name { spelled }
     }
+
+    /// Whether the name says just these bytes. It takes no memory.
+    pub fn is(&self, bytes: &[u8]) -> bool
+        ensures { result ≡ bytes_eq self.now bytes.now }
+    {
+        match self.spelled {
+            [b'"', rest @ ..] => is_unquoted(rest, bytes),
+            _ => self.spelled == bytes,
+        }
+    }
+
     /// The bytes that the name says: those of a quoted string without its quotes and backslashes.
     ///
     /// Errors: `AllocError` where memory is refused.

@@ -8,7 +8,10 @@ ghost use Rattle.imap_grammar.specs.declared.command.Command.{Command};
 ghost use Rattle.imap_grammar.specs.declared.command.ImapFault.{ImapFault};
 ghost use Rattle.imap_grammar.specs.Reading.{verb_alone, alone_at, second_at, verb_at, command_at, read, is_done};
 
-use crate::arguments::{append, examine, fetch, if_end, list, select, status, store, uid_expunge};
+use crate::arguments::{
+    append, examine, fetch, if_end, list, login, lsub, select, status, store, subscribe, uid_expunge,
+    unsubscribe,
+};
 use crate::bytes::{Class, is_blank, word_at};
 use crate::command::{
     Command, ImapFault, Tag, Verb, alone, behind_uid, is_left_out, left_out, offered,
@@ -60,7 +63,7 @@ fn command_at(verb: Verb, rest: &[u8]) -> Option<Command<'_>>
     ensures { result ≡ command_at verb rest.now }
 {
     match verb {
-        Verb::Login => Some(Command::Login),
+        Verb::Login => login(rest),
         Verb::Authenticate => Some(Command::Authenticate),
         Verb::StartTls => Some(Command::StartTls),
         Verb::Select => select(rest),
@@ -73,6 +76,9 @@ fn command_at(verb: Verb, rest: &[u8]) -> Option<Command<'_>>
         Verb::UidStore => store(true, rest),
         Verb::UidExpunge => uid_expunge(rest),
         Verb::Append => append(rest),
+        Verb::Lsub => lsub(rest),
+        Verb::Subscribe => subscribe(rest),
+        Verb::Unsubscribe => unsubscribe(rest),
         _ => if_end(alone(verb)?, rest),
     }
 }
@@ -93,7 +99,7 @@ fn reading(line: &[u8]) -> Result<(Tag<'_>, Command<'_>), ImapFault<'_>>
     }
     match command_at(verb, rest) {
         Some(command) => Ok((Tag::of(tag), command)),
-        None => Err(ImapFault::Arguments(Tag::of(tag))),
+        None => Err(ImapFault::Arguments(Tag::of(tag), verb)),
     }
 }
 
@@ -101,7 +107,7 @@ fn reading(line: &[u8]) -> Result<(Tag<'_>, Command<'_>), ImapFault<'_>>
 /// and 9). The line may have any bytes and any length. Spaces at its end are dropped. Takes no memory.
 ///
 /// Errors, in this order: `NoTag` where the first word isn't made of a tag's bytes; `Unknown` where no
-/// verb follows it; `LeftOut` for a verb that isn't offered, whatever follows; `Arguments`.
+/// verb follows it; `LeftOut` for a verb that isn't offered, whatever follows; `Arguments` of that verb.
 pub fn read_line(line: &[u8]) -> Result<(Tag<'_>, Command<'_>), ImapFault<'_>>
     // It is what the grammar says of the line.
     ensures found { Reads line.now result }

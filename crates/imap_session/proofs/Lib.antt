@@ -20,3 +20,4 @@ pub mod Carried
 pub mod Asking
 pub mod FolderLaws
 pub mod TextLaws
+pub mod Barring

@@ -10,9 +10,10 @@ use Rattle.imap_grammar.specs.Reading.{is_done, read}
 use Rattle.imap_session.specs.declared.standing.After.{After}
 use Rattle.imap_session.specs.declared.standing.After.TheVariants.{Go, Idle}
 use Rattle.imap_session.specs.declared.standing.SessionFault.{SessionFault}
+use Rattle.imap_session.specs.declared.standing.Profile.{Profile}
 use Rattle.imap_session.specs.declared.standing.Selected.{Selected}
-use Rattle.imap_session.specs.Exchange.{Answer, Appending, Call, Standing, Starved, closed, tagged, continuing}
-use Rattle.imap_session.specs.Commands.{completed, fault_text, on_command, on_idle_line, on_read, says, appending, showing, on_rest, turn_behind, turn_of, turn_while, without_begun}
+use Rattle.imap_session.specs.Exchange.{Answer, Appending, Call, Standing, Starved, closed, played, tagged, continuing}
+use Rattle.imap_session.specs.Commands.{barred, barred_at, completed, fault_text, logged_in, logs_in_as, on_command, on_found, on_idle_line, on_line, on_read, says, appending, showing, on_rest, turn_behind, turn_of, turn_while, without_begun}
 use Rattle.imap_session.specs.Store.{Answers}
 use Rattle.imap_session.specs.Response.{Response}
 use Rattle.imap_session.specs.inner.Store.{Does, Plays, Reaches, after_result, is_idle, last, last_words}
@@ -24,6 +25,7 @@ use Rattle.imap_session.specs.inner.Seen.{appending_of}
 use Rattle.imap_session.proofs.Ending.{moves_still, plays_moved}
 use Rattle.imap_session.proofs.Runs.{reaches_here}
 use Rattle.imap_session.specs.declared.texts.ResponseText.TheVariants as texts
+use Rattle.imap_grammar.specs.declared.command.Verb.TheVariants as verbs
 use Rattle.imap_session.specs.Texts.{response_text}
 use Rattle.imap_session.specs.declared.texts.ResponseText.{ResponseText}
 
@@ -32,26 +34,75 @@ awake_turn : (now : Standing) (line : List ℕ) (answers : List Answer) → now.
 awake_turn now line answers alone awake = ap (λ b. turn_behind b now line answers) alone ∙ ap (λ i. turn_while i now line answers) awake
 
 pub answers_fault : {S : Type 0} (step : S → Call → Answer → S → Type 0) (now : Standing) (line : List ℕ) (fault : ImapFault) (s : S) (before after : List ℕ) → now.mailing.begun ≡ None → now.idling ≡ None
-    → read line ≡ Err fault → after ≡ before ++ fault_text fault
+    → read line ≡ Err fault → after ≡ before ++ fault_text now.profile fault
     → Answers step now line s s before after Go now
 answers_fault step now line fault s before after alone awake h e = record {
   answers = [];
   events = [];
-  bytes = fault_text fault ++ [];
+  bytes = fault_text now.profile fault ++ [];
   played = awake_turn now line [] alone awake ∙ ap (λ r. on_read now r []) h;
   met = refl;
-  wrote = e ∙ ap (λ t. before ++ t) (sym (append-nil (fault_text fault)));
+  wrote = e ∙ ap (λ t. before ++ t) (sym (append-nil (fault_text now.profile fault)));
 }
 
+-- how a command is read that doesn't log the client in, and isn't barred
+abbrev pub IsTaken : Standing → Command → Type 0
+IsTaken now command = (logs_in_as now.login command ≡ false) × (barred now command ≡ None)
+
+-- as the code finds it
+pub is_taken : (now : Standing) (command : Command) (login also_login : Option (List ℕ)) (profile : Profile) (right : Bool) (bars : Option ResponseText) → login ≡ now.login → right ≡ logs_in_as login command → right ≡ false
+    → also_login ≡ now.login → profile ≡ now.profile → bars ≡ barred_at also_login profile command → bars ≡ None → IsTaken now command
+is_taken now command login also_login profile right bars at told wrong also_at of is none = (
+  ap (λ l. logs_in_as l command) (sym at) ∙ sym told ∙ wrong,
+  ap (λ l. barred_at l now.profile command) (sym also_at) ∙ ap (λ p. barred_at also_login p command) (sym of) ∙ sym is ∙ none,
+)
+
+taken_turn : (now : Standing) (line tag : List ℕ) (command : Command) (answers : List Answer) → now.mailing.begun ≡ None → now.idling ≡ None → read line ≡ Ok (tag, command) → IsTaken now command
+    → turn_of now line answers ≡ played tag now (on_command now command) answers
+taken_turn now line tag command answers alone awake h taken =
+    awake_turn now line answers alone awake ∙ ap (λ r. on_read now r answers) h ∙ ap (λ b. on_line b now tag command answers) taken.0
+    ∙ ap (λ o. played tag now (on_found (λ text. says (response_text text)) (on_command now command) o) answers) taken.1
+
+-- the client logs in
+pub answers_login : {S : Type 0} (step : S → Call → Answer → S → Type 0) (now next : Standing) (line tag : List ℕ) (command : Command) (s : S) (before after : List ℕ) → now.mailing.begun ≡ None → now.idling ≡ None
+    → read line ≡ Ok (tag, command) → logs_in_as now.login command ≡ true → next ≡ logged_in now → after ≡ before ++ tagged tag (response_text (texts.Completed verbs.Login))
+    → Answers step now line s s before after Go next
+answers_login step now next line tag command s before after alone awake h right is wrote =
+    let words : List ℕ = tagged tag (response_text (texts.Completed verbs.Login)) in
+    subst (λ (n : Standing). Answers step now line s s before after Go n) (sym is) (record {
+      answers = [];
+      events = [];
+      bytes = words ++ [];
+      played = awake_turn now line [] alone awake ∙ ap (λ r. on_read now r []) h ∙ ap (λ b. on_line b now tag command []) right;
+      met = refl;
+      wrote = wrote ∙ ap (λ t. before ++ t) (sym (append-nil words));
+    })
+
+-- a command that isn't carried out
+pub answers_barred : {S : Type 0} (step : S → Call → Answer → S → Type 0) (now : Standing) (line tag : List ℕ) (command : Command) (text : ResponseText) (s : S) (before after : List ℕ) → now.mailing.begun ≡ None → now.idling ≡ None
+    → read line ≡ Ok (tag, command) → logs_in_as now.login command ≡ false → barred now command ≡ Some text → after ≡ before ++ tagged tag (response_text text)
+    → Answers step now line s s before after Go now
+answers_barred step now line tag command text s before after alone awake h other barred wrote =
+    let words : List ℕ = tagged tag (response_text text) in
+    record {
+      answers = [];
+      events = [];
+      bytes = words ++ [];
+      played = awake_turn now line [] alone awake ∙ ap (λ r. on_read now r []) h ∙ ap (λ b. on_line b now tag command []) other
+          ∙ ap (λ o. played tag now (on_found (λ t. says (response_text t)) (on_command now command) o) []) barred;
+      met = refl;
+      wrote = wrote ∙ ap (λ t. before ++ t) (sym (append-nil words));
+    }
+
 pub answers_command : {S : Type 0} (step : S → Call → Answer → S → Type 0) (now mid next : Standing) (line tag : List ℕ) (command : Command) (old new : S) (before after : List ℕ) (how : After) → now.mailing.begun ≡ None → now.idling ≡ None
-    → read line ≡ Ok (tag, command) → Plays step tag now mid (on_command now command) old new before after how → next ≡ (closed mid how).standing
+    → read line ≡ Ok (tag, command) → IsTaken now command → Plays step tag now mid (on_command now command) old new before after how → next ≡ (closed mid how).standing
     → Answers step now line old new before after how next
-answers_command {S} step now mid next line tag command old new before after how alone awake h p is =
+answers_command {S} step now mid next line tag command old new before after how alone awake h taken p is =
     subst (λ (s : Standing). Answers step now line old new before after how s) (sym is) (record {
       answers = p.answers;
       events = p.events;
       bytes = p.bytes;
-      played = awake_turn now line p.answers alone awake ∙ ap (λ r. on_read now r p.answers) h ∙ p.leads;
+      played = taken_turn now line tag command p.answers alone awake h taken ∙ p.leads;
       met = p.met;
       wrote = p.wrote;
     })
@@ -59,13 +110,13 @@ answers_command {S} step now mid next line tag command old new before after how 
 -- ---- APPEND
 
 pub answers_append : {S : Type 0} (step : S → Call → Answer → S → Type 0) (now next : Standing) (line tag : List ℕ) (command : Command) (a : Append) (s : S) (before after : List ℕ) (how : After) → now.mailing.begun ≡ None → now.idling ≡ None
-    → read line ≡ Ok (tag, command) → command ≡ commands.Append a → Leads tag now (appending now.mailing.most now.folders a) before after how next
+    → read line ≡ Ok (tag, command) → IsTaken now command → command ≡ commands.Append a → Leads tag now (appending now.mailing.most now.folders a) before after how next
     → Answers step now line s s before after how next
-answers_append step now next line tag command a s before after how alone awake h is p = record {
+answers_append step now next line tag command a s before after how alone awake h taken is p = record {
   answers = p.0;
   events = [];
   bytes = p.1;
-  played = awake_turn now line p.0 alone awake ∙ ap (λ r. on_read now r p.0) (h ∙ ap (λ c. Ok (tag, c)) is) ∙ p.2;
+  played = taken_turn now line tag command p.0 alone awake h taken ∙ ap (λ c. played tag now (on_command now c) p.0) is ∙ p.2;
   met = refl;
   wrote = p.3;
 }
@@ -113,31 +164,31 @@ idle_is commands.Idle e = refl
 idle_is _ e = absurd cc
 
 pub answers_idle : {S : Type 0} (step : S → Call → Answer → S → Type 0) (now next : Standing) (line : List ℕ) (response : Response) (command : Command) (s : S) (before after : List ℕ) (how : After) → now.mailing.begun ≡ None → now.idling ≡ None
-    → read line ≡ Ok (response.tag, command) → response.text ≡ before → is_idle command ≡ true → ((how ≡ Idle) ⊎ (how ≡ Go))
+    → read line ≡ Ok (response.tag, command) → IsTaken now command → response.text ≡ before → is_idle command ≡ true → ((how ≡ Idle) ⊎ (how ≡ Go))
     → (how ≡ Idle → (next ≡ record now { idling = Some response.tag }) × (after ≡ response.text ++ continuing (response_text texts.Idling)))
     → (how ≡ Go → (32 < length response.tag) × (next ≡ now) × (after ≡ response.text ++ tagged response.tag (response_text texts.OutOfMemory)))
     → Answers step now line s s before after how next
-answers_idle step now next line response command s before after Idle alone awake h kept i on begun starved =
+answers_idle step now next line response command s before after Idle alone awake h taken kept i on begun starved =
     subst (λ (n : Standing). Answers step now line s s before after Idle n) (sym (begun refl).0) (record {
       answers = [];
       events = [];
       bytes = continuing (response_text texts.Idling);
-      played = awake_turn now line [] alone awake ∙ ap (λ r. on_read now r []) (h ∙ ap (λ c. Ok (response.tag, c)) (idle_is command i));
+      played = taken_turn now line response.tag command [] alone awake h taken ∙ ap (λ c. played response.tag now (on_command now c) []) (idle_is command i);
       met = refl;
       wrote = (begun refl).1 ∙ ap (λ t. t ++ continuing (response_text texts.Idling)) kept;
     })
-answers_idle step now next line response command s before after Go alone awake h kept i on begun starved =
+answers_idle step now next line response command s before after Go alone awake h taken kept i on begun starved =
     subst (λ (n : Standing). Answers step now line s s before after Go n) (sym (starved refl).1) (record {
       answers = Starved zero ∷ [];
       events = [];
       bytes = tagged response.tag (response_text texts.OutOfMemory) ++ [];
-      played = awake_turn now line (Starved zero ∷ []) alone awake ∙ ap (λ r. on_read now r (Starved zero ∷ [])) (h ∙ ap (λ c. Ok (response.tag, c)) (idle_is command i))
+      played = taken_turn now line response.tag command (Starved zero ∷ []) alone awake h taken ∙ ap (λ c. played response.tag now (on_command now c) (Starved zero ∷ [])) (idle_is command i)
           ∙ ap (λ (b : Bool). if b then Some (record { events = []; bytes = tagged response.tag (response_text texts.OutOfMemory) ++ []; after = Go; standing = now }) else None) (lt-ltb 32 (length response.tag) (starved refl).0);
       met = refl;
       wrote = (starved refl).2 ∙ ap (λ t. t ++ tagged response.tag (response_text texts.OutOfMemory)) kept ∙ ap (λ t. before ++ t) (sym (append-nil (tagged response.tag (response_text texts.OutOfMemory))));
     })
-answers_idle step now next line response command s before after how alone awake h kept i (inl e) begun starved = absurd cc
-answers_idle step now next line response command s before after how alone awake h kept i (inr e) begun starved = absurd cc
+answers_idle step now next line response command s before after how alone awake h taken kept i (inl e) begun starved = absurd cc
+answers_idle step now next line response command s before after how alone awake h taken kept i (inr e) begun starved = absurd cc
 
 -- the line that ends it
 pub plays_idle_line : {S : Type 0} (step : S → Call → Answer → S → Type 0) (now : Standing) (line : List ℕ) (old new : S) (before mid : Response) (final : List ℕ) (r : Result ResponseText MailFault) (how : After)

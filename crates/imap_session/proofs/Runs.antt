@@ -56,6 +56,17 @@ reaches_here step tag now x s text = record {
   wrote = nothing_added text;
 }
 
+-- the same where nothing was written and room may have been used
+pub reaches_unsaid : {S : Type 0} (step : S → Call → Answer → S → Type 0) (tag : List ℕ) (now : Standing) (x : Exchange) (s : S) (before after : Response)
+    → Adds [] before after → Reaches step tag now now x x s s before after
+reaches_unsaid step tag now x s before after h = record {
+  events = [];
+  bytes = [];
+  leads = λ more turn h. (more, h);
+  met = refl;
+  wrote = h;
+}
+
 pub leads_then : (tag : List ℕ) (a b c : Standing) (x y z : Exchange) (e f : List Event) (m n : List ℕ)
     → LeadsOn tag a b x y e m → LeadsOn tag b c y z f n → LeadsOn tag a c x z (e ++ f) (m ++ n)
 leads_then tag a b c x y z e f m n p q more turn h =

@@ -13,12 +13,16 @@ use Rattle.imap_grammar.specs.declared.command.Command.TheVariants as commands
 use Rattle.imap_grammar.specs.declared.command.Fetch.{Fetch}
 use Rattle.imap_grammar.specs.declared.command.Store.{Store}
 use Rattle.imap_session.specs.declared.standing.Selected.{Selected}
+use Rattle.imap_session.specs.declared.standing.Profile.{Profile}
+use Rattle.imap_session.specs.declared.standing.Profile.TheVariants.{Standard, Compatible}
+use Rattle.imap_session.specs.declared.texts.ResponseText.{ResponseText}
+use Rattle.imap_session.proofs.Barring.{answering_has, refuses}
 use Rattle.std.specs.Prelude.{nat_lt}
 use Rattle.imap_grammar.specs.declared.command.Append.{Append}
 use Rattle.imap_session.specs.Exchange.{Exchange, Expunge, Feed, Folder, ForNothing, Standing, Wait, Write, bye, untagged}
-use Rattle.imap_session.specs.Commands.{asking, coming, most_unasked, nowhere, is_over, number_named, over, wanting, wanting_for, on_command, on_idle_line, counting, folder_of, showing, completed, closing, entering, on_folder, on_chosen, messages_done, on_found, fetching, storing, fetched, stored, if_writable, expunge_set, store_messages, fetch_messages, unlimited, wrong_state, says, notice, noticing}
+use Rattle.imap_session.specs.Commands.{answering, telling_recent, asking, coming, most_unasked, nowhere, is_over, number_named, over, wanting, wanting_for, on_command, on_idle_line, counting, folder_of, showing, completed, closing, entering, on_folder, on_chosen, messages_done, on_found, fetching, storing, fetched, stored, if_writable, expunge_set, store_messages, fetch_messages, unlimited, wrong_state, says, notice, noticing}
 use Rattle.imap_session.proofs.Appends.{asked_at, sent_at}
-use Rattle.imap_session.specs.Shows.{DoneShowsInOrder, IsFetchLine, IsNotice, MaySay, ShowsBefore, ShowsInOrder, may_show}
+use Rattle.imap_session.specs.Shows.{DoneShowsInOrder, IsFetchLine, IsNoOk, IsNotice, MaySay, ShowsBefore, ShowsInOrder, may_show}
 use Rattle.imap_session.specs.declared.texts.ResponseText.TheVariants as texts
 use Rattle.imap_session.specs.Texts.{response_text}
 
@@ -48,6 +52,11 @@ in_closing : (now : Standing) (command : Command) (selected : Option Selected) (
     → ShowsInOrder now command x → ShowsInOrder now command (closing selected x)
 in_closing now command None x s p = p
 in_closing now command (Some selected) x s p = (s, p)
+
+in_recent : (now : Standing) (command : Command) (profile : Profile) (x : Exchange) → MaySay now command (untagged (response_text texts.NoneRecent)) → ShowsInOrder now command x
+    → ShowsInOrder now command (telling_recent profile x)
+in_recent now command Standard x s p = p
+in_recent now command Compatible x s p = (s, p)
 
 in_chosen : (now : Standing) (command : Command) (chosen : Option (List ℕ)) (next : List ℕ → Exchange) → ((uids : List ℕ) → ShowsInOrder now command (next uids))
     → ShowsInOrder now command (on_chosen chosen next)
@@ -125,25 +134,33 @@ notice_shown now command (Some words) says quiet = (says _ refl, λ must. absurd
 
 pub shown_in_order : (now : Standing) (command : Command) → ShowsInOrder now command (on_command now command)
 shown_in_order now commands.Noop = in_showing now commands.Noop refl now.selected refl
+shown_in_order now commands.Check = in_showing now commands.Check refl now.selected refl
 shown_in_order now commands.Logout = (refl, λ must. absurd (may_not false (is_some now.selected) refl must))
 shown_in_order now commands.Idle = (refl, may_not_be (is_some now.selected))
-shown_in_order now commands.Login = λ must. refl
+shown_in_order now (commands.Login user password) = λ must. refl
 shown_in_order now commands.Authenticate = λ must. refl
 shown_in_order now commands.StartTls = λ must. refl
 shown_in_order now (commands.Select name) =
-    in_closing now (commands.Select name) now.selected (wanting (on_folder name now.folders (entering false))) (inr (inl refl)) (
+    in_closing now (commands.Select name) now.selected (wanting (on_folder name now.folders (entering now.profile false))) (inr (inl refl)) (
       inl refl,
-      in_folder now (commands.Select name) (entering false) (λ folder opening. (inr (inr (folder.name, opening, refl)), λ must. absurd (may_not false (is_some now.selected) refl must))) (folder_of name now.folders),
+      in_folder now (commands.Select name) (entering now.profile false)
+          (λ folder opening. (inr (inr (inl (folder.name, opening, refl))), in_recent now (commands.Select name) now.profile _ (inr (inr (inr refl))) (λ must. absurd (may_not false (is_some now.selected) refl must)))) (folder_of name now.folders),
     )
 shown_in_order now (commands.Examine name) =
-    in_closing now (commands.Examine name) now.selected (wanting (on_folder name now.folders (entering true))) (inr (inl refl)) (
+    in_closing now (commands.Examine name) now.selected (wanting (on_folder name now.folders (entering now.profile true))) (inr (inl refl)) (
       inl refl,
-      in_folder now (commands.Examine name) (entering true) (λ folder opening. (inr (inr (folder.name, opening, refl)), λ must. absurd (may_not false (is_some now.selected) refl must))) (folder_of name now.folders),
+      in_folder now (commands.Examine name) (entering now.profile true)
+          (λ folder opening. (inr (inr (inl (folder.name, opening, refl))), in_recent now (commands.Examine name) now.profile _ (inr (inr (inr refl))) (λ must. absurd (may_not false (is_some now.selected) refl must)))) (folder_of name now.folders),
     )
 shown_in_order now (commands.List reference pattern) = (refl, in_showing now (commands.List reference pattern) refl now.selected refl)
+shown_in_order now (commands.Lsub reference pattern) = (refl, in_showing now (commands.Lsub reference pattern) refl now.selected refl)
+shown_in_order now (commands.Subscribe name) =
+    (refl, in_folder now (commands.Subscribe name) (λ folder. completed (commands.Subscribe name)) (λ folder must. absurd (may_not false (is_some now.selected) refl must)) (folder_of name now.folders))
+shown_in_order now (commands.Unsubscribe name) =
+    (refl, in_folder now (commands.Unsubscribe name) (λ folder. completed (commands.Unsubscribe name)) (λ folder must. absurd (may_not false (is_some now.selected) refl must)) (folder_of name now.folders))
 shown_in_order now (commands.Status name items) = (
   inl refl,
-  in_folder now (commands.Status name items) (counting now name items)
+  in_folder now (commands.Status name items) (counting now.selected name items)
       (λ folder status. (inr (_, joined (codes "* STATUS ") folder.name (codes " (") (spaced (map (status_text status) items)) (codes ")\r\n")), in_showing now (commands.Status name items) refl now.selected refl)) (folder_of name now.folders),
 )
 shown_in_order now commands.Close = in_found now commands.Close now.selected _ (λ s must. absurd (may_not false (is_some now.selected) refl must))
@@ -166,7 +183,18 @@ shown_in_order now (commands.Store store) =
     (λ uids. in_storing now (commands.Store store) store view _ (λ gone. in_done now (commands.Store store) store.by_uid gone refl)
     (λ uid flags. flags_form store.by_uid (position uid view) uid flags) uids false))
 shown_in_order now (commands.Append append) = in_append now now.mailing.most append (number_named append.name now.folders)
-shown_in_order now command = notice_shown now command (notice command) (λ bytes is. is) refl
+shown_in_order now command = notice_shown now command (notice now.profile command) (λ bytes is. is) refl
+
+refused_no_ok : (text : ResponseText) → refuses text ≡ true → IsNoOk (response_text text)
+refused_no_ok texts.WrongState h = refl
+refused_no_ok texts.UnknownCommand h = refl
+refused_no_ok texts.NotOffered h = refl
+refused_no_ok texts.InvalidArguments h = refl
+refused_no_ok texts.LoginFailed h = refl
+refused_no_ok _ h = cc
+
+pub answered_in_order : (now : Standing) (command : Command) → ShowsInOrder now command (answering now command)
+answered_in_order now command = answering_has (ShowsInOrder now command) now command (λ text is must. refused_no_ok text is) (shown_in_order now command)
 
 in_idle_line : (b : Bool) (selected : Option Selected)
     → ShowsBefore (completed commands.Idle) (λ bytes. ⊥) b (b && is_some selected) false (if b then showing selected (completed commands.Idle) else says (response_text texts.ExpectedDone))

@@ -25,8 +25,11 @@ use Rattle.imap_grammar.specs.Verbs.{verb_of}
 use Rattle.delivery_token.specs.declared.Verdict.{Verdict}
 use Rattle.delivery_token.specs.declared.Verdict.TheVariants.{Stored, Refused}
 use Rattle.imap_session.specs.declared.standing.Selected.{Selected}
+use Rattle.imap_session.specs.declared.standing.Profile.{Profile}
+use Rattle.imap_session.specs.declared.standing.Profile.TheVariants.{Standard, Compatible}
+use Rattle.imap_session.proofs.Barring.{answering_has}
 use Rattle.imap_session.specs.Exchange.{Appending, Exchange, Expunge, Feed, Folder, ForNothing, ForVerdict, Mailing, Standing, Wait, Write, bye, kept_behind, kept_tag, refusal_text}
-use Rattle.imap_session.specs.Commands.{appended_words, asking, coming, closing, completed, counting, entering, expunge_set, fault_text, fetch_messages, fetching, folder_of, if_writable, is_over, last_number, long_rest_text, long_text, most_unasked, messages_done, nowhere, number_named, on_chosen, on_command, on_folder, on_found, on_idle_line, on_rest, on_text, on_verdict, over, refused_text, says, showing, store_messages, storing, turn_of_long_line, unlimited, wanting, wanting_for, wrong_state, entered_text}
+use Rattle.imap_session.specs.Commands.{answering, arguments_text, subscribing, telling_recent, appended_words, asking, coming, closing, completed, counting, entering, expunge_set, fault_text, fetch_messages, fetching, folder_of, if_writable, is_over, last_number, long_rest_text, long_text, most_unasked, messages_done, nowhere, number_named, on_chosen, on_command, on_folder, on_found, on_idle_line, on_rest, on_text, on_verdict, over, refused_text, says, showing, store_messages, storing, turn_of_long_line, unlimited, wanting, wanting_for, wrong_state, entered_text}
 use Rattle.imap_session.specs.Telling.{LineTellsNoUid, RefusalTellsNoUid, TellsNoUid, VerdictTellsUid, WordsTellWhich, fault_tag, tells_uid}
 use Rattle.imap_session.proofs.Appends.{asked_at, sent_at}
 use Rattle.imap_session.specs.declared.texts.ResponseText.TheVariants as texts
@@ -98,9 +101,17 @@ over_tells_none (Some most) = refl
 
 -- ---- commands
 
-selecting_tells_none : (now : Standing) (read_only : Bool) (name : List ℕ) → TellsNoUid (closing now.selected (wanting (on_folder name now.folders (entering read_only))))
+recent_tells_none : (profile : Profile) (read_only : Bool) → TellsNoUid (telling_recent profile (says (response_text (entered_text read_only))))
+recent_tells_none Standard read_only = row_tells_none (entered_text read_only)
+recent_tells_none Compatible read_only = row_tells_none (entered_text read_only)
+
+selecting_tells_none : (now : Standing) (read_only : Bool) (name : List ℕ) → TellsNoUid (closing now.selected (wanting (on_folder name now.folders (entering now.profile read_only))))
 selecting_tells_none now read_only name =
-    in_closing now.selected (wanting (on_folder name now.folders (entering read_only))) (in_folder name now.folders (entering read_only) (λ folder opening. row_tells_none (entered_text read_only)))
+    in_closing now.selected (wanting (on_folder name now.folders (entering now.profile read_only)))
+    (in_folder name now.folders (entering now.profile read_only) (λ folder opening. recent_tells_none now.profile read_only))
+
+subscribing_tells_none : (folders : List Folder) (name : List ℕ) (command : Command) → TellsNoUid (subscribing folders name command)
+subscribing_tells_none folders name command = in_folder name folders (λ folder. completed command) (λ folder. row_tells_none (texts.Completed (verb_of command)))
 
 append_tells_none : (most : Option ℕ) (a : Append) (found : Option ℕ) → TellsNoUid (if a.literal.waits then wanting (asked_at most a found) else sent_at most a found)
 append_tells_none most a found =
@@ -112,11 +123,15 @@ append_tells_none most a found =
 pub command_tells_none : (now : Standing) (command : Command) → TellsNoUid (on_command now command)
 command_tells_none now commands.Noop = in_showing now.selected (completed commands.Noop) refl
 command_tells_none now commands.Idle = tt
+command_tells_none now commands.Check = in_showing now.selected (completed commands.Check) refl
+command_tells_none now (commands.Lsub reference pattern) = in_showing now.selected (completed (commands.Lsub reference pattern)) refl
+command_tells_none now (commands.Subscribe name) = subscribing_tells_none now.folders name (commands.Subscribe name)
+command_tells_none now (commands.Unsubscribe name) = subscribing_tells_none now.folders name (commands.Unsubscribe name)
 command_tells_none now (commands.Select name) = selecting_tells_none now false name
 command_tells_none now (commands.Examine name) = selecting_tells_none now true name
 command_tells_none now (commands.List reference pattern) = in_showing now.selected (completed (commands.List reference pattern)) refl
 command_tells_none now (commands.Status name items) =
-    in_folder name now.folders (counting now name items) (λ folder status. in_showing now.selected (completed (commands.Status name items)) refl)
+    in_folder name now.folders (counting now.selected name items) (λ folder status. in_showing now.selected (completed (commands.Status name items)) refl)
 command_tells_none now commands.Close = in_found _ wrong_state (λ s. refl) refl now.selected
 command_tells_none now commands.Unselect = in_found _ wrong_state (λ s. refl) refl now.selected
 command_tells_none now commands.Expunge = in_writable now.selected (Expunge None (Feed unlimited (completed commands.Expunge))) refl
@@ -133,6 +148,9 @@ command_tells_none now (commands.Store store) =
     (λ uids. in_storing store view _ (λ gone. in_done (commands.Store store) store.by_uid gone (row_tells_none (texts.Completed (verb_of (commands.Store store))))) uids false))
 command_tells_none now (commands.Append append) = append_tells_none now.mailing.most append (number_named append.name now.folders)
 command_tells_none now _ = refl
+
+pub answering_tells_none : (now : Standing) (command : Command) → TellsNoUid (answering now command)
+answering_tells_none now command = answering_has TellsNoUid now command (λ text is. row_tells_none text) (command_tells_none now command)
 
 -- ---- other lines
 
@@ -152,11 +170,11 @@ rest_tells_none mailing a empty =
     (λ text. in_either empty (on_found (on_text mailing a text) nowhere a.mailbox) (says (response_text texts.InvalidArguments)) (in_found (on_text mailing a text) nowhere (text_tells_none mailing a text) refl a.mailbox) refl)
     refl a.text
 
-pub fault_tells_none : (fault : ImapFault) → LineTellsNoUid (fault_tag fault) (fault_text fault)
-fault_tells_none faults.NoTag = (response_text texts.MissingTag ++ codes "\r\n", refl)
-fault_tells_none (faults.Unknown tag) = (response_text texts.UnknownCommand, refl, refl)
-fault_tells_none (faults.LeftOut tag) = (response_text texts.NotOffered, refl, refl)
-fault_tells_none (faults.Arguments tag) = (response_text texts.InvalidArguments, refl, refl)
+pub fault_tells_none : (profile : Profile) (fault : ImapFault) → LineTellsNoUid (fault_tag fault) (fault_text profile fault)
+fault_tells_none profile faults.NoTag = (response_text texts.MissingTag ++ codes "\r\n", refl)
+fault_tells_none profile (faults.Unknown tag) = (response_text texts.UnknownCommand, refl, refl)
+fault_tells_none profile (faults.LeftOut tag) = (response_text texts.NotOffered, refl, refl)
+fault_tells_none profile (faults.Arguments tag verb) = (response_text (arguments_text profile verb), refl, row_tells_none (arguments_text profile verb))
 
 long_tells_none : (begun : Option Appending) (idling : Option (List ℕ)) → LineTellsNoUid (kept_behind begun idling) (long_text begun idling)
 long_tells_none None None = (response_text texts.LineTooLong ++ codes "\r\n", refl)

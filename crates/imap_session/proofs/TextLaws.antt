@@ -5,7 +5,10 @@ use Rattle.imap_grammar.specs.declared.command.Verb.TheVariants as verbs
 use Rattle.imap_grammar.specs.declared.command.Verb.{Verb}
 use Rattle.imap_session.specs.declared.texts.ResponseText.{ResponseText}
 use Rattle.imap_session.specs.declared.texts.ResponseText.TheVariants as texts
-use Rattle.imap_session.specs.Texts.{IsLineText, is_printable, response_text}
+use Rattle.imap_session.specs.Texts.{IsLineText, is_printable, response_text, server_text}
+use Rattle.imap_session.specs.declared.texts.ServerText.{ServerText}
+use Rattle.imap_session.specs.declared.texts.ServerText.TheVariants.{Greeting, Capabilities, Namespaces}
+use Rattle.imap_session.specs.declared.standing.Profile.TheVariants.{Standard, Compatible}
 
 completed_short : (verb : Verb) → length (response_text (texts.Completed verb)) ≤ 45
 completed_short verbs.Noop = omega arith
@@ -36,3 +39,10 @@ completed_line verb = line_text (response_text (texts.Completed verb)) refl refl
 pub on_a_line : (text : ResponseText) → IsLineText (response_text text)
 on_a_line (texts.Completed verb) = completed_line verb
 on_a_line text = line_text (response_text text) refl refl refl
+
+pub server_line : (text : ServerText) → IsLineText (server_text text)
+server_line (Greeting Standard) = line_text _ refl refl refl
+server_line (Greeting Compatible) = line_text _ refl refl refl
+server_line (Capabilities Standard) = line_text _ refl refl refl
+server_line (Capabilities Compatible) = line_text _ refl refl refl
+server_line Namespaces = line_text _ refl refl refl

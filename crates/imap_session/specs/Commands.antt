@@ -24,14 +24,19 @@ use Rattle.imap_grammar.specs.declared.command.ImapFault.TheVariants as faults
 use Rattle.imap_grammar.specs.Sets.{named_in}
 use Rattle.imap_grammar.specs.Verbs.{verb_of}
 use Rattle.imap_grammar.specs.Reading.{is_done, read}
-use Rattle.imap_grammar.specs.Items.{marks_seen}
+use Rattle.imap_grammar.specs.Items.{is_recent, marks_seen}
 use Rattle.imap_answers.specs.Answers.{flags_answer, is_inbox, list_answer, opening_text, row_answer, status_answer}
 use Rattle.imap_session.specs.declared.standing.After.TheVariants.{Go, Bye}
 use Rattle.imap_session.specs.declared.standing.After.TheVariants as afters
 use Rattle.imap_session.specs.declared.standing.Selected.{Selected}
 use Rattle.imap_session.specs.Exchange.{Answer, Appending, Mailing, Sent, Fed, Refused, having, saying, nothing_more, refused, is_idling, Turn, Standing, Folder, Exchange, ForDone, ForLiteral, ForVerdict, ForNothing, Done, Wait, Write, Put, Enter, Look, Read, Count, Alter, Expunge, Feed, Leave, tagged, bye, played, Asked, Unasked, untagged, continuing}
 use Rattle.imap_session.specs.declared.texts.ResponseText.TheVariants as texts
-use Rattle.imap_session.specs.Texts.{response_text}
+use Rattle.imap_session.specs.Texts.{response_text, server_text}
+use Rattle.imap_session.specs.declared.texts.ServerText.TheVariants as server
+use Rattle.imap_session.specs.declared.standing.Profile.{Profile}
+use Rattle.imap_session.specs.declared.standing.Profile.TheVariants.{Standard, Compatible}
+use Rattle.imap_grammar.specs.declared.command.Verb.{Verb}
+use Rattle.imap_answers.specs.declared.list.Listing.TheVariants.{All, Subscribed}
 use Rattle.imap_session.specs.declared.texts.ResponseText.{ResponseText}
 use Rattle.imap_grammar.specs.declared.command.Verb.TheVariants as verbs
 
@@ -91,11 +96,16 @@ abbrev pub entered_text : (read_only : Bool) → ResponseText
 entered_text true = texts.ExamineCompleted
 entered_text false = texts.SelectCompleted
 
+-- clients of IMAP4rev1 are told how many messages no session was told of before (RFC 3501, 6.3.1)
+abbrev pub telling_recent : Profile → Exchange → Exchange
+telling_recent Standard x = x
+telling_recent Compatible x = untagged_in_room (response_text texts.NoneRecent) x
+
 -- What is told of the mailbox that was entered. Room for it was reserved where memory was wanted, before the mailbox was entered, so memory can't be refused to it.
-abbrev pub opened : Bool → List ℕ → Opening → Exchange
-opened read_only name opening =
+abbrev pub opened : Profile → Bool → List ℕ → Opening → Exchange
+opened profile read_only name opening =
     Put (opening_text read_only name opening)
-    (says (response_text (entered_text read_only)))
+    (telling_recent profile (says (response_text (entered_text read_only))))
 
 -- The mailbox that was selected is left first, also where the new one isn't there, and that is told: room for this line was reserved before anything was
 -- done, so memory can't be refused to it.
@@ -103,13 +113,13 @@ abbrev pub closing : Option Selected → Exchange → Exchange
 closing None x = x
 closing (Some selected) x = Leave false (untagged_in_room (response_text texts.PreviousClosed) x)
 
-abbrev pub entering : Bool → Folder → Exchange
-entering read_only folder = Enter (record { mailbox = folder.mailbox; read_only = read_only }) (opened read_only folder.name)
+abbrev pub entering : Profile → Bool → Folder → Exchange
+entering profile read_only folder = Enter (record { mailbox = folder.mailbox; read_only = read_only }) (opened profile read_only folder.name)
 
 -- Then memory is wanted, once, for the name and for what is told of the new mailbox. Where it is refused no mailbox is selected, as where the new one isn't there
 -- or the store refuses it (RFC 9051, 6.3.2).
-abbrev pub selecting : Standing → Bool → List ℕ → Exchange
-selecting now read_only name = closing now.selected (wanting (on_folder name now.folders (entering read_only)))
+abbrev pub selecting : Profile → List Folder → Option Selected → Bool → List ℕ → Exchange
+selecting profile folders selected read_only name = closing selected (wanting (on_folder name folders (entering profile read_only)))
 
 -- ---- sets of messages
 
@@ -181,9 +191,13 @@ abbrev pub expunge_set : List SeqRange → Exchange
 expunge_set set = on_set true set (λ view uids. wanting_for uids (Expunge (Some uids) (Feed unlimited (completed (commands.UidExpunge set)))))
 
 -- the mailbox is counted as it is, and then what is pending is shown
-abbrev pub counting : Standing → List ℕ → List StatusItem → Folder → Exchange
-counting now name items folder =
-    Count folder.mailbox (λ status. Write (status_answer folder.name items status) (showing now.selected (completed (commands.Status name items))))
+abbrev pub counting : Option Selected → List ℕ → List StatusItem → Folder → Exchange
+counting selected name items folder =
+    Count folder.mailbox (λ status. Write (status_answer folder.name items status) (showing selected (completed (commands.Status name items))))
+
+-- a client is subscribed to each mailbox that there is, and stays so
+abbrev pub subscribing : List Folder → List ℕ → Command → Exchange
+subscribing folders name command = on_folder name folders (λ folder. completed command)
 
 -- no last line: the client may send DONE
 abbrev pub begins_idling : Exchange
@@ -260,10 +274,10 @@ on_verdict selected mailbox (verdicts.Stored uid) = Count mailbox (λ status. sh
 on_verdict selected mailbox (verdicts.Refused why) = says (response_text (refused_text why))
 
 -- What a command says of the server, whatever the state (RFC 9051, 6.1.1 and 6.3.10). One that isn't here says nothing of it.
-abbrev pub notice : Command → Option (List ℕ)
-notice commands.Capability = Some (response_text texts.Capabilities)
-notice commands.Namespace = Some (response_text texts.Namespaces)
-notice _ = None
+abbrev pub notice : Profile → Command → Option (List ℕ)
+notice profile commands.Capability = Some (server_text (server.Capabilities profile))
+notice profile commands.Namespace = Some (server_text server.Namespaces)
+notice profile _ = None
 
 -- what is said of the server, where something is, and then this
 abbrev pub noticing : Option (List ℕ) → Exchange → Exchange
@@ -274,16 +288,22 @@ abbrev pub on_command : Standing → Command → Exchange
 on_command now commands.Noop = showing now.selected (completed commands.Noop)
 on_command now commands.Logout = Put (bye (response_text texts.LoggingOut)) (Done (response_text (texts.Completed verbs.Logout)) Bye)
 on_command now commands.Idle = begins_idling
-on_command now commands.Login = wrong_state
+on_command now (commands.Login user password) = wrong_state
 on_command now commands.Authenticate = wrong_state
 on_command now commands.StartTls = wrong_state
-on_command now (commands.Select name) = selecting now false name
-on_command now (commands.Examine name) = selecting now true name
+on_command now (commands.Select name) = selecting now.profile now.folders now.selected false name
+on_command now (commands.Examine name) = selecting now.profile now.folders now.selected true name
 on_command now (commands.List reference pattern) =
-    Write (list_answer reference pattern (map (λ (folder : Folder). folder.name) now.folders))
+    Write (list_answer All reference pattern (map (λ (folder : Folder). folder.name) now.folders))
     (showing now.selected (completed (commands.List reference pattern)))
+on_command now (commands.Lsub reference pattern) =
+    Write (list_answer Subscribed reference pattern (map (λ (folder : Folder). folder.name) now.folders))
+    (showing now.selected (completed (commands.Lsub reference pattern)))
+on_command now (commands.Subscribe name) = wanting (subscribing now.folders name (commands.Subscribe name))
+on_command now (commands.Unsubscribe name) = wanting (subscribing now.folders name (commands.Unsubscribe name))
+on_command now commands.Check = showing now.selected (completed commands.Check)
 on_command now (commands.Status name items) =
-    wanting (on_folder name now.folders (counting now name items))
+    wanting (on_folder name now.folders (counting now.selected name items))
 on_command now commands.Close = in_selected now (λ selected. Leave (not selected.read_only) (completed commands.Close))
 on_command now commands.Unselect = in_selected now (λ selected. Leave false (completed commands.Unselect))
 on_command now commands.Expunge = in_writable now (Expunge None (Feed unlimited (completed commands.Expunge)))
@@ -291,25 +311,94 @@ on_command now (commands.UidExpunge set) = in_writable now (expunge_set set)
 on_command now (commands.Fetch fetch) = in_selected now (fetch_messages fetch)
 on_command now (commands.Store store) = in_writable now (store_messages store)
 on_command now (commands.Append append) = appending now.mailing.most now.folders append
-on_command now command = noticing (notice command) (completed command)
+on_command now command = noticing (notice now.profile command) (completed command)
+
+-- ---- what isn't carried out
+
+-- what is said of a verb that the standard profile doesn't have, whatever follows it
+abbrev pub standard_lacks : Verb → Option ResponseText
+standard_lacks verbs.Login = Some texts.WrongState
+standard_lacks verbs.Check = Some texts.UnknownCommand
+standard_lacks verbs.Lsub = Some texts.UnknownCommand
+standard_lacks verbs.Subscribe = Some texts.NotOffered
+standard_lacks verbs.Unsubscribe = Some texts.NotOffered
+standard_lacks _ = None
+
+abbrev pub unoffered_verb : Profile → Verb → Option ResponseText
+unoffered_verb Standard verb = standard_lacks verb
+unoffered_verb Compatible verb = None
+
+abbrev pub asks_recent : Command → Bool
+asks_recent (commands.Status name items) = list_any is_recent items
+asks_recent _ = false
+
+-- the same of a whole command: RECENT is no item of the standard profile's STATUS
+abbrev pub unoffered : Profile → Command → Option ResponseText
+unoffered Standard command = if asks_recent command then Some texts.InvalidArguments else standard_lacks (verb_of command)
+unoffered Compatible command = None
+
+-- what is said to a client that is to log in first. Few commands are for it too (RFC 9051, 6.1 and 6.2), and a LOGIN that is carried out never comes here
+abbrev pub before_login : Verb → Option ResponseText
+before_login verbs.Capability = None
+before_login verbs.Noop = None
+before_login verbs.Logout = None
+before_login verbs.Login = Some texts.LoginFailed
+before_login verbs.Authenticate = Some texts.NotOffered
+before_login verbs.StartTls = Some texts.NotOffered
+before_login _ = Some texts.WrongState
+
+abbrev pub barred_at : Option (List ℕ) → Profile → Command → Option ResponseText
+barred_at None profile command = unoffered profile command
+barred_at (Some user) profile command = before_login (verb_of command)
+
+-- what is said in place of carrying a command out, where it isn't
+abbrev pub barred : Standing → Command → Option ResponseText
+barred now command = barred_at now.login now.profile command
+
+abbrev pub answering : Standing → Command → Exchange
+answering now command = on_found (λ text. says (response_text text)) (on_command now command) (barred now command)
+
+-- the client logs in as the user as whom it is to. The password isn't looked at: only the machine itself can connect, and who may log in is told by what stands in front
+abbrev pub logs_in_as : Option (List ℕ) → Command → Bool
+logs_in_as (Some user) (commands.Login name password) = bytes_eq name user
+logs_in_as _ _ = false
+
+abbrev pub logged_in : Standing → Standing
+logged_in now = record now { login = None }
+
+abbrev pub login_completed : Exchange
+login_completed = says (response_text (texts.Completed verbs.Login))
 
 -- ---- lines
 
+-- what is said where what follows this verb isn't right for it
+abbrev pub lacking_or : Option ResponseText → ResponseText
+lacking_or None = texts.InvalidArguments
+lacking_or (Some text) = text
+
+abbrev pub arguments_text : Profile → Verb → ResponseText
+arguments_text profile verb = lacking_or (unoffered_verb profile verb)
+
 -- the line that answers one that is no command. Room for it was reserved
-abbrev pub fault_text : ImapFault → List ℕ
-fault_text faults.NoTag = untagged (response_text texts.MissingTag)
-fault_text (faults.Unknown tag) = tagged tag (response_text texts.UnknownCommand)
-fault_text (faults.LeftOut tag) = tagged tag (response_text texts.NotOffered)
-fault_text (faults.Arguments tag) = tagged tag (response_text texts.InvalidArguments)
+abbrev pub fault_text : Profile → ImapFault → List ℕ
+fault_text profile faults.NoTag = untagged (response_text texts.MissingTag)
+fault_text profile (faults.Unknown tag) = tagged tag (response_text texts.UnknownCommand)
+fault_text profile (faults.LeftOut tag) = tagged tag (response_text texts.NotOffered)
+fault_text profile (faults.Arguments tag verb) = tagged tag (response_text (arguments_text profile verb))
 
 -- a line that asks nothing of the store
 abbrev pub only_says : List ℕ → Standing → List Answer → Option Turn
 only_says text now [] = Some (saying text (nothing_more Go now))
 only_says text now (answer ∷ more) = None
 
+-- a command under its tag, which logs the client in or not
+abbrev pub on_line : Bool → Standing → List ℕ → Command → List Answer → Option Turn
+on_line true now tag command answers = played tag (logged_in now) login_completed answers
+on_line false now tag command answers = played tag now (answering now command) answers
+
 abbrev pub on_read : Standing → Result (List ℕ × Command) ImapFault → List Answer → Option Turn
-on_read now (Ok line) answers = played line.0 now (on_command now line.1) answers
-on_read now (Err fault) answers = only_says (fault_text fault) now answers
+on_read now (Ok line) answers = on_line (logs_in_as now.login line.1) now line.0 line.1 answers
+on_read now (Err fault) answers = only_says (fault_text now.profile fault) now answers
 
 -- the line that ends an IDLE: DONE, or any other, which isn't read as a command
 abbrev pub on_idle_line : Option Selected → List ℕ → Exchange
@@ -364,8 +453,8 @@ turn_of_verdict now verdict answers = turn_with now.mailing.sent now verdict ans
 
 -- ---- what comes without a line of its own
 
-abbrev pub greeting : List ℕ
-greeting = untagged (response_text texts.Greeting)
+abbrev pub greeting : Profile → List ℕ
+greeting profile = untagged (server_text (server.Greeting profile))
 
 -- the answer to a line that is too long, of a session that idles with this tag or doesn't idle
 abbrev pub long_idle_text : Option (List ℕ) → List ℕ

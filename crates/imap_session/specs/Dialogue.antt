@@ -15,9 +15,9 @@ use Rattle.imap_session.specs.Store.{Answers, AnswersVerdict, IdleTurns, Met, Ta
 abbrev pub most_bytes : ℕ
 most_bytes = 8192
 
--- the room that an answer reserves before anything is done: for a line that is said again and 90 bytes, beside the tag of an IDLE or an APPEND
+-- the room that an answer reserves before anything is done: for a line that is said again and 114 bytes, beside the tag of an IDLE or an APPEND
 abbrev pub answer_room : ℕ
-answer_room = 8282
+answer_room = 8306
 
 -- where a client's dialogue stands: where its session does, and the bytes of the line that has not ended yet
 pub record Dialogue : Type 0 where

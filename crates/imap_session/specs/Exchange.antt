@@ -14,6 +14,7 @@ use Rattle.imap_grammar.specs.declared.set.SeqRange.{SeqRange}
 use Rattle.imap_session.specs.declared.standing.After.{After}
 use Rattle.imap_session.specs.declared.standing.After.TheVariants.{Go, Bye}
 use Rattle.imap_session.specs.declared.standing.After.TheVariants as afters
+use Rattle.imap_session.specs.declared.standing.Profile.{Profile}
 use Rattle.imap_session.specs.declared.standing.Selected.{Selected}
 use Rattle.imap_session.specs.declared.standing.Append.{Append}
 use Rattle.imap_session.specs.Texts.{response_text}
@@ -86,6 +87,10 @@ pub record Mailing : Type 0 where
 
 pub record Standing : Type 0 where
   pub folders : List Folder
+  -- which commands and answers it has
+  pub profile : Profile
+  -- the user as whom the client is to log in before all else
+  pub login : Option (List ℕ)
   pub selected : Option Selected
   -- the tag of the IDLE that isn't done yet
   pub idling : Option (List ℕ)
@@ -95,6 +100,24 @@ pub record Standing : Type 0 where
 -- before anything was appended
 abbrev pub nothing_sent : Option ℕ → Mailing
 nothing_sent most = record { most = most; number = 0; begun = None; sent = None }
+
+-- what a session begins with, beside its mailboxes: the most bytes of a message, or that none is taken; the profile; and as whom the client is to log in
+pub record Terms : Type 0 where
+  pub most : Option ℕ
+  pub profile : Profile
+  pub login : Option (List ℕ)
+
+-- one that has just begun
+abbrev pub begun_with : Terms → List Folder → Standing
+begun_with terms folders = record {
+  folders = folders;
+  profile = terms.profile;
+  login = terms.login;
+  selected = None;
+  idling = None;
+  ended = false;
+  mailing = nothing_sent terms.most;
+}
 
 -- a session that idles, with this tag or none, waits for DONE, and any other for a command
 abbrev pub waits_idling : Option (List ℕ) → After

@@ -11,6 +11,7 @@ use Rattle.imap_grammar.specs.Reading.{is_done}
 use Rattle.delivery_token.specs.declared.Verdict.{Verdict}
 use Rattle.delivery_token.specs.declared.Verdict.TheVariants.{Stored, Refused}
 use Rattle.imap_answers.specs.Answers.{list_answer, opening_text}
+use Rattle.imap_answers.specs.declared.list.Listing.TheVariants.{All, Subscribed}
 use Rattle.imap_session.specs.declared.standing.After.TheVariants.{Submit}
 use Rattle.imap_session.specs.declared.standing.Selected.{Selected}
 use Rattle.imap_session.specs.Exchange.{Exchange, Folder, Standing, Done, Wait, Write, Put, Enter, Look, Read, Count, Alter, Expunge, Feed, Leave, after_waiting, bye, untagged, continuing}
@@ -21,8 +22,10 @@ use Rattle.imap_session.specs.Texts.{response_text}
 -- the command may show changes right before its tagged OK
 abbrev pub may_show : Command → Bool
 may_show commands.Noop = true
+may_show commands.Check = true
 may_show commands.Expunge = true
 may_show (commands.List reference pattern) = true
+may_show (commands.Lsub reference pattern) = true
 may_show (commands.Status name items) = true
 may_show (commands.UidExpunge set) = true
 may_show (commands.Fetch fetch) = fetch.by_uid
@@ -41,11 +44,11 @@ may_remove _ = false
 abbrev pub IsFetchLine : List ℕ → Type 0
 IsFetchLine bytes = (k : ℕ) × (rest : List ℕ) × (bytes ≡ codes "* " ++ decimal k ++ codes " FETCH (" ++ rest)
 
--- a name, and what is told of the mailbox that was left, or of the one that was entered
+-- a name, and what is told of the mailbox that was left, or of the one that was entered, with its recent messages
 abbrev pub IsOfSelect : Bool → List ℕ → Type 0
 IsOfSelect read_only bytes =
     (bytes ≡ []) ⊎ (bytes ≡ untagged (response_text texts.PreviousClosed))
-    ⊎ ((name : List ℕ) × (opening : Opening) × (bytes ≡ opening_text read_only name opening))
+    ⊎ ((name : List ℕ) × (opening : Opening) × (bytes ≡ opening_text read_only name opening)) ⊎ (bytes ≡ untagged (response_text texts.NoneRecent))
 
 -- a line about the server, of a command that has one
 abbrev pub IsNotice : Option (List ℕ) → List ℕ → Type 0
@@ -59,14 +62,17 @@ abbrev pub MaySay : Standing → Command → List ℕ → Type 0
 MaySay now commands.Logout bytes = bytes ≡ bye (response_text texts.LoggingOut)
 MaySay now (commands.Select name) bytes = IsOfSelect false bytes
 MaySay now (commands.Examine name) bytes = IsOfSelect true bytes
-MaySay now (commands.List reference pattern) bytes = bytes ≡ list_answer reference pattern (map (λ (folder : Folder). folder.name) now.folders)
+MaySay now (commands.List reference pattern) bytes = bytes ≡ list_answer All reference pattern (map (λ (folder : Folder). folder.name) now.folders)
+MaySay now (commands.Lsub reference pattern) bytes = bytes ≡ list_answer Subscribed reference pattern (map (λ (folder : Folder). folder.name) now.folders)
+MaySay now (commands.Subscribe name) bytes = bytes ≡ []
+MaySay now (commands.Unsubscribe name) bytes = bytes ≡ []
 MaySay now (commands.Status name items) bytes = (bytes ≡ []) ⊎ ((rest : List ℕ) × (bytes ≡ codes "* STATUS " ++ rest))
 MaySay now (commands.Fetch fetch) bytes = (bytes ≡ []) ⊎ IsFetchLine bytes
 MaySay now (commands.Store store) bytes = IsFetchLine bytes
 MaySay now (commands.UidExpunge set) bytes = bytes ≡ []
 MaySay now commands.Idle bytes = bytes ≡ continuing (response_text texts.Idling)
 MaySay now (commands.Append append) bytes = (bytes ≡ []) ⊎ (bytes ≡ continuing (response_text texts.Ready)) ⊎ (bytes ≡ bye (response_text texts.LiteralTooBig))
-MaySay now command bytes = IsNotice (notice command) bytes
+MaySay now command bytes = IsNotice (notice now.profile command) bytes
 
 -- ---- where
 

@@ -104,7 +104,7 @@ Starves step old new = (new ≡ old) ⊎ step old (Feed most_changes) (Refused N
 -- The room that is reserved before a line is answered: for its own tag or that of the IDLE or the APPEND that it ends, for the lines that end the answer,
 -- and for the line before the last of CAPABILITY, NAMESPACE and LOGOUT, or the one by which SELECT and EXAMINE tell that a mailbox was left.
 abbrev pub room_while : Option (List ℕ) → List ℕ → ℕ
-room_while None line = length line + 90
+room_while None line = length line + 114
 room_while (Some tag) line = length tag + 48
 
 abbrev pub room_behind : Option Appending → Option (List ℕ) → List ℕ → ℕ

@@ -66,7 +66,7 @@ abbrev pub fault_tag : ImapFault → Option (List ℕ)
 fault_tag NoTag = None
 fault_tag (Unknown tag) = Some tag
 fault_tag (LeftOut tag) = Some tag
-fault_tag (Arguments tag) = Some tag
+fault_tag (Arguments tag verb) = Some tag
 
 -- where the store or memory refuses, the line is untagged, or it has this tag and tells no UID
 abbrev pub RefusalTellsNoUid : (tag text : List ℕ) → Type 0

@@ -3,8 +3,12 @@ use Rattle.std.specs.Prelude.{◌≡◌, ℕ, ◌&&◌, ◌==◌, Bool, true, fa
 use Rattle.std.specs.List.{list_all}
 use Rattle.imap_grammar.specs.Verbs.{word_of, stands_behind_uid}
 use Rattle.imap_grammar.specs.declared.command.Verb.{Verb}
+use Rattle.imap_session.specs.declared.standing.Profile.{Profile}
+use Rattle.imap_session.specs.declared.standing.Profile.TheVariants.{Standard, Compatible}
+use Rattle.imap_session.specs.declared.texts.ServerText.{ServerText}
+use Rattle.imap_session.specs.declared.texts.ServerText.TheVariants.{Greeting, Capabilities, Namespaces}
 use Rattle.imap_session.specs.declared.texts.ResponseText.{ResponseText}
-use Rattle.imap_session.specs.declared.texts.ResponseText.TheVariants.{Completed, SelectCompleted, ExamineCompleted, NoSuchMailbox, TryCreate, NotOffered, MessagesGone, ReadOnly, MailboxSpent, MessageTooBig, NulByte, OutOfMemory, ShardFull, ShardClosed, MailboxFull, NoUidLeft, WrongState, SequenceTooHigh, InvalidArguments, UnknownCommand, ExpectedDone, PreviousClosed, MissingTag, LineTooLong, Greeting, Capabilities, Namespaces, LoggingOut, InternalFault, ChangesMissed, LiteralTooBig, ByeOutOfMemory, Idling, Ready}
+use Rattle.imap_session.specs.declared.texts.ResponseText.TheVariants.{Completed, SelectCompleted, ExamineCompleted, NoSuchMailbox, TryCreate, NotOffered, MessagesGone, ReadOnly, MailboxSpent, MessageTooBig, NulByte, OutOfMemory, ShardFull, ShardClosed, MailboxFull, NoUidLeft, WrongState, SequenceTooHigh, InvalidArguments, UnknownCommand, LoginFailed, ExpectedDone, PreviousClosed, NoneRecent, MissingTag, LineTooLong, LoggingOut, InternalFault, ChangesMissed, LiteralTooBig, ByeOutOfMemory, Idling, Ready}
 
 abbrev pub verb_text : Verb → List ℕ
 verb_text verb = if stands_behind_uid verb then codes "UID " ++ word_of verb else word_of verb
@@ -31,14 +35,13 @@ response_text WrongState = codes "BAD Wrong state"
 response_text SequenceTooHigh = codes "BAD Sequence number too high"
 response_text InvalidArguments = codes "BAD Invalid arguments"
 response_text UnknownCommand = codes "BAD Unknown command"
+response_text LoginFailed = codes "NO [AUTHENTICATIONFAILED] Another user's port"
 response_text ExpectedDone = codes "BAD Expected DONE"
 -- behind a star
 response_text PreviousClosed = codes "OK [CLOSED] Previous mailbox is closed"
 response_text MissingTag = codes "BAD Missing tag"
 response_text LineTooLong = codes "BAD Line too long"
-response_text Greeting = codes "PREAUTH IMAP4rev2 server ready"
-response_text Capabilities = codes "CAPABILITY IMAP4rev2 IDLE"
-response_text Namespaces = codes "NAMESPACE ((\"\" \"/\")) NIL NIL"
+response_text NoneRecent = codes "0 RECENT"
 -- behind BYE
 response_text LoggingOut = codes "Logging out"
 response_text InternalFault = codes "Internal fault"
@@ -48,6 +51,18 @@ response_text ByeOutOfMemory = codes "Out of memory"
 -- behind a plus
 response_text Idling = codes "idling"
 response_text Ready = codes "ready"
+
+-- the words for what a profile has (RFC 9051, 7.2.2; RFC 2177, 2342, 3691 and 4315)
+abbrev pub capabilities : Profile → List ℕ
+capabilities Standard = codes "CAPABILITY IMAP4rev2 IDLE"
+capabilities Compatible = codes "CAPABILITY IMAP4rev2 IMAP4rev1 IDLE NAMESPACE UIDPLUS UNSELECT"
+
+-- what is said of the server, behind a star
+abbrev pub server_text : ServerText → List ℕ
+server_text (Greeting Standard) = codes "PREAUTH IMAP4rev2 server ready"
+server_text (Greeting Compatible) = codes "OK [" ++ capabilities Compatible ++ codes "] IMAP4rev2 server ready"
+server_text (Capabilities profile) = capabilities profile
+server_text Namespaces = codes "NAMESPACE ((\"\" \"/\")) NIL NIL"
 
 -- the byte is printable ASCII, a space among it: no CR, no LF and no NUL
 abbrev pub is_printable : ℕ → Bool

@@ -4,14 +4,14 @@
 ghost use Rattle.std.specs.Prelude.{◌≡◌, ◌↔◌, ◌+◌, ◌^◌, ◌<◌, ◌≤◌, ◌++◌, false, true, is_some, min, take, None, Some, Err, [], length, IfOk, IfSome, OnOk, OnErr, vec_len};
 ghost use Rattle.std.specs.Option.{option_map};
 ghost use Rattle.std.specs.Vec.{vec_capacity};
-ghost use Rattle.imap_session.specs.Exchange.{Feed, Refused, Sent, is_idling, kept_tag, may_send, nothing_sent};
+ghost use Rattle.imap_session.specs.Exchange.{Feed, Refused, Sent, begun_with, is_idling, kept_tag, may_send};
 ghost use Rattle.imap_session.specs.Commands.{due_of, greeting, most_changes};
 ghost use Rattle.imap_session.specs.Store.{AnswersVerdict, IdleTurns, Starves, TakesBytes, room_for_verdict};
 ghost use Rattle.mailbox.specs.declared.clients.MailFault.{MailFault};
 ghost use Rattle.imap_session.specs.Dialogue.{Asks, Dialogue, Hears, StandsFor, Takes, Took, Turns, may_follow, tag_len};
 
 use crate::session::Session;
-use crate::standing::{After, Append, Folder, Selected, SessionFault};
+use crate::standing::{After, Append, Folder, Selected, SessionFault, Terms};
 use crate::store::Store;
 use delivery_token::Verdict;
 use line_io::{LineCutter, What};
@@ -22,7 +22,7 @@ use std::marker::Model;
 const MAX_LINE: usize = 8_192;
 
 /// Room for what a line's answer reserves before anything is done, beside the tag of an IDLE or an APPEND.
-const ANSWER_ROOM: usize = MAX_LINE + 90;
+const ANSWER_ROOM: usize = MAX_LINE + 114;
 
 // What a call took of a piece, and what the client may send next.
 #[derive(Clone, Copy)]
@@ -71,28 +71,22 @@ impl Model for ImapConnection {
 }
 
 impl ImapConnection {
-    /// A connection that was just opened, of a user with these mailboxes, who appends messages of at most so many bytes, or none.
+    /// A connection that was just opened, of a user with these mailboxes, on these terms.
     ///
     /// Errors: `AllocError` where memory for a line was refused.
     pub fn new(
         alloc: Global,
         folders: Vec<Folder>,
-        max_message: Option<u32>,
+        terms: Terms,
     ) -> Result<ImapConnection, AllocError>
         ensures { IfOk result (λ c. StandsFor c (record {
-          standing = record {
-            folders = folders.items;
-            selected = None;
-            idling = None;
-            ended = false;
-            mailing = nothing_sent max_message;
-          };
+          standing = begun_with terms folders.items;
           begun = [];
         })) }
     {
         let cutter = LineCutter::new(alloc, MAX_LINE)?;
         Ok(ImapConnection {
-            session: Session::new(folders, max_message),
+            session: Session::new(folders, terms),
             cutter,
         })
     }
@@ -101,7 +95,7 @@ impl ImapConnection {
     ///
     /// Errors: `AllocError` where memory was refused; then nothing was written.
     pub fn greet(&self, out: &mut Vec<u8>) -> Result<(), AllocError>
-        ensures ok { OnOk result (out.new.items ≡ out.old.items ++ greeting) }
+        ensures ok { OnOk result (out.new.items ≡ out.old.items ++ greeting self.now.session.profile) }
         ensures err { OnErr result (out.new.items ≡ out.old.items) }
     {
         self.session.greet(out)
@@ -326,7 +320,7 @@ impl ImapConnection {
     /// Takes a piece to its end, or to the line that ends the session or submits a message: each line that ends in it is answered
     /// (RFC 9051, 2.2), one of more than 8,192 bytes with its CRLF as too long, and the bytes of a literal are kept for the line that announced
     /// it (4.3), wherever they are cut. Where memory is refused before a line is answered, what was taken till then stands, and the rest is for
-    /// the next call. It is refused only where `out` has no room, behind what it has by then, for 8,282 bytes and the tag of the IDLE or the
+    /// the next call. It is refused only where `out` has no room, behind what it has by then, for 8,306 bytes and the tag of the IDLE or the
     /// APPEND that isn't done, and never over a piece that is empty. A message is submitted only by a byte that was taken; and whatever the connection stands for, the store was asked
     /// some calls, one after the other, or none.
     pub fn take<S: Store>(

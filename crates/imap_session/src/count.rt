@@ -1,10 +1,12 @@
-//! STATUS (RFC 9051, 6.3.11) and LIST (6.3.9): mailboxes counted, and named. Both show what is pending behind their answer.
+//! STATUS (RFC 9051, 6.3.11), LIST (6.3.9) and LSUB (RFC 3501, 6.3.9): mailboxes counted, and named. They show what is pending behind their answer.
 
 ghost use Rattle.std.specs.Prelude.{◌≡◌, false, map, OnOk, OnErr, IfOk, IfErr};
 ghost use Rattle.imap_answers.specs.Answers.{list_answer, status_answer};
+ghost use Rattle.imap_grammar.specs.Verbs.{verb_of};
+ghost use Rattle.imap_grammar.specs.declared.command.Command.{Command as CommandSpec};
 ghost use Rattle.imap_grammar.specs.declared.command.Command.TheVariants as commands;
-ghost use Rattle.imap_session.specs.Exchange.{Exchange, Count, Folder as FolderSpec, Write, nothing_sent};
-ghost use Rattle.imap_session.specs.Commands.{completed, counting, on_folder, showing, wanting};
+ghost use Rattle.imap_session.specs.Exchange.{Exchange, Count, Folder as FolderSpec, Write};
+ghost use Rattle.imap_session.specs.Commands.{completed, counting, on_folder, showing, subscribing, wanting};
 ghost use Rattle.imap_session.specs.inner.Response.{adding};
 ghost use Rattle.imap_session.specs.inner.Store.{Does, last};
 
@@ -14,7 +16,7 @@ use crate::response::{Response, hold_room};
 use crate::standing::{Folder, Selected};
 use crate::store::Store;
 use crate::texts::ResponseText;
-use imap_answers::{write_list, write_status};
+use imap_answers::{Listing, write_list, write_status};
 use imap_grammar::{Name, StatusItems, Verb};
 use mailbox::{MailFault, Status};
 use std::alloc::{AllocError, Global};
@@ -65,14 +67,7 @@ fn count_named<S: Store>(
 ) -> Result<ResponseText, MailFault>
     ensures { Does S.step
         (on_folder name.now folders.now
-        (counting (record {
-          folders = folders.now;
-          selected = selected;
-          idling = None;
-          ended = false;
-          mailing = nothing_sent None;
-        })
-        name.now items.now))
+        (counting selected name.now items.now))
         last store.old store.new response.old response.new result }
 {
     let Some(folder) = find_folder(name, folders) else {
@@ -94,14 +89,7 @@ pub(crate) fn count_mailbox<S: Store>(
 ) -> Result<ResponseText, MailFault>
     ensures { Does S.step
         (wanting (on_folder name.now folders.now
-        (counting (record {
-          folders = folders.now;
-          selected = selected;
-          idling = None;
-          ended = false;
-          mailing = nothing_sent None;
-        })
-        name.now items.now)))
+        (counting selected name.now items.now)))
         last store.old store.new response.old response.new result }
 {
     let name = name.to_bytes(alloc)?;
@@ -122,16 +110,17 @@ fn names_of<'a>(alloc: Global, folders: &'a [Folder]) -> Result<Vec<&'a [u8]>, A
     Ok(names)
 }
 
-// Writes the answer to LIST.
+// Writes the answer to LIST or LSUB.
 fn write_names(
     alloc: Global,
+    listing: Listing,
     folders: &[Folder],
     reference: &Name<'_>,
     pattern: &Name<'_>,
     response: &mut Response<'_>,
 ) -> Result<(), MailFault>
     ensures text { OnOk result (response.new ≡ adding
-        (list_answer reference.now pattern.now
+        (list_answer listing reference.now pattern.now
         (map (λ (folder : FolderSpec). folder.name) folders.now)) response.old) }
     ensures err { OnErr result (response.new ≡ response.old) }
     ensures fault { IfErr result (λ f. f ≡ MailFault.NoMemory) }
@@ -139,7 +128,14 @@ fn write_names(
     let start = response.out.len();
     let names = names_of(alloc, folders)?;
     let names = names.as_slice();
-    write_list(alloc, reference, pattern, names, &mut response.out)?;
+    write_list(
+        alloc,
+        listing,
+        reference,
+        pattern,
+        names,
+        &mut response.out,
+    )?;
     hold_room(start, response.held, &mut response.out)
 }
 
@@ -154,12 +150,67 @@ pub(crate) fn list_folders<S: Store>(
     response: &mut Response<'_>,
 ) -> Result<ResponseText, MailFault>
     ensures { Does S.step
-        (Write (list_answer reference.now pattern.now
+        (Write (list_answer Listing.All reference.now pattern.now
         (map (λ (folder : FolderSpec). folder.name) folders.now))
         (showing selected (completed (commands.List reference.now pattern.now))))
         last store.old store.new response.old response.new result }
 {
-    write_names(alloc, folders, reference, pattern, response)?;
+    write_names(alloc, Listing::All, folders, reference, pattern, response)?;
     show_pending(selected, store, response)?;
     Ok(ResponseText::Completed(Verb::List))
+}
+
+// LSUB: the same, since a client is subscribed to each mailbox that there is (RFC 3501, 6.3.9).
+pub(crate) fn list_subscribed<S: Store>(
+    alloc: Global,
+    folders: &[Folder],
+    reference: &Name<'_>,
+    pattern: &Name<'_>,
+    selected: Option<Selected>,
+    store: &mut S,
+    response: &mut Response<'_>,
+) -> Result<ResponseText, MailFault>
+    ensures { Does S.step
+        (Write (list_answer Listing.Subscribed reference.now pattern.now
+        (map (λ (folder : FolderSpec). folder.name) folders.now))
+        (showing selected (completed (commands.Lsub reference.now pattern.now))))
+        last store.old store.new response.old response.new result }
+{
+    write_names(
+        alloc,
+        Listing::Subscribed,
+        folders,
+        reference,
+        pattern,
+        response,
+    )?;
+    show_pending(selected, store, response)?;
+    Ok(ResponseText::Completed(Verb::Lsub))
+}
+
+// What is said of a name that is subscribed to, or isn't any more.
+fn subscribed_text(folders: &[Folder], name: &[u8], verb: Verb) -> ResponseText
+    ensures { (command : CommandSpec) → verb_of command ≡ verb
+        → last result ≡ subscribing folders.now name.now command }
+{
+    match find_folder(name, folders) {
+        None => ResponseText::NoSuchMailbox,
+        Some(_) => ResponseText::Completed(verb),
+    }
+}
+
+// SUBSCRIBE and UNSUBSCRIBE: whether there is a mailbox of this name, and nothing else, as each client is subscribed to all of them (RFC 9051,
+// 6.3.7 and 6.3.8). Answers what the last line says.
+pub(crate) fn subscribe(
+    alloc: Global,
+    folders: &[Folder],
+    name: &Name<'_>,
+    verb: Verb,
+) -> Result<ResponseText, MailFault>
+    ensures ok { IfOk result (λ text. (command : CommandSpec) → verb_of command ≡ verb
+        → last text ≡ subscribing folders.now name.now command) }
+    ensures err { IfErr result (λ f. f ≡ MailFault.NoMemory) }
+{
+    let name = name.to_bytes(alloc)?;
+    Ok(subscribed_text(folders, name.as_slice(), verb))
 }

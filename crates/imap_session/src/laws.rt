@@ -6,19 +6,21 @@ ghost use Rattle.mailbox.specs.declared.clients.MailFault.{MailFault};
 ghost use Rattle.std.specs.Prelude.{◌≡◌, ◌&&◌, ◌++◌, ℕ, Bool, true, List, Option};
 ghost use Rattle.delivery_token.specs.declared.Verdict.{Verdict};
 ghost use Rattle.imap_session.specs.Exchange.{Appending, Mailing, Standing, kept_tag, refusal_text};
-ghost use Rattle.imap_session.specs.Commands.{appended_words, fault_text, on_command, on_idle_line, on_rest, on_verdict, turn_of_long_line, with_bytes};
+ghost use Rattle.imap_session.specs.Commands.{answering, appended_words, fault_text, on_idle_line, on_rest, on_verdict, turn_of_long_line, with_bytes};
 ghost use Rattle.imap_session.specs.Shows.{DoneShowsInOrder, RestShowsNone, ShowsInOrder, VerdictShowsInOrder};
 ghost use Rattle.imap_session.specs.Telling.{LineTellsNoUid, RefusalTellsNoUid, TellsNoUid, VerdictTellsUid, WordsTellWhich, fault_tag, tells_uid};
-ghost use Rattle.imap_session.specs.Texts.{IsLineText, response_text};
+ghost use Rattle.imap_session.specs.Texts.{IsLineText, response_text, server_text};
+ghost use Rattle.imap_session.specs.declared.texts.ServerText.{ServerText};
+ghost use Rattle.imap_session.specs.declared.standing.Profile.{Profile};
 ghost use Rattle.imap_session.specs.declared.standing.Selected.{Selected};
 ghost use Rattle.imap_session.specs.declared.texts.ResponseText.{ResponseText};
 
-/// Changes are shown right before the tagged OK of NOOP, EXPUNGE, STATUS, LIST, UID FETCH, UID STORE and UID EXPUNGE, and as EXPUNGE and
+/// Changes are shown right before the tagged OK of NOOP, CHECK, EXPUNGE, STATUS, LIST, LSUB, UID FETCH, UID STORE and UID EXPUNGE, and as EXPUNGE and
 /// UID EXPUNGE remove messages: nowhere else, and no other line that these commands say is of that kind. Where a mailbox is selected no such
-/// tagged OK comes without them. A plain FETCH and a plain STORE show none (RFC 9051, 7.5.1), and IDLE shows none before its turns.
+/// tagged OK comes without them. A command that isn't carried out shows none. A plain FETCH and a plain STORE show none (RFC 9051, 7.5.1), and IDLE shows none before its turns.
 pub fn changes_are_shown_in_order()
     ensures { (now : Standing) (command : Command)
-        → ShowsInOrder now command (on_command now command) }
+        → ShowsInOrder now command (answering now command) }
 {}
 
 /// The line that ends an IDLE shows changes right before its tagged OK where it is DONE. Any other line shows none.
@@ -55,14 +57,15 @@ pub fn only_a_stored_verdict_tells_a_uid()
         VerdictTellsUid selected mailbox verdict (on_verdict selected mailbox verdict) }
 
     // No last line of a command, of an IDLE, or behind a literal tells one.
-    ensures commands { (now : Standing) (command : Command) → TellsNoUid (on_command now command) }
+    ensures commands { (now : Standing) (command : Command) → TellsNoUid (answering now command) }
     ensures idling { (selected : Option Selected) (line : List ℕ)
         → TellsNoUid (on_idle_line selected line) }
     ensures rest { (mailing : Mailing) (begun : Appending) (ends : Bool)
         → TellsNoUid (on_rest mailing begun ends) }
 
     // Nor does the line for no command, for one that is too long, or for a refusal of the store or of memory.
-    ensures faults { (fault : ImapFault) → LineTellsNoUid (fault_tag fault) (fault_text fault) }
+    ensures faults { (profile : Profile) (fault : ImapFault)
+        → LineTellsNoUid (fault_tag fault) (fault_text profile fault) }
     ensures long { (now : Standing) → LineTellsNoUid (kept_tag now) (turn_of_long_line now).bytes }
     ensures refusals { (tag : List ℕ) (fault : MailFault)
         → RefusalTellsNoUid tag (refusal_text tag fault) }
@@ -75,8 +78,9 @@ pub fn literals_may_be_cut()
         ≡ with_bytes (kept && also_kept) (front ++ back) now }
 {}
 
-/// Each text of the table goes on one line, whatever it is said behind: it isn't empty, all its bytes are printable ASCII, so that it has no CR, LF or
+/// Each text of the tables goes on one line, whatever it is said behind: it isn't empty, all its bytes are printable ASCII, so that it has no CR, LF or
 /// NUL, and it announces no literal (RFC 9051, 4.3 and 9: resp-text).
 pub fn texts_go_on_a_line()
-    ensures { (text : ResponseText) → IsLineText (response_text text) }
+    ensures texts { (text : ResponseText) → IsLineText (response_text text) }
+    ensures server { (text : ServerText) → IsLineText (server_text text) }
 {}

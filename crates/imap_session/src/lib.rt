@@ -3,6 +3,7 @@
 //! The connection that cuts one client's bytes into lines and literals is here too, and which mailboxes a user knows by name.
 #![tactic(auto)]
 
+mod access;
 mod appended;
 mod appending;
 mod connection;
@@ -23,6 +24,7 @@ mod store;
 mod tag;
 mod texts;
 mod turn;
+mod user;
 mod users;
 
 pub use connection::{ImapConnection, Progress};
@@ -31,7 +33,8 @@ pub use laws::{
     only_a_stored_verdict_tells_a_uid, rest_shows_none, texts_go_on_a_line, verdicts_show_in_order,
 };
 pub use session::Session;
-pub use standing::{After, Append, Folder, Selected, SessionFault};
+pub use standing::{After, Append, Folder, Profile, Selected, SessionFault, Terms};
 pub use store::Store;
-pub use texts::{MOST_TEXT, ResponseText};
+pub use texts::{MOST_SERVER_TEXT, MOST_TEXT, ResponseText, ServerText};
+pub use user::UserName;
 pub use users::{folders_of, has_user};

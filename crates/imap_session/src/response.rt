@@ -19,6 +19,9 @@ use std::mem;
 /// Room for the last line of any answer beside its tag, a space and CRLF among it; and for a line that says BYE.
 pub(crate) const LAST: usize = 48;
 
+/// Room for the line that tells of recent messages.
+pub(crate) const RECENT: usize = 12;
+
 /// The response to a command of this tag, written behind those before it. It has the bytes of `out` meanwhile, and gives them back where it ends:
 /// with its last line, or with what is said while the session waits.
 #[derive(Drop)]
@@ -129,13 +132,15 @@ impl<'a> Response<'a> {
     /// Holds room besides for what is told of a mailbox of this name once it is entered.
     pub(crate) fn hold_opening(&mut self, name: &[u8]) -> Result<(), MailFault>
         ensures held { OnOk result (self.new
-            ≡ record self.old { held = self.old.held + (length name.now + OPENING_ROOM) }) }
-        ensures fits { OnOk result (length self.new.tag + (LAST + (length name.now + OPENING_ROOM))
-            ≤ self.new.held) }
+            ≡ record self.old {
+              held = self.old.held + (length name.now + (OPENING_ROOM + RECENT));
+            }) }
+        ensures fits { OnOk result (length self.new.tag
+            + (LAST + (length name.now + (OPENING_ROOM + RECENT))) ≤ self.new.held) }
         ensures err { OnErr result (self.new ≡ self.old) }
         ensures fault { IfErr result (λ f. f ≡ MailFault.NoMemory) }
     {
-        let more = name.len().saturating_add(OPENING_ROOM);
+        let more = name.len().saturating_add(OPENING_ROOM + RECENT);
         let held = self.held.saturating_add(more);
         self.out.reserve(held)?;
         self.held = held;
@@ -146,7 +151,8 @@ impl<'a> Response<'a> {
     pub(crate) fn put_opening(&mut self, read_only: bool, name: &[u8], opening: &Opening)
         requires fits { length self.old.tag + (LAST + (length name.now + OPENING_ROOM))
             ≤ self.old.held }
-        ensures { Adds (opening_text read_only name.now opening.now) self.old self.new }
+        ensures adds { Adds (opening_text read_only name.now opening.now) self.old self.new }
+        ensures held { self.new.held + (length name.now + OPENING_ROOM) ≡ self.old.held }
     {
         put_opening(read_only, name, opening, &mut self.out);
         self.held -= name.len() + OPENING_ROOM;

@@ -3,9 +3,9 @@
 ghost use Rattle.std.specs.Prelude.{◌≡◌, ◌+◌, ◌≤◌, ◌++◌, vec_len, length};
 ghost use Rattle.std.specs.Vec.{vec_capacity};
 ghost use Rattle.imap_session.specs.Exchange.{bye, continuing, tagged, untagged};
-ghost use Rattle.imap_session.specs.Texts.{response_text};
+ghost use Rattle.imap_session.specs.Texts.{response_text, server_text};
 
-use crate::texts::ResponseText;
+use crate::texts::{ResponseText, ServerText};
 use line_io::put;
 
 // Writes a text as a line: behind a tag and a space.
@@ -25,6 +25,21 @@ pub(crate) fn put_untagged(text: ResponseText, out: &mut Vec<u8>) -> usize
     requires fits { vec_len out.old + (length (response_text text) + 4) ≤ vec_capacity out.old }
     ensures text { out.new.items ≡ out.old.items ++ untagged (response_text text) }
     ensures length { result ≡ length (response_text text) + 4 }
+    ensures len { vec_len out.new ≡ vec_len out.old + result }
+    ensures capacity { vec_capacity out.old ≤ vec_capacity out.new }
+{
+    let words = text.bytes();
+    put(b"* ", out);
+    put(words, out);
+    put(b"\r\n", out);
+    words.len() + 4
+}
+
+// The same of a text of the server.
+pub(crate) fn put_of_server(text: ServerText, out: &mut Vec<u8>) -> usize
+    requires fits { vec_len out.old + (length (server_text text) + 4) ≤ vec_capacity out.old }
+    ensures text { out.new.items ≡ out.old.items ++ untagged (server_text text) }
+    ensures length { result ≡ length (server_text text) + 4 }
     ensures len { vec_len out.new ≡ vec_len out.old + result }
     ensures capacity { vec_capacity out.old ≤ vec_capacity out.new }
 {

@@ -2,20 +2,20 @@
 
 ghost use Rattle.std.specs.Prelude.{◌≡◌, ◌+◌, ◌≤◌, false, length, OnOk, OnErr, None, Some, if◌then◌else◌};
 ghost use Rattle.mailbox.specs.declared.clients.Opening.{Opening as OpeningSpec};
-ghost use Rattle.imap_session.specs.Exchange.{Exchange, Enter, Leave, nothing_sent};
+ghost use Rattle.imap_session.specs.Exchange.{Exchange, Enter, Leave};
 ghost use Rattle.imap_session.specs.Commands.{closing, entered_text, entering, on_folder, selecting, wanting};
 ghost use Rattle.imap_session.specs.Response.{Response as ResponseSpec};
-ghost use Rattle.imap_session.specs.inner.Store.{Moves, last};
+ghost use Rattle.imap_session.specs.inner.Response.{Adds};
+ghost use Rattle.imap_session.specs.inner.Store.{Moves, last, recent_line};
 
 use crate::folders::find_folder;
-use crate::response::{LAST, Response};
-use crate::standing::{Folder, Selected};
+use crate::response::{LAST, RECENT, Response};
+use crate::standing::{Folder, Profile, Selected};
 use crate::store::Store;
 use crate::texts::ResponseText;
 use crate::turn::FIRST;
 use imap_grammar::Name;
 use mailbox::{MailFault, Opening};
-use std::alloc::Global;
 
 // Leaves the mailbox that was selected, if one was, and tells that in room that is held.
 fn leave_previous<S: Store>(
@@ -82,8 +82,20 @@ fn entered_text(read_only: bool) -> ResponseText
     }
 }
 
+// Tells a client of IMAP4rev1 that no messages are recent, in room that is held.
+fn tell_recent(profile: Profile, response: &mut Response<'_>)
+    requires fits { length response.old.tag + (LAST + RECENT) ≤ response.old.held }
+    ensures { Adds (recent_line profile) response.old response.new }
+{
+    match profile {
+        Profile::Standard => {}
+        Profile::Compatible => response.put_untagged(ResponseText::NoneRecent),
+    }
+}
+
 // Enters a folder's mailbox and tells of it: memory is wanted before that. Answers what the last line says.
 fn enter_folder<S: Store>(
+    profile: Profile,
     folder: &Folder,
     read_only: bool,
     selected: &mut Option<Selected>,
@@ -91,7 +103,7 @@ fn enter_folder<S: Store>(
     response: &mut Response<'_>,
 ) -> Result<ResponseText, MailFault>
     ensures { Moves S.step selected.old selected.new
-        (wanting (entering read_only folder.now)) last store.old store.new response.old response.new
+        (wanting (entering profile read_only folder.now)) last store.old store.new response.old response.new
         result }
 {
     let name = folder.name();
@@ -102,11 +114,13 @@ fn enter_folder<S: Store>(
     };
     let opening = enter_mailbox(wanted, selected, store)?;
     response.put_opening(read_only, name, &opening);
+    tell_recent(profile, response);
     Ok(entered_text(read_only))
 }
 
 // Enters the first folder of this name. Answers what the last line says.
 fn enter_named<S: Store>(
+    profile: Profile,
     folders: &[Folder],
     read_only: bool,
     name: &[u8],
@@ -115,19 +129,19 @@ fn enter_named<S: Store>(
     response: &mut Response<'_>,
 ) -> Result<ResponseText, MailFault>
     ensures { Moves S.step selected.old selected.new
-        (wanting (on_folder name.now folders.now (entering read_only))) last store.old store.new
+        (wanting (on_folder name.now folders.now (entering profile read_only))) last store.old store.new
         response.old response.new result }
 {
     match find_folder(name, folders) {
         None => Ok(ResponseText::NoSuchMailbox),
-        Some(folder) => enter_folder(folder, read_only, selected, store, response),
+        Some(folder) => enter_folder(profile, folder, read_only, selected, store, response),
     }
 }
 
 // SELECT and EXAMINE: leaves the mailbox that was selected, then enters the one of this name. Answers what the last line says. Where it isn't entered
 // none is selected, also where memory is refused.
 pub(crate) fn select_mailbox<S: Store>(
-    alloc: Global,
+    profile: Profile,
     folders: &[Folder],
     read_only: bool,
     name: &Name<'_>,
@@ -137,16 +151,10 @@ pub(crate) fn select_mailbox<S: Store>(
 ) -> Result<ResponseText, MailFault>
     requires long { length response.old.tag + (LAST + FIRST) ≤ response.old.held }
     ensures { Moves S.step selected.old selected.new
-        (selecting (record {
-          folders = folders.now;
-          selected = selected.old;
-          idling = None;
-          ended = false;
-          mailing = nothing_sent None;
-        }) read_only name.now) last store.old store.new response.old response.new result }
+        (selecting profile folders.now selected.old read_only name.now) last store.old store.new response.old response.new result }
 {
     leave_previous(selected, store, response)?;
-    let name = name.to_bytes(alloc)?;
+    let name = name.to_bytes(*response.out.allocator())?;
     let name = name.as_slice();
-    enter_named(folders, read_only, name, selected, store, response)
+    enter_named(profile, folders, read_only, name, selected, store, response)
 }

@@ -4,16 +4,18 @@
 use crate::appended::{STORED, tell_verdict};
 use crate::mailing::{Appending, Mailing, Sent, judge, long_rest_text};
 use crate::response::{LAST, Response, put_last};
-use crate::say::{put_continuing, put_tagged, put_untagged};
-use crate::standing::{After, Append, Folder, Selected, SessionFault};
+use crate::access::{barred_at, logs_in_as};
+use crate::say::{put_continuing, put_of_server, put_tagged, put_untagged};
+use crate::standing::{After, Append, Folder, Profile, Selected, SessionFault, Terms};
 use crate::store::Store;
 use crate::tag::Tag;
-use crate::texts::ResponseText;
+use crate::texts::{ResponseText, ServerText};
+use crate::user::UserName;
 use crate::turn::{
     FIRST, after_command, append_of, carry_out, end_idle, is_idle, put_fault, put_first_line,
 };
 use delivery_token::{Text, Verdict};
-use imap_grammar::{Command, read_line};
+use imap_grammar::{Command, Verb, read_line};
 use mailbox::MailFault;
 use std::alloc::{AllocError, Global};
 use std::marker::Model;
@@ -29,6 +31,9 @@ const MOST_SHOWN_A_TURN: usize = 64;
 #[derive(Drop)]
 pub struct Session {
     pub(crate) folders: Vec<Folder>,
+    profile: Profile,
+    // As whom the client is to log in.
+    login: Option<UserName>,
     selected: Option<Selected>,
     // The tag of the IDLE that isn't done yet.
     idling: Option<Tag>,
@@ -41,35 +46,37 @@ impl Model for Session {
 
     ghost Value = { Standing };
 
-    ghost view = { λ s. record { folders = s.folders.items; selected = s.selected; idling = s.idling; ended = s.ended; mailing = s.mailing } };
+    ghost view = { λ s. record { folders = s.folders.items; profile = s.profile; login = s.login; selected = s.selected; idling = s.idling; ended = s.ended; mailing = s.mailing } };
 }
 
 impl Session {
     ghost use Rattle.std.specs.Prelude.{◌≡◌, ◌≢◌, ◌==◌, ◌^◌, ◌⊎◌, ◌+◌, ◌<◌, ◌≤◌, ◌++◌, ◌↔◌, ℕ, List, IfErr, take, min, if◌then◌else◌, true, false, [], codes, length, is_some, None, Some, Err, OnOk, OnErr, IfOk, vec_len};
     ghost use Rattle.std.specs.Option.{option_copied, option_map};
     ghost use Rattle.std.specs.Vec.{vec_capacity};
-    ghost use Rattle.imap_session.specs.Exchange.{Sent as SentSpec, kept_tag, nothing_sent, Feed, Refused, closed, is_idling, may_send, refusal_text, continuing, tagged};
+    ghost use Rattle.imap_session.specs.Exchange.{Sent as SentSpec, begun_with, kept_tag, Feed, Refused, closed, is_idling, may_send, refusal_text, continuing, tagged};
     ghost use Rattle.imap_session.specs.Texts.{response_text};
     ghost use Rattle.imap_session.specs.declared.texts.ResponseText.TheVariants as texts;
-    ghost use Rattle.imap_session.specs.Commands.{due_of, on_rest, on_verdict, greeting, long_line_text, most_changes, on_idle_line, turn_of_long_line};
+    ghost use Rattle.imap_grammar.specs.declared.command.Verb.TheVariants as verbs;
+    ghost use Rattle.imap_session.specs.Commands.{due_of, on_rest, on_verdict, greeting, logged_in, long_line_text, most_changes, on_idle_line, turn_of_long_line};
     ghost use Rattle.imap_session.specs.inner.Seen.{HasFirstRoom, appending_of, sent_of};
     ghost use Rattle.imap_session.specs.inner.Appends.{Leads};
     ghost use Rattle.imap_session.specs.Store.{Answers, AnswersVerdict, IdleTurns, Starves, TakesBytes, room_for, room_for_verdict};
     ghost use Rattle.imap_session.specs.inner.Store.{Plays, behind_first_line, first_line, is_open};
 
-    /// The session of a client whose mailboxes have these names, and which appends messages of so many bytes at most, or none. It has
-    /// selected no mailbox. Where two have the same name, the first is found.
-    pub fn new(folders: Vec<Folder>, max_message: Option<u32>) -> Session
-        ensures { result ≡ record {
-          folders = folders.items;
-          selected = None;
-          idling = None;
-          ended = false;
-          mailing = nothing_sent max_message;
-        } }
+    /// The session of a client whose mailboxes have these names, on these terms. It has selected no mailbox. Where two have the same name, the
+    /// first is found.
+    pub fn new(folders: Vec<Folder>, terms: Terms) -> Session
+        ensures { result ≡ begun_with terms folders.items }
     {
+        let Terms {
+            max_message,
+            profile,
+            login,
+        } = terms;
         Session {
             folders,
+            profile,
+            login,
             selected: None,
             idling: None,
             ended: false,
@@ -86,14 +93,44 @@ impl Session {
     ///
     /// Errors: `AllocError` where `out` has no room for it and memory was refused; `out` is then as it was.
     pub fn greet(&self, out: &mut Vec<u8>) -> Result<(), AllocError>
-        ensures ok { OnOk result (out.new.items ≡ out.old.items ++ greeting) }
+        ensures ok { OnOk result (out.new.items ≡ out.old.items ++ greeting self.now.profile) }
         ensures err { OnErr result (out.new.items ≡ out.old.items) }
-        ensures memory { OnErr result (vec_capacity out.old < vec_len out.old + length greeting) }
+        ensures memory { OnErr result (vec_capacity out.old < vec_len out.old + length (greeting self.now.profile)) }
     {
-        let text = ResponseText::Greeting;
+        let text = ServerText::Greeting(self.profile);
         out.reserve(text.bytes().len() + 4)?;
-        put_untagged(text, out);
+        put_of_server(text, out);
         Ok(())
+    }
+
+    // Which commands and answers it has.
+    fn profile(&self) -> Profile
+        ensures { result ≡ self.now.profile }
+    {
+        self.profile
+    }
+
+    // The client has logged in.
+    fn log_in(&mut self, tag: &[u8], out: &mut Vec<u8>) -> After
+        requires fits { vec_len out.old + (length tag.now + LAST) ≤ vec_capacity out.old }
+        ensures after { result ≡ After.Go }
+        ensures standing { self.new ≡ logged_in self.old }
+        ensures text { out.new.items
+            ≡ out.old.items ++ tagged tag.now (response_text (texts.Completed verbs.Login)) }
+    {
+        self.login = None;
+        put_last(tag, ResponseText::Completed(Verb::Login), out);
+        After::Go
+    }
+
+    // As whom the client is to log in.
+    fn awaited(&self) -> Option<&[u8]>
+        ensures { option_copied result ≡ self.now.login }
+    {
+        match &self.login {
+            None => None,
+            Some(user) => Some(user.as_bytes()),
+        }
     }
 
     /// Whether the session has ended. It then takes no line.
@@ -195,7 +232,7 @@ impl Session {
         requires unsent { self.old.mailing.sent ≡ None }
         requires other { is_open command.now ≡ false }
         requires long { length response.tag + (LAST + FIRST)
-            ≤ response.held + length (first_line command.now) }
+            ≤ response.held + length (first_line self.old.profile command.now) }
         ensures plays { Plays S.step response.entry.tag self.old
             (record self.old { selected = self.new.selected })
             (behind_first_line self.old command.now) store.old store.new response.entry.text
@@ -206,6 +243,7 @@ impl Session {
     {
         let done = carry_out(
             alloc,
+            self.profile,
             &self.folders,
             command,
             &mut self.selected,
@@ -236,18 +274,25 @@ impl Session {
         ensures refused { OnErr result ((self.new ≡ self.old) × (store.new ≡ store.old)
             × (out.new.items ≡ out.old.items)) }
         ensures memory { OnErr result (vec_capacity out.old
-            < vec_len out.old + (length line.now + 90)) }
+            < vec_len out.old + (length line.now + 114)) }
         ensures folders { self.new.folders ≡ self.old.folders }
         ensures sends { IfOk result (λ after. after ≡ may_send self.new) }
     {
         out.reserve(line.len() + LAST + FIRST)?;
         match read_line(line) {
             Err(fault) => {
-                put_fault(&fault, out);
+                put_fault(self.profile(), &fault, out);
                 Ok(After::Go)
             }
             Ok((tag, command)) => {
                 let tag = tag.as_bytes();
+                if logs_in_as(self.awaited(), &command) {
+                    return Ok(self.log_in(tag, out));
+                }
+                if let Some(text) = barred_at(self.awaited(), self.profile(), &command) {
+                    put_last(tag, text, out);
+                    return Ok(After::Go);
+                }
                 if let Some(append) = append_of(&command) {
                     let response = Response::new(tag, LAST, out);
                     return Ok(self.begin_append(alloc, append, response, out));
@@ -256,7 +301,7 @@ impl Session {
                     let response = Response::new(tag, LAST, out);
                     return Ok(self.begin_idling(alloc, response, out));
                 }
-                let first = put_first_line(&command, out);
+                let first = put_first_line(self.profile(), &command, out);
                 let response = Response::new(tag, LAST + (FIRST - first), out);
                 Ok(self.answer(alloc, &command, store, response, out))
             }
@@ -332,7 +377,7 @@ impl Session {
     /// message is awaited no line may come.
     ///
     /// Errors, after which the session, the store and `out` are as they were: `Ended` exactly where the session has ended; `NoMemory` where
-    /// memory was refused, and `out` has no room for the line's length and 90 bytes more; where the line ends an IDLE or an APPEND, for the
+    /// memory was refused, and `out` has no room for the line's length and 114 bytes more; where the line ends an IDLE or an APPEND, for the
     /// length of its tag and 48 more.
     pub fn line<S: Store>(
         &mut self,

@@ -1,10 +1,20 @@
-//! Where a session stands: its folders, the mailbox that it selected, and whether it idles or has ended.
+//! Where a session stands: which commands it has, its folders, the mailbox that it selected, and whether it idles or has ended.
 //! What it answers is told in specs/Commands.antt.
 
+use crate::user::UserName;
 use change_ring::Flags;
 use delivery_token::Text;
 use std::alloc::AllocError;
 use std::marker::Model;
+
+/// Which commands and answers a session has.
+#[derive(Clone, Copy, Debug, PartialEq, Eq)]
+pub enum Profile {
+    /// Those of IMAP4rev2 that are offered, for a client that is known already (RFC 9051, 7.1.4).
+    Standard,
+    /// Those besides that fronts and clients of IMAP4rev1 want (RFC 3501). The client logs in first.
+    Compatible,
+}
 
 /// What a client may send next.
 #[derive(Clone, Copy, Debug, PartialEq, Eq)]
@@ -32,6 +42,25 @@ pub struct Append {
     pub text: Text,
     /// The flags that it is to have in the mailbox.
     pub flags: Flags,
+}
+
+/// What a session begins with, beside its mailboxes.
+#[derive(Drop)]
+pub struct Terms {
+    /// The most bytes of a message that its client appends. None: no message is taken.
+    pub max_message: Option<u32>,
+    /// Which commands and answers it has.
+    pub profile: Profile,
+    /// As whom the client is to log in before all else. None: it is known already.
+    pub login: Option<UserName>,
+}
+
+impl Model for Terms {
+    ghost use Rattle.imap_session.specs.Exchange.{Terms as TermsSpec};
+
+    ghost Value = { TermsSpec };
+
+    ghost view = { λ t. record { most = t.max_message; profile = t.profile; login = t.login } };
 }
 
 /// Why a line wasn't taken. Nothing happened, and nothing changed.

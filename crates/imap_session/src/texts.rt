@@ -5,10 +5,14 @@ ghost use Rattle.std.specs.Prelude.{◌≡◌, ◌≤◌, length};
 ghost use Rattle.imap_session.specs.Texts.{response_text};
 ghost use Rattle.imap_session.specs.declared.texts.ResponseText.TheVariants as texts;
 
+use crate::standing::Profile;
 use imap_grammar::Verb;
 
 /// A text has at most so many bytes.
 pub const MOST_TEXT: usize = 45;
+
+/// One of the server has at most so many.
+pub const MOST_SERVER_TEXT: usize = 90;
 
 /// What a line says behind its tag, where no number is in it; and what one that has none says: behind `* `, `* BYE ` or `+ `.
 #[derive(Clone, Copy, Debug, PartialEq, Eq)]
@@ -36,6 +40,8 @@ pub enum ResponseText {
     SequenceTooHigh,
     InvalidArguments,
     UnknownCommand,
+    /// Another user's name (RFC 9051, 6.2.3).
+    LoginFailed,
     /// A line that ends an IDLE and isn't DONE.
     ExpectedDone,
     /// The mailbox that was selected is left, as another is to be (untagged).
@@ -44,10 +50,8 @@ pub enum ResponseText {
     MissingTag,
     /// Of a line that was too long to be kept (untagged).
     LineTooLong,
-    /// What is said first (untagged).
-    Greeting,
-    Capabilities,
-    Namespaces,
+    /// Of messages that no session was told of before: there are none (untagged; RFC 3501, 7.3.2).
+    NoneRecent,
     /// Of LOGOUT (behind BYE, as are those after it).
     LoggingOut,
     InternalFault,
@@ -58,6 +62,36 @@ pub enum ResponseText {
     Idling,
     /// The client may send its literal (behind a plus).
     Ready,
+}
+
+/// What is said of the server, whatever the state: behind a star.
+#[derive(Clone, Copy, Debug, PartialEq, Eq)]
+pub enum ServerText {
+    /// What is said first (RFC 9051, 7.1.1 and 7.1.4).
+    Greeting(Profile),
+    /// RFC 9051, 7.2.2.
+    Capabilities(Profile),
+    /// RFC 9051, 6.3.10.
+    Namespaces,
+}
+
+impl ServerText {
+    ghost use Rattle.std.specs.Prelude.{◌≡◌, ◌≤◌, length};
+    ghost use Rattle.imap_session.specs.Texts.{server_text};
+
+    /// The bytes of the text: printable ASCII.
+    pub fn bytes(self) -> &'static [u8]
+        ensures text { result.now ≡ server_text self }
+        ensures short { length result.now ≤ MOST_SERVER_TEXT }
+    {
+        match self {
+            ServerText::Greeting(Profile::Standard) => b"PREAUTH IMAP4rev2 server ready",
+            ServerText::Greeting(Profile::Compatible) => b"OK [CAPABILITY IMAP4rev2 IMAP4rev1 IDLE NAMESPACE UIDPLUS UNSELECT] IMAP4rev2 server ready",
+            ServerText::Capabilities(Profile::Standard) => b"CAPABILITY IMAP4rev2 IDLE",
+            ServerText::Capabilities(Profile::Compatible) => b"CAPABILITY IMAP4rev2 IMAP4rev1 IDLE NAMESPACE UIDPLUS UNSELECT",
+            ServerText::Namespaces => b"NAMESPACE ((\"\" \"/\")) NIL NIL",
+        }
+    }
 }
 
 // The tagged OK of a command with this verb.
@@ -99,6 +133,8 @@ fn completed(verb: Verb) -> &'static [u8]
         Verb::UidCopy => b"OK UID COPY completed",
         Verb::UidMove => b"OK UID MOVE completed",
         Verb::UidSearch => b"OK UID SEARCH completed",
+        Verb::Check => b"OK CHECK completed",
+        Verb::Lsub => b"OK LSUB completed",
     }
 }
 
@@ -132,13 +168,12 @@ impl ResponseText {
             ResponseText::SequenceTooHigh => b"BAD Sequence number too high",
             ResponseText::InvalidArguments => b"BAD Invalid arguments",
             ResponseText::UnknownCommand => b"BAD Unknown command",
+            ResponseText::LoginFailed => b"NO [AUTHENTICATIONFAILED] Another user's port",
             ResponseText::ExpectedDone => b"BAD Expected DONE",
             ResponseText::PreviousClosed => b"OK [CLOSED] Previous mailbox is closed",
             ResponseText::MissingTag => b"BAD Missing tag",
             ResponseText::LineTooLong => b"BAD Line too long",
-            ResponseText::Greeting => b"PREAUTH IMAP4rev2 server ready",
-            ResponseText::Capabilities => b"CAPABILITY IMAP4rev2 IDLE",
-            ResponseText::Namespaces => b"NAMESPACE ((\"\" \"/\")) NIL NIL",
+            ResponseText::NoneRecent => b"0 RECENT",
             ResponseText::LoggingOut => b"Logging out",
             ResponseText::InternalFault => b"Internal fault",
             ResponseText::ChangesMissed => b"Too many changes were missed",

@@ -1,33 +1,34 @@
 //! One command, carried out: the part that fits it, in the state that it wants, and what its last line says.
 //! What each part does is told in the modules of the commands.
 
-ghost use Rattle.std.specs.Prelude.{◌≡◌, ◌+◌, ◌≤◌, ◌++◌, length, true, false, None, IfSome, IfNone, vec_len};
+ghost use Rattle.std.specs.Prelude.{◌≡◌, ◌+◌, ◌≤◌, ◌++◌, length, true, false, List, ℕ, Option, None, IfSome, IfNone, vec_len};
 ghost use Rattle.std.specs.Vec.{vec_capacity};
 ghost use Rattle.imap_grammar.specs.declared.command.Command.TheVariants as commands;
 ghost use Rattle.imap_session.specs.Commands.{completed, fault_text, on_idle_line, showing};
 ghost use Rattle.imap_session.specs.Exchange.{Mailing};
 ghost use Rattle.imap_session.specs.inner.Store.{Does, Moves, after_command, behind_first_line, ending, first_line, is_idle, is_open, last};
 
-use crate::count::{count_mailbox, list_folders};
+use crate::count::{count_mailbox, list_folders, list_subscribed, subscribe};
 use crate::expunge::show_pending;
 use crate::response::{LAST, Response};
-use crate::say::{put_bye, put_tagged, put_untagged};
+use crate::access::arguments_text;
+use crate::say::{put_bye, put_of_server, put_tagged, put_untagged};
 use crate::select::select_mailbox;
 use crate::selected::{close, expunge, fetch, store_flags, uid_expunge, unselect};
-use crate::standing::{After, Folder, Selected};
+use crate::standing::{After, Folder, Profile, Selected};
 use crate::store::Store;
-use crate::texts::ResponseText;
+use crate::texts::{ResponseText, ServerText};
 use imap_grammar::{Append, Command, ImapFault, Verb, is_done};
 use mailbox::MailFault;
 use std::alloc::Global;
 
 /// Room for the line that CAPABILITY, NAMESPACE or LOGOUT writes before its last one, or by which SELECT or EXAMINE tells that a mailbox was left.
-pub(crate) const FIRST: usize = 42;
+pub(crate) const FIRST: usize = 66;
 
 // Writes what is said of a line that is no command, in room that was reserved.
-pub(crate) fn put_fault(fault: &ImapFault<'_>, out: &mut Vec<u8>)
-    requires fits { vec_len out.old + length (fault_text fault.now) ≤ vec_capacity out.old }
-    ensures text { out.new.items ≡ out.old.items ++ fault_text fault.now }
+pub(crate) fn put_fault(profile: Profile, fault: &ImapFault<'_>, out: &mut Vec<u8>)
+    requires fits { vec_len out.old + length (fault_text profile fault.now) ≤ vec_capacity out.old }
+    ensures text { out.new.items ≡ out.old.items ++ fault_text profile fault.now }
 {
     match fault {
         ImapFault::NoTag => {
@@ -35,11 +36,9 @@ pub(crate) fn put_fault(fault: &ImapFault<'_>, out: &mut Vec<u8>)
         }
         ImapFault::Unknown(tag) => put_tagged(tag.as_bytes(), ResponseText::UnknownCommand, out),
         ImapFault::LeftOut(tag) => put_tagged(tag.as_bytes(), ResponseText::NotOffered, out),
-        ImapFault::Arguments(tag) => put_tagged(
-            tag.as_bytes(),
-            ResponseText::InvalidArguments,
-            out,
-        ),
+        ImapFault::Arguments(tag, verb) => {
+            put_tagged(tag.as_bytes(), arguments_text(profile, *verb), out)
+        }
     }
 }
 
@@ -89,6 +88,19 @@ pub(crate) fn end_idle<S: Store>(
     Ok(ResponseText::Completed(Verb::Idle))
 }
 
+// CHECK: the same as NOOP (RFC 3501, 6.4.1).
+fn check<S: Store>(
+    selected: Option<Selected>,
+    store: &mut S,
+    response: &mut Response<'_>,
+) -> Result<ResponseText, MailFault>
+    ensures { Does S.step (showing selected (completed commands.Check)) last store.old store.new
+        response.old response.new result }
+{
+    show_pending(selected, store, response)?;
+    Ok(ResponseText::Completed(Verb::Check))
+}
+
 // NOOP: what is pending is shown, where a mailbox is selected.
 fn note_nothing<S: Store>(
     selected: Option<Selected>,
@@ -103,17 +115,21 @@ fn note_nothing<S: Store>(
 }
 
 /// Writes what a command says of the server before all else, in room that was reserved, and answers how many bytes that is. Most say nothing.
-pub(crate) fn put_first_line(command: &Command<'_>, out: &mut Vec<u8>) -> usize
+pub(crate) fn put_first_line(
+    profile: Profile,
+    command: &Command<'_>,
+    out: &mut Vec<u8>,
+) -> usize
     requires fits { vec_len out.old + FIRST ≤ vec_capacity out.old }
-    ensures line { out.new.items ≡ out.old.items ++ first_line command.now }
-    ensures length { result ≡ length (first_line command.now) }
+    ensures line { out.new.items ≡ out.old.items ++ first_line profile command.now }
+    ensures length { result ≡ length (first_line profile command.now) }
     ensures len { vec_len out.new ≡ vec_len out.old + result }
     ensures short { result ≤ FIRST }
     ensures capacity { vec_capacity out.old ≤ vec_capacity out.new }
 {
     match command {
-        Command::Capability => put_untagged(ResponseText::Capabilities, out),
-        Command::Namespace => put_untagged(ResponseText::Namespaces, out),
+        Command::Capability => put_of_server(ServerText::Capabilities(profile), out),
+        Command::Namespace => put_of_server(ServerText::Namespaces, out),
         Command::Logout => put_bye(ResponseText::LoggingOut, out),
         _ => 0,
     }
@@ -122,6 +138,7 @@ pub(crate) fn put_first_line(command: &Command<'_>, out: &mut Vec<u8>) -> usize
 // Carries out a command other than IDLE and APPEND but for its first line and its last, and answers what that says.
 pub(crate) fn carry_out<S: Store>(
     alloc: Global,
+    profile: Profile,
     folders: &[Folder],
     command: &Command<'_>,
     selected: &mut Option<Selected>,
@@ -130,10 +147,12 @@ pub(crate) fn carry_out<S: Store>(
 ) -> Result<ResponseText, MailFault>
     requires other { is_open command.now ≡ false }
     requires long { length response.old.tag + (LAST + FIRST)
-        ≤ response.old.held + length (first_line command.now) }
-    ensures { (mailing : Mailing) → Moves S.step selected.old selected.new
+        ≤ response.old.held + length (first_line profile command.now) }
+    ensures { (login : Option (List ℕ)) (mailing : Mailing) → Moves S.step selected.old selected.new
         (behind_first_line (record {
           folders = folders.now;
+          profile = profile;
+          login = login;
           selected = selected.old;
           idling = None;
           ended = false;
@@ -145,21 +164,27 @@ pub(crate) fn carry_out<S: Store>(
         Command::Capability => Ok(ResponseText::Completed(Verb::Capability)),
         Command::Namespace => Ok(ResponseText::Completed(Verb::Namespace)),
         Command::Noop => note_nothing(*selected, store, response),
+        Command::Check => check(*selected, store, response),
         Command::Logout => Ok(ResponseText::Completed(Verb::Logout)),
         Command::Idle => unreachable!(),
         Command::Append(_) => unreachable!(),
-        Command::Login => Ok(ResponseText::WrongState),
+        Command::Login { .. } => Ok(ResponseText::WrongState),
         Command::Authenticate => Ok(ResponseText::WrongState),
         Command::StartTls => Ok(ResponseText::WrongState),
         Command::Select(name) => {
-            select_mailbox(alloc, folders, false, name, selected, store, response)
+            select_mailbox(profile, folders, false, name, selected, store, response)
         }
         Command::Examine(name) => {
-            select_mailbox(alloc, folders, true, name, selected, store, response)
+            select_mailbox(profile, folders, true, name, selected, store, response)
         }
         Command::List { reference, pattern } => list_folders(
             alloc, folders, reference, pattern, *selected, store, response,
         ),
+        Command::Lsub { reference, pattern } => list_subscribed(
+            alloc, folders, reference, pattern, *selected, store, response,
+        ),
+        Command::Subscribe(name) => subscribe(alloc, folders, name, Verb::Subscribe),
+        Command::Unsubscribe(name) => subscribe(alloc, folders, name, Verb::Unsubscribe),
         Command::Status { name, items } => {
             count_mailbox(alloc, folders, name, items, *selected, store, response)
         }

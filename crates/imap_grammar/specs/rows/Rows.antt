@@ -15,6 +15,7 @@ use Rattle.imap_grammar.specs.declared.items.FetchItem.TheVariants as fetch
 use Rattle.imap_grammar.specs.declared.items.StatusItem.TheVariants as status
 use Rattle.imap_grammar.specs.declared.command.Append.{Append}
 use Rattle.imap_grammar.specs.declared.command.Command.TheVariants as say
+use Rattle.imap_grammar.specs.declared.command.Verb.TheVariants as verbs
 use Rattle.imap_grammar.specs.declared.command.ImapFault.TheVariants.{NoTag, Unknown, LeftOut, Arguments}
 
 abbrev range : SeqNumber → SeqNumber → SeqRange
@@ -123,9 +124,61 @@ uid_expunge : read (codes "x UID EXPUNGE 4:2") ≡ Ok (codes "x", say.UidExpunge
 unfolding read
 uid_expunge = refl
 
-login : read (codes "x LOGIN a b") ≡ Ok (codes "x", say.Login)
+login : read (codes "x LOGIN a b") ≡ Ok (codes "x", say.Login (codes "a") (codes "b"))
 unfolding read
 login = refl
+
+-- RFC 9051, 6.2.3: both are astrings
+login_quoted : read (codes "a001 login SMITH \"my \\\"secret\\\"\"") ≡ Ok (codes "a001", say.Login (codes "SMITH") (codes "my \"secret\""))
+unfolding read
+login_quoted = refl
+
+login_empty : read (codes "a1 LOGIN \"\" \"\"") ≡ Ok (codes "a1", say.Login [] [])
+unfolding read
+login_empty = refl
+
+login_short : read (codes "a1 LOGIN SMITH") ≡ Err (Arguments (codes "a1") verbs.Login)
+unfolding read
+login_short = refl
+
+login_more : read (codes "a1 LOGIN SMITH SESAME x") ≡ Err (Arguments (codes "a1") verbs.Login)
+unfolding read
+login_more = refl
+
+check : read (codes "a1 check ") ≡ Ok (codes "a1", say.Check)
+unfolding read
+check = refl
+
+check_more : read (codes "a1 CHECK x") ≡ Err (Arguments (codes "a1") verbs.Check)
+unfolding read
+check_more = refl
+
+-- RFC 3501, 6.3.9
+lsub : read (codes "A002 LSUB \"#news.\" \"comp.mail.*\"") ≡ Ok (codes "A002", say.Lsub (codes "#news.") (codes "comp.mail.*"))
+unfolding read
+lsub = refl
+
+lsub_bare : read (codes "A002 LSUB \"\" %") ≡ Ok (codes "A002", say.Lsub [] (codes "%"))
+unfolding read
+lsub_bare = refl
+
+-- RFC 9051, 6.3.7 and 6.3.8
+subscribe : read (codes "A002 SUBSCRIBE Work") ≡ Ok (codes "A002", say.Subscribe (codes "Work"))
+unfolding read
+subscribe = refl
+
+unsubscribe : read (codes "A002 UNSUBSCRIBE \"Work\"") ≡ Ok (codes "A002", say.Unsubscribe (codes "Work"))
+unfolding read
+unsubscribe = refl
+
+subscribe_nothing : read (codes "A002 SUBSCRIBE") ≡ Err (Arguments (codes "A002") verbs.Subscribe)
+unfolding read
+subscribe_nothing = refl
+
+-- RFC 3501, 6.3.10
+status_recent : read (codes "A042 STATUS blurdybloop (UIDNEXT RECENT)") ≡ Ok (codes "A042", say.Status (codes "blurdybloop") (status.UidNext ∷ status.Recent ∷ []))
+unfolding read
+status_recent = refl
 
 none : read (codes "") ≡ Err NoTag
 unfolding read
@@ -180,112 +233,112 @@ append_most : read (codes "a1 APPEND INBOX {99999999999999999999}") ≡ Ok (code
 unfolding read
 append_most = refl
 
-append_tight : read (codes "a1 APPEND INBOX (\\Seen){3}") ≡ Err (Arguments (codes "a1"))
+append_tight : read (codes "a1 APPEND INBOX (\\Seen){3}") ≡ Err (Arguments (codes "a1") verbs.Append)
 unfolding read
 append_tight = refl
 
-append_minus : read (codes "a1 APPEND INBOX {3-}") ≡ Err (Arguments (codes "a1"))
+append_minus : read (codes "a1 APPEND INBOX {3-}") ≡ Err (Arguments (codes "a1") verbs.Append)
 unfolding read
 append_minus = refl
 
-append_more : read (codes "a1 APPEND INBOX {3} x") ≡ Err (Arguments (codes "a1"))
+append_more : read (codes "a1 APPEND INBOX {3} x") ≡ Err (Arguments (codes "a1") verbs.Append)
 unfolding read
 append_more = refl
 
-append_bare : read (codes "a1 APPEND INBOX \\Seen {3}") ≡ Err (Arguments (codes "a1"))
+append_bare : read (codes "a1 APPEND INBOX \\Seen {3}") ≡ Err (Arguments (codes "a1") verbs.Append)
 unfolding read
 append_bare = refl
 
-append_turned : read (codes "a1 APPEND INBOX \"x\" (\\Seen) {3}") ≡ Err (Arguments (codes "a1"))
+append_turned : read (codes "a1 APPEND INBOX \"x\" (\\Seen) {3}") ≡ Err (Arguments (codes "a1") verbs.Append)
 unfolding read
 append_turned = refl
 
-append_none : read (codes "a1 APPEND INBOX {}") ≡ Err (Arguments (codes "a1"))
+append_none : read (codes "a1 APPEND INBOX {}") ≡ Err (Arguments (codes "a1") verbs.Append)
 unfolding read
 append_none = refl
 
-select_literal : read (codes "a1 SELECT {5}") ≡ Err (Arguments (codes "a1"))
+select_literal : read (codes "a1 SELECT {5}") ≡ Err (Arguments (codes "a1") verbs.Select)
 unfolding read
 select_literal = refl
 
-noop_more : read (codes "a1 NOOP x") ≡ Err (Arguments (codes "a1"))
+noop_more : read (codes "a1 NOOP x") ≡ Err (Arguments (codes "a1") verbs.Noop)
 unfolding read
 noop_more = refl
 
-zero : read (codes "a1 FETCH 0 FLAGS") ≡ Err (Arguments (codes "a1"))
+zero : read (codes "a1 FETCH 0 FLAGS") ≡ Err (Arguments (codes "a1") verbs.Fetch)
 unfolding read
 zero = refl
 
-too_great : read (codes "a1 FETCH 4294967296 FLAGS") ≡ Err (Arguments (codes "a1"))
+too_great : read (codes "a1 FETCH 4294967296 FLAGS") ≡ Err (Arguments (codes "a1") verbs.Fetch)
 unfolding read
 too_great = refl
 
-leading_zero : read (codes "a1 FETCH 01 FLAGS") ≡ Err (Arguments (codes "a1"))
+leading_zero : read (codes "a1 FETCH 01 FLAGS") ≡ Err (Arguments (codes "a1") verbs.Fetch)
 unfolding read
 leading_zero = refl
 
-no_items : read (codes "a1 FETCH 1 ()") ≡ Err (Arguments (codes "a1"))
+no_items : read (codes "a1 FETCH 1 ()") ≡ Err (Arguments (codes "a1") verbs.Fetch)
 unfolding read
 no_items = refl
 
-loose : read (codes "a1 FETCH 1 ( UID)") ≡ Err (Arguments (codes "a1"))
+loose : read (codes "a1 FETCH 1 ( UID)") ≡ Err (Arguments (codes "a1") verbs.Fetch)
 unfolding read
 loose = refl
 
-two_bare : read (codes "a1 FETCH 1 UID FLAGS") ≡ Err (Arguments (codes "a1"))
+two_bare : read (codes "a1 FETCH 1 UID FLAGS") ≡ Err (Arguments (codes "a1") verbs.Fetch)
 unfolding read
 two_bare = refl
 
-envelope : read (codes "a1 FETCH 1 ENVELOPE") ≡ Err (Arguments (codes "a1"))
+envelope : read (codes "a1 FETCH 1 ENVELOPE") ≡ Err (Arguments (codes "a1") verbs.Fetch)
 unfolding read
 envelope = refl
 
-empty_span : read (codes "a1 FETCH 1 BODY[]<0.0>") ≡ Err (Arguments (codes "a1"))
+empty_span : read (codes "a1 FETCH 1 BODY[]<0.0>") ≡ Err (Arguments (codes "a1") verbs.Fetch)
 unfolding read
 empty_span = refl
 
-span_alone : read (codes "a1 FETCH 1 BODY[]<0>") ≡ Err (Arguments (codes "a1"))
+span_alone : read (codes "a1 FETCH 1 BODY[]<0>") ≡ Err (Arguments (codes "a1") verbs.Fetch)
 unfolding read
 span_alone = refl
 
-open_quote : read (codes "a1 SELECT \"x") ≡ Err (Arguments (codes "a1"))
+open_quote : read (codes "a1 SELECT \"x") ≡ Err (Arguments (codes "a1") verbs.Select)
 unfolding read
 open_quote = refl
 
-escape : read (codes "a1 SELECT \"\\x\"") ≡ Err (Arguments (codes "a1"))
+escape : read (codes "a1 SELECT \"\\x\"") ≡ Err (Arguments (codes "a1") verbs.Select)
 unfolding read
 escape = refl
 
-no_pattern : read (codes "a1 LIST \"\"") ≡ Err (Arguments (codes "a1"))
+no_pattern : read (codes "a1 LIST \"\"") ≡ Err (Arguments (codes "a1") verbs.List)
 unfolding read
 no_pattern = refl
 
-empty_part : read (codes "a1 FETCH 1,,2 UID") ≡ Err (Arguments (codes "a1"))
+empty_part : read (codes "a1 FETCH 1,,2 UID") ≡ Err (Arguments (codes "a1") verbs.Fetch)
 unfolding read
 empty_part = refl
 
-three : read (codes "a1 FETCH 1:2:3 UID") ≡ Err (Arguments (codes "a1"))
+three : read (codes "a1 FETCH 1:2:3 UID") ≡ Err (Arguments (codes "a1") verbs.Fetch)
 unfolding read
 three = refl
 
-star_in_name : read (codes "a1 SELECT a*") ≡ Err (Arguments (codes "a1"))
+star_in_name : read (codes "a1 SELECT a*") ≡ Err (Arguments (codes "a1") verbs.Select)
 unfolding read
 star_in_name = refl
 
-status_none : read (codes "a1 STATUS INBOX ()") ≡ Err (Arguments (codes "a1"))
+status_none : read (codes "a1 STATUS INBOX ()") ≡ Err (Arguments (codes "a1") verbs.Status)
 unfolding read
 status_none = refl
 
-flag_star : read (codes "a1 STORE 1 FLAGS (\\*)") ≡ Err (Arguments (codes "a1"))
+flag_star : read (codes "a1 STORE 1 FLAGS (\\*)") ≡ Err (Arguments (codes "a1") verbs.Store)
 unfolding read
 flag_star = refl
 
 -- a byte below 32 after the verb
-control : read (codes "a1 SELECT x" ++ 7 ∷ []) ≡ Err (Arguments (codes "a1"))
+control : read (codes "a1 SELECT x" ++ 7 ∷ []) ≡ Err (Arguments (codes "a1") verbs.Select)
 unfolding read
 control = refl
 
-control_in_login : read (codes "a1 LOGIN " ++ 7 ∷ []) ≡ Ok (codes "a1", say.Login)
+control_in_login : read (codes "a1 LOGIN " ++ 7 ∷ []) ≡ Err (Arguments (codes "a1") verbs.Login)
 unfolding read
 control_in_login = refl
 
@@ -333,27 +386,27 @@ copy : read (codes "a1 COPY 1 INBOX") ≡ Err (LeftOut (codes "a1"))
 unfolding read
 copy = refl
 
-idle_more : read (codes "a1 IDLE x") ≡ Err (Arguments (codes "a1"))
+idle_more : read (codes "a1 IDLE x") ≡ Err (Arguments (codes "a1") verbs.Idle)
 unfolding read
 idle_more = refl
 
-append_no_literal : read (codes "a1 APPEND INBOX") ≡ Err (Arguments (codes "a1"))
+append_no_literal : read (codes "a1 APPEND INBOX") ≡ Err (Arguments (codes "a1") verbs.Append)
 unfolding read
 append_no_literal = refl
 
-append_joined : read (codes "a1 APPEND INBOX {3}x") ≡ Err (Arguments (codes "a1"))
+append_joined : read (codes "a1 APPEND INBOX {3}x") ≡ Err (Arguments (codes "a1") verbs.Append)
 unfolding read
 append_joined = refl
 
-append_loose : read (codes "a1 APPEND INBOX (\\Seen ) {3}") ≡ Err (Arguments (codes "a1"))
+append_loose : read (codes "a1 APPEND INBOX (\\Seen ) {3}") ≡ Err (Arguments (codes "a1") verbs.Append)
 unfolding read
 append_loose = refl
 
-append_bare_date : read (codes "a1 APPEND INBOX 1-Jan-2026 {3}") ≡ Err (Arguments (codes "a1"))
+append_bare_date : read (codes "a1 APPEND INBOX 1-Jan-2026 {3}") ≡ Err (Arguments (codes "a1") verbs.Append)
 unfolding read
 append_bare_date = refl
 
-append_no_name : read (codes "a1 APPEND {3}") ≡ Err (Arguments (codes "a1"))
+append_no_name : read (codes "a1 APPEND {3}") ≡ Err (Arguments (codes "a1") verbs.Append)
 unfolding read
 append_no_name = refl
 

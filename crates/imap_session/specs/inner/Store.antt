@@ -5,6 +5,8 @@ use Rattle.imap_grammar.specs.declared.command.Command.TheVariants as commands
 use Rattle.std.specs.Prelude.{◌≡◌, ℕ, Bool, true, false, List, [], ◌++◌, Option, Some, Result, Ok, Err, None}
 use Rattle.mailbox.specs.declared.clients.MailFault.{MailFault}
 use Rattle.imap_session.specs.declared.standing.After.{After}
+use Rattle.imap_session.specs.declared.standing.Profile.{Profile}
+use Rattle.imap_session.specs.declared.standing.Profile.TheVariants.{Standard, Compatible}
 use Rattle.imap_session.specs.declared.standing.Selected.{Selected}
 use Rattle.imap_session.specs.Exchange.{Call, Answer, Event, Exchange, Done, Standing, Turn, played, refused, refusal_text, refusal_after, bye, closed, tagged, untagged}
 use Rattle.imap_session.specs.Commands.{completed, notice, on_command}
@@ -78,15 +80,20 @@ pub record Plays {S : Type 0} (step : S → Call → Answer → S → Type 0) (t
   pub met : Met step old events new
   pub wrote : after ≡ before ++ bytes
 
+-- what is told of recent messages
+abbrev pub recent_line : Profile → List ℕ
+recent_line Standard = []
+recent_line Compatible = untagged (response_text texts.NoneRecent)
+
 -- a notice as a line; nothing where there is none
 abbrev pub notice_line : Option (List ℕ) → List ℕ
 notice_line None = []
 notice_line (Some words) = untagged words
 
 -- what a command says of the server before all else, in room that was reserved
-abbrev pub first_line : Command → List ℕ
-first_line commands.Logout = bye (response_text texts.LoggingOut)
-first_line command = notice_line (notice command)
+abbrev pub first_line : Profile → Command → List ℕ
+first_line profile commands.Logout = bye (response_text texts.LoggingOut)
+first_line profile command = notice_line (notice profile command)
 
 -- what is done then: behind a notice nothing more
 abbrev pub behind_notice : Option (List ℕ) → Command → Exchange → Exchange
@@ -95,7 +102,7 @@ behind_notice (Some words) command x = completed command
 
 abbrev pub behind_first_line : Standing → Command → Exchange
 behind_first_line now commands.Logout = Done (response_text (texts.Completed verbs.Logout)) Bye
-behind_first_line now command = behind_notice (notice command) command (on_command now command)
+behind_first_line now command = behind_notice (notice now.profile command) command (on_command now command)
 
 -- what a client may send after a command that was done
 abbrev pub after_command : Command → After

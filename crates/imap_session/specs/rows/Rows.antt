@@ -9,14 +9,15 @@ use Rattle.delivery_token.specs.declared.Verdict.{Verdict}
 use Rattle.delivery_token.specs.declared.Verdict.TheVariants as verdicts
 use Rattle.delivery_token.specs.declared.Refusal.TheVariants.{Full, MailboxFull}
 use Rattle.imap_grammar.specs.Reading.{read}
-use Rattle.imap_session.specs.Exchange.{Answer, Entered, Looked, Found, Counted, Altered, Expunged, Fed, Left, Refused, Starved, Turn, Sent, Standing, may_send, nothing_sent}
+use Rattle.imap_session.specs.Exchange.{Answer, Entered, Looked, Found, Counted, Altered, Expunged, Fed, Left, Refused, Starved, Turn, Sent, Standing, begun_with, may_send, nothing_sent}
 use Rattle.imap_grammar.specs.declared.command.Command.TheVariants as commands
-use Rattle.imap_session.specs.Exchange.{Count, Exchange, Done, Leave, Write}
+use Rattle.imap_session.specs.Exchange.{Count, Exchange, Done, Folder, Leave, Write}
 use Rattle.imap_session.specs.Shows.{RestShowsNone, ShowsInOrder, VerdictShowsInOrder}
 use Rattle.imap_session.specs.Telling.{TellsNoUid, VerdictTellsUid}
 use Rattle.imap_session.specs.declared.standing.After.TheVariants.{Go}
 use Rattle.imap_session.specs.declared.standing.After.TheVariants as afters
 use Rattle.imap_session.specs.declared.standing.Append.{Append}
+use Rattle.imap_session.specs.declared.standing.Profile.TheVariants.{Standard, Compatible}
 use Rattle.imap_session.specs.Commands.{appended_words, completed, with_bytes, turn_of_verdict, idle_turn, turn_of, turn_of_long_line}
 
 differ : true ≡ false → ⊥
@@ -50,14 +51,18 @@ written now (h ∷ hs) = onto (happens now h) (λ (turn : Turn). option_map (λ 
 abbrev flags : Bool → Bool → Bool → Bool → Bool → Flags
 flags a b c d e = record { answered = a; flagged = b; deleted = c; seen = d; draft = e }
 
+abbrev folders : List Folder
+folders = record { name = codes "INBOX"; mailbox = 0 } ∷ record { name = codes "Work"; mailbox = 1 } ∷ []
+
 abbrev awake : Standing
-awake = record {
-  folders = record { name = codes "INBOX"; mailbox = 0 } ∷ record { name = codes "Work"; mailbox = 1 } ∷ [];
-  selected = None;
-  idling = None;
-  ended = false;
-  mailing = nothing_sent (Some 10);
-}
+awake = begun_with (record { most = Some 10; profile = Standard; login = None }) folders
+
+-- in the compatible profile, before the client has logged in, and behind that
+abbrev at_the_door : Standing
+at_the_door = begun_with (record { most = Some 10; profile = Compatible; login = Some (codes "SMITH") }) folders
+
+abbrev inside : Standing
+inside = record at_the_door { login = None }
 
 abbrev in_inbox : Standing
 in_inbox = record awake { selected = Some (record { mailbox = 0; read_only = false }) }
@@ -534,3 +539,33 @@ tells_uncounted p = p
 
 tells_of_another : VerdictTellsUid None 0 (verdicts.Stored 1) (Count 1 (λ status. Done (appended_words status.uidvalidity 1) Go)) → ⊥
 tells_of_another p = cc
+
+-- ---- the standard profile lacks what the compatible one has
+
+lacking : written awake
+    (Line (codes "a1 CHECK") [] ∷ Line (codes "a2 CHECK x") [] ∷ Line (codes "a3 LSUB \"\" *") [] ∷ Line (codes "a4 SUBSCRIBE Work") [] ∷ Line (codes "a5 UNSUBSCRIBE") [] ∷ Line (codes "a6 STATUS INBOX (RECENT)") []
+    ∷ Line (codes "a7 LOGIN SMITH SESAME") [] ∷ Line (codes "a8 LOGIN") [] ∷ [])
+    ≡ Some (codes "a1 BAD Unknown command\r\na2 BAD Unknown command\r\na3 BAD Unknown command\r\na4 NO [CANNOT] Not offered here\r\na5 NO [CANNOT] Not offered here\r\na6 BAD Invalid arguments\r\na7 BAD Wrong state\r\na8 BAD Wrong state\r\n")
+unfolding read digits
+lacking = refl
+
+-- ---- a client that is to log in (RFC 9051, 6.1 and 6.2)
+
+logs_in_first : written at_the_door
+    (Line (codes "a1 CAPABILITY") [] ∷ Line (codes "a2 NOOP") [] ∷ Line (codes "a3 SELECT INBOX") [] ∷ Line (codes "a4 AUTHENTICATE PLAIN") [] ∷ Line (codes "a5 LOGIN smith SESAME") [] ∷ Line (codes "a6 LOGIN SMITH") []
+    ∷ Line (codes "a7 LOGIN \"SMITH\" \"\"") [] ∷ Line (codes "a8 LOGIN SMITH SESAME") [] ∷ [])
+    ≡ Some (codes "* CAPABILITY IMAP4rev2 IMAP4rev1 IDLE NAMESPACE UIDPLUS UNSELECT\r\na1 OK CAPABILITY completed\r\na2 OK NOOP completed\r\na3 BAD Wrong state\r\na4 NO [CANNOT] Not offered here\r\na5 NO [AUTHENTICATIONFAILED] Another user's port\r\na6 BAD Invalid arguments\r\na7 OK LOGIN completed\r\na8 BAD Wrong state\r\n")
+unfolding read digits
+logs_in_first = refl
+
+leaves_at_once : written at_the_door (Line (codes "a1 LOGOUT") [] ∷ []) ≡ Some (codes "* BYE Logging out\r\na1 OK LOGOUT completed\r\n")
+unfolding read digits
+leaves_at_once = refl
+
+-- behind the LOGIN: RFC 3501, 6.3.6, 6.3.9, 6.3.10 and 6.4.1
+in_the_old_way : written inside
+    (Line (codes "a1 SUBSCRIBE Work") [] ∷ Line (codes "a2 SUBSCRIBE Play") [] ∷ Line (codes "a3 UNSUBSCRIBE Work") [] ∷ Line (codes "a4 LSUB \"\" *") [] ∷ Line (codes "a5 STATUS Work (RECENT UNSEEN)") (Counted (record { messages = 2; uidnext = 3; uidvalidity = 7; unseen = 1; deleted = 0; size = 9 }) ∷ [])
+    ∷ Line (codes "a6 SELECT INBOX") (Entered (record { count = 2; uidnext = 3; uidvalidity = 7 }) ∷ []) ∷ Line (codes "a7 CHECK") (Fed (1 ∷ 2 ∷ []) (Gone 1 ∷ []) ∷ []) ∷ [])
+    ≡ Some (codes "a1 OK SUBSCRIBE completed\r\na2 NO [NONEXISTENT] No such mailbox\r\na3 OK UNSUBSCRIBE completed\r\n* LSUB () \"/\" INBOX\r\n* LSUB () \"/\" Work\r\na4 OK LSUB completed\r\n* STATUS Work (RECENT 0 UNSEEN 1)\r\na5 OK STATUS completed\r\n* FLAGS (\\Answered \\Flagged \\Deleted \\Seen \\Draft)\r\n* 2 EXISTS\r\n* OK [UIDVALIDITY 7] UIDs valid\r\n* OK [UIDNEXT 3] Predicted next UID\r\n* OK [PERMANENTFLAGS (\\Answered \\Flagged \\Deleted \\Seen \\Draft)] Flags kept\r\n* LIST () \"/\" INBOX\r\n* 0 RECENT\r\na6 OK [READ-WRITE] SELECT completed\r\n* 1 EXPUNGE\r\na7 OK CHECK completed\r\n")
+unfolding read digits
+in_the_old_way = refl

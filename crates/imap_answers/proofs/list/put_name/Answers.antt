@@ -6,4 +6,4 @@ use Rattle.imap_answers.proofs.list.put_name.Goals as goal
 pub returns-clause-ok : goal.returns-clause-ok
 returns-clause-ok c =
     let e : is_listed c.args.pattern.now c.args.name.now ≡ true = search rules in
-    c.in_ok-write_name.ensures.ok ∙ ap (λ (l : List ℕ). c.args.out.now.items ++ l) (sym (listed_true c.args.pattern.now c.args.name.now e))
+    c.in_ok-write_name.ensures.ok ∙ ap (λ (l : List ℕ). c.args.out.now.items ++ l) (sym (listed_true c.args.listing c.args.pattern.now c.args.name.now e))

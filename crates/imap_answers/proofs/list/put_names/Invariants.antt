@@ -7,7 +7,7 @@ use Rattle.imap_answers.proofs.list.put_names.Given as goal
 
 abbrev pub invariant-loop-name : goal.invariant-loop-name
 invariant-loop-name l = record {
-  so_far : l.out.items ≡ l.initial.out.items ++ flat_map (λ name. listed l.pattern name.now) (take l.name-index l.names);
+  so_far : l.out.items ≡ l.initial.out.items ++ flat_map (λ name. listed l.listing l.pattern name.now) (take l.name-index l.names);
   front : StartsWith l.out.items l.initial.out.items;
   room : vec_capacity l.initial.out ≤ vec_capacity l.out;
 }

@@ -14,15 +14,13 @@ returns-in_default g c tag now =
 
 pub returns-in_err-count_folder : goal.returns-in_err-count_folder
 returns-in_err-count_folder g c =
-    let standing : Standing = record { folders = c.args.folders.now; selected = c.args.selected; idling = None; ended = false; mailing = nothing_sent None } in
-    let next : Folder → Exchange = counting standing c.args.name.now c.args.items.now in
+    let next : Folder → Exchange = counting c.args.selected c.args.name.now c.args.items.now in
     let p = err_from_is_err_and c.from_residual.result c.from_residual.ensures.1 in
     rw (p.1, p.2) (does_found {V = ResponseText} g.S.Store.step c.args.name.now c.args.folders.now _ next last _ _ _ _ (Err _)
     c.in-Some.ensures (c.in_err-count_folder.ensures (completed (commands.Status c.args.name.now c.args.items.now))))
 
 pub returns : goal.returns
 returns g c =
-    let standing : Standing = record { folders = c.args.folders.now; selected = c.args.selected; idling = None; ended = false; mailing = nothing_sent None } in
-    let next : Folder → Exchange = counting standing c.args.name.now c.args.items.now in
+    let next : Folder → Exchange = counting c.args.selected c.args.name.now c.args.items.now in
     does_found g.S.Store.step c.args.name.now c.args.folders.now _ next (λ (u : Unit {0}). completed (commands.Status c.args.name.now c.args.items.now)) _ _ _ _ (Ok tt)
     c.in-Some.ensures (c.in_ok-count_folder.ensures (completed (commands.Status c.args.name.now c.args.items.now)))

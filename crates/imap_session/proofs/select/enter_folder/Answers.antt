@@ -15,15 +15,15 @@ returns-in_err-hold_opening g c =
 pub returns-in_err-opening : goal.returns-in_err-opening
 returns-in_err-opening g c =
     let p = err_from_is_err_and c.from_residual-in_err-opening.result c.from_residual-in_err-opening.ensures.1 in
-    rw (p.1, p.2) (entering_refused {V = ResponseText} g.S.Store.step _ _ c.args.read_only c.args.folder.now c.mailbox.result c.name-name.result.now _ last _ _ c.args.response.now _
+    rw (p.1, p.2) (entering_refused {V = ResponseText} g.S.Store.step _ _ c.args.profile c.args.read_only c.args.folder.now c.mailbox.result c.name-name.result.now _ last _ _ c.args.response.now _
     c.mailbox.ensures c.name-name.ensures (held_more c.args.response.now c.hold_opening.new.self _ c.in_ok-hold_opening.ensures.held)
-    (c.in_err-opening.ensures.done (opened c.args.read_only c.name-name.result.now) c.hold_opening.new.self))
+    (c.in_err-opening.ensures.done (opened c.args.profile c.args.read_only c.name-name.result.now) c.hold_opening.new.self))
 
 pub returns : goal.returns
 returns g c =
-    moves_holding {V = ResponseText} g.S.Store.step _ _ (entering c.args.read_only c.args.folder.now) last _ _ c.args.response.now c.hold_opening.new.self _ (Ok c.entered_text.result)
+    moves_holding {V = ResponseText} g.S.Store.step _ _ (entering c.args.profile c.args.read_only c.args.folder.now) last _ _ c.args.response.now c.hold_opening.new.self _ (Ok c.entered_text.result)
     (held_more c.args.response.now c.hold_opening.new.self _ c.in_ok-hold_opening.ensures.held)
-    (entering_then {V = ResponseText} g.S.Store.step _ _ c.args.read_only c.args.folder.now c.mailbox.result c.name-name.result.now c.in_ok-opening.opening last _ _ _ c.hold_opening.new.self _
+    (entering_then {V = ResponseText} g.S.Store.step _ _ c.args.profile c.args.read_only c.args.folder.now c.mailbox.result c.name-name.result.now c.in_ok-opening.opening last _ _ _ c.hold_opening.new.self _
     (Ok c.entered_text.result) c.mailbox.ensures c.name-name.ensures
-    (c.in_ok-opening.ensures.done (opened c.args.read_only c.name-name.result.now) c.hold_opening.new.self)
-    (tells_opening g.S.Store.step c.args.read_only c.name-name.result.now c.in_ok-opening.opening c.entered_text.result _ _ _ c.put_opening.ensures c.entered_text.ensures))
+    (c.in_ok-opening.ensures.done (opened c.args.profile c.args.read_only c.name-name.result.now) c.hold_opening.new.self)
+    (tells_opening g.S.Store.step c.args.profile c.args.read_only c.name-name.result.now c.in_ok-opening.opening c.entered_text.result _ c.hold_opening.new.self c.put_opening.new.self c.tell_recent.new.response c.put_opening.ensures.adds c.tell_recent.ensures c.entered_text.ensures))
