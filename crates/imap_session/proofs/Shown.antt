@@ -1,5 +1,5 @@
 -- Each command shows changes only where they belong.
-use Rattle.std.proofs.Common.{◌≡◌, ◌⊎◌, inl, inr, ℕ, is_some, ◌++◌, append_assoc, Bool, true, false, codes, List, [], ◌∷◌, Option, Some, None, refl, if◌then◌else◌}
+use Rattle.std.proofs.Common.{◌≡◌, inl, inr, ℕ, is_some, ◌++◌, append_assoc, Bool, true, false, codes, List, [], ◌∷◌, Option, Some, None, refl, if◌then◌else◌}
 use Rattle.std.specs.Prelude.{◌&&◌}
 use Rattle.change_ring.specs.declared.change.Flags.{Flags}
 use Rattle.mailbox.specs.declared.clients.Row.{Row}
@@ -20,7 +20,7 @@ use Rattle.imap_session.proofs.Barring.{answering_has, refuses}
 use Rattle.std.specs.Prelude.{nat_lt}
 use Rattle.imap_grammar.specs.declared.command.Append.{Append}
 use Rattle.imap_session.specs.Exchange.{Exchange, Expunge, Feed, Folder, ForNothing, Standing, Wait, Write, bye, untagged}
-use Rattle.imap_session.specs.Commands.{answering, telling_recent, asking, coming, most_unasked, nowhere, is_over, number_named, over, wanting, wanting_for, on_command, on_idle_line, counting, folder_of, showing, completed, closing, entering, on_folder, on_chosen, messages_done, on_found, fetching, storing, fetched, stored, if_writable, expunge_set, store_messages, fetch_messages, unlimited, wrong_state, says, notice, noticing}
+use Rattle.imap_session.specs.Commands.{answering, telling_recent, asking, coming, most_unasked, nowhere, is_over, number_named, over, wanting, wanting_for, on_command, on_idle_line, counting, folder_of, showing, completed, closing, entering, on_folder, on_chosen, messages_done, on_found, fetching, storing, fetched, if_writable, expunge_set, store_messages, fetch_messages, unlimited, wrong_state, says, notice, noticing}
 use Rattle.imap_session.proofs.Appends.{asked_at, sent_at}
 use Rattle.imap_session.specs.Shows.{DoneShowsInOrder, IsFetchLine, IsNoOk, IsNotice, MaySay, ShowsBefore, ShowsInOrder, may_show}
 use Rattle.imap_session.specs.declared.texts.ResponseText.TheVariants as texts

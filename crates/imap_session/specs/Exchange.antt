@@ -102,21 +102,21 @@ abbrev pub nothing_sent : Option ℕ → Mailing
 nothing_sent most = record { most = most; number = 0; begun = None; sent = None }
 
 -- what a session begins with, beside its mailboxes: the most bytes of a message, or that none is taken; the profile; and as whom the client is to log in
-pub record Terms : Type 0 where
+pub record Admission : Type 0 where
   pub most : Option ℕ
   pub profile : Profile
   pub login : Option (List ℕ)
 
 -- one that has just begun
-abbrev pub begun_with : Terms → List Folder → Standing
-begun_with terms folders = record {
+abbrev pub begun_with : Admission → List Folder → Standing
+begun_with admission folders = record {
   folders = folders;
-  profile = terms.profile;
-  login = terms.login;
+  profile = admission.profile;
+  login = admission.login;
   selected = None;
   idling = None;
   ended = false;
-  mailing = nothing_sent terms.most;
+  mailing = nothing_sent admission.most;
 }
 
 -- a session that idles, with this tag or none, waits for DONE, and any other for a command

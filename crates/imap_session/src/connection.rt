@@ -11,7 +11,7 @@ ghost use Rattle.mailbox.specs.declared.clients.MailFault.{MailFault};
 ghost use Rattle.imap_session.specs.Dialogue.{Asks, Dialogue, Hears, StandsFor, Takes, Took, Turns, may_follow, tag_len};
 
 use crate::session::Session;
-use crate::standing::{After, Append, Folder, Selected, SessionFault, Terms};
+use crate::standing::{After, Append, Folder, Selected, SessionFault, Admission};
 use crate::store::Store;
 use delivery_token::Verdict;
 use line_io::{LineCutter, What};
@@ -71,22 +71,22 @@ impl Model for ImapConnection {
 }
 
 impl ImapConnection {
-    /// A connection that was just opened, of a user with these mailboxes, on these terms.
+    /// A connection that was just opened, of a user with these mailboxes, who comes in so.
     ///
     /// Errors: `AllocError` where memory for a line was refused.
     pub fn new(
         alloc: Global,
         folders: Vec<Folder>,
-        terms: Terms,
+        admission: Admission,
     ) -> Result<ImapConnection, AllocError>
         ensures { IfOk result (λ c. StandsFor c (record {
-          standing = begun_with terms folders.items;
+          standing = begun_with admission folders.items;
           begun = [];
         })) }
     {
         let cutter = LineCutter::new(alloc, MAX_LINE)?;
         Ok(ImapConnection {
-            session: Session::new(folders, terms),
+            session: Session::new(folders, admission),
             cutter,
         })
     }

@@ -6,7 +6,7 @@ use crate::mailing::{Appending, Mailing, Sent, judge, long_rest_text};
 use crate::response::{LAST, Response, put_last};
 use crate::access::{barred_at, logs_in_as};
 use crate::say::{put_continuing, put_of_server, put_tagged, put_untagged};
-use crate::standing::{After, Append, Folder, Profile, Selected, SessionFault, Terms};
+use crate::standing::{After, Append, Folder, Profile, Selected, SessionFault, Admission};
 use crate::store::Store;
 use crate::tag::Tag;
 use crate::texts::{ResponseText, ServerText};
@@ -63,16 +63,16 @@ impl Session {
     ghost use Rattle.imap_session.specs.Store.{Answers, AnswersVerdict, IdleTurns, Starves, TakesBytes, room_for, room_for_verdict};
     ghost use Rattle.imap_session.specs.inner.Store.{Plays, behind_first_line, first_line, is_open};
 
-    /// The session of a client whose mailboxes have these names, on these terms. It has selected no mailbox. Where two have the same name, the
+    /// The session of a client whose mailboxes have these names, and which comes in so. It has selected no mailbox. Where two have the same name, the
     /// first is found.
-    pub fn new(folders: Vec<Folder>, terms: Terms) -> Session
-        ensures { result ≡ begun_with terms folders.items }
+    pub fn new(folders: Vec<Folder>, admission: Admission) -> Session
+        ensures { result ≡ begun_with admission folders.items }
     {
-        let Terms {
+        let Admission {
             max_message,
             profile,
             login,
-        } = terms;
+        } = admission;
         Session {
             folders,
             profile,

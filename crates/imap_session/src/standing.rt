@@ -46,7 +46,7 @@ pub struct Append {
 
 /// What a session begins with, beside its mailboxes.
 #[derive(Drop)]
-pub struct Terms {
+pub struct Admission {
     /// The most bytes of a message that its client appends. None: no message is taken.
     pub max_message: Option<u32>,
     /// Which commands and answers it has.
@@ -55,10 +55,10 @@ pub struct Terms {
     pub login: Option<UserName>,
 }
 
-impl Model for Terms {
-    ghost use Rattle.imap_session.specs.Exchange.{Terms as TermsSpec};
+impl Model for Admission {
+    ghost use Rattle.imap_session.specs.Exchange.{Admission as AdmissionSpec};
 
-    ghost Value = { TermsSpec };
+    ghost Value = { AdmissionSpec };
 
     ghost view = { λ t. record { most = t.max_message; profile = t.profile; login = t.login } };
 }

@@ -1,10 +1,11 @@
 //! The mailboxes of a user, by the names that the user knows them by. Which user it is, is told by the word that a session enters with.
 
-ghost use Rattle.std.specs.Prelude.{◌≡◌, ◌<◌, ◌++◌, ◌∷◌, [], IfOk, IfSome, OnOk, length, slice_get};
+ghost use Rattle.std.specs.Prelude.{◌≡◌, ◌<◌, ◌++◌, ◌∷◌, [], IfOk, IfSome, IsOk, OnOk, false, length, slice_get};
 ghost use Rattle.std.specs.Option.{option_copied};
-ghost use Rattle.imap_session.specs.Folders.{folders_from, folders_of, has_user, name_of};
+ghost use Rattle.imap_session.specs.Folders.{folders_from, folders_of, has_user, name_of, admission_of};
 
-use crate::standing::Folder;
+use crate::standing::{Folder, Profile, Admission};
+use crate::user::UserName;
 use envelope::Directory;
 use std::alloc::{AllocError, Global};
 
@@ -48,6 +49,33 @@ pub fn has_user(directory: &Directory, user: &[u8]) -> bool
         }
     }
     false
+}
+
+/// How the session of the user with this name begins: in the compatible profile its client is to log in as that user, and in the
+/// standard one it is known already. It appends messages of so many bytes at most, or none.
+///
+/// Errors: `AllocError` where memory was refused, which only the compatible profile wants.
+pub fn admission_of(
+    alloc: Global,
+    compatible: bool,
+    max_message: Option<u32>,
+    user: &[u8],
+) -> Result<Admission, AllocError>
+    ensures is { IfOk result (λ admission. admission ≡ admission_of compatible max_message user.now) }
+    ensures memory { compatible ≡ false → IsOk result }
+{
+    if !compatible {
+        return Ok(Admission {
+            max_message,
+            profile: Profile::Standard,
+            login: None,
+        });
+    }
+    Ok(Admission {
+        max_message,
+        profile: Profile::Compatible,
+        login: Some(UserName::new(alloc, user)?),
+    })
 }
 
 /// The mailboxes of the user with this name, in the directory's order: the user's INBOX under that name, any other under its folder's.

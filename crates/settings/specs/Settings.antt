@@ -1,5 +1,5 @@
 -- The settings of a house: those that stand where none are given, their ranges, what may be wrong with them, and the directory of their mailboxes.
-use Rattle.std.specs.Prelude.{◌≡◌, ◌≢◌, ℕ, ◌+◌, ◌*◌, ◌<◌, ◌≤◌, ◌==◌, ◌&&◌, ◌||◌, not, Bool, nat_lt, List, [], ◌∷◌, length, map, count_by, codes, Option, Some, None, Result, Ok, Err, if◌then◌else◌}
+use Rattle.std.specs.Prelude.{◌≡◌, ◌≢◌, ℕ, ◌+◌, ◌*◌, ◌<◌, ◌≤◌, ◌==◌, ◌&&◌, ◌||◌, not, Bool, false, nat_lt, List, [], ◌∷◌, length, map, count_by, codes, Option, Some, None, Result, Ok, Err, if◌then◌else◌}
 use Rattle.std.specs.List.{list_any}
 use Rattle.envelope.specs.Directory.{Directory, Home, none_shut}
 use Rattle.envelope.specs.Names.{home_of, words_read}
@@ -30,6 +30,7 @@ pub record IsDefault (c : Config) (words : List (List ℕ)) : Type 0 where
   pub workers : c.workers ≡ 4
   pub lmtp_port : c.lmtp_port ≡ 2424
   pub imap_port : c.imap_port ≡ 14300
+  pub compatible : c.compatible ≡ false
 
 -- ---- the ranges of the numbers
 

@@ -45,6 +45,8 @@ pub struct Config {
     /// The port of the first user's sessions, 1024 to 65472; the others' follow, in the order of the users. 0 where the system is
     /// to choose a free one for each user.
     pub imap_port: u16,
+    /// Sessions have the compatible profile: a client logs in first, and is offered what fronts and clients of IMAP4rev1 want besides.
+    pub compatible: bool,
 }
 
 /// What is wrong with the settings. The first that holds is the fault; want of memory comes where memory was refused.
@@ -132,6 +134,7 @@ impl Config {
             workers: numbers::WORKERS.default as u8,
             lmtp_port: numbers::LMTP_PORT.default as u16,
             imap_port: numbers::IMAP_PORT.default as u16,
+            compatible: false,
         })
     }
 

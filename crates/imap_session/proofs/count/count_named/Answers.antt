@@ -1,7 +1,7 @@
-use Rattle.std.proofs.Common.{false, Ok, Err, sym, None}
+use Rattle.std.proofs.Common.{Ok, Err, sym}
 use Rattle.std.proofs.lemmas.Result.{err_from_is_err_and}
 use Rattle.imap_grammar.specs.declared.command.Command.TheVariants as commands
-use Rattle.imap_session.specs.Exchange.{Exchange, Standing, Folder, nothing_sent}
+use Rattle.imap_session.specs.Exchange.{Exchange, Folder}
 use Rattle.imap_session.specs.Commands.{completed, counting}
 use Rattle.imap_session.specs.inner.Store.{last}
 use Rattle.imap_session.proofs.Naming.{does_found, reaches_missing}

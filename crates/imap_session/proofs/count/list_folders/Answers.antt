@@ -1,4 +1,4 @@
-use Rattle.std.proofs.Common.{List, Ok, Err}
+use Rattle.std.proofs.Common.{Ok, Err}
 use Rattle.std.proofs.lemmas.Result.{err_from_is_err_and}
 use Rattle.imap_grammar.specs.declared.command.Command.TheVariants as commands
 use Rattle.imap_session.specs.Commands.{completed, showing}
