@@ -21,7 +21,7 @@ use Rattle.house_peers.specs.Visitor.{more_waits}
 use Rattle.house_peers.specs.SeatedVisitor as seated
 use Rattle.house_peers.specs.SeatedVisitor.{GoesOn, SeatedVisitor, Works, answers, copies_of, keys_of, rests, seated_greeted, sent_by, stalls, told, unread, works}
 use Rattle.house_peers.proofs.Rising.{idles_keep}
-use Rattle.house.specs.Setup.{Setup, session_seat}
+use Rattle.house.specs.Setup.{Setup, admitted_in, session_seat}
 use Rattle.house.specs.Printing.{still_unsaid, with_session}
 use Rattle.house.specs.Scene as scene
 use Rattle.house.specs.Scene.{BytesPlay, HearPlay, IdlePlay, Lingers, Parts, Plays, PutPlay, Scene, SessionGoes, SessionPuts, SessionTalks, connection_hears, connection_puts, empty_scene, fades, goes_on, opens, parts, place_of, remains, seat_of, session_hears, session_puts, waits}
@@ -250,8 +250,8 @@ puts_ok k done s q t printed ok p = by (the_visitor k done s q p.visitor ok p.th
 -- ---- each event
 
 -- a session that was let in has nothing to put, and awaits nothing
-new_ok : (k : Setup) (place : ℕ) (done : List Noted) (serial most : ℕ) (user : List ℕ) → VisitorOk k place done (seated_greeted serial (Some most) (folders_of k.directory user))
-new_ok k place done serial most user = record { due = inl refl; above = λ none. none_above (session_seat k place) done }
+new_ok : (k : Setup) (place : ℕ) (done : List Noted) (serial : ℕ) (user : List ℕ) → VisitorOk k place done (seated_greeted serial (admitted_in k user) (folders_of k.directory user))
+new_ok k place done serial user = record { due = inl refl; above = λ none. none_above (session_seat k place) done }
 
 -- one that awaits the same as before
 same_sent : (k : Setup) (place : ℕ) (done : List Noted) (v u : SeatedVisitor) → u.to_put ≡ v.to_put → u.serial ≡ v.serial → sent_by u ≡ sent_by v → VisitorOk k place done v → VisitorOk k place done u
@@ -310,8 +310,8 @@ entry_told k done s (End number shard) t printed r ok p = aside_told k done s t 
 entry_told k done s (Close shard) t printed r ok p = aside_told k done s t r (λ n. ap (λ (x : Scene). x.visitor n) p.after) ok
 entry_told k done s (Enter session user) t printed r ok p =
     let q : ℕ = place_of session in
-    talked_told k done s t q (seated_greeted (s.entered q) (Some k.max_message) (folders_of k.directory user.now)) p.moved p.left printed r (ap (λ (x : Scene). x.world) p.after)
-    (λ n. ap (λ (x : Scene). x.visitor n) p.after) p.goes (new_ok k q done (s.entered q) k.max_message user.now) ok
+    talked_told k done s t q (seated_greeted (s.entered q) (admitted_in k user.now) (folders_of k.directory user.now)) p.moved p.left printed r (ap (λ (x : Scene). x.world) p.after)
+    (λ n. ap (λ (x : Scene). x.visitor n) p.after) p.goes (new_ok k q done (s.entered q) user.now) ok
 entry_told k done s (Say session piece) t printed r ok p =
     let q : ℕ = place_of session in
     let here = the_visitor k done s q p.visitor ok p.there in

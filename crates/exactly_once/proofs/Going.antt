@@ -18,7 +18,7 @@ use Rattle.world.specs.Law.{Headline}
 use Rattle.world.proofs.Always.{always}
 use Rattle.world.proofs.Base.{all_of_every, every_weaker, rising_pair}
 use Rattle.house_peers.specs.Caller.{Caller, more_waits, greeted}
-use Rattle.house.specs.Setup.{Setup, session_seat, terms_of}
+use Rattle.house.specs.Setup.{Setup, admitted_in, session_seat, terms_of}
 use Rattle.house.specs.Printing.{Speaks, Prints, prints_all, prints_none}
 use Rattle.house.specs.Printing.{marked_session, of_session, with_session}
 use Rattle.house_peers.specs.Visitor.{more_waits as visitor_more_waits}
@@ -259,21 +259,21 @@ goes_visited k told s w place heard b v o printed entered ok came whole g =
 
 enter_did : (k : Setup) (told : ℕ → List Noted) (s : Scene) (session : ℕ) (user : Bor (List ℕ)) (t : Scene) (printed : List ℕ) → SceneOk k told s
     → EnterPlay k false s (place_of session) user.now t printed → Did k told s (Enter session user) t printed
-enter_did k told s session user t printed ok p = go (subst (λ (x : Scene). Visited k told s x (place_of session + 1) (greeting ++ p.goes.speaks.said) printed) (sym p.after)
-    (goes_visited k told s s.world (place_of session) (s.world.heard (session_seat k (place_of session))) (seated_greeted (s.entered (place_of session)) (Some k.max_message) (folders_of k.directory user.now)) p.moved p.left printed
-    (set_at s.entered (place_of session) (s.entered (place_of session) + 1)) ok (stays k.config s.world s.world refl) greeting_whole p.goes))
+enter_did k told s session user t printed ok p = go (subst (λ (x : Scene). Visited k told s x (place_of session + 1) (greeting (admitted_in k user.now).profile ++ p.goes.speaks.said) printed) (sym p.after)
+    (goes_visited k told s s.world (place_of session) (s.world.heard (session_seat k (place_of session))) (seated_greeted (s.entered (place_of session)) (admitted_in k user.now) (folders_of k.directory user.now)) p.moved p.left printed
+    (set_at s.entered (place_of session) (s.entered (place_of session) + 1)) ok (stays k.config s.world s.world refl) (greeting_whole (admitted_in k user.now).profile) p.goes))
   where
-    by : (v : Visited k told s t (place_of session + 1) (greeting ++ p.goes.speaks.said) printed) → Wrote k (place_of session + 1) (greeting ++ p.goes.speaks.said) printed → Did k told s (Enter session user) t printed
+    by : (v : Visited k told s t (place_of session + 1) (greeting (admitted_in k user.now).profile ++ p.goes.speaks.said) printed) → Wrote k (place_of session + 1) (greeting (admitted_in k user.now).profile ++ p.goes.speaks.said) printed → Did k told s (Enter session user) t printed
     by v (nothing e) = record { piece = Silence; is = e; own = tt; ok = v.ok; reached = v.reached }
     by v (wrote lines cut e) = record {
       piece = Lines (place_of session + 1) lines;
       is = e;
-      own = (let x = subst (λ (x : List ℕ). (p : EnterPlay k false s (place_of session) user.now t x) × IsCut (greeting ++ p.goes.speaks.said) lines []) e (p, cut) in (refl, x.0, x.1));
+      own = (let x = subst (λ (x : List ℕ). (p : EnterPlay k false s (place_of session) user.now t x) × IsCut (greeting (admitted_in k user.now).profile ++ p.goes.speaks.said) lines []) e (p, cut) in (refl, x.0, x.1));
       ok = v.ok;
       reached = v.reached;
     }
 
-    go : Visited k told s t (place_of session + 1) (greeting ++ p.goes.speaks.said) printed → Did k told s (Enter session user) t printed
+    go : Visited k told s t (place_of session + 1) (greeting (admitted_in k user.now).profile ++ p.goes.speaks.said) printed → Did k told s (Enter session user) t printed
     go v = by v v.words
 
 say_did : (k : Setup) (told : ℕ → List Noted) (s : Scene) (session : ℕ) (piece : Bor (List ℕ)) (t : Scene) (printed : List ℕ) → SceneOk k told s

@@ -15,7 +15,7 @@ use Rattle.mailbox.specs.declared.clients.MailFault.TheVariants.{Stranger, Lappe
 use Rattle.mailbox.specs.declared.clients.Opening.{Opening}
 use Rattle.mailbox.specs.declared.clients.Row.{Row}
 use Rattle.mailbox.specs.declared.mailbox.Status.{Status}
-use Rattle.imap_answers.specs.Answers.{answered, asks_for_root, item_text, is_listed, list_answer, listed, name_answer, root_answer, status_text, all_flags, flags_answer, opening_text}
+use Rattle.imap_answers.specs.Answers.{answered, asks_for_root, item_text, is_listed, list_answer, list_front, listed, name_answer, root_answer, status_text, all_flags, flags_answer, opening_text}
 use Rattle.imap_grammar.specs.Reading.{is_done, read}
 use Rattle.imap_grammar.specs.declared.command.Append.{Append}
 use Rattle.imap_grammar.specs.declared.command.Command.{Command}
@@ -31,7 +31,7 @@ use Rattle.imap_session.specs.declared.standing.After.TheVariants as afters
 use Rattle.imap_session.specs.declared.standing.Selected.{Selected}
 use Rattle.imap_session.specs.Exchange as ex
 use Rattle.imap_session.specs.Exchange.{Answer, Appending, ForVerdict, Mailing, Call, Entered, Looked, Found, Counted, Altered, Expunged, Fed, Left, Refused, Starved, Exchange, Folder, Standing, Turn, played, refused, refusal_text, refusal_after, saying, having, closed, tagged, bye, is_idling}
-use Rattle.imap_session.specs.Commands.{appending, is_over, last_number, most_unasked, nowhere, number_named, on_rest, on_text, over, wanting, wanting_for, closing, completed, counting, entering, expunge_set, fetch_messages, fetched, fetching, folder_of, greeting, idle_turn_in, messages_done, on_chosen, on_command, on_found, on_idle_line, says, showing, store_messages, storing, unlimited, wrong_state, notice, noticing}
+use Rattle.imap_session.specs.Commands.{appending, is_over, last_number, most_unasked, nowhere, number_named, on_rest, on_text, over, wanting, wanting_for, closing, completed, counting, entering, expunge_set, fetch_messages, fetched, fetching, folder_of, greeting, idle_turn_in, messages_done, on_chosen, on_command, on_found, on_idle_line, says, showing, store_messages, storing, telling_recent, unlimited, wrong_state, notice, noticing}
 use Rattle.imap_session.specs.Commands as commands_of
 use Rattle.imap_session.proofs.Unkept.{unkept_by}
 use Rattle.imap_session.specs.Store.{AnswersVerdict, IdleTurns}
@@ -43,7 +43,13 @@ use Rattle.house_peers.specs.SeatedVisitor.{GoesOn, SeatedVisitor}
 use Rattle.imap_session.specs.Dialogue as dialogue
 use Rattle.imap_session.specs.Dialogue.{AnswersLine, AnswersOne, Converses, Sends, goes_on, parts, reads, silent, too_long}
 use Rattle.imap_session.specs.declared.texts.ResponseText.TheVariants as texts
-use Rattle.imap_session.specs.Texts.{response_text}
+use Rattle.imap_session.specs.Texts.{response_text, server_text}
+use Rattle.imap_session.specs.declared.texts.ServerText.TheVariants as server
+use Rattle.imap_session.specs.declared.standing.Profile.{Profile}
+use Rattle.imap_session.specs.declared.standing.Profile.TheVariants.{Standard, Compatible}
+use Rattle.imap_session.proofs.Barring.{line_has}
+use Rattle.imap_answers.specs.declared.list.Listing.{Listing}
+use Rattle.imap_answers.specs.declared.list.Listing.TheVariants.{All, Subscribed}
 
 -- nothing, or lines of which the last one has ended
 abbrev pub IsWhole : List ℕ → Type 0
@@ -323,23 +329,32 @@ opening_whole read_only name opening = inr (
   refl,
 )
 
-in_entering : (read_only : Bool) (folder : Folder) → SaysWhole (entering read_only folder)
-in_entering read_only folder opening = (opening_whole read_only folder.name opening, tt)
+in_recent : (profile : Profile) (x : Exchange) → SaysWhole x → SaysWhole (telling_recent profile x)
+in_recent Standard x p = p
+in_recent Compatible x p = (ends (codes "* ") (response_text texts.NoneRecent), p)
 
-listed_whole : (b : Bool) (name : List ℕ) → IsWhole (if b then name_answer name else [])
-listed_whole true name = inr (codes "* LIST () \"/\" " ++ name, refl)
-listed_whole false name = inl refl
+in_entering : (profile : Profile) (read_only : Bool) (folder : Folder) → SaysWhole (entering profile read_only folder)
+in_entering profile read_only folder opening = (opening_whole read_only folder.name opening, in_recent profile _ tt)
 
-each_listed : (pattern : List ℕ) (names : List (List ℕ)) → IsWhole (flat_map (listed pattern) names)
-each_listed pattern [] = inl refl
-each_listed pattern (name ∷ names) = whole_append (listed pattern name) (flat_map (listed pattern) names) (listed_whole (is_listed pattern name) name) (each_listed pattern names)
+listed_whole : (b : Bool) (listing : Listing) (name : List ℕ) → IsWhole (if b then name_answer listing name else [])
+listed_whole true listing name = inr (list_front listing ++ name, refl)
+listed_whole false listing name = inl refl
+
+each_listed : (listing : Listing) (pattern : List ℕ) (names : List (List ℕ)) → IsWhole (flat_map (listed listing pattern) names)
+each_listed listing pattern [] = inl refl
+each_listed listing pattern (name ∷ names) =
+    whole_append (listed listing pattern name) (flat_map (listed listing pattern) names) (listed_whole (is_listed pattern name) listing name) (each_listed listing pattern names)
 
 if_whole : (b : Bool) (x y : List ℕ) → IsWhole x → IsWhole y → IsWhole (if b then x else y)
 if_whole true x y p q = p
 if_whole false x y p q = q
 
-pub list_whole : (reference pattern : List ℕ) (names : List (List ℕ)) → IsWhole (list_answer reference pattern names)
-list_whole reference pattern names = if_whole (asks_for_root reference pattern) root_answer _ (inr (codes "* LIST (\\Noselect) \"/\" \"\"", refl)) (each_listed (reference ++ pattern) names)
+root_whole : (listing : Listing) → IsWhole (root_answer listing)
+root_whole All = inr (codes "* LIST (\\Noselect) \"/\" \"\"", refl)
+root_whole Subscribed = inr (codes "* LSUB (\\Noselect) \"/\" \"\"", refl)
+
+pub list_whole : (listing : Listing) (reference pattern : List ℕ) (names : List (List ℕ)) → IsWhole (list_answer listing reference pattern names)
+list_whole listing reference pattern names = if_whole (asks_for_root reference pattern) (root_answer listing) _ (root_whole listing) (each_listed listing (reference ++ pattern) names)
 
 in_folder : (next : Folder → Exchange) → ((folder : Folder) → SaysWhole (next folder)) → (found : Option Folder) → SaysWhole (on_found next (says (response_text texts.NoSuchMailbox)) found)
 in_folder next p found = in_found next _ p tt found
@@ -375,15 +390,19 @@ command_whole : (now : Standing) (command : Command) → SaysWhole (on_command n
 command_whole now commands.Noop = in_showing now.selected _ tt
 command_whole now commands.Logout = (bye_whole (response_text texts.LoggingOut), tt)
 command_whole now commands.Idle = ends (codes "+ ") (response_text texts.Idling)
-command_whole now commands.Login = tt
+command_whole now (commands.Login user password) = tt
 command_whole now commands.Authenticate = tt
 command_whole now commands.StartTls = tt
-command_whole now (commands.Select name) = in_closing now.selected _ (inl refl, in_folder (entering false) (in_entering false) (folder_of name now.folders))
-command_whole now (commands.Examine name) = in_closing now.selected _ (inl refl, in_folder (entering true) (in_entering true) (folder_of name now.folders))
-command_whole now (commands.List reference pattern) = (list_whole reference pattern (map (λ (folder : Folder). folder.name) now.folders), in_showing now.selected _ tt)
+command_whole now (commands.Select name) = in_closing now.selected _ (inl refl, in_folder (entering now.profile false) (in_entering now.profile false) (folder_of name now.folders))
+command_whole now (commands.Examine name) = in_closing now.selected _ (inl refl, in_folder (entering now.profile true) (in_entering now.profile true) (folder_of name now.folders))
+command_whole now (commands.List reference pattern) = (list_whole All reference pattern (map (λ (folder : Folder). folder.name) now.folders), in_showing now.selected _ tt)
+command_whole now (commands.Lsub reference pattern) = (list_whole Subscribed reference pattern (map (λ (folder : Folder). folder.name) now.folders), in_showing now.selected _ tt)
+command_whole now (commands.Subscribe name) = (inl refl, in_folder _ (λ folder. tt) (folder_of name now.folders))
+command_whole now (commands.Unsubscribe name) = (inl refl, in_folder _ (λ folder. tt) (folder_of name now.folders))
+command_whole now commands.Check = in_showing now.selected _ tt
 command_whole now (commands.Status name items) = (
   inl refl,
-  in_folder (counting now name items)
+  in_folder (counting now.selected name items)
       (λ folder status. (ends (codes "* STATUS " ++ folder.name ++ codes " (" ++ spaced (map (status_text status) items)) (codes ")"), in_showing now.selected _ tt)) (folder_of name now.folders),
 )
 command_whole now commands.Close = in_found _ wrong_state (λ s. tt) tt now.selected
@@ -398,7 +417,7 @@ command_whole now (commands.Store store) =
     (λ (s : Selected). in_either s.read_only _ (store_messages store) tt
     (λ view. in_chosen (named_in store.by_uid store.set view) _ (λ uids. in_storing store view (messages_done (commands.Store store) store.by_uid) (in_done (commands.Store store) store.by_uid) uids false))) tt now.selected
 command_whole now (commands.Append append) = in_append now.mailing.most now.folders append
-command_whole now command = in_notice (notice command) (completed command) tt
+command_whole now command = in_notice (notice now.profile command) (completed command) tt
 
 -- ---- lines
 
@@ -406,11 +425,15 @@ fault_whole : (fault : ImapFault) (now : Standing) (answers : List Answer) → T
 fault_whole faults.NoTag now [] = whole_append _ [] (ends (codes "* ") (response_text texts.MissingTag)) (inl refl)
 fault_whole (faults.Unknown tag) now [] = whole_append _ [] (tagged_whole tag (response_text texts.UnknownCommand)) (inl refl)
 fault_whole (faults.LeftOut tag) now [] = whole_append _ [] (tagged_whole tag (response_text texts.NotOffered)) (inl refl)
-fault_whole (faults.Arguments tag) now [] = whole_append _ [] (tagged_whole tag (response_text texts.InvalidArguments)) (inl refl)
+fault_whole (faults.Arguments tag verb) now [] = whole_append _ [] (tagged_whole tag (response_text (commands_of.arguments_text now.profile verb))) (inl refl)
 fault_whole fault now (answer ∷ more) = tt
 
 read_whole : (now : Standing) (line : Result (List ℕ × Command) ImapFault) (answers : List Answer) → TurnWhole (commands_of.on_read now line answers)
-read_whole now (Ok line) answers = played_whole line.0 now (on_command now line.1) answers (command_whole now line.1)
+read_whole now (Ok line) answers =
+    line_has TurnWhole now line.0 line.1 answers
+    (λ right. played_whole line.0 (commands_of.logged_in now) commands_of.login_completed answers tt)
+    (λ text refused. played_whole line.0 now (says (response_text text)) answers tt)
+    (played_whole line.0 now (on_command now line.1) answers (command_whole now line.1))
 read_whole now (Err fault) answers = fault_whole fault now answers
 
 while_whole : (idling : Option (List ℕ)) (now : Standing) (line : List ℕ) (answers : List Answer) → TurnWhole (commands_of.turn_while idling now line answers)
@@ -494,5 +517,5 @@ idle_whole (Some s) true now ((Starved a) ∷ more) = tt
 pub idles_whole : {S : Type 0} (step : S → Call → Answer → S → Type 0) (now : Standing) (old new : S) (said : List ℕ) (count : ℕ) (next : Standing) → IdleTurns step now old new [] said count next → IsWhole said
 idles_whole step now old new said count next t = subst IsWhole (sym t.wrote) (some_whole _ _ (idle_whole now.selected (is_idling now) now t.answers) t.played)
 
-pub greeting_whole : IsWhole greeting
-greeting_whole = ends (codes "* ") (response_text texts.Greeting)
+pub greeting_whole : (profile : Profile) → IsWhole (greeting profile)
+greeting_whole profile = ends (codes "* ") (server_text (server.Greeting profile))

@@ -1,5 +1,5 @@
 -- Which verdicts sessions answered, by the record of a house: those on the messages that their clients appended.
-use Rattle.std.specs.Prelude.{◌≡◌, ℕ, Bool, false, List, [], ◌∷◌, ◌++◌, All, AllPairs, Contains, Option, Some}
+use Rattle.std.specs.Prelude.{◌≡◌, ℕ, Bool, false, List, [], ◌∷◌, ◌++◌, All, AllPairs, Contains, Option}
 use Rattle.delivery_token.specs.Keys.{Below}
 use Rattle.delivery_token.specs.declared.CopyKey.{CopyKey}
 use Rattle.delivery_token.specs.declared.Verdict.{Verdict}
@@ -13,7 +13,7 @@ use Rattle.world.specs.Law.{StandsOnce, pairs}
 use Rattle.imap_session.specs.Folders.{folders_of}
 use Rattle.house_peers.specs.Visitor.{more_waits}
 use Rattle.house_peers.specs.SeatedVisitor.{GoesOn, SeatedVisitor, answers, keys_of, rests, seated_greeted, sent_by, stalls, waits, works}
-use Rattle.house.specs.Setup.{Setup, session_seat}
+use Rattle.house.specs.Setup.{Setup, admitted_in, session_seat}
 use Rattle.house.specs.Printing.{with_session}
 use Rattle.house.specs.Scene.{HearPlay, Plays, PutPlay, Scene, SessionGoes, SessionTalks, connection_hears, connection_puts, empty_scene, lingers, place_of, seat_of, session_hears, session_puts, talks}
 use Rattle.house.specs.declared.event.Event as house
@@ -58,7 +58,7 @@ abbrev pub answered_at : (k : Setup) (s : Scene) (event : house.Event) (t : Scen
 answered_at k s (Put number) t printed p = answered_at_put k s (seat_of number) t printed p
 answered_at k s (Hear number) t printed p = answered_at_hear k s (seat_of number) t printed p
 answered_at k s (Enter session user) t printed p =
-    answered_in_talk k (place_of session) (s.world.heard (session_seat k (place_of session))) s.world (seated_greeted (s.entered (place_of session)) (Some k.max_message) (folders_of k.directory user.now)) p.moved p.left printed p.goes
+    answered_in_talk k (place_of session) (s.world.heard (session_seat k (place_of session))) s.world (seated_greeted (s.entered (place_of session)) (admitted_in k user.now) (folders_of k.directory user.now)) p.moved p.left printed p.goes
 answered_at k s (Say session piece) t printed p =
     answered_in_talk k (place_of session) (s.world.heard (session_seat k (place_of session))) s.world (with_session (more_waits p.visitor.session piece.now) p.visitor) p.moved p.left printed p.goes
 answered_at k s _ t printed p = []

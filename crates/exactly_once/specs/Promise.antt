@@ -12,7 +12,7 @@ use Rattle.imap_session.specs.Commands.{greeting}
 use Rattle.world.specs.World.{World, Event, IsWorld}
 use Rattle.world.specs.Law.{Headline, StandsOnce, pairs}
 use Rattle.house_peers.specs.Caller.{Caller}
-use Rattle.house.specs.Setup.{Setup, session_seat}
+use Rattle.house.specs.Setup.{Setup, admitted_in, session_seat}
 use Rattle.house.specs.Printing.{marked_connection, marked_session}
 use Rattle.house.specs.Scene.{EnterPlay, HasNothing, IdlePlay, Plays, SayPlay, Scene, SessionHears, SessionPuts, SessionTalks, empty_scene, place_of, seat_of}
 use Rattle.house.specs.Steps.{IsBusy, IsNobody}
@@ -84,7 +84,7 @@ IsOwn k s (Hear number) t (Replies seat said) = (seat ≡ seat_of number) × (se
 IsOwn k s (Put number) t (Lines session lines) = PutsLines k s number session lines t
 IsOwn k s (Hear number) t (Lines session lines) = HearsLines k s number session lines t
 IsOwn k s (Enter session user) t (Lines number lines) =
-    (number ≡ place_of session + 1) × (p : EnterPlay k false s (place_of session) user.now t (text_of k (Lines number lines))) × IsCut (greeting ++ p.goes.speaks.said) lines []
+    (number ≡ place_of session + 1) × (p : EnterPlay k false s (place_of session) user.now t (text_of k (Lines number lines))) × IsCut (greeting (admitted_in k user.now).profile ++ p.goes.speaks.said) lines []
 IsOwn k s (Say session bytes) t (Lines number lines) =
     (number ≡ place_of session + 1) × (p : SayPlay k false s (place_of session) bytes.now t (text_of k (Lines number lines))) × IsCut (p.visitor.session.unsaid ++ p.goes.speaks.said) lines []
 IsOwn k s (Idle session) t (Lines number lines) =

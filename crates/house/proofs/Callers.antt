@@ -80,13 +80,14 @@ pub after_going : (k : Setup) (h : House) (c : DeliveryCore) (serials : List ℕ
     → length serials ≡ length h.serials → ((n : ℕ) → get_or serials seat n ≡ numbers seat) → ((q n : ℕ) → q ≢ seat → get_or serials q n ≡ get_or h.serials q n) → ((q : ℕ) → q ≢ seat → numbers q ≡ s.next q)
     → StandsForConnection (terms_of k s.shut) seat (get_or c.next seat y) (v.heard seat) g a → a.serial < numbers seat
     → (w : CallerWentOn (terms_of k s.shut) whole seat (get_or c.next seat y) (v.heard seat) a l old new)
-    → StandsFor k (record { core = c; callers = set h.callers seat l; serials = serials; visitors = h.visitors; entered = h.entered; directory = h.directory; host = h.host; max_message = h.max_message })
+    → StandsFor k (record { core = c; callers = set h.callers seat l; serials = serials; visitors = h.visitors; entered = h.entered; directory = h.directory; host = h.host; max_message = h.max_message; compatible = h.compatible })
     (record { world = v; caller = set_at s.caller seat w.left; next = numbers; visitor = s.visitor; entered = s.entered; shut = s.shut })
 after_going k h c serials s v numbers seat y l g a whole old new st cs lt notes nexts len here there other sa less w = record {
   core = cs;
   directory = st.directory;
   host = st.host;
   max_message = st.max_message;
+  compatible = st.compatible;
   homes = st.homes;
   marks = st.marks;
   shards = st.shards;

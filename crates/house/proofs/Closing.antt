@@ -32,7 +32,7 @@ one_marked k a b seat next heard serials (Some h) (Some c) w = (stands_marked (t
 
 pub close_led : (k : Setup) (h : House) (s : Scene) (shard : ℕ) (old : List ℕ) → StandsFor k h s → shard < h.directory.shards → is_shut h.directory shard ≡ false
     → (t : Scene) × (printed : List ℕ) × ClosePlay k s shard t printed
-    × StandsFor k (record { core = h.core; callers = h.callers; serials = h.serials; visitors = h.visitors; entered = h.entered; directory = marked (set h.directory.shut shard true) h.directory; host = h.host; max_message = h.max_message }) t
+    × StandsFor k (record { core = h.core; callers = h.callers; serials = h.serials; visitors = h.visitors; entered = h.entered; directory = marked (set h.directory.shut shard true) h.directory; host = h.host; max_message = h.max_message; compatible = h.compatible }) t
     × (old ≡ old ++ printed)
 close_led k h s shard old st there unshut = (
   with_shut s shard,
@@ -44,6 +44,7 @@ close_led k h s shard old st there unshut = (
     marks = length-set s.shut shard true ∙ st.marks;
     host = st.host;
     max_message = st.max_message;
+    compatible = st.compatible;
     homes = st.homes;
     shards = st.shards;
     some_shard = st.some_shard;

@@ -29,7 +29,7 @@ pub record IsFree (k : Setup) (s : Scene) (seat : ℕ) : Type 0 where
 -- an end joins, whoever stands at the seat
 pub end_led : (k : Setup) (h : House) (s : Scene) (c : DeliveryCore) (seat shard : ℕ) (old : List ℕ) → StandsFor k h s → ((x : Config) → core.Follows x h.core (world.PutEnd seat shard ∷ []) c) → c.heard ≡ h.core.heard → c.next ≡ h.core.next
     → (t : Scene) × (printed : List ℕ) × Moves k s (world.PutEnd seat shard) t printed
-    × StandsFor k (record { core = c; callers = h.callers; serials = h.serials; visitors = h.visitors; entered = h.entered; directory = h.directory; host = h.host; max_message = h.max_message }) t × (old ≡ old ++ printed)
+    × StandsFor k (record { core = c; callers = h.callers; serials = h.serials; visitors = h.visitors; entered = h.entered; directory = h.directory; host = h.host; max_message = h.max_message; compatible = h.compatible }) t × (old ≡ old ++ printed)
 end_led k h s c seat shard old st follows eh en =
     let m = moves k h c s (world.PutEnd seat shard) st follows eh en in
     (with_world s m.0, [], m.1, m.2, sym (append-nil old))

@@ -53,7 +53,7 @@ pub received : (k : Setup) (h : House) (s : Scene) (number seat : ℕ) (piece : 
     → StandsFor k h s → number ≡ seat + 1 → directory ≡ h.directory → seat < length h.callers → IsSome (get_or h.callers seat None) → is_unread (get_or h.callers seat None) ≡ false → occupant ≡ option_map (with_more piece) (get_or h.callers seat None)
     → ((x : Terms) (p : ℕ) (next : CopyKey) (heard : List Noted) (b : Caller) → IsOf x number p directory → StandsForMaybe x p next heard occupant (Some b) → CallerWentOn x whole p next heard b l old new)
     → (t : Scene) × (printed : List ℕ) × BytesPlay k whole s seat piece t printed
-    × StandsFor k (record { core = h.core; callers = set h.callers seat l; serials = h.serials; visitors = h.visitors; entered = h.entered; directory = h.directory; host = h.host; max_message = h.max_message }) t
+    × StandsFor k (record { core = h.core; callers = set h.callers seat l; serials = h.serials; visitors = h.visitors; entered = h.entered; directory = h.directory; host = h.host; max_message = h.max_message; compatible = h.compatible }) t
     × (new ≡ old ++ printed)
 received k h s number seat piece directory l occupant whole old new st e dir lt some read is f =
     let g = some_line (get_or h.callers seat None) some in
@@ -76,7 +76,7 @@ pub vanished : (k : Setup) (h : House) (s : Scene) (number seat : ℕ) (director
     → StandsFor k h s → number ≡ seat + 1 → directory ≡ h.directory → seat < length h.callers → IsSome (get_or h.callers seat None) → is_unread (get_or h.callers seat None) ≡ false → occupant ≡ option_map with_nobody_there (get_or h.callers seat None)
     → ((x : Terms) (p : ℕ) (next : CopyKey) (heard : List Noted) (b : Caller) → IsOf x number p directory → StandsForMaybe x p next heard occupant (Some b) → CallerWentOn x whole p next heard b l old new)
     → (t : Scene) × (printed : List ℕ) × VanishPlay k whole s seat t printed
-    × StandsFor k (record { core = h.core; callers = set h.callers seat l; serials = h.serials; visitors = h.visitors; entered = h.entered; directory = h.directory; host = h.host; max_message = h.max_message }) t
+    × StandsFor k (record { core = h.core; callers = set h.callers seat l; serials = h.serials; visitors = h.visitors; entered = h.entered; directory = h.directory; host = h.host; max_message = h.max_message; compatible = h.compatible }) t
     × (new ≡ old ++ printed)
 vanished k h s number seat directory l occupant whole old new st e dir lt some read is f =
     let g = some_line (get_or h.callers seat None) some in
@@ -113,7 +113,7 @@ pub welcomed : (k : Setup) (h : House) (s : Scene) (number seat : ℕ) (piece : 
     → ((x : Terms) (next : CopyKey) (heard : List Noted) → x.host ≡ h.host → x.max_message ≡ h.max_message → AtLeast next (record { seat = seat; serial = get_or h.serials seat 0; message = 0; recipient = 0 }) → StandsForConnection x seat next heard g (more_waits (greeted x seat (get_or h.serials seat 0)) piece))
     → ((x : Terms) (p : ℕ) (next : CopyKey) (heard : List Noted) (b : Caller) → IsOf x number p directory → StandsForMaybe x p next heard (Some g) (Some b) → CallerWentOn x whole p next heard b l old new)
     → (t : Scene) × (printed : List ℕ) × BytesPlay k whole s seat piece t printed
-    × StandsFor k (record { core = h.core; callers = set h.callers seat l; serials = set h.serials seat (get_or h.serials seat 0 + 1); visitors = h.visitors; entered = h.entered; directory = h.directory; host = h.host; max_message = h.max_message }) t
+    × StandsFor k (record { core = h.core; callers = set h.callers seat l; serials = set h.serials seat (get_or h.serials seat 0 + 1); visitors = h.visitors; entered = h.entered; directory = h.directory; host = h.host; max_message = h.max_message; compatible = h.compatible }) t
     × (new ≡ old ++ printed)
 welcomed k h s number seat piece directory l g whole old new st e dir lt none less opened f =
     let y = first_key seat in

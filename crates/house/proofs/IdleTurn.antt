@@ -347,6 +347,7 @@ kept_stands k h s c place p q old new st within a m =
       directory = g.directory;
       host = g.host;
       max_message = g.max_message;
+      compatible = g.compatible;
       homes = g.homes;
       marks = g.marks;
       shards = g.shards;

@@ -1,5 +1,5 @@
 -- What a whole event does, one that is cut short may do as well.
-use Rattle.std.proofs.Common.{◌≡◌, ℕ, ◌+◌, true, false, List, ◌-◌, Option, Some}
+use Rattle.std.proofs.Common.{◌≡◌, ℕ, ◌+◌, true, false, List, ◌-◌, Option}
 use Rattle.lmtp_machine.specs.declared.connection.What.{What}
 use Rattle.delivery_token.specs.declared.log.Noted.{Noted}
 use Rattle.house.specs.declared.event.Event.{Event}
@@ -7,7 +7,7 @@ use Rattle.house.specs.declared.event.Event.TheVariants.{Bytes, Vanish, Put, Tak
 use Rattle.house_peers.specs.Caller.{Caller, Terms, unread, with_unsaid}
 use Rattle.house.specs.Printing.{ConnectionGoes, Leaves, Speaks, goes, stays, with_session}
 use Rattle.house.proofs.Printed.{proceeds_part, said_in_part}
-use Rattle.house.specs.Setup.{Setup, session_seat, terms_of}
+use Rattle.house.specs.Setup.{Setup, admitted_in, session_seat, terms_of}
 use Rattle.house.specs.Scene as scene
 use Rattle.house.specs.Scene.{BytesPlay, ConnectionHears, ConnectionPuts, HearPlay, Parts, Plays, PutPlay, Scene, SessionGoes, SessionHears, SessionIdles, SessionPuts, SessionTalks, VanishPlay, connection_hears, connection_puts, goes_on, opens, parts, place_of, remains, session_hears, session_puts}
 use Rattle.imap_session.specs.Exchange.{Call, Answer as Told}
@@ -157,7 +157,7 @@ plays_part k s (Enter session user) t printed p = record {
   more = p.more;
   moved = p.moved;
   left = p.left;
-  goes = talks_part k (place_of session) (s.world.heard (session_seat k (place_of session))) s.world (seated_greeted (s.entered (place_of session)) (Some k.max_message) (folders_of k.directory user.now)) p.moved p.left printed p.goes;
+  goes = talks_part k (place_of session) (s.world.heard (session_seat k (place_of session))) s.world (seated_greeted (s.entered (place_of session)) (admitted_in k user.now) (folders_of k.directory user.now)) p.moved p.left printed p.goes;
   after = p.after;
 }
 plays_part k s (Say session piece) t printed p = record {

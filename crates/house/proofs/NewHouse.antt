@@ -22,14 +22,15 @@ use Rattle.house_peers.specs.SeatedSession.{SeatedSession}
 
 pub new_house : (c : Config) (h : House) → core.StandsFor (setup_of c).config h.core (empty_scene (setup_of c)).world
     → ((p : ℕ) (d : CopyKey) → p < connection_seats + all_places → get_or h.core.next p d ≡ first_key p)
-    → h.callers ≡ replicate connection_seats None → h.serials ≡ replicate connection_seats 0 → h.visitors ≡ replicate all_places None → h.entered ≡ replicate all_places 0 → h.directory ≡ (setup_of c).directory → h.host ≡ c.host.items → h.max_message ≡ c.max_message
+    → h.callers ≡ replicate connection_seats None → h.serials ≡ replicate connection_seats 0 → h.visitors ≡ replicate all_places None → h.entered ≡ replicate all_places 0 → h.directory ≡ (setup_of c).directory → h.host ≡ c.host.items → h.max_message ≡ c.max_message → h.compatible ≡ c.compatible
     → 0 < c.shards
     → StandsFor (setup_of c) h (empty_scene (setup_of c))
-new_house c h stands keys callers serials places entered directory host most some = record {
+new_house c h stands keys callers serials places entered directory host most profile some = record {
   core = stands;
   directory = directory;
   host = host;
   max_message = most;
+  compatible = profile;
   marks = length-replicate c.shards false;
   shards = refl;
   some_shard = some;

@@ -62,12 +62,13 @@ one_step k w v e s = subst (λ (x : World). Step k w e x) (sym s.2) s.1
 
 -- the delivery side made an event of which no seat hears
 pub moved : (k : Setup) (h : House) (c : DeliveryCore) (s : Scene) (v : World) → StandsFor k h s → core.StandsFor k.config c v → c.heard ≡ h.core.heard → c.next ≡ h.core.next
-    → StandsFor k (record { core = c; callers = h.callers; serials = h.serials; visitors = h.visitors; entered = h.entered; directory = h.directory; host = h.host; max_message = h.max_message }) (with_world s v)
+    → StandsFor k (record { core = c; callers = h.callers; serials = h.serials; visitors = h.visitors; entered = h.entered; directory = h.directory; host = h.host; max_message = h.max_message; compatible = h.compatible }) (with_world s v)
 moved k h c s v st cs eh en = record {
   core = cs;
   directory = st.directory;
   host = st.host;
   max_message = st.max_message;
+  compatible = st.compatible;
   homes = st.homes;
   marks = st.marks;
   shards = st.shards;

@@ -18,18 +18,18 @@ use Rattle.delivery_core.specs.DeliveryCore.{DeliveryCore, notes_of}
 use Rattle.delivery_core.specs.Changes.{Hears, SameDelivery}
 use Rattle.delivery_core.specs.New.{first_key}
 use Rattle.delivery_core.specs.Stands as core
-use Rattle.imap_session.specs.Exchange.{Answer}
+use Rattle.imap_session.specs.Exchange.{Admission, Answer}
 use Rattle.imap_session.specs.Exchange as calls
 use Rattle.house.specs.declared.core_store.CoreStore.{CoreStore}
 use Rattle.house.specs.CoreStore.{Serves}
 use Rattle.house.proofs.Served.{carries}
-use Rattle.imap_session.specs.Folders.{folders_of, has_user}
+use Rattle.imap_session.specs.Folders.{admission_of, folders_of, has_user}
 use Rattle.house_peers.specs.Visitor.{more_waits}
 use Rattle.house_peers.specs.SeatedVisitor.{SeatedVisitor, copies_of, seated_greeted, sent_by, unread}
 use Rattle.house_peers.specs.SeatedSession.{HearsVerdict, SeatedSession, StandsForSeated, due, noted_put, submitted_at, with_nobody_there}
 use Rattle.house_peers.proofs.SessionPutting.{may_be_used, next_copy, put_stands}
 use Rattle.house_peers.proofs.Seating.{heard_stands, vanished}
-use Rattle.house.specs.Setup.{Setup, session_seat}
+use Rattle.house.specs.Setup.{Setup, admitted_in, session_seat}
 use Rattle.house.specs.House.{House}
 use Rattle.house.specs.Printing.{with_session}
 use Rattle.house.specs.Scene.{EnterPlay, HearPlay, LeavePlay, PutPlay, SayPlay, connection_hears, connection_puts, session_hears, session_puts, Scene, SessionHears, SessionPuts, most_serials, with_visitor, with_world}
@@ -90,12 +90,12 @@ free_place : (k : Setup) (s : Scene) (place : ℕ) (next : CopyKey) (o : Option 
 free_place k s place next None e w = (e, w)
 free_place k s place next (Some b) e w = absurd w
 
-pub entered : (k : Setup) (whole : Bool) (h : House) (s : Scene) (place seat serial most : ℕ) (user : List ℕ) (p : SeatedSession) (q : Option SeatedSession) (c : DeliveryCore) (old new : List ℕ) → StandsFor k h s → place < length h.visitors → seat ≡ length h.callers + place
-    → get_or h.visitors place None ≡ None → has_user h.directory user ≡ true → serial ≡ get_or h.entered place 0 → serial < most_serials → most ≡ h.max_message → SameDelivery h.core c
-    → ((next : CopyKey) (heard : List Noted) → AtLeast next (first_of seat serial) → StandsForSeated seat next heard p (seated_greeted serial (Some most) (folders_of h.directory user)))
+pub entered : (k : Setup) (whole : Bool) (h : House) (s : Scene) (place seat serial : ℕ) (admission : Admission) (user : List ℕ) (p : SeatedSession) (q : Option SeatedSession) (c : DeliveryCore) (old new : List ℕ) → StandsFor k h s → place < length h.visitors → seat ≡ length h.callers + place
+    → get_or h.visitors place None ≡ None → has_user h.directory user ≡ true → serial ≡ get_or h.entered place 0 → serial < most_serials → admission ≡ admission_of h.compatible (Some h.max_message) user → SameDelivery h.core c
+    → ((next : CopyKey) (heard : List Noted) → AtLeast next (first_of seat serial) → StandsForSeated seat next heard p (seated_greeted serial admission (folders_of h.directory user)))
     → ((next : CopyKey) (heard : List Noted) (w : World) (b : SeatedVisitor) → core.StandsFor k.config h.core w → StandsForSomebody (session_seat k place) next heard (Some p) (Some b) → PlaceTalked k whole place next heard w b q c old new)
     → (t : Scene) × (printed : List ℕ) × EnterPlay k whole s place user t printed × StandsFor k (with_visits h c place q (set h.entered place (serial + 1))) t × (new ≡ old ++ printed)
-entered k whole h s place seat serial most user p q c old new st within at free known of less size rest opened goes =
+entered k whole h s place seat serial admission user p q c old new st within at free known of less size rest opened goes =
     let y = first_key 0 in
     let each = st.visitors place y 0 None within in
     let mine : seat ≡ session_seat k place = at ∙ ap (λ (n : ℕ). n + place) st.connections in
@@ -103,11 +103,12 @@ entered k whole h s place seat serial most user p q c old new st within at free 
     let next = get_or h.core.next (session_seat k place) y in
     let heard = s.world.heard (session_seat k place) in
     let o = free_place k s place next (s.visitor place) refl (subst (λ (x : Option SeatedSession). StandsForVisit (session_seat k place) next heard (s.entered place) x (s.visitor place)) free each.who) in
-    let b : SeatedVisitor = seated_greeted (s.entered place) (Some k.max_message) (folders_of k.directory user) in
+    let b : SeatedVisitor = seated_greeted (s.entered place) (admitted_in k user) (folders_of k.directory user) in
+    let comes : admission ≡ admitted_in k user = size ∙ ap (λ (b : Bool). admission_of b (Some h.max_message) user) st.compatible ∙ ap (λ (n : ℕ). admission_of k.compatible (Some n) user) st.max_message in
     let one : (n : CopyKey) → AtLeast n (first_of (session_seat k place) (s.entered place)) → StandsForSeated (session_seat k place) n heard p b
-    = λ n l. subst (λ (x : ℕ). StandsForSeated x n heard p b) mine (subst (λ (x : ℕ). StandsForSeated seat n heard p (seated_greeted x (Some k.max_message) (folders_of k.directory user))) same
-    (subst (λ (x : ℕ). StandsForSeated seat n heard p (seated_greeted serial (Some x) (folders_of k.directory user))) (size ∙ st.max_message)
-    (subst (λ (d : Directory). StandsForSeated seat n heard p (seated_greeted serial (Some most) (folders_of d user))) st.directory
+    = λ n l. subst (λ (x : ℕ). StandsForSeated x n heard p b) mine (subst (λ (x : ℕ). StandsForSeated seat n heard p (seated_greeted x (admitted_in k user) (folders_of k.directory user))) same
+    (subst (λ (x : Admission). StandsForSeated seat n heard p (seated_greeted serial x (folders_of k.directory user))) comes
+    (subst (λ (d : Directory). StandsForSeated seat n heard p (seated_greeted serial admission (folders_of d user))) st.directory
     (opened n heard (subst (λ (x : ℕ). AtLeast n (first_of x serial)) (sym mine) (subst (λ (x : ℕ). AtLeast n (first_of (session_seat k place) x)) (sym same) l)))))) in
     let stands = one next o.1 in
     let m = goes next heard s.world b st.core stands in

@@ -56,7 +56,7 @@ pub put_led : (k : Setup) (h : House) (s : Scene) (number seat : ℕ) (directory
     → StandsFor k h s → number ≡ seat + 1 → directory ≡ h.directory → seat < length h.callers → get_or h.callers seat None ≡ Some g → PutsNext h.core (due g) c why → occupant ≡ Some (noted_put (heard_verdict why) g)
     → ((x : Terms) (p : ℕ) (next : CopyKey) (heard : List Noted) (b : Caller) → IsOf x number p directory → StandsForMaybe x p next heard occupant (Some b) → CallerWentOn x whole p next heard b l old new)
     → (t : Scene) × (printed : List ℕ) × ConnectionPuts k whole s seat t printed
-    × StandsFor k (record { core = c; callers = set h.callers seat l; serials = h.serials; visitors = h.visitors; entered = h.entered; directory = h.directory; host = h.host; max_message = h.max_message }) t
+    × StandsFor k (record { core = c; callers = set h.callers seat l; serials = h.serials; visitors = h.visitors; entered = h.entered; directory = h.directory; host = h.host; max_message = h.max_message; compatible = h.compatible }) t
     × (new ≡ old ++ printed)
 put_led k h s number seat directory g c why occupant l whole old new st e dir lt some puts is f =
     let y = first_key seat in
@@ -124,7 +124,7 @@ pub heard_led : (k : Setup) (h : House) (s : Scene) (number seat : ℕ) (directo
     → ((x : Config) → core.Follows x h.core (world.Hear seat ∷ []) c) → Hears h.core c seat (r ∷ []) → c.next ≡ h.core.next → HearsVerdict g r q
     → ((x : Terms) (p : ℕ) (next : CopyKey) (heard : List Noted) (b : Caller) → IsOf x number p directory → StandsForMaybe x p next heard (Some q) (Some b) → CallerWentOn x whole p next heard b l old new)
     → (t : Scene) × (printed : List ℕ) × ConnectionHears k whole s seat t printed
-    × StandsFor k (record { core = c; callers = set h.callers seat l; serials = h.serials; visitors = h.visitors; entered = h.entered; directory = h.directory; host = h.host; max_message = h.max_message }) t
+    × StandsFor k (record { core = c; callers = set h.callers seat l; serials = h.serials; visitors = h.visitors; entered = h.entered; directory = h.directory; host = h.host; max_message = h.max_message; compatible = h.compatible }) t
     × (new ≡ old ++ printed)
 heard_led k h s number seat directory g c r q l whole old new st e dir lt some follows hears nexts slot f =
     let y = first_key seat in

@@ -160,7 +160,7 @@ who_stays seat next heard serials (Some g) (Some b) p a m s lt same = (m, let e 
 
 -- the house after one of its sessions went on, with the delivery side and the serials that it has then
 abbrev pub with_visits : House → DeliveryCore → ℕ → Option SeatedSession → List ℕ → House
-with_visits h c place q entered = record { core = c; callers = h.callers; serials = h.serials; visitors = set h.visitors place q; entered = entered; directory = h.directory; host = h.host; max_message = h.max_message }
+with_visits h c place q entered = record { core = c; callers = h.callers; serials = h.serials; visitors = set h.visitors place q; entered = entered; directory = h.directory; host = h.host; max_message = h.max_message; compatible = h.compatible }
 
 -- the scene then
 abbrev pub visited_scene : Scene → World → ℕ → Option SeatedVisitor → (ℕ → ℕ) → Scene
@@ -177,6 +177,7 @@ after_visiting k h c entered s v numbers place y l o st cs lt notes nexts len he
   directory = st.directory;
   host = st.host;
   max_message = st.max_message;
+  compatible = st.compatible;
   homes = st.homes;
   marks = st.marks;
   shards = st.shards;

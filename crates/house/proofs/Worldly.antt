@@ -20,7 +20,7 @@ is_nothing faults.Nothing e = refl
 
 -- the world moves as the delivery side does
 pub moves : (k : Setup) (h : House) (c : DeliveryCore) (s : Scene) (e : world.Event) → StandsFor k h s → ((x : Config) → core.Follows x h.core (e ∷ []) c) → c.heard ≡ h.core.heard → c.next ≡ h.core.next
-    → (v : World) × Moves k s e (with_world s v) [] × StandsFor k (record { core = c; callers = h.callers; serials = h.serials; visitors = h.visitors; entered = h.entered; directory = h.directory; host = h.host; max_message = h.max_message }) (with_world s v)
+    → (v : World) × Moves k s e (with_world s v) [] × StandsFor k (record { core = c; callers = h.callers; serials = h.serials; visitors = h.visitors; entered = h.entered; directory = h.directory; host = h.host; max_message = h.max_message; compatible = h.compatible }) (with_world s v)
 moves k h c s e st f eh en =
     let g = f k.config s.world st.core in
     (g.0, record { moved = g.0; step = one_step k.config s.world g.0 e g.1; after = refl; silent = refl }, moved k h c s g.0 st g.2 eh en)

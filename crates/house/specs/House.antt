@@ -1,5 +1,5 @@
 -- What the house holds, as contracts see it.
-use Rattle.std.specs.Prelude.{ℕ, List, Option}
+use Rattle.std.specs.Prelude.{ℕ, Bool, List, Option}
 use Rattle.envelope.specs.Directory.{Directory}
 use Rattle.delivery_core.specs.DeliveryCore.{DeliveryCore}
 use Rattle.house_peers.specs.HouseConnection.{HouseConnection}
@@ -16,3 +16,4 @@ pub record House : Type 0 where
   pub directory : Directory
   pub host : List ℕ
   pub max_message : ℕ
+  pub compatible : Bool

@@ -15,7 +15,7 @@ use Rattle.house_peers.specs.SeatedVisitor.{Awaits, IsSettled, SeatedVisitor, se
 use Rattle.house_peers.specs.SeatedVisitor.{unread as unread_session}
 use Rattle.house_peers.specs.Visitor.{more_waits as session_more_waits}
 use Rattle.house.specs.Printing.{ConnectionGoes, Idles, IsWhole, Speaks, with_session}
-use Rattle.house.specs.Setup.{Setup, session_seat, terms_of}
+use Rattle.house.specs.Setup.{Setup, admitted_in, session_seat, terms_of}
 use Rattle.house.specs.declared.event.Event.{Event}
 use Rattle.house.specs.declared.event.Event.TheVariants.{Bytes, Vanish, Put, Take, Deliver, Answer, Hear, End, Close, Enter, Say, Idle, Leave}
 
@@ -156,7 +156,7 @@ pub record EnterPlay (k : Setup) (whole : Bool) (s : Scene) (place : ℕ) (user 
   pub more : s.entered place < most_serials
   pub moved : World
   pub left : Option SeatedVisitor
-  pub goes : SessionTalks k whole place (s.world.heard (session_seat k place)) s.world (seated_greeted (s.entered place) (Some k.max_message) (folders_of k.directory user)) moved left printed
+  pub goes : SessionTalks k whole place (s.world.heard (session_seat k place)) s.world (seated_greeted (s.entered place) (admitted_in k user) (folders_of k.directory user)) moved left printed
   pub after : t ≡ record s { world = moved; visitor = set_at s.visitor place left; entered = set_at s.entered place (s.entered place + 1) }
 
 -- bytes came from a session's client: where it awaits a verdict they only wait

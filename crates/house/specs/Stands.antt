@@ -47,6 +47,7 @@ pub record StandsFor (k : Setup) (h : House) (s : Scene) : Type 0 where
   pub marks : length s.shut ≡ k.config.shards
   pub host : h.host ≡ k.host
   pub max_message : h.max_message ≡ k.max_message
+  pub compatible : h.compatible ≡ k.compatible
   pub homes : length k.directory.homes ≡ k.config.mailboxes
   pub shards : k.directory.shards ≡ k.config.shards
   pub some_shard : 0 < k.config.shards

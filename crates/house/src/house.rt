@@ -43,6 +43,8 @@ pub struct House {
     pub(crate) directory: Directory,
     pub(crate) host: Vec<u8>,
     pub(crate) max_message: usize,
+    // Sessions have the compatible profile.
+    pub(crate) compatible: bool,
 }
 
 impl Model for House {
@@ -60,6 +62,7 @@ impl Model for House {
       directory = h.directory;
       host = h.host.items;
       max_message = h.max_message;
+      compatible = h.compatible;
     } };
 
     ghost invariant = { λ h. (length h.serials.items ≡ length h.callers.items) × (length h.host.items < 256)

@@ -101,6 +101,7 @@ impl House {
             directory,
             host: Vec::from_slice(alloc, &config.host)?,
             max_message: config.max_message,
+            compatible: config.compatible,
         })
     }
 }

@@ -27,7 +27,7 @@ use crate::printing::go_on;
 use delivery_core::{DeliveryCore, HearFault};
 use delivery_token::{Noted, Refusal, Verdict};
 use house_peers::SeatedSession;
-use imap_session::{Folder, Store, folders_of, has_user};
+use imap_session::{Admission, Folder, Store, admission_of, folders_of, has_user};
 use std::alloc::{AllocError, Global};
 
 // Whether a session is at a place whose client is gone.
@@ -128,20 +128,20 @@ fn visitor_goes_on(
     visitor_talks(place, alloc, number, store, out)
 }
 
-// A session that was just let in to a seat, with these of the user's mailboxes.
+// A session that was just let in to a seat, with these of the user's mailboxes, and which comes in so.
 fn admitted(
     alloc: Global,
     seat: u8,
     serial: u64,
     folders: Vec<Folder>,
-    max_message: u32,
+    admission: Admission,
 ) -> Result<SeatedSession, AllocError>
     ensures { IfOk result (λ p. (p.gone ≡ false)
         × ((next : CopyKey) (heard : List NotedSpec) → AtLeast next (first_of seat serial) →
         StandsForSeated seat next heard p
-        (spec.seated_greeted serial (Some max_message) folders.items))) }
+        (spec.seated_greeted serial admission folders.items))) }
 {
-    SeatedSession::open(alloc, seat, serial, folders, Some(max_message))
+    SeatedSession::open(alloc, seat, serial, folders, admission)
 }
 
 // Bytes more wait for the session at a place.
@@ -243,7 +243,9 @@ impl House {
         let serial = self.entered[place];
         let alloc = *self.host.allocator();
         let folders = folders_of(alloc, &self.directory, user)?;
-        let visitor = admitted(alloc, seat, serial, folders, self.max_message as u32)?;
+        let max_message = Some(self.max_message as u32);
+        let admission = admission_of(alloc, self.compatible, max_message, user)?;
+        let visitor = admitted(alloc, seat, serial, folders, admission)?;
         self.entered[place] = serial + 1;
         let here = &mut self.visitors[place];
         *here = Some(visitor);

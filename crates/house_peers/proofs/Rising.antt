@@ -17,6 +17,8 @@ use Rattle.imap_session.specs.Store.{IdleTurns}
 use Rattle.imap_session.specs.Exchange as ex
 use Rattle.imap_session.specs.Exchange.{Answer, Appending, Call, Entered, Looked, Found, Counted, Altered, Expunged, Fed, ForDone, ForLiteral, ForNothing, ForVerdict, Left, Mailing, Refused, Sent, Starved, Exchange, Standing, Turn, Waiting, closed, having, is_idling, played, refusal_after, refused, saying, waiting, Dropped}
 use Rattle.imap_session.specs.Commands as commands_of
+use Rattle.imap_session.proofs.Barring.{line_has}
+use Rattle.imap_session.specs.Texts.{response_text}
 use Rattle.imap_session.proofs.Unkept.{unkept_by}
 use Rattle.imap_session.specs.Commands.{on_idle_line, on_rest, on_verdict, without_begun, without_sent}
 use Rattle.imap_session.specs.Dialogue as dialogue
@@ -233,7 +235,11 @@ fault_rises fault now [] = same_rises now.mailing now.mailing refl refl
 fault_rises fault now (answer ∷ more) = tt
 
 read_rises : (now : Standing) (line : Result (List ℕ × Command) ImapFault) (answers : List Answer) → TurnRises now.mailing (commands_of.on_read now line answers)
-read_rises now (Ok line) answers = played_rises line.0 now (commands_of.on_command now line.1) answers
+read_rises now (Ok line) answers =
+    line_has (TurnRises now.mailing) now line.0 line.1 answers
+    (λ right. again (commands_of.logged_in now).mailing now.mailing _ (same_rises now.mailing (commands_of.logged_in now).mailing refl refl) (played_rises line.0 (commands_of.logged_in now) commands_of.login_completed answers))
+    (λ text refused. played_rises line.0 now (commands_of.says (response_text text)) answers)
+    (played_rises line.0 now (commands_of.on_command now line.1) answers)
 read_rises now (Err fault) answers = fault_rises fault now answers
 
 while_rises : (idling : Option (List ℕ)) (now : Standing) (line : List ℕ) (answers : List Answer) → TurnRises now.mailing (commands_of.turn_while idling now line answers)

@@ -8,7 +8,7 @@ use Rattle.delivery_token.specs.declared.log.Noted.{Noted}
 use Rattle.delivery_token.specs.Copies.{copies}
 use Rattle.delivery_token.specs.Heard.{AreAnswered}
 use Rattle.imap_session.specs.declared.standing.After.{After}
-use Rattle.imap_session.specs.Exchange.{Call, Answer, Folder, Sent, Standing}
+use Rattle.imap_session.specs.Exchange.{Admission, Call, Answer, Folder, Sent, Standing}
 use Rattle.imap_session.specs.Store.{AnswersVerdict}
 use Rattle.house_peers.specs.Visitor.{Answers, Visitor, greeted}
 
@@ -49,8 +49,8 @@ IsSettled seat heard v = (sent_by v ≡ None) ⊎ ((verdict : Verdict) × IsAnsw
 
 -- ---- what it does
 
-abbrev pub seated_greeted : (serial : ℕ) → Option ℕ → List Folder → SeatedVisitor
-seated_greeted serial most folders = record { session = greeted most folders; serial = serial; gone = false; to_put = [] }
+abbrev pub seated_greeted : (serial : ℕ) → Admission → List Folder → SeatedVisitor
+seated_greeted serial admission folders = record { session = greeted admission folders; serial = serial; gone = false; to_put = [] }
 
 -- It answers what waits over a store, as far as that goes, and says this. Where that ends with a message, the copy of it is to be put.
 pub record Works {S : Type 0} (step : S → Call → Answer → S → Type 0) (seat : ℕ) (v : SeatedVisitor) (old new : S) (after : SeatedVisitor) (said : List ℕ) : Type 0 where

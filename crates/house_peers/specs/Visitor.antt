@@ -1,8 +1,8 @@
 -- A session that visits a house: what came for it, and what it answers over its mailboxes.
-use Rattle.std.specs.Prelude.{◌≡◌, ◌<◌, ℕ, List, [], ◌++◌, flat_map, Option, None, true, false}
+use Rattle.std.specs.Prelude.{◌≡◌, ◌<◌, ℕ, List, [], ◌++◌, flat_map, true}
 use Rattle.line_io.specs.Wire.{IsUncut}
 use Rattle.imap_session.specs.declared.standing.After.{After}
-use Rattle.imap_session.specs.Exchange.{Call, Answer, Folder, Standing, may_send, nothing_sent}
+use Rattle.imap_session.specs.Exchange.{Admission, Call, Answer, Folder, Standing, begun_with, may_send}
 use Rattle.imap_session.specs.Commands.{due_of, greeting}
 use Rattle.imap_session.specs.Dialogue.{Converses, Sends, may_follow, spelled}
 
@@ -12,9 +12,9 @@ pub record Visitor : Type 0 where
   pub waits : List ℕ
   pub unsaid : List ℕ
 
--- One that was just let in, with these mailboxes, and of which messages of at most so many bytes are taken, or none. Its greeting is still to be printed.
-abbrev pub greeted : Option ℕ → List Folder → Visitor
-greeted most folders = record { standing = record { folders = folders; selected = None; idling = None; ended = false; mailing = nothing_sent most }; waits = []; unsaid = greeting }
+-- One that was just let in, with these mailboxes, and which comes in so. Its greeting is still to be printed.
+abbrev pub greeted : Admission → List Folder → Visitor
+greeted admission folders = record { standing = begun_with admission folders; waits = []; unsaid = greeting admission.profile }
 
 abbrev pub more_waits : Visitor → List ℕ → Visitor
 more_waits v piece = record { standing = v.standing; waits = v.waits ++ piece; unsaid = v.unsaid }

@@ -17,7 +17,7 @@ ghost use Rattle.house_peers.specs.SeatedSession.{HasWork, HearsVerdict, IsHeard
 
 use crate::session::HouseSession;
 use delivery_token::{CopyKey, NextCopy, Noted, Submitted, Verdict, Verdicts};
-use imap_session::{Append, Folder, Selected, Store};
+use imap_session::{Admission, Append, Folder, Selected, Store};
 use std::alloc::{AllocError, Global};
 use std::marker::Model;
 
@@ -61,8 +61,8 @@ fn key_of(seat: u8, serial: u64, append: &Append) -> CopyKey
 }
 
 impl SeatedSession {
-    /// A session that was just let in to a seat, where its keys have this serial: its mailboxes have these names, and of it messages of at most so
-    /// many bytes are taken, or none. Its greeting is said, and still to be printed.
+    /// A session that was just let in to a seat, where its keys have this serial: its mailboxes have these names, and it comes in so. Its greeting is
+    /// said, and still to be printed.
     ///
     /// Errors: `AllocError` where memory was refused.
     pub fn open(
@@ -70,14 +70,14 @@ impl SeatedSession {
         seat: u8,
         serial: u64,
         folders: Vec<Folder>,
-        max_message: Option<u32>,
+        admission: Admission,
     ) -> Result<SeatedSession, AllocError>
         ensures { IfOk result (λ s. (next : Key) (heard : List NotedSpec) →
             AtLeast next (record { seat = seat; serial = serial; message = 0; recipient = 0 }) →
-            StandsForSeated seat next heard s (seated_greeted serial max_message folders.items)) }
+            StandsForSeated seat next heard s (seated_greeted serial admission folders.items)) }
     {
         let verdicts = Verdicts::with_room(alloc, 1)?;
-        let session = HouseSession::open(alloc, folders, max_message)?;
+        let session = HouseSession::open(alloc, folders, admission)?;
         Ok(SeatedSession {
             session,
             seat,

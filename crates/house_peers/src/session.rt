@@ -11,7 +11,7 @@ ghost use Rattle.house_peers.specs.Visitor.{greeted};
 ghost use Rattle.house_peers.specs.HouseSession.{Answered, AnsweredVerdict, HadTurn, StandsFor, Turned, with_all_said, with_more, with_nothing_left};
 
 use delivery_token::Verdict;
-use imap_session::{Append, Folder, ImapConnection, Selected, SessionFault, Store};
+use imap_session::{Admission, Append, Folder, ImapConnection, Selected, SessionFault, Store};
 use line_io::Incoming;
 use std::alloc::{AllocError, Global};
 use std::marker::Model;
@@ -33,18 +33,17 @@ impl Model for HouseSession {
 }
 
 impl HouseSession {
-    /// A session that was just let in, whose mailboxes have these names, and of which messages of at most so many bytes are taken, or none. Its
-    /// greeting is said, and still to be printed.
+    /// A session that was just let in, whose mailboxes have these names, and which comes in so. Its greeting is said, and still to be printed.
     ///
     /// Errors: `AllocError` where memory for a line or the greeting was refused.
     pub fn open(
         alloc: Global,
         folders: Vec<Folder>,
-        max_message: Option<u32>,
+        admission: Admission,
     ) -> Result<HouseSession, AllocError>
-        ensures { IfOk result (λ v. StandsFor v (greeted max_message folders.items)) }
+        ensures { IfOk result (λ v. StandsFor v (greeted admission folders.items)) }
     {
-        let connection = ImapConnection::new(alloc, folders, max_message)?;
+        let connection = ImapConnection::new(alloc, folders, admission)?;
         let mut unsaid = Vec::new(alloc);
         connection.greet(&mut unsaid)?;
         Ok(HouseSession {

@@ -9,6 +9,7 @@ use Rattle.house_floor.specs.declared.floor.Guest.{Guest}
 use Rattle.house_history.specs.declared.event.Event.{Event}
 use Rattle.imap_session.specs.Folders.{folders_of}
 use Rattle.imap_session.specs.Commands.{greeting}
+use Rattle.imap_session.specs.declared.standing.Profile.TheVariants.{Standard}
 use Rattle.lane_work.specs.Account.{AreAccountedFor, AreBooksOf, HaveEnded, notes_tell}
 use Rattle.lane_work.specs.Copies.{rooms_of}
 use Rattle.lane_work.specs.Couriers.{HasCarried}
@@ -50,7 +51,7 @@ session_account floor now desk seat serial guest user selection began carried te
     named = named;
     began = began;
     last = lived.last;
-    lives = subst (λ (p : LockedStore). Lives floor.turns (greeted_at (Some (most_of floor.office.max_message)) (folders_of floor.office.directory user) p greeting) guest.steps.items carried lived.last) outside lived.lives;
+    lives = subst (λ (p : LockedStore). Lives floor.turns (greeted_at (Some (most_of floor.office.max_message)) (folders_of floor.office.directory user) p (greeting Standard)) guest.steps.items carried lived.last) outside lived.lives;
     wrote = lived.wrote;
   };
   alone = one;

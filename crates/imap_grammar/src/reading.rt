@@ -9,8 +9,8 @@ ghost use Rattle.imap_grammar.specs.declared.command.ImapFault.{ImapFault};
 ghost use Rattle.imap_grammar.specs.Reading.{verb_alone, alone_at, second_at, verb_at, command_at, read, is_done};
 
 use crate::arguments::{
-    append, examine, fetch, if_end, list, login, lsub, select, status, store, subscribe, uid_expunge,
-    unsubscribe,
+    append, examine, fetch, if_end, list, login, lsub, select, status, store, subscribe,
+    uid_expunge, unsubscribe,
 };
 use crate::bytes::{Class, is_blank, word_at};
 use crate::command::{

@@ -11,7 +11,7 @@ ghost use Rattle.mailbox.specs.declared.clients.MailFault.{MailFault};
 ghost use Rattle.imap_session.specs.Dialogue.{Asks, Dialogue, Hears, StandsFor, Takes, Took, Turns, may_follow, tag_len};
 
 use crate::session::Session;
-use crate::standing::{After, Append, Folder, Selected, SessionFault, Admission};
+use crate::standing::{Admission, After, Append, Folder, Selected, SessionFault};
 use crate::store::Store;
 use delivery_token::Verdict;
 use line_io::{LineCutter, What};

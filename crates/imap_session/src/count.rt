@@ -128,14 +128,7 @@ fn write_names(
     let start = response.out.len();
     let names = names_of(alloc, folders)?;
     let names = names.as_slice();
-    write_list(
-        alloc,
-        listing,
-        reference,
-        pattern,
-        names,
-        &mut response.out,
-    )?;
+    write_list(alloc, listing, reference, pattern, names, &mut response.out)?;
     hold_room(start, response.held, &mut response.out)
 }
 

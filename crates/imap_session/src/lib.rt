@@ -33,8 +33,8 @@ pub use laws::{
     only_a_stored_verdict_tells_a_uid, rest_shows_none, texts_go_on_a_line, verdicts_show_in_order,
 };
 pub use session::Session;
-pub use standing::{After, Append, Folder, Profile, Selected, SessionFault, Admission};
+pub use standing::{Admission, After, Append, Folder, Profile, Selected, SessionFault};
 pub use store::Store;
 pub use texts::{MOST_SERVER_TEXT, MOST_TEXT, ResponseText, ServerText};
 pub use user::UserName;
-pub use users::{folders_of, has_user, admission_of};
+pub use users::{admission_of, folders_of, has_user};

@@ -1,19 +1,19 @@
 //! The session of one client, from its greeting to its end.
 //! What it answers to a line is told in specs/Commands.antt, and how one line is carried out in `turn`.
 
+use crate::access::{barred_at, logs_in_as};
 use crate::appended::{STORED, tell_verdict};
 use crate::mailing::{Appending, Mailing, Sent, judge, long_rest_text};
 use crate::response::{LAST, Response, put_last};
-use crate::access::{barred_at, logs_in_as};
 use crate::say::{put_continuing, put_of_server, put_tagged, put_untagged};
-use crate::standing::{After, Append, Folder, Profile, Selected, SessionFault, Admission};
+use crate::standing::{Admission, After, Append, Folder, Profile, Selected, SessionFault};
 use crate::store::Store;
 use crate::tag::Tag;
 use crate::texts::{ResponseText, ServerText};
-use crate::user::UserName;
 use crate::turn::{
     FIRST, after_command, append_of, carry_out, end_idle, is_idle, put_fault, put_first_line,
 };
+use crate::user::UserName;
 use delivery_token::{Text, Verdict};
 use imap_grammar::{Command, Verb, read_line};
 use mailbox::MailFault;

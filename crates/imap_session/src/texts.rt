@@ -86,9 +86,11 @@ impl ServerText {
     {
         match self {
             ServerText::Greeting(Profile::Standard) => b"PREAUTH IMAP4rev2 server ready",
-            ServerText::Greeting(Profile::Compatible) => b"OK [CAPABILITY IMAP4rev2 IMAP4rev1 IDLE NAMESPACE UIDPLUS UNSELECT] IMAP4rev2 server ready",
+            ServerText::Greeting(Profile::Compatible) =>
+                b"OK [CAPABILITY IMAP4rev2 IMAP4rev1 IDLE NAMESPACE UIDPLUS UNSELECT] IMAP4rev2 server ready",
             ServerText::Capabilities(Profile::Standard) => b"CAPABILITY IMAP4rev2 IDLE",
-            ServerText::Capabilities(Profile::Compatible) => b"CAPABILITY IMAP4rev2 IMAP4rev1 IDLE NAMESPACE UIDPLUS UNSELECT",
+            ServerText::Capabilities(Profile::Compatible) =>
+                b"CAPABILITY IMAP4rev2 IMAP4rev1 IDLE NAMESPACE UIDPLUS UNSELECT",
             ServerText::Namespaces => b"NAMESPACE ((\"\" \"/\")) NIL NIL",
         }
     }

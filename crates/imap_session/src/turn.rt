@@ -8,10 +8,10 @@ ghost use Rattle.imap_session.specs.Commands.{completed, fault_text, on_idle_lin
 ghost use Rattle.imap_session.specs.Exchange.{Mailing};
 ghost use Rattle.imap_session.specs.inner.Store.{Does, Moves, after_command, behind_first_line, ending, first_line, is_idle, is_open, last};
 
+use crate::access::arguments_text;
 use crate::count::{count_mailbox, list_folders, list_subscribed, subscribe};
 use crate::expunge::show_pending;
 use crate::response::{LAST, Response};
-use crate::access::arguments_text;
 use crate::say::{put_bye, put_of_server, put_tagged, put_untagged};
 use crate::select::select_mailbox;
 use crate::selected::{close, expunge, fetch, store_flags, uid_expunge, unselect};
@@ -115,11 +115,7 @@ fn note_nothing<S: Store>(
 }
 
 /// Writes what a command says of the server before all else, in room that was reserved, and answers how many bytes that is. Most say nothing.
-pub(crate) fn put_first_line(
-    profile: Profile,
-    command: &Command<'_>,
-    out: &mut Vec<u8>,
-) -> usize
+pub(crate) fn put_first_line(profile: Profile, command: &Command<'_>, out: &mut Vec<u8>) -> usize
     requires fits { vec_len out.old + FIRST ≤ vec_capacity out.old }
     ensures line { out.new.items ≡ out.old.items ++ first_line profile command.now }
     ensures length { result ≡ length (first_line profile command.now) }

@@ -4,7 +4,7 @@ ghost use Rattle.std.specs.Prelude.{◌≡◌, ◌<◌, ◌++◌, ◌∷◌, [],
 ghost use Rattle.std.specs.Option.{option_copied};
 ghost use Rattle.imap_session.specs.Folders.{folders_from, folders_of, has_user, name_of, admission_of};
 
-use crate::standing::{Folder, Profile, Admission};
+use crate::standing::{Admission, Folder, Profile};
 use crate::user::UserName;
 use envelope::Directory;
 use std::alloc::{AllocError, Global};

@@ -3,7 +3,7 @@ use Rattle.std.specs.Prelude.{◌≡◌, ℕ, ◌<◌, ◌||◌, Bool, true, fal
 use Rattle.std.specs.Io.KnownBytes.{Appends}
 use Rattle.imap_session.specs.declared.standing.After.{After}
 use Rattle.imap_session.specs.declared.standing.After.TheVariants.{Bye}
-use Rattle.imap_session.specs.Exchange.{Folder, bye, is_idling, may_send, nothing_sent}
+use Rattle.imap_session.specs.Exchange.{Admission, Folder, begun_with, bye, is_idling, may_send}
 use Rattle.imap_session.specs.Commands.{greeting}
 use Rattle.imap_session.specs.Dialogue.{Dialogue, ImapConnection, StandsFor, may_follow}
 use Rattle.session_thread.specs.Locks.{LockedStore}
@@ -97,11 +97,11 @@ pub record Tells (P : Moment → Moment → Type 0) (Sends : Visit → List ℕ 
 
 -- ---- the first and the last words
 
--- The client was greeted (RFC 9051, 7.1.4), and nothing else was done: its session is in no mailbox, it takes messages of at most so many bytes, or none, and its line has not begun.
-pub record IsGreeted (most : Option ℕ) (folders : List Folder) (selection : LockedStore) (taken : Option (List ℕ)) (visit : Visit) : Type 0 where
-  pub stands : StandsFor visit.link (record { standing = record { folders = folders; selected = None; idling = None; ended = false; mailing = nothing_sent most }; begun = [] })
+-- The client was greeted (RFC 9051, 7.1.1 and 7.1.4), and nothing else was done: its session has begun so, and its line hasn't.
+pub record IsGreeted (admission : Admission) (folders : List Folder) (selection : LockedStore) (taken : Option (List ℕ)) (visit : Visit) : Type 0 where
+  pub stands : StandsFor visit.link (record { standing = begun_with admission folders; begun = [] })
   pub store : visit.selection ≡ selection
-  pub took : Appends taken visit.taken greeting
+  pub took : Appends taken visit.taken (greeting admission.profile)
   pub live : visit.failed ≡ false
   pub goes_on : visit.closed ≡ false
 

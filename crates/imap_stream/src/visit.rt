@@ -9,12 +9,12 @@ ghost use Rattle.workers_sync.specs.declared.courier.Lost.{Lost};
 ghost use Rattle.session_thread.specs.Life.{Departs, IsForgotten};
 ghost use Rattle.imap_session.specs.Dialogue.{StandsFor};
 ghost use Rattle.imap_session.specs.Commands.{greeting};
-ghost use Rattle.imap_session.specs.Exchange.{nothing_sent};
+ghost use Rattle.imap_session.specs.Exchange.{begun_with};
 ghost use Rattle.imap_stream.specs.Visits.{Hears, HearsInPart, IsGreeted, SendsAll, SendsFirst, ShowsAll, ShowsInPart, Tells, Visit, awaited, farewell, is_over, takes_bytes};
 
 use crate::turns::{answer_and_show, show_all};
 use house_history::Naming;
-use imap_session::{After, Folder, ImapConnection, Store};
+use imap_session::{Admission, After, Folder, ImapConnection, Store};
 use line_io::{Sink, send};
 use session_thread::{LockedStore, depart, takes_more};
 use std::alloc::{AllocError, Global};
@@ -87,31 +87,26 @@ fn trim(written: &mut Vec<u8>)
 fn greeted<W: Sink>(
     alloc: Global,
     folders: Vec<Folder>,
-    most: Option<u32>,
+    admission: Admission,
     output: &mut W,
 ) -> Result<(ImapConnection, Vec<u8>), VisitFault>
     requires live { W.failed output.old ≡ false }
     ensures stands { IfOk result (λ made. StandsFor made.0 (record {
-      standing = record {
-        folders = folders.items;
-        selected = None;
-        idling = None;
-        ended = false;
-        mailing = nothing_sent most;
-      };
+      standing = begun_with admission folders.items;
       begun = [];
     })) }
     ensures empty { IfOk result (λ made. made.1.items ≡ []) }
-    ensures took { OnOk result (Appends (W.taken output.old) (W.taken output.new) greeting) }
+    ensures took { OnOk result (Appends (W.taken output.old) (W.taken output.new) (greeting admission.profile)) }
     ensures live { OnOk result (W.failed output.new ≡ false) }
     ensures untorn { IfErr result (λ fault. fault ≢ VisitFault.Torn) }
     ensures short { result ≡ Err VisitFault.NoMemory → output.new ≡ output.old }
     ensures cut { result ≡ Err VisitFault.Write →
-        (sent : ℕ) × (sent < length greeting)
-        × Appends (W.taken output.old) (W.taken output.new) (take sent greeting) }
+        (sent : ℕ) × (sent < length (greeting admission.profile))
+        × Appends (W.taken output.old) (W.taken output.new)
+        (take sent (greeting admission.profile)) }
     ensures failed { result ≡ Err VisitFault.Write → W.failed output.new ≡ true }
 {
-    let connection = ImapConnection::new(alloc, folders, most)?;
+    let connection = ImapConnection::new(alloc, folders, admission)?;
     let mut out = Vec::new(alloc);
     connection.greet(&mut out)?;
     flush(output, &mut out)?;
@@ -162,9 +157,9 @@ impl<'a, B: Naming, R: Wait, G: Gate, W: Sink> Model for Visit<'a, B, R, G, W> {
 }
 
 impl<'a, B: Naming, R: Wait, G: Gate, W: Sink> Visit<'a, B, R, G, W> {
-    /// Opens the visit of a client, and greets it (RFC 9051, 7.1.4): the greeting was sent. `store` is
-    /// its session's, which is in no mailbox, `folders` are its user's mailboxes, its answers go to
-    /// `output`, and it may append messages of at most `most` bytes, or none.
+    /// Opens the visit of a client, and greets it (RFC 9051, 7.1.1 and 7.1.4): the greeting was sent.
+    /// `store` is its session's, which is in no mailbox, `folders` are its user's mailboxes, it comes in
+    /// by `admission`, and its answers go to `output`.
     ///
     /// Errors give the output back: `NoMemory` as it was, where memory was refused before anything was
     /// sent; `Write` where it failed, behind the first bytes of the greeting.
@@ -173,7 +168,7 @@ impl<'a, B: Naming, R: Wait, G: Gate, W: Sink> Visit<'a, B, R, G, W> {
         alloc: Global,
         store: LockedStore<'a, B, R, G>,
         folders: Vec<Folder>,
-        most: Option<u32>,
+        admission: Admission,
         mut output: W,
     ) -> Result<Visit<'a, B, R, G, W>, (W, VisitFault)>
         requires live { W.failed output ≡ false }
@@ -181,7 +176,7 @@ impl<'a, B: Naming, R: Wait, G: Gate, W: Sink> Visit<'a, B, R, G, W> {
 
         // Without an error the client was greeted, and nothing else was done.
         ensures ok { IfOk result (λ visit.
-            IsGreeted most folders.items store.entry (W.taken output) visit) }
+            IsGreeted admission folders.items store.entry (W.taken output) visit) }
 
         // It is never `Torn`; with `NoMemory` the output is given back as it was.
         ensures untorn { IfErr result (λ stop. stop.1 ≢ VisitFault.Torn) }
@@ -189,11 +184,12 @@ impl<'a, B: Naming, R: Wait, G: Gate, W: Sink> Visit<'a, B, R, G, W> {
 
         // With `Write` it is given back failed: it took the first bytes of the greeting, and not all.
         ensures cut { IfErr result (λ stop. stop.1 ≡ VisitFault.Write →
-            (sent : ℕ) × (sent < length greeting)
-            × Appends (W.taken output) (W.taken stop.0) (take sent greeting)) }
+            (sent : ℕ) × (sent < length (greeting admission.profile))
+            × Appends (W.taken output) (W.taken stop.0)
+            (take sent (greeting admission.profile))) }
         ensures failed { IfErr result (λ stop. stop.1 ≡ VisitFault.Write → W.failed stop.0 ≡ true) }
     {
-        match greeted(alloc, folders, most, &mut output) {
+        match greeted(alloc, folders, admission, &mut output) {
             Ok((connection, out)) => Ok(Visit {
                 rt,
                 connection,

@@ -1,5 +1,5 @@
 -- The answers to lines that a client sends.
-use Rattle.std.proofs.Common.{◌≡◌, ℕ, ◌<◌, ◌^◌, ◌==◌, length, append_assoc, sym, Bool, true, false, List, [], ◌∷◌, ◌++◌, refl}
+use Rattle.std.proofs.Common.{◌≡◌, ℕ, ◌<◌, ◌^◌, ◌==◌, length, map, append_assoc, sym, Bool, true, false, List, [], ◌∷◌, ◌++◌, refl}
 use Rattle.std.specs.Prelude.{Option, Some, None, Result, Ok, Err, IfSome, codes, decimal, nat_le, nat_lt, ◌&&◌, not, if◌then◌else◌}
 use Rattle.std.specs.List.{list_all, list_any}
 use Rattle.std.proofs.lemmas.Bool.{false≢true}
@@ -24,9 +24,11 @@ use Rattle.imap_grammar.specs.declared.command.ImapFault.{ImapFault}
 use Rattle.imap_grammar.specs.declared.command.ImapFault.TheVariants.{NoTag, Unknown, LeftOut, Arguments}
 use Rattle.imap_session.specs.declared.standing.After.TheVariants.{Go}
 use Rattle.imap_session.specs.declared.standing.Selected.{Selected}
-use Rattle.imap_session.specs.Exchange.{Answer, Appending, Exchange, Expunge, Feed, Folder, ForNothing, ForVerdict, Mailing, Sent, Standing, Turn, Wait, Write, bye, kept_behind, tagged}
-use Rattle.imap_session.specs.Commands.{appended_words, appending, last_number, long_idle_text, long_rest_text, long_text, most_unasked, nowhere, number_named, on_rest, on_text, on_verdict, is_over, over, turn_behind, turn_with, wanting, wanting_for, without_begun, without_sent, completed, counting, expunge_set, fault_text, fetch_messages, fetched, fetching, folder_of, in_selected, in_writable, messages_done, on_chosen, on_command, on_found, on_idle_line, on_read, on_set, only_says, says, showing, store_messages, stored, storing, turn_while, unlimited, wrong_state, asking, coming, refused_text}
-use Rattle.imap_answers.specs.Answers.{flags_answer}
+use Rattle.imap_session.specs.Exchange.{Answer, Appending, Exchange, Expunge, Feed, Folder, ForNothing, ForVerdict, Mailing, Sent, Standing, Turn, Wait, Write, bye, kept_behind, tagged, untagged}
+use Rattle.imap_session.specs.Commands.{appended_words, appending, last_number, long_idle_text, long_rest_text, long_text, most_unasked, nowhere, number_named, on_rest, on_text, on_verdict, is_over, over, turn_behind, turn_with, wanting, wanting_for, without_begun, without_sent, completed, counting, expunge_set, fault_text, fetch_messages, fetched, fetching, folder_of, in_selected, in_writable, messages_done, on_chosen, on_command, on_found, on_idle_line, on_read, on_set, only_says, says, showing, store_messages, stored, storing, subscribing, turn_while, unlimited, wrong_state, arguments_text, asking, coming, logged_in, login_completed, refused_text}
+use Rattle.imap_answers.specs.Answers.{flags_answer, list_answer}
+use Rattle.imap_answers.specs.declared.list.Listing.{Listing}
+use Rattle.imap_answers.specs.declared.list.Listing.TheVariants.{All, Subscribed}
 use Rattle.laws_client.specs.Beliefs.{Leads, Leaves, TellsNothing}
 use Rattle.laws_client.specs.ListTurns.{is_inner, IsPlain, IsRowOf, IsTag, Says, SeesAll}
 use Rattle.laws_client.specs.Fetches.{AreToldParts, IsNumbered}
@@ -41,10 +43,14 @@ use Rattle.laws_client.proofs.ListPlayed.{turn_follows}
 use Rattle.laws_client.proofs.Tags.{Tagged, read_tagged}
 use Rattle.laws_client.proofs.Turns.{ends}
 use Rattle.imap_session.specs.declared.texts.ResponseText.TheVariants as texts
-use Rattle.imap_session.specs.Texts.{response_text}
+use Rattle.imap_session.specs.Texts.{response_text, server_text}
 use Rattle.imap_grammar.specs.declared.command.Verb.TheVariants as verbs
 use Rattle.imap_session.specs.declared.texts.ResponseText.{ResponseText}
 use Rattle.laws_client.proofs.TextRows.{text_plain}
+use Rattle.imap_session.specs.declared.texts.ServerText.TheVariants as server
+use Rattle.imap_session.specs.declared.standing.Profile.{Profile}
+use Rattle.imap_session.specs.declared.standing.Profile.TheVariants.{Standard, Compatible}
+use Rattle.laws_client.proofs.Barred.{line_case}
 
 -- a last line with a text of the table
 last : (tag view : List ℕ) (text : ResponseText) → IsTag tag → Says tag view (says (response_text text))
@@ -154,19 +160,27 @@ selected_says : (tag view : List ℕ) (selected : Option Selected) (now : Standi
 selected_says tag view None now next e t h = rw e (wrong tag view t)
 selected_says tag view (Some selected) now next e t h = rw e (h selected)
 
--- ---- LIST and STATUS
+-- ---- LIST, LSUB, SUBSCRIBE, UNSUBSCRIBE and STATUS
 
-list_says : (tag view : List ℕ) (now : Standing) (reference pattern : List ℕ) → IsTag tag → AreNames now.folders → Says tag view (on_command now (commands.List reference pattern))
-list_says tag view now reference pattern t names = (
-  leaves view _ (list_tells_nothing reference pattern now.folders names),
-  shows_then tag view now.selected (completed (commands.List reference pattern)) (λ new. last tag new (texts.Completed verbs.List) t),
+list_says : (tag view : List ℕ) (now : Standing) (listing : Listing) (reference pattern : List ℕ) (command : Command) → IsTag tag → AreNames now.folders
+    → Says tag view (Write (list_answer listing reference pattern (map (λ (folder : Folder). folder.name) now.folders)) (showing now.selected (completed command)))
+list_says tag view now listing reference pattern command t names = (
+  leaves view _ (list_tells_nothing listing reference pattern now.folders names),
+  shows_then tag view now.selected (completed command) (λ new. last tag new (texts.Completed (verb_of command)) t),
 )
+
+subscribing_says : (tag view : List ℕ) (folders : List Folder) (name : List ℕ) (command : Command) → IsTag tag → Says tag view (wanting (subscribing folders name command))
+subscribing_says tag view folders name command t = (nothing_leaves view, by (folder_of name folders))
+  where
+    by : (folder : Option Folder) → Says tag view (on_found (λ (f : Folder). completed command) (says (response_text texts.NoSuchMailbox)) folder)
+    by None = last tag view texts.NoSuchMailbox t
+    by (Some folder) = last tag view (texts.Completed (verb_of command)) t
 
 status_says : (tag view : List ℕ) (now : Standing) (name : List ℕ) (items : List StatusItem) → IsTag tag → AreNames now.folders → Says tag view (on_command now (commands.Status name items))
 status_says tag view now name items t names = (leaves view [] (λ messages. refl), by (folder_of name now.folders) (folder_plain name now.folders names))
   where
     by : (folder : Option Folder) → IfSome folder (λ f. IsPlain f.name)
-        → Says tag view (on_found (counting now name items) (says (response_text texts.NoSuchMailbox)) folder)
+        → Says tag view (on_found (counting now.selected name items) (says (response_text texts.NoSuchMailbox)) folder)
     by None plain = last tag view texts.NoSuchMailbox t
     by (Some folder) plain = λ status counted. (
       leaves view _ (status_tells_nothing folder.name items status plain counted),
@@ -249,18 +263,27 @@ verdict_says tag view selected mailbox (verdicts.Refused why) t u = last tag vie
 
 -- ---- all of them
 
+-- what is said of the server
+pub capable_tells_nothing : (profile : Profile) → TellsNothing (untagged (server_text (server.Capabilities profile)))
+capable_tells_nothing Standard messages = refl
+capable_tells_nothing Compatible messages = refl
+
 command_says : (tag view : List ℕ) (now : Standing) (command : Command) → IsTag tag → MayAsk now view command → Says tag view (on_command now command)
 command_says tag view now commands.Noop t may =
     shows_then tag view now.selected (completed commands.Noop) (λ new. last tag new (texts.Completed verbs.Noop) t)
 command_says tag view now commands.Logout t may =
     (leaves view _ (λ messages. refl), leaves view _ (tagged_tells_nothing tag (response_text (texts.Completed verbs.Logout)) t (text_plain (texts.Completed verbs.Logout))))
 command_says tag view now commands.Idle t may = leaves view _ (λ messages. refl)
-command_says tag view now commands.Login t may = wrong tag view t
+command_says tag view now (commands.Login user password) t may = wrong tag view t
 command_says tag view now commands.Authenticate t may = wrong tag view t
 command_says tag view now commands.StartTls t may = wrong tag view t
 command_says tag view now (commands.Select name) t may = absurd (false≢true may.stays)
 command_says tag view now (commands.Examine name) t may = absurd (false≢true may.stays)
-command_says tag view now (commands.List reference pattern) t may = list_says tag view now reference pattern t may.names
+command_says tag view now (commands.List reference pattern) t may = list_says tag view now All reference pattern (commands.List reference pattern) t may.names
+command_says tag view now (commands.Lsub reference pattern) t may = list_says tag view now Subscribed reference pattern (commands.Lsub reference pattern) t may.names
+command_says tag view now (commands.Subscribe name) t may = subscribing_says tag view now.folders name (commands.Subscribe name) t
+command_says tag view now (commands.Unsubscribe name) t may = subscribing_says tag view now.folders name (commands.Unsubscribe name) t
+command_says tag view now commands.Check t may = shows_then tag view now.selected (completed commands.Check) (λ new. last tag new (texts.Completed verbs.Check) t)
 command_says tag view now (commands.Status name items) t may = status_says tag view now name items t may.names
 command_says tag view now commands.Close t may = absurd (false≢true may.stays)
 command_says tag view now commands.Unselect t may = absurd (false≢true may.stays)
@@ -269,25 +292,29 @@ command_says tag view now (commands.UidExpunge set) t may = writable tag view no
 command_says tag view now (commands.Fetch fetch) t may = selected_says tag view now.selected now (fetch_messages fetch) refl t (λ selected. fetch_says tag view fetch selected t may.parts may.numbered)
 command_says tag view now (commands.Store store) t may = writable tag view now.selected now (store_messages store) refl t (store_says tag view store t may.numbered)
 command_says tag view now (commands.Append append) t may = append_says tag view now.mailing.most now.folders append t
-command_says tag view now command t may = (leaves view _ (λ messages. refl), last tag view (texts.Completed (verb_of command)) t)
+command_says tag view now commands.Capability t may = (leaves view _ (capable_tells_nothing now.profile), last tag view (texts.Completed verbs.Capability) t)
+command_says tag view now commands.Namespace t may = (leaves view _ (λ messages. refl), last tag view (texts.Completed verbs.Namespace) t)
 
 -- ---- lines that are no commands
 
-pub fault_tells_nothing : (fault : ImapFault) → Tagged (Err fault) → TellsNothing (fault_text fault)
-fault_tells_nothing NoTag t messages = refl
-fault_tells_nothing (Unknown tag) t messages = tagged_tells_nothing tag (response_text texts.UnknownCommand) t (text_plain texts.UnknownCommand) messages
-fault_tells_nothing (LeftOut tag) t messages = tagged_tells_nothing tag (response_text texts.NotOffered) t (text_plain texts.NotOffered) messages
-fault_tells_nothing (Arguments tag) t messages = tagged_tells_nothing tag (response_text texts.InvalidArguments) t (text_plain texts.InvalidArguments) messages
+pub fault_tells_nothing : (profile : Profile) (fault : ImapFault) → Tagged (Err fault) → TellsNothing (fault_text profile fault)
+fault_tells_nothing profile NoTag t messages = refl
+fault_tells_nothing profile (Unknown tag) t messages = tagged_tells_nothing tag (response_text texts.UnknownCommand) t (text_plain texts.UnknownCommand) messages
+fault_tells_nothing profile (LeftOut tag) t messages = tagged_tells_nothing tag (response_text texts.NotOffered) t (text_plain texts.NotOffered) messages
+fault_tells_nothing profile (Arguments tag verb) t messages = tagged_tells_nothing tag (response_text (arguments_text profile verb)) t (text_plain (arguments_text profile verb)) messages
 
 fault_follows : (now : Standing) (fault : ImapFault) (view : List ℕ) (answers : List Answer) (turn : Turn) (new : List ℕ)
-    → Tagged (Err fault) → only_says (fault_text fault) now answers ≡ Some turn → SeesAll view turn.events new → Leads view turn.bytes new
-fault_follows now fault view [] turn new t e sees = ends view now (fault_text fault) Go turn new e (leaves view _ (fault_tells_nothing fault t)) sees
+    → Tagged (Err fault) → only_says (fault_text now.profile fault) now answers ≡ Some turn → SeesAll view turn.events new → Leads view turn.bytes new
+fault_follows now fault view [] turn new t e sees = ends view now (fault_text now.profile fault) Go turn new e (leaves view _ (fault_tells_nothing now.profile fault t)) sees
 fault_follows now fault view (answer ∷ more) turn new t e sees = absurd (none-some turn e)
 
 read_follows : (now : Standing) (r : Result (List ℕ × Command) ImapFault) (view : List ℕ) (answers : List Answer) (turn : Turn) (new : List ℕ)
     → Tagged r → MayAnswer now view r → on_read now r answers ≡ Some turn → SeesAll view turn.events new → Leads view turn.bytes new
 read_follows now (Ok line) view answers turn new t h e sees =
-    turn_follows line.0 (refusals line.0 t) view now (on_command now line.1) answers turn new e (command_says line.0 view now line.1 t h) sees
+    line_case (Leads view turn.bytes new) now line.0 line.1 answers turn
+    (λ logs d. turn_follows line.0 (refusals line.0 t) view (logged_in now) login_completed answers turn new d (last line.0 view (texts.Completed verbs.Login) t) sees)
+    (λ text is d. turn_follows line.0 (refusals line.0 t) view now (says (response_text text)) answers turn new d (last line.0 view text t) sees)
+    (λ d. turn_follows line.0 (refusals line.0 t) view now (on_command now line.1) answers turn new d (command_says line.0 view now line.1 t h) sees) e
 read_follows now (Err fault) view answers turn new t h e sees = fault_follows now fault view answers turn new t e sees
 
 -- ---- the line that ends an IDLE

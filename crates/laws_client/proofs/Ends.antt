@@ -4,11 +4,12 @@ use Rattle.std.specs.Prelude.{reverse, codes, Some}
 use Rattle.std.specs.List.{list_all}
 use Rattle.std.proofs.lemmas.List.Folds.{list_all-append}
 use Rattle.mailbox.specs.declared.clients.MailFault.TheVariants.{Stranger, Lapped, Spent, NoMemory}
+use Rattle.imap_session.specs.declared.standing.Profile.TheVariants.{Standard, Compatible}
 use Rattle.imap_session.specs.Exchange.{bye, tagged}
 use Rattle.laws_client.specs.Client.{Messages, knowing, reads, literal_of, told}
 use Rattle.laws_client.specs.Beliefs.{Leaves, TellsNothing}
 use Rattle.laws_client.specs.ListTurns.{is_inner, IsPlain, IsTag}
-use Rattle.laws_client.specs.ListLaws.{ByeTellsNothing, RefusalTellsNothing, TaggedTellsNothing}
+use Rattle.laws_client.specs.ListLaws.{ByeTellsNothing, GreetingTellsNothing, RefusalTellsNothing, TaggedTellsNothing}
 use Rattle.laws_client.proofs.Bytes.{whole_line}
 use Rattle.laws_client.proofs.LinesRead.{not_a_count}
 use Rattle.laws_client.proofs.Literals.{reads_other}
@@ -57,6 +58,10 @@ refusal_tells_nothing tag Stranger t messages = refl
 refusal_tells_nothing tag Lapped t messages = refl
 refusal_tells_nothing tag Spent t messages = tagged_tells_nothing tag (response_text texts.MailboxSpent) t (text_plain texts.MailboxSpent) messages
 refusal_tells_nothing tag NoMemory t messages = tagged_tells_nothing tag (response_text texts.OutOfMemory) t (text_plain texts.OutOfMemory) messages
+
+pub greeting_tells_nothing : GreetingTellsNothing
+greeting_tells_nothing Standard messages = refl
+greeting_tells_nothing Compatible messages = refl
 
 pub refusals : (tag : List ℕ) → IsTag tag → Refusals tag
 refusals tag t view fault = leaves view _ (refusal_tells_nothing tag fault t)

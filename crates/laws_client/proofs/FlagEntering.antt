@@ -18,12 +18,17 @@ use Rattle.laws_client.specs.FlagTurns.{LeadsFlags, shown_in}
 use Rattle.laws_client.specs.Worlds.{IsRightOnFlags}
 use Rattle.laws_client.proofs.FlagMoments.{SeesAllMoments, SeesMoments}
 use Rattle.laws_client.proofs.ToldAll.{HearsAll}
-use Rattle.laws_client.proofs.Turning.{grown_still}
+use Rattle.laws_client.proofs.Turning.{grown_still, leaves}
 use Rattle.imap_session.specs.declared.texts.ResponseText.TheVariants as texts
 use Rattle.imap_session.specs.Texts.{response_text}
 use Rattle.laws_client.proofs.TextRows.{text_plain}
+use Rattle.imap_session.specs.declared.texts.ResponseText.{ResponseText}
 
 -- ---- SELECT and EXAMINE
+
+-- a client that asked for a mailbox, and was told no OK
+pub not_entered_right : (tag bytes : List ℕ) (p : Point) → has_ok true tag bytes ≡ false → IsRightOnFlags p (if has_ok true tag bytes then Some (reads fresh bytes) else None)
+not_entered_right tag bytes p none = rw none tt
 
 -- a client that asked for a mailbox: of no message it knows flags
 entering_right : (tag bytes : List ℕ) (p : Point) → IfOk (Believes p) tag bytes (counted p) → IsRightOnFlags p (if has_ok true tag bytes then Some (reads fresh bytes) else None)
@@ -34,7 +39,7 @@ entering_right tag bytes p known = by (has_ok true tag bytes) known
     by false f = tt
 
 pub selects_right : (tag : List ℕ) (now : Standing) (old : List ℕ) (read_only : Bool) (name : List ℕ) (answers : List Answer) (turn : Turn) (q : Point)
-    → IsTag tag → AreNames now.folders → played tag now (selecting now read_only name) answers ≡ Some turn → HearsAll old turn.events (counted q)
+    → IsTag tag → AreNames now.folders → played tag now (selecting now.profile now.folders now.selected read_only name) answers ≡ Some turn → HearsAll old turn.events (counted q)
     → IsRightOnFlags q (if has_ok true tag turn.bytes then Some (reads fresh turn.bytes) else None)
 selects_right tag now old read_only name answers turn q t names e met =
     entering_right tag turn.bytes q (selecting_known (Believes q) (λ u names e. absurd (none-some names e)) tag now old read_only name answers turn (counted q) t names e met)
@@ -84,14 +89,27 @@ leaving_right tag words now p remove (Refused fault ∷ []) turn q client t ok e
     (stays_right tag (refusal_text tag fault) q client (refusal_tells_nothing tag fault t) (later_right p (record { call = Leave remove; answer = Refused fault }) q client (subst (λ (r : Point). SeesMoments p (record { call = Leave remove; answer = Refused fault }) r) (sym last) met1.1) refl right))
 leaving_right tag words now p remove (_ ∷ more) turn q client t ok e met right = absurd (none-some turn e)
 
+-- a client that reads on behind a line with this text alone
+pub still_right : (tag : List ℕ) (text : ResponseText) (now : Standing) (p : Point) (answers : List Answer) (turn : Turn) (q : Point) (client : Option Client) → IsTag tag
+    → played tag now (says (response_text text)) answers ≡ Some turn → SeesAllMoments p turn.events q → IsRightOnFlags p client → IsRightOnFlags q (reads_on turn.bytes client)
+still_right tag text now p answers turn q client t e met right =
+    let only = only_done tag (response_text text) Go now answers turn e in
+    let last : q ≡ p = subst (λ (es : List Event). SeesAllMoments p es q) only.events met in
+    subst (λ (b : List ℕ). IsRightOnFlags q (reads_on b client)) (sym only.bytes)
+    (reads_right q (tagged tag (response_text text)) q client (leaves q _ (tagged_tells_nothing tag (response_text text) t (text_plain text))) (subst (λ (r : Point). IsRightOnFlags r client) (sym last) right))
+
+-- it was refused
+pub not_left_right : (tag : List ℕ) (text : ResponseText) (now : Standing) (p : Point) (answers : List Answer) (turn : Turn) (q : Point) (client : Option Client) → IsTag tag
+    → played tag now (says (response_text text)) answers ≡ Some turn → SeesAllMoments p turn.events q → IsRightOnFlags p client → IsRightOnFlags q (if has_ok true tag turn.bytes then None else reads_on turn.bytes client)
+not_left_right tag text now p answers turn q client t e met right =
+    let only = only_done tag (response_text text) Go now answers turn e in
+    let last : q ≡ p = subst (λ (es : List Event). SeesAllMoments p es q) only.events met in
+    subst (λ (b : List ℕ). IsRightOnFlags q (if has_ok true tag b then None else reads_on b client)) (sym only.bytes)
+    (stays_right tag (tagged tag (response_text text)) q client (tagged_tells_nothing tag (response_text text) t (text_plain text)) (subst (λ (r : Point). IsRightOnFlags r client) (sym last) right))
+
 -- CLOSE or UNSELECT, where a mailbox is selected or none is
 pub closes_right : (tag words : List ℕ) (now : Standing) (p : Point) (remove : Selected → Bool) (selected : Option Selected) (answers : List Answer) (turn : Turn) (q : Point) (client : Option Client) → IsTag tag
     → has_ok true tag (tagged tag words) ≡ true → played tag now (on_found (λ s. Leave (remove s) (says words)) wrong_state selected) answers ≡ Some turn → SeesAllMoments p turn.events q → IsRightOnFlags p client
     → IsRightOnFlags q (if has_ok true tag turn.bytes then None else reads_on turn.bytes client)
-closes_right tag words now p remove None answers turn q client t ok e met right =
-    let only = only_done tag (response_text texts.WrongState) Go now answers turn e in
-    let last : q ≡ p = subst (λ (es : List Event). SeesAllMoments p es q) only.events met in
-    subst (λ (b : List ℕ). IsRightOnFlags q (if has_ok true tag b then None else reads_on b client)) (sym only.bytes)
-    (stays_right tag (tagged tag (response_text texts.WrongState)) q client
-    (tagged_tells_nothing tag (response_text texts.WrongState) t (text_plain texts.WrongState)) (subst (λ (r : Point). IsRightOnFlags r client) (sym last) right))
+closes_right tag words now p remove None answers turn q client t ok e met right = not_left_right tag texts.WrongState now p answers turn q client t e met right
 closes_right tag words now p remove (Some selected) answers turn q client t ok e met right = leaving_right tag words now p (remove selected) answers turn q client t ok e met right

@@ -7,7 +7,7 @@ use Rattle.imap_grammar.specs.declared.command.Command.{Command}
 use Rattle.imap_grammar.specs.declared.command.Command.TheVariants as commands
 use Rattle.imap_grammar.specs.declared.command.ImapFault.{ImapFault}
 use Rattle.imap_session.specs.Exchange.{Answer as StoreAnswer, Appending, Standing, Turn, kept_tag, kept_behind, may_send, played}
-use Rattle.imap_session.specs.Commands.{on_command, on_read, turn_behind, turn_of, turn_of_long_line, turn_while, with_bytes}
+use Rattle.imap_session.specs.Commands.{logged_in, on_command, on_read, says, turn_behind, turn_of, turn_of_long_line, turn_while, with_bytes}
 use Rattle.imap_session.specs.Store.{Met}
 use Rattle.laws_client.specs.Client.{Client}
 use Rattle.laws_client.specs.Commands.{MayAnswer, stays}
@@ -18,7 +18,10 @@ use Rattle.laws_client.proofs.Commands.{long_line_tells_nothing}
 use Rattle.laws_client.proofs.Tags.{Tagged, read_tagged}
 use Rattle.laws_client.proofs.Talking.{kept_is_tag, may_follow}
 use Rattle.laws_client.proofs.Turns.{the_turn}
-use Rattle.laws_client.specs.Clients.{Told, answered, asked, asked_by, hears, hears_all, reads_on}
+use Rattle.imap_session.proofs.Barring.{refuses}
+use Rattle.imap_session.specs.declared.texts.ResponseText.{ResponseText}
+use Rattle.laws_client.proofs.Barred.{asked_has, line_case, login_asks, refused_turn}
+use Rattle.laws_client.specs.Clients.{Asked, Told, answered, asked, asked_by, hears, hears_all, reads_on}
 use Rattle.laws_client.specs.Lives.{Lives, comes, turns, others}
 use Rattle.laws_client.specs.Sizes.{HasShortTexts, HasSmallNumbers}
 use Rattle.laws_client.specs.RecordTurns.{Stands, VerdictsArePrinted, told_line, told_of}
@@ -36,7 +39,7 @@ use Rattle.laws_client.specs.Views.{view_of}
 use Rattle.laws_client.proofs.FlagMoments.{SeesAllMoments, at_moments}
 use Rattle.laws_client.proofs.ToldAll.{HearsAll}
 use Rattle.laws_client.specs.Worlds.{IsRightOnFlags, LivesTellFlags, TurnsTellFlags, point_of}
-use Rattle.laws_client.proofs.FlagEntering.{closes_right, reads_right, selects_right}
+use Rattle.laws_client.proofs.FlagEntering.{closes_right, not_entered_right, not_left_right, reads_right, selects_right, still_right}
 use Rattle.laws_client.proofs.Idling.{idle_tells}
 use Rattle.laws_client.proofs.Saying.{answer_tells, verdict_tells}
 use Rattle.laws_client.proofs.Turning.{leaves, rests_in}
@@ -75,11 +78,22 @@ command_flags now p tag commands.Unselect answers turn q client stands t e sees 
     closes_right tag (response_text (texts.Completed verbs.Unselect)) now p (λ s. false) now.selected answers turn q client t (tagged_has tag (response_text (texts.Completed verbs.Unselect)) t) e sees right
 command_flags now p tag _ answers turn q client stands t e sees met right more = more refl
 
+-- a command that was refused
+refused_flags : (now : Standing) (p : Point) (tag : List ℕ) (command : Command) (text : ResponseText) (answers : List StoreAnswer) (turn : Turn) (q : Point) (client : Option Client)
+    → IsTag tag → refuses text ≡ true → played tag now (says (response_text text)) answers ≡ Some turn → SeesAllMoments p turn.events q → IsRightOnFlags p client → IsRightOnFlags q (answered (asked_by tag command) turn.bytes client)
+refused_flags now p tag command text answers turn q client t is e sees right =
+    asked_has (λ (a : Asked). IsRightOnFlags q (answered a turn.bytes client)) tag command (not_entered_right tag turn.bytes q (refused_turn tag text now answers turn t is e))
+    (not_left_right tag text now p answers turn q client t e sees right) (still_right tag text now p answers turn q client t e sees right)
+
 read_flags : (now : Standing) (p : Point) (r : Result (List ℕ × Command) ImapFault) (answers : List StoreAnswer) (turn : Turn) (q : Point) (client : Option Client)
     → Stands now → IsNumbered (counted p) → Tagged r → HasTold r → on_read now r answers ≡ Some turn → SeesAllMoments p turn.events q → HearsAll (counted p) turn.events (counted q) → IsRightOnFlags p client
     → (MayAnswer now (counted p) r → IsRightOnFlags q (reads_on turn.bytes client)) → IsRightOnFlags q (answered (asked r) turn.bytes client)
 read_flags now p (Ok line) answers turn q client stands numbered t told e sees met right more =
-    command_flags now p line.0 line.1 answers turn q client stands t e sees met right (λ stay. more (may_ask now (counted p) line.1 stands numbered told stay))
+    line_case (IsRightOnFlags q (answered (asked_by line.0 line.1) turn.bytes client)) now line.0 line.1 answers turn
+    (λ logs d. subst (λ (a : Asked). IsRightOnFlags q (answered a turn.bytes client)) (sym (login_asks now.login line.0 line.1 logs))
+    (still_right line.0 (texts.Completed verbs.Login) (logged_in now) p answers turn q client t d sees right))
+    (λ text is d. refused_flags now p line.0 line.1 text answers turn q client t is d sees right)
+    (λ d. command_flags now p line.0 line.1 answers turn q client stands t d sees met right (λ stay. more (may_ask now (counted p) line.1 stands numbered told stay))) e
 read_flags now p (Err fault) answers turn q client stands numbered t told e sees met right more = more tt
 
 -- ---- turns

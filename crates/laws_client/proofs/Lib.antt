@@ -29,6 +29,7 @@ pub mod Moved
 mod Folders
 pub mod Parts
 pub mod RecordEntering
+mod Barred
 pub mod RecordKnown
 pub mod Living
 pub mod RecordCurrent

@@ -14,6 +14,7 @@ use Rattle.laws_client.specs.ListTurns.{is_inner, IsPlain}
 use Rattle.laws_client.proofs.Bytes.{decimal_word, reads-append, words_are_inner}
 use Rattle.laws_client.proofs.LinesRead.{reads_exists}
 use Rattle.laws_client.proofs.Untold.{both_tell_nothing, inner_both, line_tells_nothing, name_tells_nothing}
+use Rattle.imap_answers.specs.declared.list.Listing.TheVariants.{All}
 
 -- as many messages as a view has, and nothing known of them
 unknown_all : (view : List ℕ) → Each IsOf view (more (length view))
@@ -67,13 +68,13 @@ next_told n h messages =
 
 -- the lines behind the number of messages
 abbrev pub behind : Bool → List ℕ → ℕ → ℕ → List ℕ
-behind read_only name validity next = validity_line validity ++ (next_line next ++ (permanent_line read_only ++ name_answer name))
+behind read_only name validity next = validity_line validity ++ (next_line next ++ (permanent_line read_only ++ name_answer All name))
 
 behind_told : (read_only : Bool) (name : List ℕ) (validity next : ℕ) → IsPlain name → validity < 2 ^ 64 → next < 2 ^ 64 → TellsNothing (behind read_only name validity next)
 behind_told read_only name validity next plain h k =
-    both_tell_nothing (validity_line validity) (next_line next ++ (permanent_line read_only ++ name_answer name)) (validity_told validity h)
-    (both_tell_nothing (next_line next) (permanent_line read_only ++ name_answer name) (next_told next k)
-    (both_tell_nothing (permanent_line read_only) (name_answer name) (permanent_told read_only) (name_tells_nothing name plain)))
+    both_tell_nothing (validity_line validity) (next_line next ++ (permanent_line read_only ++ name_answer All name)) (validity_told validity h)
+    (both_tell_nothing (next_line next) (permanent_line read_only ++ name_answer All name) (next_told next k)
+    (both_tell_nothing (permanent_line read_only) (name_answer All name) (permanent_told read_only) (name_tells_nothing All name plain)))
 
 -- the lines one behind the other, as they are written
 lines_shape : (a f b s c e t v u r n m p q w l name z : List ℕ)

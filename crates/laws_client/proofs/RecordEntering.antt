@@ -12,23 +12,25 @@ use Rattle.imap_session.specs.declared.standing.After.{After}
 use Rattle.imap_session.specs.declared.standing.After.TheVariants.{Go}
 use Rattle.imap_session.specs.declared.standing.Selected.{Selected}
 use Rattle.imap_session.specs.Exchange.{Answer, Entered, Left, Refused, Starved, Event, Exchange, Done, Write, Put, Enter, Leave, Folder, Standing, Turn, closed, having, played, refusal_after, refusal_text, refused, saying, tagged}
-use Rattle.imap_session.specs.Commands.{closing, entering, folder_of, on_folder, on_found, opened, says, selecting, wanting, wrong_state}
+use Rattle.imap_session.specs.Commands.{closing, entering, folder_of, on_folder, on_found, opened, says, selecting, telling_recent, wanting, wrong_state, entered_text}
 use Rattle.imap_answers.specs.Answers.{opening_text}
 use Rattle.laws_client.specs.Client.{Client, Known, fresh, more, reads, unknown}
 use Rattle.laws_client.specs.Beliefs.{Each, Follows, IsOf, Leads, TellsNothing}
 use Rattle.laws_client.specs.Commands.{AreNames}
 use Rattle.laws_client.specs.ListTurns.{is_inner, IsPlain, IsTag}
 use Rattle.laws_client.proofs.Bytes.{first_of, reads-append, rest_of}
-use Rattle.laws_client.proofs.Ends.{refusal_tells_nothing, tagged_tells_nothing}
+use Rattle.laws_client.proofs.Ends.{leaves, refusal_tells_nothing, tagged_tells_nothing}
 use Rattle.laws_client.proofs.Opening.{opening_told}
 use Rattle.laws_client.proofs.ToldAll.{HearsAll}
 use Rattle.laws_client.proofs.Turns.{the_turn, closed_silent, closed_quiet}
-use Rattle.laws_client.proofs.Untold.{folder_plain}
+use Rattle.laws_client.proofs.Untold.{both_tell_nothing, folder_plain}
 use Rattle.laws_client.specs.Clients.{IsRightAbout, begins, has_ok, reads_on}
 use Rattle.imap_session.specs.declared.texts.ResponseText.TheVariants as texts
 use Rattle.imap_session.specs.Texts.{response_text}
 use Rattle.imap_session.specs.declared.texts.ResponseText.{ResponseText}
 use Rattle.laws_client.proofs.TextRows.{text_plain}
+use Rattle.imap_session.specs.declared.standing.Profile.{Profile}
+use Rattle.imap_session.specs.declared.standing.Profile.TheVariants.{Standard, Compatible}
 
 -- ---- a tagged OK, or none
 
@@ -122,6 +124,26 @@ writes tag now bytes x (given ∷ more) turn e = wrote (given ∷ more) (mapped 
 
 -- ---- SELECT and EXAMINE
 
+-- what is told of recent messages, in this profile
+abbrev pub recent_line : Profile → List ℕ
+recent_line Standard = []
+recent_line Compatible = codes "* " ++ response_text texts.NoneRecent ++ codes "\r\n"
+
+pub recent_tells_nothing : (profile : Profile) → TellsNothing (recent_line profile)
+recent_tells_nothing Standard messages = refl
+recent_tells_nothing Compatible messages = refl
+
+-- it comes before the last line
+pub recent_done : (profile : Profile) (tag words : List ℕ) (now : Standing) (answers : List Answer) (turn : Turn) → played tag now (telling_recent profile (says words)) answers ≡ Some turn
+    → Only (recent_line profile ++ tagged tag words) turn
+recent_done Standard tag words now answers turn e = only_done tag words Go now answers turn e
+recent_done Compatible tag words now answers turn e =
+    let m = mapped (saying (recent_line Compatible)) (played tag now (says words) answers) turn e in
+    let d = only_done tag words Go now answers m.more m.is in record {
+      bytes = ap (λ (s : Turn). s.bytes) (sym m.makes) ∙ ap (λ (b : List ℕ). recent_line Compatible ++ b) d.bytes;
+      events = ap (λ (s : Turn). s.events) (sym m.makes) ∙ d.events;
+    }
+
 -- where these bytes have the tagged OK, a client with no messages reads them, and has a list of this view of which this holds
 abbrev pub IfOk : (ℕ → Known → Type 0) → List ℕ → List ℕ → List ℕ → Type 0
 IfOk P tag bytes view = has_ok true tag bytes ≡ true → Follows P [] bytes view
@@ -145,60 +167,56 @@ none_said P new tag bytes text view e none ok = absurd (false≢true (sym none �
 refused_none : (P : ℕ → Known → Type 0) (new : (u : ℕ) → P u unknown) (tag : List ℕ) (fault : MailFault) (turn : Turn) (view : List ℕ) → IsTag tag → Only (refusal_text tag fault) turn → IfOk P tag turn.bytes view
 refused_none P new tag fault turn view t only = none_said P new tag turn.bytes (refusal_text tag fault) view only.bytes (refusal_has_none tag fault t)
 
-then_tagged : (P : ℕ → Known → Type 0) (new : (u : ℕ) → P u unknown) (text tag words view : List ℕ) → IsTag tag → IsPlain words → Follows P [] text view → Follows P [] (text ++ tagged tag words) view
-then_tagged P new text tag words view t plain f = record {
+then_nothing : (P : ℕ → Known → Type 0) (new : (u : ℕ) → P u unknown) (text behind view : List ℕ) → TellsNothing behind → Follows P [] text view → Follows P [] (text ++ behind) view
+then_nothing P new text behind view nothing f = record {
   after = f.after;
-  reads = reads-append fresh text (tagged tag words) ∙ ap (λ (c : Client). reads c (tagged tag words)) f.reads ∙ tagged_tells_nothing tag words t plain (Some f.after);
+  reads = reads-append fresh text behind ∙ ap (λ (c : Client). reads c behind) f.reads ∙ nothing (Some f.after);
   each = f.each;
 }
 
--- what is told of a mailbox that was entered, and the line behind it
-opening_known : (P : ℕ → Known → Type 0) (new : (u : ℕ) → P u unknown) (tag : List ℕ) (now : Standing) (read_only : Bool) (name : List ℕ) (o : Opening) (answers : List Answer) (turn : Turn) (view : List ℕ) (text : ResponseText) → IsTag tag
-    → Follows P [] (opening_text read_only name o) view → played tag now (Put (opening_text read_only name o) (says (response_text text))) answers ≡ Some turn → IfOk P tag turn.bytes view × (turn.events ≡ [])
-opening_known P new tag now read_only name o answers turn view text t f e =
-    let m = mapped (saying (opening_text read_only name o)) (played tag now (says (response_text text)) answers) turn e in
-    let d = only_done tag (response_text text) Go now answers m.more m.is in
-    let bytes : turn.bytes ≡ opening_text read_only name o ++ tagged tag (response_text text) = ap (λ (s : Turn). s.bytes) (sym m.makes) ∙ ap (λ (b : List ℕ). opening_text read_only name o ++ b) d.bytes in
-    ((λ ok. subst (λ (b : List ℕ). Follows P [] b view) (sym bytes) (then_tagged P new (opening_text read_only name o) tag (response_text text) view t (text_plain text) f)), ap (λ (s : Turn). s.events) (sym m.makes) ∙ d.events)
-
-opened_known : (P : ℕ → Known → Type 0) (new : (u : ℕ) → P u unknown) (tag : List ℕ) (now : Standing) (read_only : Bool) (name : List ℕ) (o : Opening) (answers : List Answer) (turn : Turn) (view : List ℕ) → IsTag tag
-    → Follows P [] (opening_text read_only name o) view → played tag now (opened read_only name o) answers ≡ Some turn → IfOk P tag turn.bytes view × (turn.events ≡ [])
-opened_known P new tag now true name o answers turn view t f e =
-    opening_known P new tag now true name o answers turn view texts.ExamineCompleted t f e
-opened_known P new tag now false name o answers turn view t f e =
-    opening_known P new tag now false name o answers turn view texts.SelectCompleted t f e
+-- what is told of a mailbox that was entered, and the lines behind it
+opened_known : (P : ℕ → Known → Type 0) (new : (u : ℕ) → P u unknown) (tag : List ℕ) (now : Standing) (profile : Profile) (read_only : Bool) (name : List ℕ) (o : Opening) (answers : List Answer) (turn : Turn) (view : List ℕ) → IsTag tag
+    → Follows P [] (opening_text read_only name o) view → played tag now (opened profile read_only name o) answers ≡ Some turn → IfOk P tag turn.bytes view × (turn.events ≡ [])
+opened_known P new tag now profile read_only name o answers turn view t f e =
+    let text : ResponseText = entered_text read_only in
+    let m = mapped (saying (opening_text read_only name o)) (played tag now (telling_recent profile (says (response_text text))) answers) turn e in
+    let d = recent_done profile tag (response_text text) now answers m.more m.is in
+    let behind : List ℕ = recent_line profile ++ tagged tag (response_text text) in
+    let bytes : turn.bytes ≡ opening_text read_only name o ++ behind = ap (λ (s : Turn). s.bytes) (sym m.makes) ∙ ap (λ (b : List ℕ). opening_text read_only name o ++ b) d.bytes in
+    let nothing : TellsNothing behind = both_tell_nothing (recent_line profile) (tagged tag (response_text text)) (recent_tells_nothing profile) (tagged_tells_nothing tag (response_text text) t (text_plain text)) in
+    ((λ ok. subst (λ (b : List ℕ). Follows P [] b view) (sym bytes) (then_nothing P new (opening_text read_only name o) behind view nothing f)), ap (λ (s : Turn). s.events) (sym m.makes) ∙ d.events)
 
 -- a mailbox is entered
-enters_known : (P : ℕ → Known → Type 0) (new : (u : ℕ) → P u unknown) (tag : List ℕ) (now : Standing) (old : List ℕ) (read_only : Bool) (folder : Folder) (answers : List Answer) (turn : Turn) (view : List ℕ) → IsTag tag → IsPlain folder.name
-    → played tag now (entering read_only folder) answers ≡ Some turn → HearsAll old turn.events view → IfOk P tag turn.bytes view
-enters_known P new tag now old read_only folder [] turn view t plain e met = absurd (none-some turn e)
-enters_known P new tag now old read_only folder (Entered o ∷ more) turn view t plain e met =
+enters_known : (P : ℕ → Known → Type 0) (new : (u : ℕ) → P u unknown) (tag : List ℕ) (now : Standing) (old : List ℕ) (profile : Profile) (read_only : Bool) (folder : Folder) (answers : List Answer) (turn : Turn) (view : List ℕ) → IsTag tag → IsPlain folder.name
+    → played tag now (entering profile read_only folder) answers ≡ Some turn → HearsAll old turn.events view → IfOk P tag turn.bytes view
+enters_known P new tag now old profile read_only folder [] turn view t plain e met = absurd (none-some turn e)
+enters_known P new tag now old profile read_only folder (Entered o ∷ more) turn view t plain e met =
     let selected : Selected = record { mailbox = folder.mailbox; read_only = read_only } in
-    let m = mapped (having (Enter folder.mailbox) (Entered o)) (played tag (record now { selected = Some selected }) (opened read_only folder.name o) more) turn e in
+    let m = mapped (having (Enter folder.mailbox) (Entered o)) (played tag (record now { selected = Some selected }) (opened profile read_only folder.name o) more) turn e in
     let met1 : HearsAll old (record { call = Enter folder.mailbox; answer = Entered o } ∷ m.more.events) view = subst (λ (s : Turn). HearsAll old s.events view) (sym m.makes) met in
     let told = met1.2 in
     let f : Follows P [] (opening_text read_only folder.name o) met1.0 = opening_at P new read_only folder.name o met1.0 plain told.count told.few told.uidvalidity told.uidnext in
-    let known = opened_known P new tag (record now { selected = Some selected }) read_only folder.name o more m.more met1.0 t f m.is in
+    let known = opened_known P new tag (record now { selected = Some selected }) profile read_only folder.name o more m.more met1.0 t f m.is in
     let last : view ≡ met1.0 = subst (λ (es : List Event). HearsAll met1.0 es view) known.1 met1.3 in
     subst (λ (s : Turn). IfOk P tag s.bytes view) m.makes (subst (λ (u : List ℕ). IfOk P tag m.more.bytes u) (sym last) known.0)
-enters_known P new tag now old read_only folder (Refused fault ∷ []) turn view t plain e met =
+enters_known P new tag now old profile read_only folder (Refused fault ∷ []) turn view t plain e met =
     let m = mapped (having (Enter folder.mailbox) (Refused fault)) (Some (refused tag now fault)) turn e in
     subst (λ (s : Turn). IfOk P tag s.bytes view) m.makes (refused_none P new tag fault m.more view t (only_refused tag now fault m.more m.is))
-enters_known P new tag now old read_only folder (_ ∷ more) turn view t plain e met = absurd (none-some turn e)
+enters_known P new tag now old profile read_only folder (_ ∷ more) turn view t plain e met = absurd (none-some turn e)
 
 -- the mailbox is looked for
-named_known : (P : ℕ → Known → Type 0) (new : (u : ℕ) → P u unknown) (tag : List ℕ) (now : Standing) (old : List ℕ) (read_only : Bool) (name : List ℕ) (folders : List Folder) (answers : List Answer) (turn : Turn) (view : List ℕ)
-    → IsTag tag → AreNames folders → played tag now (on_folder name folders (entering read_only)) answers ≡ Some turn → HearsAll old turn.events view → IfOk P tag turn.bytes view
-named_known P new tag now old read_only name folders answers turn view t names e met = by (folder_of name folders) (folder_plain name folders names) e
+named_known : (P : ℕ → Known → Type 0) (new : (u : ℕ) → P u unknown) (tag : List ℕ) (now : Standing) (old : List ℕ) (profile : Profile) (read_only : Bool) (name : List ℕ) (folders : List Folder) (answers : List Answer) (turn : Turn) (view : List ℕ)
+    → IsTag tag → AreNames folders → played tag now (on_folder name folders (entering profile read_only)) answers ≡ Some turn → HearsAll old turn.events view → IfOk P tag turn.bytes view
+named_known P new tag now old profile read_only name folders answers turn view t names e met = by (folder_of name folders) (folder_plain name folders names) e
   where
     missing : List ℕ
     missing = response_text texts.NoSuchMailbox
 
-    by : (found : Option Folder) → IfSome found (λ f. IsPlain f.name) → played tag now (on_found (entering read_only) (says (response_text texts.NoSuchMailbox)) found) answers ≡ Some turn → IfOk P tag turn.bytes view
+    by : (found : Option Folder) → IfSome found (λ f. IsPlain f.name) → played tag now (on_found (entering profile read_only) (says (response_text texts.NoSuchMailbox)) found) answers ≡ Some turn → IfOk P tag turn.bytes view
     by None plain d =
         none_said P new tag turn.bytes (tagged tag (response_text texts.NoSuchMailbox)) view (only_done tag (response_text texts.NoSuchMailbox) Go now answers turn d).bytes
         (tagged_has tag (response_text texts.NoSuchMailbox) t)
-    by (Some folder) plain d = enters_known P new tag now old read_only folder answers turn view t plain d met
+    by (Some folder) plain d = enters_known P new tag now old profile read_only folder answers turn view t plain d met
 
 abbrev pub closed_line : List ℕ
 closed_line = codes "* " ++ response_text texts.PreviousClosed ++ codes "\r\n"
@@ -212,45 +230,49 @@ behind_closed P new tag bytes view t known ok =
     }
 
 -- memory is wanted, and the mailbox is looked for
-wanted_known : (P : ℕ → Known → Type 0) (new : (u : ℕ) → P u unknown) (tag : List ℕ) (now : Standing) (old : List ℕ) (read_only : Bool) (name : List ℕ) (folders : List Folder) (answers : List Answer) (turn : Turn) (view : List ℕ)
-    → IsTag tag → AreNames folders → played tag now (wanting (on_folder name folders (entering read_only))) answers ≡ Some turn → HearsAll old turn.events view → IfOk P tag turn.bytes view
-wanted_known P new tag now old read_only name folders answers turn view t names e met = by (writes tag now [] (on_folder name folders (entering read_only)) answers turn e)
+wanted_known : (P : ℕ → Known → Type 0) (new : (u : ℕ) → P u unknown) (tag : List ℕ) (now : Standing) (old : List ℕ) (profile : Profile) (read_only : Bool) (name : List ℕ) (folders : List Folder) (answers : List Answer) (turn : Turn) (view : List ℕ)
+    → IsTag tag → AreNames folders → played tag now (wanting (on_folder name folders (entering profile read_only))) answers ≡ Some turn → HearsAll old turn.events view → IfOk P tag turn.bytes view
+wanted_known P new tag now old profile read_only name folders answers turn view t names e met = by (writes tag now [] (on_folder name folders (entering profile read_only)) answers turn e)
   where
-    by : Wrote tag now [] (on_folder name folders (entering read_only)) turn → IfOk P tag turn.bytes view
+    by : Wrote tag now [] (on_folder name folders (entering profile read_only)) turn → IfOk P tag turn.bytes view
     by (wanted only stays) = refused_none P new tag NoMemory turn view t only
     by (wrote others p) =
         subst (λ (s : Turn). IfOk P tag s.bytes view) p.makes
-        (named_known P new tag now old read_only name folders others p.more view t names p.is (subst (λ (s : Turn). HearsAll old s.events view) (sym p.makes) met))
+        (named_known P new tag now old profile read_only name folders others p.more view t names p.is (subst (λ (s : Turn). HearsAll old s.events view) (sym p.makes) met))
 
 -- the mailbox that was selected is left first
-closing_known : (P : ℕ → Known → Type 0) (new : (u : ℕ) → P u unknown) (tag : List ℕ) (now : Standing) (old : List ℕ) (read_only : Bool) (name : List ℕ) (folders : List Folder) (selected : Option Selected) (answers : List Answer) (turn : Turn) (view : List ℕ)
+closing_known : (P : ℕ → Known → Type 0) (new : (u : ℕ) → P u unknown) (tag : List ℕ) (now : Standing) (old : List ℕ) (profile : Profile) (read_only : Bool) (name : List ℕ) (folders : List Folder) (selected : Option Selected) (answers : List Answer) (turn : Turn) (view : List ℕ)
     → IsTag tag → AreNames folders
-    → played tag now (closing selected (wanting (on_folder name folders (entering read_only)))) answers ≡ Some turn → HearsAll old turn.events view → IfOk P tag turn.bytes view
-closing_known P new tag now old read_only name folders None answers turn view t names e met = wanted_known P new tag now old read_only name folders answers turn view t names e met
-closing_known P new tag now old read_only name folders (Some selected) [] turn view t names e met = absurd (none-some turn e)
-closing_known P new tag now old read_only name folders (Some selected) (Left gone ∷ more) turn view t names e met =
+    → played tag now (closing selected (wanting (on_folder name folders (entering profile read_only)))) answers ≡ Some turn → HearsAll old turn.events view → IfOk P tag turn.bytes view
+closing_known P new tag now old profile read_only name folders None answers turn view t names e met = wanted_known P new tag now old profile read_only name folders answers turn view t names e met
+closing_known P new tag now old profile read_only name folders (Some selected) [] turn view t names e met = absurd (none-some turn e)
+closing_known P new tag now old profile read_only name folders (Some selected) (Left gone ∷ more) turn view t names e met =
     let next : Standing = record now { selected = None } in
-    let tail : Exchange = wanting (on_folder name folders (entering read_only)) in
+    let tail : Exchange = wanting (on_folder name folders (entering profile read_only)) in
     let m = mapped (having (Leave false) (Left gone)) (played tag next (Put closed_line tail) more) turn e in
     let met1 : HearsAll old (record { call = Leave false; answer = Left gone } ∷ m.more.events) view = subst (λ (s : Turn). HearsAll old s.events view) (sym m.makes) met in
     let p = mapped (saying closed_line) (played tag next tail more) m.more m.is in
     let met2 : HearsAll met1.0 p.more.events view = subst (λ (s : Turn). HearsAll met1.0 s.events view) (sym p.makes) met1.3 in
     subst (λ (s : Turn). IfOk P tag s.bytes view) m.makes
     (subst (λ (s : Turn). IfOk P tag s.bytes view) p.makes
-    (behind_closed P new tag p.more.bytes view t (wanted_known P new tag next met1.0 read_only name folders more p.more view t names p.is met2)))
-closing_known P new tag now old read_only name folders (Some selected) (Refused fault ∷ []) turn view t names e met =
+    (behind_closed P new tag p.more.bytes view t (wanted_known P new tag next met1.0 profile read_only name folders more p.more view t names p.is met2)))
+closing_known P new tag now old profile read_only name folders (Some selected) (Refused fault ∷ []) turn view t names e met =
     let m = mapped (having (Leave false) (Refused fault)) (Some (refused tag now fault)) turn e in
     subst (λ (s : Turn). IfOk P tag s.bytes view) m.makes (refused_none P new tag fault m.more view t (only_refused tag now fault m.more m.is))
-closing_known P new tag now old read_only name folders (Some selected) (_ ∷ more) turn view t names e met = absurd (none-some turn e)
+closing_known P new tag now old profile read_only name folders (Some selected) (_ ∷ more) turn view t names e met = absurd (none-some turn e)
 
 pub selecting_known : (P : ℕ → Known → Type 0) (new : (u : ℕ) → P u unknown) (tag : List ℕ) (now : Standing) (old : List ℕ) (read_only : Bool) (name : List ℕ) (answers : List Answer) (turn : Turn) (view : List ℕ)
     → IsTag tag → AreNames now.folders
-    → played tag now (selecting now read_only name) answers ≡ Some turn → HearsAll old turn.events view → IfOk P tag turn.bytes view
-selecting_known P new tag now old read_only name answers turn view t names e met = closing_known P new tag now old read_only name now.folders now.selected answers turn view t names e met
+    → played tag now (selecting now.profile now.folders now.selected read_only name) answers ≡ Some turn → HearsAll old turn.events view → IfOk P tag turn.bytes view
+selecting_known P new tag now old read_only name answers turn view t names e met = closing_known P new tag now old now.profile read_only name now.folders now.selected answers turn view t names e met
 
 pub selected_known : (tag : List ℕ) (now : Standing) (old : List ℕ) (read_only : Bool) (name : List ℕ) (answers : List Answer) (turn : Turn) (view : List ℕ) → IsTag tag → AreNames now.folders
-    → played tag now (selecting now read_only name) answers ≡ Some turn → HearsAll old turn.events view → IfOk IsOf tag turn.bytes view
+    → played tag now (selecting now.profile now.folders now.selected read_only name) answers ≡ Some turn → HearsAll old turn.events view → IfOk IsOf tag turn.bytes view
 selected_known tag now old read_only name answers turn view t names e met = selecting_known IsOf (λ u n is. absurd (none-some n is)) tag now old read_only name answers turn view t names e met
+
+-- a client that asked for a mailbox, and was told no OK
+pub not_entered_right : (tag bytes view : List ℕ) → has_ok true tag bytes ≡ false → IsRightAbout view (if has_ok true tag bytes then Some (reads fresh bytes) else None)
+not_entered_right tag bytes view none = rw none tt
 
 -- a client that asked for a mailbox
 pub entering_right : (tag bytes view : List ℕ) → IfOk IsOf tag bytes view → IsRightAbout view (if has_ok true tag bytes then Some (reads fresh bytes) else None)
@@ -304,14 +326,27 @@ leaving_right tag words now old remove (Refused fault ∷ []) turn new client t 
     (stays_right tag (refusal_text tag fault) new client (refusal_tells_nothing tag fault t) (same_view old new client (last ∙ met1.1.leads) right))
 leaving_right tag words now old remove (_ ∷ more) turn new client t ok e met right = absurd (none-some turn e)
 
+-- a client that reads on behind a line with this text alone
+pub still_right : (tag : List ℕ) (text : ResponseText) (now : Standing) (old : List ℕ) (answers : List Answer) (turn : Turn) (new : List ℕ) (client : Option Client) → IsTag tag
+    → played tag now (says (response_text text)) answers ≡ Some turn → HearsAll old turn.events new → IsRightAbout old client → IsRightAbout new (reads_on turn.bytes client)
+still_right tag text now old answers turn new client t e met right =
+    let only = only_done tag (response_text text) Go now answers turn e in
+    let last : new ≡ old = subst (λ (es : List Event). HearsAll old es new) only.events met in
+    subst (λ (b : List ℕ). IsRightAbout new (reads_on b client)) (sym only.bytes)
+    (reads_right new (tagged tag (response_text text)) new client (leaves new _ (tagged_tells_nothing tag (response_text text) t (text_plain text))) (same_view old new client last right))
+
+-- it was refused
+pub not_left_right : (tag : List ℕ) (text : ResponseText) (now : Standing) (old : List ℕ) (answers : List Answer) (turn : Turn) (new : List ℕ) (client : Option Client) → IsTag tag
+    → played tag now (says (response_text text)) answers ≡ Some turn → HearsAll old turn.events new → IsRightAbout old client → IsRightAbout new (if has_ok true tag turn.bytes then None else reads_on turn.bytes client)
+not_left_right tag text now old answers turn new client t e met right =
+    let only = only_done tag (response_text text) Go now answers turn e in
+    let last : new ≡ old = subst (λ (es : List Event). HearsAll old es new) only.events met in
+    subst (λ (b : List ℕ). IsRightAbout new (if has_ok true tag b then None else reads_on b client)) (sym only.bytes)
+    (stays_right tag (tagged tag (response_text text)) new client (tagged_tells_nothing tag (response_text text) t (text_plain text)) (same_view old new client last right))
+
 -- CLOSE or UNSELECT, where a mailbox is selected or none is
 pub closes_right : (tag words : List ℕ) (now : Standing) (old : List ℕ) (remove : Selected → Bool) (selected : Option Selected) (answers : List Answer) (turn : Turn) (new : List ℕ) (client : Option Client) → IsTag tag
     → has_ok true tag (tagged tag words) ≡ true → played tag now (on_found (λ s. Leave (remove s) (says words)) wrong_state selected) answers ≡ Some turn → HearsAll old turn.events new → IsRightAbout old client
     → IsRightAbout new (if has_ok true tag turn.bytes then None else reads_on turn.bytes client)
-closes_right tag words now old remove None answers turn new client t ok e met right =
-    let only = only_done tag (response_text texts.WrongState) Go now answers turn e in
-    let last : new ≡ old = subst (λ (es : List Event). HearsAll old es new) only.events met in
-    subst (λ (b : List ℕ). IsRightAbout new (if has_ok true tag b then None else reads_on b client)) (sym only.bytes)
-    (stays_right tag (tagged tag (response_text texts.WrongState)) new client
-    (tagged_tells_nothing tag (response_text texts.WrongState) t (text_plain texts.WrongState)) (same_view old new client last right))
+closes_right tag words now old remove None answers turn new client t ok e met right = not_left_right tag texts.WrongState now old answers turn new client t e met right
 closes_right tag words now old remove (Some selected) answers turn new client t ok e met right = leaving_right tag words now old (remove selected) answers turn new client t ok e met right

@@ -7,7 +7,7 @@ use Rattle.imap_grammar.specs.declared.command.Command.{Command}
 use Rattle.imap_grammar.specs.declared.command.Command.TheVariants as commands
 use Rattle.imap_grammar.specs.declared.command.ImapFault.{ImapFault}
 use Rattle.imap_session.specs.Exchange.{Answer as StoreAnswer, Appending, Standing, Folder, Turn, is_idling, kept_tag, kept_behind, played}
-use Rattle.imap_session.specs.Commands.{on_command, on_read, turn_behind, turn_of, turn_while}
+use Rattle.imap_session.specs.Commands.{logged_in, on_command, on_read, says, turn_behind, turn_of, turn_while}
 use Rattle.imap_session.specs.Store.{Met}
 use Rattle.laws_client.specs.Client.{Client}
 use Rattle.laws_client.specs.Commands.{AreNames, HasToldParts, MayAnswer, MayAsk, stays}
@@ -16,11 +16,14 @@ use Rattle.laws_client.specs.Talks.{Happening, Line, LongLine, Turned, Literal, 
 use Rattle.laws_client.specs.ListTurns.{IsTag}
 use Rattle.laws_client.proofs.Tags.{Tagged, read_tagged}
 use Rattle.laws_client.proofs.Talking.{happening_follows, happening_keeps}
-use Rattle.laws_client.specs.Clients.{IsRightAbout, asked, asked_by, answered, hears, reads_on}
+use Rattle.laws_client.specs.Clients.{Asked, IsRightAbout, asked, asked_by, answered, hears, reads_on}
+use Rattle.imap_session.proofs.Barring.{refuses}
+use Rattle.imap_session.specs.declared.texts.ResponseText.{ResponseText}
+use Rattle.laws_client.proofs.Barred.{asked_has, line_case, login_asks, refused_turn}
 use Rattle.laws_client.specs.Sizes.{HasShortTexts, HasSmallNumbers}
 use Rattle.laws_client.specs.RecordTurns.{Stands, StandsStill, TurnIsKnown, VerdictsArePrinted, told_line, told_of}
 use Rattle.laws_client.specs.Views.{view_of}
-use Rattle.laws_client.proofs.RecordEntering.{closes_right, entering_right, reads_right, selected_known, tagged_has}
+use Rattle.laws_client.proofs.RecordEntering.{closes_right, entering_right, not_entered_right, not_left_right, reads_right, selected_known, still_right, tagged_has}
 use Rattle.laws_client.proofs.Folders.{idle_folders, line_folders, the_turn, verdict_folders}
 use Rattle.laws_client.proofs.Moved.{Calls, hears_world}
 use Rattle.laws_client.proofs.ToldAll.{HearsAll, sees_of}
@@ -48,11 +51,22 @@ command_known now old tag commands.Unselect answers turn new client stands t e m
     closes_right tag (response_text (texts.Completed verbs.Unselect)) now old (λ s. false) now.selected answers turn new client t (tagged_has tag (response_text (texts.Completed verbs.Unselect)) t) e met right
 command_known now old tag _ answers turn new client stands t e met right more = more refl
 
+-- a command that was refused
+refused_known : (now : Standing) (old : List ℕ) (tag : List ℕ) (command : Command) (text : ResponseText) (answers : List StoreAnswer) (turn : Turn) (new : List ℕ) (client : Option Client)
+    → IsTag tag → refuses text ≡ true → played tag now (says (response_text text)) answers ≡ Some turn → HearsAll old turn.events new → IsRightAbout old client → IsRightAbout new (answered (asked_by tag command) turn.bytes client)
+refused_known now old tag command text answers turn new client t is e met right =
+    asked_has (λ (a : Asked). IsRightAbout new (answered a turn.bytes client)) tag command (not_entered_right tag turn.bytes new (refused_turn tag text now answers turn t is e))
+    (not_left_right tag text now old answers turn new client t e met right) (still_right tag text now old answers turn new client t e met right)
+
 read_known : (now : Standing) (old : List ℕ) (r : Result (List ℕ × Command) ImapFault) (answers : List StoreAnswer) (turn : Turn) (new : List ℕ) (client : Option Client)
     → Stands now → IsNumbered old → Tagged r → HasTold r → on_read now r answers ≡ Some turn → HearsAll old turn.events new → IsRightAbout old client
     → (MayAnswer now old r → IsRightAbout new (reads_on turn.bytes client)) → IsRightAbout new (answered (asked r) turn.bytes client)
 read_known now old (Ok line) answers turn new client stands numbered t told e met right more =
-    command_known now old line.0 line.1 answers turn new client stands t e met right (λ stay. more (may_ask now old line.1 stands numbered told stay))
+    line_case (IsRightAbout new (answered (asked_by line.0 line.1) turn.bytes client)) now line.0 line.1 answers turn
+    (λ logs d. subst (λ (a : Asked). IsRightAbout new (answered a turn.bytes client)) (sym (login_asks now.login line.0 line.1 logs))
+    (still_right line.0 (texts.Completed verbs.Login) (logged_in now) old answers turn new client t d met right))
+    (λ text is d. refused_known now old line.0 line.1 text answers turn new client t is d met right)
+    (λ d. command_known now old line.0 line.1 answers turn new client stands t d met right (λ stay. more (may_ask now old line.1 stands numbered told stay))) e
 read_known now old (Err fault) answers turn new client stands numbered t told e met right more = more tt
 
 -- ---- turns

@@ -1,5 +1,5 @@
 -- The answers to lines that a client sends, and what they tell of flags.
-use Rattle.std.proofs.Common.{◌≡◌, ℕ, ◌+◌, ◌<◌, ◌^◌, ◌==◌, length, sym, subst, ◌∙◌, Bool, true, false, List, [], ◌∷◌, refl}
+use Rattle.std.proofs.Common.{◌≡◌, ℕ, ◌+◌, ◌<◌, ◌^◌, ◌==◌, length, map, sym, subst, ◌∙◌, Bool, true, false, List, [], ◌∷◌, refl}
 use Rattle.std.specs.Prelude.{Option, Some, None, Result, Ok, Err, IfSome, nat_le, nat_lt, ◌&&◌, not, if◌then◌else◌}
 use Rattle.std.specs.List.{list_any}
 use Rattle.std.proofs.lemmas.Bool.{false≢true}
@@ -8,7 +8,9 @@ use Rattle.change_ring.specs.declared.change.Flags.{Flags}
 use Rattle.cursor_set.specs.Lines.{flag_words, position}
 use Rattle.mailbox.specs.declared.clients.Row.{Row}
 use Rattle.imap_grammar.specs.Items.{marks_seen}
-use Rattle.imap_answers.specs.Answers.{row_answer, flags_answer}
+use Rattle.imap_answers.specs.Answers.{row_answer, flags_answer, list_answer}
+use Rattle.imap_answers.specs.declared.list.Listing.{Listing}
+use Rattle.imap_answers.specs.declared.list.Listing.TheVariants.{All, Subscribed}
 use Rattle.imap_grammar.specs.Reading.{read, is_done}
 use Rattle.imap_grammar.specs.Sets.{named_in}
 use Rattle.imap_grammar.specs.Verbs.{verb_of}
@@ -25,11 +27,11 @@ use Rattle.imap_grammar.specs.declared.command.ImapFault.{ImapFault}
 use Rattle.imap_session.specs.declared.standing.After.TheVariants.{Go}
 use Rattle.imap_session.specs.declared.standing.Selected.{Selected}
 use Rattle.imap_session.specs.Exchange.{Alter, Altered, Answer, Appending, Exchange, Expunge, Feed, Folder, ForNothing, ForVerdict, Found, Mailing, Read, Sent, Standing, Turn, Wait, Write, bye, kept_behind, kept_tag}
-use Rattle.imap_session.specs.Commands.{turn_of, turn_of_verdict, appended_words, appending, last_number, most_unasked, nowhere, number_named, on_rest, on_text, on_verdict, is_over, over, turn_behind, turn_with, wanting, wanting_for, without_begun, without_sent, completed, counting, expunge_set, fault_text, fetch_messages, fetched, fetching, folder_of, in_selected, in_writable, messages_done, on_chosen, on_command, on_found, on_idle_line, on_read, on_set, only_says, says, showing, store_messages, stored, storing, turn_while, unlimited, wrong_state, asking, coming, refused_text}
+use Rattle.imap_session.specs.Commands.{turn_of, turn_of_verdict, appended_words, appending, last_number, most_unasked, nowhere, number_named, on_rest, on_text, on_verdict, is_over, over, turn_behind, turn_with, wanting, wanting_for, without_begun, without_sent, completed, counting, expunge_set, fault_text, fetch_messages, fetched, fetching, folder_of, in_selected, in_writable, messages_done, on_chosen, on_command, on_found, on_idle_line, on_read, on_set, only_says, says, showing, store_messages, stored, storing, subscribing, turn_while, unlimited, wrong_state, asking, coming, logged_in, login_completed, refused_text}
 use Rattle.laws_client.specs.ListTurns.{IsPlain, IsTag}
 use Rattle.laws_client.specs.Fetches.{AreToldParts, IsNumbered}
 use Rattle.laws_client.specs.Commands.{AreNames, IsFollowed, IsPrinted, MayAnswer, MayAsk}
-use Rattle.laws_client.proofs.Commands.{fault_tells_nothing, stored_plain}
+use Rattle.laws_client.proofs.Commands.{capable_tells_nothing, fault_tells_nothing, stored_plain}
 use Rattle.laws_client.proofs.Each.{IsIn}
 use Rattle.laws_client.proofs.Ends.{refusal_tells_nothing, tagged_tells_nothing}
 use Rattle.laws_client.proofs.Chosen.{AreIn, named_are_in, small_in}
@@ -47,6 +49,7 @@ use Rattle.imap_session.specs.Texts.{response_text}
 use Rattle.imap_grammar.specs.declared.command.Verb.TheVariants as verbs
 use Rattle.imap_session.specs.declared.texts.ResponseText.{ResponseText}
 use Rattle.laws_client.proofs.TextRows.{text_plain}
+use Rattle.laws_client.proofs.Barred.{line_case}
 
 pub refusals : (tag : List ℕ) → IsTag tag → Refusals tag
 refusals tag t p fault = leaves p _ (refusal_tells_nothing tag fault t)
@@ -174,19 +177,27 @@ selected_says : (tag : List ℕ) (p : Point) (selected : Option Selected) (now :
 selected_says tag p None now next e t h = rw e (wrong tag p t)
 selected_says tag p (Some selected) now next e t h = rw e (h selected)
 
--- ---- LIST and STATUS
+-- ---- LIST, LSUB, SUBSCRIBE, UNSUBSCRIBE and STATUS
 
-list_says : (tag : List ℕ) (p : Point) (now : Standing) (reference pattern : List ℕ) → IsTag tag → AreNames now.folders → SaysFlags tag p (on_command now (commands.List reference pattern))
-list_says tag p now reference pattern t names = (
-  leaves p _ (list_tells_nothing reference pattern now.folders names),
-  shows_then tag p now.selected (completed (commands.List reference pattern)) (λ q. last tag q (texts.Completed verbs.List) t),
+list_says : (tag : List ℕ) (p : Point) (now : Standing) (listing : Listing) (reference pattern : List ℕ) (command : Command) → IsTag tag → AreNames now.folders
+    → SaysFlags tag p (Write (list_answer listing reference pattern (map (λ (folder : Folder). folder.name) now.folders)) (showing now.selected (completed command)))
+list_says tag p now listing reference pattern command t names = (
+  leaves p _ (list_tells_nothing listing reference pattern now.folders names),
+  shows_then tag p now.selected (completed command) (λ q. last tag q (texts.Completed (verb_of command)) t),
 )
+
+subscribing_says : (tag : List ℕ) (p : Point) (folders : List Folder) (name : List ℕ) (command : Command) → IsTag tag → SaysFlags tag p (wanting (subscribing folders name command))
+subscribing_says tag p folders name command t = (leaves p [] (λ messages. refl), by (folder_of name folders))
+  where
+    by : (folder : Option Folder) → SaysFlags tag p (on_found (λ (f : Folder). completed command) (says (response_text texts.NoSuchMailbox)) folder)
+    by None = last tag p texts.NoSuchMailbox t
+    by (Some folder) = last tag p (texts.Completed (verb_of command)) t
 
 status_says : (tag : List ℕ) (p : Point) (now : Standing) (name : List ℕ) (items : List StatusItem) → IsTag tag → AreNames now.folders → SaysFlags tag p (on_command now (commands.Status name items))
 status_says tag p now name items t names = (leaves p [] (λ messages. refl), by (folder_of name now.folders) (folder_plain name now.folders names))
   where
     by : (folder : Option Folder) → IfSome folder (λ f. IsPlain f.name)
-        → SaysFlags tag p (on_found (counting now name items) (says (response_text texts.NoSuchMailbox)) folder)
+        → SaysFlags tag p (on_found (counting now.selected name items) (says (response_text texts.NoSuchMailbox)) folder)
     by None plain = last tag p texts.NoSuchMailbox t
     by (Some folder) plain = λ status r s. (
       leaves r _ (status_tells_nothing folder.name items status plain s.sees.fits),
@@ -261,12 +272,16 @@ command_says tag p now commands.Noop t may =
 command_says tag p now commands.Logout t may =
     (leaves p _ (λ messages. refl), leaves p _ (tagged_tells_nothing tag (response_text (texts.Completed verbs.Logout)) t (text_plain (texts.Completed verbs.Logout))))
 command_says tag p now commands.Idle t may = leaves p _ (λ messages. refl)
-command_says tag p now commands.Login t may = wrong tag p t
+command_says tag p now (commands.Login user password) t may = wrong tag p t
 command_says tag p now commands.Authenticate t may = wrong tag p t
 command_says tag p now commands.StartTls t may = wrong tag p t
 command_says tag p now (commands.Select name) t may = absurd (false≢true may.stays)
 command_says tag p now (commands.Examine name) t may = absurd (false≢true may.stays)
-command_says tag p now (commands.List reference pattern) t may = list_says tag p now reference pattern t may.names
+command_says tag p now (commands.List reference pattern) t may = list_says tag p now All reference pattern (commands.List reference pattern) t may.names
+command_says tag p now (commands.Lsub reference pattern) t may = list_says tag p now Subscribed reference pattern (commands.Lsub reference pattern) t may.names
+command_says tag p now (commands.Subscribe name) t may = subscribing_says tag p now.folders name (commands.Subscribe name) t
+command_says tag p now (commands.Unsubscribe name) t may = subscribing_says tag p now.folders name (commands.Unsubscribe name) t
+command_says tag p now commands.Check t may = shows_then tag p now.selected (completed commands.Check) (λ q. last tag q (texts.Completed verbs.Check) t)
 command_says tag p now (commands.Status name items) t may = status_says tag p now name items t may.names
 command_says tag p now commands.Close t may = absurd (false≢true may.stays)
 command_says tag p now commands.Unselect t may = absurd (false≢true may.stays)
@@ -275,19 +290,23 @@ command_says tag p now (commands.UidExpunge set) t may = writable tag p now.sele
 command_says tag p now (commands.Fetch fetch) t may = selected_says tag p now.selected now (fetch_messages fetch) refl t (λ selected. fetch_says tag p fetch selected t may.parts may.numbered)
 command_says tag p now (commands.Store store) t may = writable tag p now.selected now (store_messages store) refl t (store_says tag p store t may.numbered)
 command_says tag p now (commands.Append append) t may = append_says tag p now.mailing.most now.folders append t
-command_says tag p now command t may = (leaves p _ (λ messages. refl), last tag p (texts.Completed (verb_of command)) t)
+command_says tag p now commands.Capability t may = (leaves p _ (capable_tells_nothing now.profile), last tag p (texts.Completed verbs.Capability) t)
+command_says tag p now commands.Namespace t may = (leaves p _ (λ messages. refl), last tag p (texts.Completed verbs.Namespace) t)
 
 -- ---- lines that are no commands
 
 fault_follows : (now : Standing) (fault : ImapFault) (p : Point) (answers : List Answer) (turn : Turn) (q : Point)
-    → Tagged (Err fault) → only_says (fault_text fault) now answers ≡ Some turn → SeesAllMoments p turn.events q → LeadsFlags p turn.bytes q
-fault_follows now fault p [] turn q t e sees = ends p now (fault_text fault) Go turn q e (leaves p _ (fault_tells_nothing fault t)) sees
+    → Tagged (Err fault) → only_says (fault_text now.profile fault) now answers ≡ Some turn → SeesAllMoments p turn.events q → LeadsFlags p turn.bytes q
+fault_follows now fault p [] turn q t e sees = ends p now (fault_text now.profile fault) Go turn q e (leaves p _ (fault_tells_nothing now.profile fault t)) sees
 fault_follows now fault p (answer ∷ more) turn q t e sees = absurd (none-some turn e)
 
 read_follows : (now : Standing) (r : Result (List ℕ × Command) ImapFault) (p : Point) (answers : List Answer) (turn : Turn) (q : Point)
     → Tagged r → MayAnswer now (counted p) r → on_read now r answers ≡ Some turn → SeesAllMoments p turn.events q → LeadsFlags p turn.bytes q
 read_follows now (Ok line) p answers turn q t h e sees =
-    turn_tells line.0 (refusals line.0 t) p now (on_command now line.1) answers turn q e (command_says line.0 p now line.1 t h) sees
+    line_case (LeadsFlags p turn.bytes q) now line.0 line.1 answers turn
+    (λ logs d. turn_tells line.0 (refusals line.0 t) p (logged_in now) login_completed answers turn q d (last line.0 p (texts.Completed verbs.Login) t) sees)
+    (λ text is d. turn_tells line.0 (refusals line.0 t) p now (says (response_text text)) answers turn q d (last line.0 p text t) sees)
+    (λ d. turn_tells line.0 (refusals line.0 t) p now (on_command now line.1) answers turn q d (command_says line.0 p now line.1 t h) sees) e
 read_follows now (Err fault) p answers turn q t h e sees = fault_follows now fault p answers turn q t e sees
 
 -- ---- the line that ends an IDLE

@@ -15,7 +15,7 @@ use Rattle.imap_session.specs.declared.standing.After.TheVariants as afters
 use Rattle.imap_session.specs.declared.standing.Selected.{Selected}
 use Rattle.imap_session.specs.Exchange.{Answer, Entered, Looked, Found, Counted, Altered, Expunged, Fed, Left, Refused, Starved, Exchange, ForDone, ForLiteral, ForVerdict, ForNothing, Done, Wait, Write, Put, Enter, Look, Read, Count, Alter, Expunge, Feed, Leave, Standing, Turn, Appending, Sent, Waiting, closed, having, played, refusal_after, refusal_text, refused, saying, tagged, waiting, Folder, Mailing, kept_behind, kept_tag, is_idling, unkept, bye}
 use Rattle.imap_session.proofs.Unkept.{unkept_by}
-use Rattle.imap_session.specs.Commands.{idle_turn_in, turn_of, fault_text, on_command, on_idle_line, on_read, on_rest, on_verdict, only_says, turn_behind, turn_while, turn_with, without_begun, without_sent, appending, closing, completed, counting, entering, expunge_set, fetch_messages, fetched, fetching, folder_of, if_writable, in_writable, is_over, last_number, messages_done, most_unasked, nowhere, number_named, on_chosen, on_folder, on_found, on_set, on_text, over, says, selecting, showing, store_messages, stored, storing, unlimited, wanting, wanting_for, wrong_state, opened, asking, coming}
+use Rattle.imap_session.specs.Commands.{idle_turn_in, turn_of, fault_text, on_command, on_idle_line, on_read, on_rest, on_verdict, only_says, turn_behind, turn_while, turn_with, without_begun, without_sent, appending, closing, completed, counting, entering, expunge_set, fetch_messages, fetched, fetching, folder_of, if_writable, in_writable, is_over, last_number, messages_done, most_unasked, nowhere, number_named, on_chosen, on_folder, on_found, on_set, on_text, over, says, selecting, showing, store_messages, stored, storing, unlimited, wanting, wanting_for, wrong_state, opened, asking, coming, logged_in, login_completed, subscribing, telling_recent, entered_text}
 use Rattle.delivery_token.specs.declared.Verdict.{Verdict}
 use Rattle.std.specs.List.{list_any}
 use Rattle.change_ring.specs.declared.change.Flags.{Flags}
@@ -36,7 +36,7 @@ use Rattle.laws_client.specs.ListTurns.{IsTag}
 use Rattle.laws_client.specs.Talks.{Happening, Line, LongLine, Turned, Literal, Heard, leads_to}
 use Rattle.laws_client.proofs.Tags.{Tagged, read_tagged}
 use Rattle.world.specs.World.{Config, World}
-use Rattle.laws_client.specs.Clients.{Told, answered, asked, asked_by, has_ok, hears, hears_all, reads_on}
+use Rattle.laws_client.specs.Clients.{Asked, Told, answered, asked, asked_by, has_ok, hears, hears_all, reads_on}
 use Rattle.laws_client.specs.Lives.{Lives, comes, turns, others}
 use Rattle.laws_client.specs.Selecting.{KnowingIsSelected, Known_selected}
 use Rattle.laws_client.specs.RecordTurns.{told_line, told_of}
@@ -45,6 +45,11 @@ use Rattle.laws_client.proofs.Living.{hears_last}
 use Rattle.imap_session.specs.declared.texts.ResponseText.TheVariants as texts
 use Rattle.imap_session.specs.Texts.{response_text}
 use Rattle.imap_grammar.specs.declared.command.Verb.TheVariants as verbs
+use Rattle.imap_session.specs.declared.standing.Profile.{Profile}
+use Rattle.imap_session.specs.declared.standing.Profile.TheVariants.{Standard, Compatible}
+use Rattle.imap_session.proofs.Barring.{refuses}
+use Rattle.imap_session.specs.declared.texts.ResponseText.{ResponseText}
+use Rattle.laws_client.proofs.Barred.{asked_has, line_case, login_asks, refused_turn}
 
 -- no mailbox is entered or left
 abbrev pub StaysIn : Exchange → Type 0
@@ -142,6 +147,10 @@ in_showing : (selected : Option Selected) (x : Exchange) → StaysIn x → Stays
 in_showing None x h = h
 in_showing (Some selected) x h = h
 
+in_recent : (profile : Profile) (x : Exchange) → StaysIn x → StaysIn (telling_recent profile x)
+in_recent Standard x h = h
+in_recent Compatible x h = h
+
 in_found : {A : Type 0} (found : A → Exchange) (gone : Exchange) (o : Option A) → ((a : A) → StaysIn (found a)) → StaysIn gone → StaysIn (on_found found gone o)
 in_found found gone None h g = g
 in_found found gone (Some a) h g = h a
@@ -189,13 +198,20 @@ in_append o folders a =
     (λ mailbox. in_if (is_over o a.literal.size) (over o) (asking mailbox a.flags a.literal.size) (in_over o) tt) tt)
     (in_if (nat_lt most_unasked a.literal.size) (Wait (bye (response_text texts.LiteralTooBig)) ForNothing) (coming (number_named a.name folders) a.flags a.literal.size) tt tt)
 
+in_subscribing : (folders : List Folder) (name : List ℕ) (command : Command) → StaysIn (subscribing folders name command)
+in_subscribing folders name command = in_found (λ (folder : Folder). completed command) (says (response_text texts.NoSuchMailbox)) (folder_of name folders) (λ folder. tt) tt
+
 in_command : (now : Standing) (command : Command) → stays command ≡ true → StaysIn (on_command now command)
 in_command now commands.Noop e = in_showing now.selected (completed commands.Noop) tt
 in_command now (commands.Select name) e = absurd (false≢true e)
 in_command now (commands.Examine name) e = absurd (false≢true e)
 in_command now (commands.List reference pattern) e = in_showing now.selected (completed (commands.List reference pattern)) tt
+in_command now (commands.Lsub reference pattern) e = in_showing now.selected (completed (commands.Lsub reference pattern)) tt
+in_command now (commands.Subscribe name) e = in_subscribing now.folders name (commands.Subscribe name)
+in_command now (commands.Unsubscribe name) e = in_subscribing now.folders name (commands.Unsubscribe name)
+in_command now commands.Check e = in_showing now.selected (completed commands.Check) tt
 in_command now (commands.Status name items) e =
-    in_found (counting now name items) (says (response_text texts.NoSuchMailbox)) (folder_of name now.folders) (λ folder status. in_showing now.selected (completed (commands.Status name items)) tt) tt
+    in_found (counting now.selected name items) (says (response_text texts.NoSuchMailbox)) (folder_of name now.folders) (λ folder status. in_showing now.selected (completed (commands.Status name items)) tt) tt
 in_command now commands.Close e = absurd (false≢true e)
 in_command now commands.Unselect e = absurd (false≢true e)
 in_command now commands.Expunge e = stay_writable now (Expunge None (Feed unlimited (completed commands.Expunge))) tt
@@ -260,51 +276,51 @@ IfSel tag bytes now = has_ok true tag bytes ≡ true → (s : Selected) × (now.
 refused_sel : (tag : List ℕ) (fault : MailFault) (turn : Turn) → IsTag tag → Only (refusal_text tag fault) turn → IfSel tag turn.bytes turn.standing
 refused_sel tag fault turn t only ok = absurd (false≢true (sym (refusal_has_none tag fault t) ∙ ap (has_ok true tag) (sym only.bytes) ∙ ok))
 
-enters_sel : (tag : List ℕ) (now : Standing) (read_only : Bool) (folder : Folder) (answers : List Answer) (turn : Turn) → IsTag tag → played tag now (entering read_only folder) answers ≡ Some turn → IfSel tag turn.bytes turn.standing
-enters_sel tag now read_only folder [] turn t e = absurd (none-some turn e)
-enters_sel tag now read_only folder (Entered o ∷ more) turn t e =
+enters_sel : (tag : List ℕ) (now : Standing) (profile : Profile) (read_only : Bool) (folder : Folder) (answers : List Answer) (turn : Turn) → IsTag tag → played tag now (entering profile read_only folder) answers ≡ Some turn → IfSel tag turn.bytes turn.standing
+enters_sel tag now profile read_only folder [] turn t e = absurd (none-some turn e)
+enters_sel tag now profile read_only folder (Entered o ∷ more) turn t e =
     let selected : Selected = record { mailbox = folder.mailbox; read_only = read_only } in
-    let m = mapped (having (Enter folder.mailbox) (Entered o)) (played tag (record now { selected = Some selected }) (opened read_only folder.name o) more) turn e in
-    subst (λ (s : Turn). IfSel tag s.bytes s.standing) m.makes (λ ok. (selected, selected_stays tag (record now { selected = Some selected }) (opened read_only folder.name o) more m.more tt m.is))
-enters_sel tag now read_only folder (Refused fault ∷ []) turn t e =
+    let m = mapped (having (Enter folder.mailbox) (Entered o)) (played tag (record now { selected = Some selected }) (opened profile read_only folder.name o) more) turn e in
+    subst (λ (s : Turn). IfSel tag s.bytes s.standing) m.makes (λ ok. (selected, selected_stays tag (record now { selected = Some selected }) (opened profile read_only folder.name o) more m.more (in_recent profile (says (response_text (entered_text read_only))) tt) m.is))
+enters_sel tag now profile read_only folder (Refused fault ∷ []) turn t e =
     let m = mapped (having (Enter folder.mailbox) (Refused fault)) (Some (refused tag now fault)) turn e in
     subst (λ (s : Turn). IfSel tag s.bytes s.standing) m.makes (refused_sel tag fault m.more t (only_refused tag now fault m.more m.is))
-enters_sel tag now read_only folder (_ ∷ more) turn t e = absurd (none-some turn e)
+enters_sel tag now profile read_only folder (_ ∷ more) turn t e = absurd (none-some turn e)
 
-named_sel : (tag : List ℕ) (now : Standing) (read_only : Bool) (name : List ℕ) (folders : List Folder) (answers : List Answer) (turn : Turn) → IsTag tag → played tag now (on_folder name folders (entering read_only)) answers ≡ Some turn → IfSel tag turn.bytes turn.standing
-named_sel tag now read_only name folders answers turn t e = by (folder_of name folders) e
+named_sel : (tag : List ℕ) (now : Standing) (profile : Profile) (read_only : Bool) (name : List ℕ) (folders : List Folder) (answers : List Answer) (turn : Turn) → IsTag tag → played tag now (on_folder name folders (entering profile read_only)) answers ≡ Some turn → IfSel tag turn.bytes turn.standing
+named_sel tag now profile read_only name folders answers turn t e = by (folder_of name folders) e
   where
-    by : (found : Option Folder) → played tag now (on_found (entering read_only) (says (response_text texts.NoSuchMailbox)) found) answers ≡ Some turn → IfSel tag turn.bytes turn.standing
+    by : (found : Option Folder) → played tag now (on_found (entering profile read_only) (says (response_text texts.NoSuchMailbox)) found) answers ≡ Some turn → IfSel tag turn.bytes turn.standing
     by None d ok = absurd (false≢true (sym (tagged_has tag (response_text texts.NoSuchMailbox) t) ∙ ap (has_ok true tag) (sym (only_done tag (response_text texts.NoSuchMailbox) Go now answers turn d).bytes) ∙ ok))
-    by (Some folder) d ok = enters_sel tag now read_only folder answers turn t d ok
+    by (Some folder) d ok = enters_sel tag now profile read_only folder answers turn t d ok
 
-wanted_sel : (tag : List ℕ) (now : Standing) (read_only : Bool) (name : List ℕ) (folders : List Folder) (answers : List Answer) (turn : Turn) → IsTag tag
-    → played tag now (wanting (on_folder name folders (entering read_only))) answers ≡ Some turn → IfSel tag turn.bytes turn.standing
-wanted_sel tag now read_only name folders answers turn t e = by (writes tag now [] (on_folder name folders (entering read_only)) answers turn e)
+wanted_sel : (tag : List ℕ) (now : Standing) (profile : Profile) (read_only : Bool) (name : List ℕ) (folders : List Folder) (answers : List Answer) (turn : Turn) → IsTag tag
+    → played tag now (wanting (on_folder name folders (entering profile read_only))) answers ≡ Some turn → IfSel tag turn.bytes turn.standing
+wanted_sel tag now profile read_only name folders answers turn t e = by (writes tag now [] (on_folder name folders (entering profile read_only)) answers turn e)
   where
-    by : Wrote tag now [] (on_folder name folders (entering read_only)) turn → IfSel tag turn.bytes turn.standing
+    by : Wrote tag now [] (on_folder name folders (entering profile read_only)) turn → IfSel tag turn.bytes turn.standing
     by (wanted only stays) = refused_sel tag NoMemory turn t only
-    by (wrote rest p) = subst (λ (s : Turn). IfSel tag s.bytes s.standing) p.makes (named_sel tag now read_only name folders rest p.more t p.is)
+    by (wrote rest p) = subst (λ (s : Turn). IfSel tag s.bytes s.standing) p.makes (named_sel tag now profile read_only name folders rest p.more t p.is)
 
-closing_sel : (tag : List ℕ) (now : Standing) (read_only : Bool) (name : List ℕ) (folders : List Folder) (selected : Option Selected) (answers : List Answer) (turn : Turn) → IsTag tag
-    → played tag now (closing selected (wanting (on_folder name folders (entering read_only)))) answers ≡ Some turn → IfSel tag turn.bytes turn.standing
-closing_sel tag now read_only name folders None answers turn t e = wanted_sel tag now read_only name folders answers turn t e
-closing_sel tag now read_only name folders (Some selected) [] turn t e = absurd (none-some turn e)
-closing_sel tag now read_only name folders (Some selected) (Left gone ∷ more) turn t e =
+closing_sel : (tag : List ℕ) (now : Standing) (profile : Profile) (read_only : Bool) (name : List ℕ) (folders : List Folder) (selected : Option Selected) (answers : List Answer) (turn : Turn) → IsTag tag
+    → played tag now (closing selected (wanting (on_folder name folders (entering profile read_only)))) answers ≡ Some turn → IfSel tag turn.bytes turn.standing
+closing_sel tag now profile read_only name folders None answers turn t e = wanted_sel tag now profile read_only name folders answers turn t e
+closing_sel tag now profile read_only name folders (Some selected) [] turn t e = absurd (none-some turn e)
+closing_sel tag now profile read_only name folders (Some selected) (Left gone ∷ more) turn t e =
     let next : Standing = record now { selected = None } in
-    let tail : Exchange = wanting (on_folder name folders (entering read_only)) in
+    let tail : Exchange = wanting (on_folder name folders (entering profile read_only)) in
     let m = mapped (having (Leave false) (Left gone)) (played tag next (Put closed_line tail) more) turn e in
     let p = mapped (saying closed_line) (played tag next tail more) m.more m.is in
     subst (λ (s : Turn). IfSel tag s.bytes s.standing) m.makes
-    (subst (λ (s : Turn). IfSel tag s.bytes s.standing) p.makes (λ ok. wanted_sel tag next read_only name folders more p.more t p.is (sym (at_star tag _ t) ∙ ok)))
-closing_sel tag now read_only name folders (Some selected) (Refused fault ∷ []) turn t e =
+    (subst (λ (s : Turn). IfSel tag s.bytes s.standing) p.makes (λ ok. wanted_sel tag next profile read_only name folders more p.more t p.is (sym (at_star tag _ t) ∙ ok)))
+closing_sel tag now profile read_only name folders (Some selected) (Refused fault ∷ []) turn t e =
     let m = mapped (having (Leave false) (Refused fault)) (Some (refused tag now fault)) turn e in
     subst (λ (s : Turn). IfSel tag s.bytes s.standing) m.makes (refused_sel tag fault m.more t (only_refused tag now fault m.more m.is))
-closing_sel tag now read_only name folders (Some selected) (_ ∷ more) turn t e = absurd (none-some turn e)
+closing_sel tag now profile read_only name folders (Some selected) (_ ∷ more) turn t e = absurd (none-some turn e)
 
-selecting_sel : (tag : List ℕ) (now : Standing) (read_only : Bool) (name : List ℕ) (answers : List Answer) (turn : Turn) (client : Option Client) → IsTag tag → played tag now (selecting now read_only name) answers ≡ Some turn
+selecting_sel : (tag : List ℕ) (now : Standing) (read_only : Bool) (name : List ℕ) (answers : List Answer) (turn : Turn) (client : Option Client) → IsTag tag → played tag now (selecting now.profile now.folders now.selected read_only name) answers ≡ Some turn
     → Known_selected (if has_ok true tag turn.bytes then Some (reads fresh turn.bytes) else None) turn.standing
-selecting_sel tag now read_only name answers turn client t e = told_ok (has_ok true tag turn.bytes) (closing_sel tag now read_only name now.folders now.selected answers turn t e)
+selecting_sel tag now read_only name answers turn client t e = told_ok (has_ok true tag turn.bytes) (closing_sel tag now now.profile read_only name now.folders now.selected answers turn t e)
   where
     told_ok : (b : Bool) → (b ≡ true → (s : Selected) × (turn.standing.selected ≡ Some s)) → Known_selected (if b then Some (reads fresh turn.bytes) else None) turn.standing
     told_ok true h = h refl
@@ -344,6 +360,18 @@ command_sel now tag commands.Close answers turn client t e k more = closes_sel t
 command_sel now tag commands.Unselect answers turn client t e k more = closes_sel tag (response_text (texts.Completed verbs.Unselect)) now (λ s. false) now.selected answers turn client t (tagged_has tag (response_text (texts.Completed verbs.Unselect)) t) e k
 command_sel now tag _ answers turn client t e k more = more refl
 
+-- a command that was refused
+told_sel : (now : Standing) (tag : List ℕ) (command : Command) (text : ResponseText) (answers : List Answer) (turn : Turn) (client : Option Client) → IsTag tag → refuses text ≡ true → played tag now (says (response_text text)) answers ≡ Some turn
+    → Known_selected client now → Known_selected (answered (asked_by tag command) turn.bytes client) turn.standing
+told_sel now tag command text answers turn client t is e k =
+    let same : turn.standing.selected ≡ now.selected = selected_stays tag now (says (response_text text)) answers turn tt e in
+    asked_has (λ (a : Asked). Known_selected (answered a turn.bytes client) turn.standing) tag command (none_sel (has_ok true tag turn.bytes) (refused_turn tag text now answers turn t is e))
+    (stays_sel tag turn.bytes client now turn.standing k same) (reads_sel turn.bytes client now turn.standing k same)
+  where
+    none_sel : (b : Bool) → b ≡ false → Known_selected (if b then Some (reads fresh turn.bytes) else None) turn.standing
+    none_sel true none = absurd (false≢true (sym none))
+    none_sel false none = tt
+
 fault_sel : (now : Standing) (text : List ℕ) (answers : List Answer) (turn : Turn) → only_says text now answers ≡ Some turn → turn.standing.selected ≡ now.selected
 fault_sel now text [] turn e = told now (saying text) (λ s. refl) Go turn e
 fault_sel now text (answer ∷ more) turn e = absurd (none-some turn e)
@@ -351,8 +379,12 @@ fault_sel now text (answer ∷ more) turn e = absurd (none-some turn e)
 read_sel : (now : Standing) (r : Result (List ℕ × Command) ImapFault) (answers : List Answer) (turn : Turn) (client : Option Client) → Tagged r → on_read now r answers ≡ Some turn → Known_selected client now
     → Known_selected (answered (asked r) turn.bytes client) turn.standing
 read_sel now (Ok line) answers turn client t e k =
-    command_sel now line.0 line.1 answers turn client t e k (λ stay. reads_sel turn.bytes client now turn.standing k (selected_stays line.0 now (on_command now line.1) answers turn (in_command now line.1 stay) e))
-read_sel now (Err fault) answers turn client t e k = reads_sel turn.bytes client now turn.standing k (fault_sel now (fault_text fault) answers turn e)
+    line_case (Known_selected (answered (asked_by line.0 line.1) turn.bytes client) turn.standing) now line.0 line.1 answers turn
+    (λ logs d. subst (λ (a : Asked). Known_selected (answered a turn.bytes client) turn.standing) (sym (login_asks now.login line.0 line.1 logs))
+    (reads_sel turn.bytes client now turn.standing k (selected_stays line.0 (logged_in now) login_completed answers turn tt d)))
+    (λ text is d. told_sel now line.0 line.1 text answers turn client t is d k)
+    (λ d. command_sel now line.0 line.1 answers turn client t d k (λ stay. reads_sel turn.bytes client now turn.standing k (selected_stays line.0 now (on_command now line.1) answers turn (in_command now line.1 stay) d))) e
+read_sel now (Err fault) answers turn client t e k = reads_sel turn.bytes client now turn.standing k (fault_sel now (fault_text now.profile fault) answers turn e)
 
 line_sel : (now : Standing) (line : List ℕ) (answers : List Answer) (turn : Turn) (client : Option Client) → turn_of now line answers ≡ Some turn → Known_selected client now → Known_selected (hears client (told_line (kept_tag now) line turn.bytes)) turn.standing
 line_sel now line answers turn client e k = by now.mailing.begun now.idling refl refl

@@ -23,7 +23,7 @@ TaggedOf P (Ok line) = P line.0
 TaggedOf P (Err NoTag) = Unit {0}
 TaggedOf P (Err (Unknown tag)) = P tag
 TaggedOf P (Err (LeftOut tag)) = P tag
-TaggedOf P (Err (Arguments tag)) = P tag
+TaggedOf P (Err (Arguments tag verb)) = P tag
 
 abbrev pub Tagged : Result (List ℕ × Command) ImapFault → Type 0
 Tagged r = TaggedOf IsTag r

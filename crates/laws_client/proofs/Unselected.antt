@@ -16,7 +16,7 @@ use Rattle.imap_grammar.specs.declared.command.ImapFault.{ImapFault}
 use Rattle.imap_session.specs.declared.standing.After.TheVariants.{Go}
 use Rattle.imap_session.specs.declared.standing.Selected.{Selected}
 use Rattle.imap_session.specs.Exchange.{Answer, Appending, Entered, Left, Refused, Event, Exchange, Put, Enter, Leave, Folder, Standing, Turn, closed, having, kept_behind, kept_tag, played, refusal_after, refused, saying, tagged}
-use Rattle.imap_session.specs.Commands.{closing, entering, folder_of, on_command, on_folder, on_found, on_read, opened, says, turn_behind, turn_of, turn_while, wanting}
+use Rattle.imap_session.specs.Commands.{closing, entering, folder_of, logged_in, on_command, on_folder, on_found, on_read, opened, says, telling_recent, turn_behind, turn_of, turn_while, wanting, entered_text}
 use Rattle.imap_session.specs.Store.{Met}
 use Rattle.imap_answers.specs.Answers.{all_flags, opening_text}
 use Rattle.laws_client.specs.ListTurns.{IsTag}
@@ -24,11 +24,16 @@ use Rattle.laws_client.proofs.Tags.{Tagged, read_tagged}
 use Rattle.laws_client.proofs.Turns.{the_turn}
 use Rattle.laws_client.specs.Clients.{Asked, Entering, Leaving, Neither, asked, asked_by, begins, has_ok}
 use Rattle.laws_client.specs.Selecting.{RefusedSelectsNone}
-use Rattle.laws_client.proofs.RecordEntering.{Wrote, at_star, closed_line, mapped, only_done, only_refused, tagged_has, wanted, writes, wrote}
+use Rattle.laws_client.proofs.RecordEntering.{Wrote, at_star, closed_line, recent_done, recent_line, mapped, only_done, only_refused, tagged_has, wanted, writes, wrote}
 use Rattle.laws_client.proofs.Moved.{Calls}
 use Rattle.laws_client.proofs.Selecting.{given_up, selected_stays}
 use Rattle.imap_session.specs.declared.texts.ResponseText.TheVariants as texts
 use Rattle.imap_session.specs.Texts.{response_text}
+use Rattle.imap_session.specs.declared.standing.Profile.{Profile}
+use Rattle.imap_session.specs.declared.standing.Profile.TheVariants.{Standard, Compatible}
+use Rattle.imap_session.proofs.Barring.{refuses}
+use Rattle.imap_session.specs.declared.texts.ResponseText.{ResponseText}
+use Rattle.laws_client.proofs.Barred.{line_case, login_asks}
 
 -- ---- the OK behind what is told of a mailbox that was entered
 
@@ -50,56 +55,59 @@ but_its_end read_only name o =
     ++ codes "* OK [UIDNEXT " ++ decimal o.uidnext ++ codes "] Predicted next UID\r\n" ++ codes "* OK [PERMANENTFLAGS (" ++ (if read_only then [] else all_flags) ++ codes ")] Flags kept\r\n"
     ++ codes "* LIST () \"/\" " ++ name
 
-ok_behind : (tag words : List ℕ) (read_only : Bool) (name : List ℕ) (o : Opening) → has_ok true tag (tagged tag words) ≡ true → has_ok true tag (opening_text read_only name o ++ tagged tag words) ≡ true
-ok_behind tag words read_only name o h =
-    ap (has_ok true tag) (append_assoc (but_its_end read_only name o) (codes "\r\n") (tagged tag words)) ∙ behind_line true tag (but_its_end read_only name o) (tagged tag words) h
+ok_behind : (tag rest : List ℕ) (read_only : Bool) (name : List ℕ) (o : Opening) → has_ok true tag rest ≡ true → has_ok true tag (opening_text read_only name o ++ rest) ≡ true
+ok_behind tag rest read_only name o h =
+    ap (has_ok true tag) (append_assoc (but_its_end read_only name o) (codes "\r\n") rest) ∙ behind_line true tag (but_its_end read_only name o) rest h
 
-told_ok : (tag words : List ℕ) (now : Standing) (read_only : Bool) (name : List ℕ) (o : Opening) (answers : List Answer) (turn : Turn) → has_ok true tag (tagged tag words) ≡ true
-    → played tag now (Put (opening_text read_only name o) (says words)) answers ≡ Some turn → has_ok true tag turn.bytes ≡ true
-told_ok tag words now read_only name o answers turn h e =
-    let m = mapped (saying (opening_text read_only name o)) (played tag now (says words) answers) turn e in
-    let bytes : turn.bytes ≡ opening_text read_only name o ++ tagged tag words =
-    ap (λ (s : Turn). s.bytes) (sym m.makes) ∙ ap (λ (b : List ℕ). opening_text read_only name o ++ b) (only_done tag words Go now answers m.more m.is).bytes in
-    ap (has_ok true tag) bytes ∙ ok_behind tag words read_only name o h
+-- behind what is told of recent messages
+ok_recent : (profile : Profile) (tag rest : List ℕ) → IsTag tag → has_ok true tag rest ≡ true → has_ok true tag (recent_line profile ++ rest) ≡ true
+ok_recent Standard tag rest t h = h
+ok_recent Compatible tag rest t h = behind_line true tag (codes "* " ++ response_text texts.NoneRecent) rest h
 
-opened_ok : (tag : List ℕ) (now : Standing) (read_only : Bool) (name : List ℕ) (o : Opening) (answers : List Answer) (turn : Turn) → IsTag tag
-    → played tag now (opened read_only name o) answers ≡ Some turn → has_ok true tag turn.bytes ≡ true
-opened_ok tag now true name o answers turn t e =
-    told_ok tag (response_text texts.ExamineCompleted) now true name o answers turn (tagged_has tag (response_text texts.ExamineCompleted) t) e
-opened_ok tag now false name o answers turn t e =
-    told_ok tag (response_text texts.SelectCompleted) now false name o answers turn (tagged_has tag (response_text texts.SelectCompleted) t) e
+entered_ok : (tag : List ℕ) (read_only : Bool) → IsTag tag → has_ok true tag (tagged tag (response_text (entered_text read_only))) ≡ true
+entered_ok tag true t = tagged_has tag (response_text texts.ExamineCompleted) t
+entered_ok tag false t = tagged_has tag (response_text texts.SelectCompleted) t
+
+opened_ok : (tag : List ℕ) (now : Standing) (profile : Profile) (read_only : Bool) (name : List ℕ) (o : Opening) (answers : List Answer) (turn : Turn) → IsTag tag
+    → played tag now (opened profile read_only name o) answers ≡ Some turn → has_ok true tag turn.bytes ≡ true
+opened_ok tag now profile read_only name o answers turn t e =
+    let words : List ℕ = response_text (entered_text read_only) in
+    let m = mapped (saying (opening_text read_only name o)) (played tag now (telling_recent profile (says words)) answers) turn e in
+    let bytes : turn.bytes ≡ opening_text read_only name o ++ (recent_line profile ++ tagged tag words) =
+    ap (λ (s : Turn). s.bytes) (sym m.makes) ∙ ap (λ (b : List ℕ). opening_text read_only name o ++ b) (recent_done profile tag words now answers m.more m.is).bytes in
+    ap (has_ok true tag) bytes ∙ ok_behind tag (recent_line profile ++ tagged tag words) read_only name o (ok_recent profile tag (tagged tag words) t (entered_ok tag read_only t))
 
 -- ---- no OK, and no mailbox
 
-enters_none : (tag : List ℕ) (now : Standing) (read_only : Bool) (folder : Folder) (answers : List Answer) (turn : Turn) → IsTag tag → now.selected ≡ None
-    → played tag now (entering read_only folder) answers ≡ Some turn → has_ok true tag turn.bytes ≡ false → turn.standing.selected ≡ None
-enters_none tag now read_only folder [] turn t none e unsaid = absurd (none-some turn e)
-enters_none tag now read_only folder (Entered o ∷ more) turn t none e unsaid =
+enters_none : (tag : List ℕ) (now : Standing) (profile : Profile) (read_only : Bool) (folder : Folder) (answers : List Answer) (turn : Turn) → IsTag tag → now.selected ≡ None
+    → played tag now (entering profile read_only folder) answers ≡ Some turn → has_ok true tag turn.bytes ≡ false → turn.standing.selected ≡ None
+enters_none tag now profile read_only folder [] turn t none e unsaid = absurd (none-some turn e)
+enters_none tag now profile read_only folder (Entered o ∷ more) turn t none e unsaid =
     let next : Standing = record now { selected = Some (record { mailbox = folder.mailbox; read_only = read_only }) } in
-    let m = mapped (having (Enter folder.mailbox) (Entered o)) (played tag next (opened read_only folder.name o) more) turn e in
-    absurd (false≢true (sym unsaid ∙ ap (λ (s : Turn). has_ok true tag s.bytes) (sym m.makes) ∙ opened_ok tag next read_only folder.name o more m.more t m.is))
-enters_none tag now read_only folder (Refused fault ∷ []) turn t none e unsaid =
+    let m = mapped (having (Enter folder.mailbox) (Entered o)) (played tag next (opened profile read_only folder.name o) more) turn e in
+    absurd (false≢true (sym unsaid ∙ ap (λ (s : Turn). has_ok true tag s.bytes) (sym m.makes) ∙ opened_ok tag next profile read_only folder.name o more m.more t m.is))
+enters_none tag now profile read_only folder (Refused fault ∷ []) turn t none e unsaid =
     let m = mapped (having (Enter folder.mailbox) (Refused fault)) (Some (refused tag now fault)) turn e in
     ap (λ (s : Turn). s.standing.selected) (sym m.makes) ∙ given_up tag now fault m.more m.is ∙ none
-enters_none tag now read_only folder (_ ∷ more) turn t none e unsaid = absurd (none-some turn e)
+enters_none tag now profile read_only folder (_ ∷ more) turn t none e unsaid = absurd (none-some turn e)
 
-named_none : (tag : List ℕ) (now : Standing) (read_only : Bool) (name : List ℕ) (folders : List Folder) (answers : List Answer) (turn : Turn) → IsTag tag → now.selected ≡ None
-    → played tag now (on_folder name folders (entering read_only)) answers ≡ Some turn → has_ok true tag turn.bytes ≡ false → turn.standing.selected ≡ None
-named_none tag now read_only name folders answers turn t none e unsaid = by (folder_of name folders) e
+named_none : (tag : List ℕ) (now : Standing) (profile : Profile) (read_only : Bool) (name : List ℕ) (folders : List Folder) (answers : List Answer) (turn : Turn) → IsTag tag → now.selected ≡ None
+    → played tag now (on_folder name folders (entering profile read_only)) answers ≡ Some turn → has_ok true tag turn.bytes ≡ false → turn.standing.selected ≡ None
+named_none tag now profile read_only name folders answers turn t none e unsaid = by (folder_of name folders) e
   where
-    by : (found : Option Folder) → played tag now (on_found (entering read_only) (says (response_text texts.NoSuchMailbox)) found) answers ≡ Some turn → turn.standing.selected ≡ None
+    by : (found : Option Folder) → played tag now (on_found (entering profile read_only) (says (response_text texts.NoSuchMailbox)) found) answers ≡ Some turn → turn.standing.selected ≡ None
     by None d = selected_stays tag now (says (response_text texts.NoSuchMailbox)) answers turn tt d ∙ none
-    by (Some folder) d = enters_none tag now read_only folder answers turn t none d unsaid
+    by (Some folder) d = enters_none tag now profile read_only folder answers turn t none d unsaid
 
-wanted_none : (tag : List ℕ) (now : Standing) (read_only : Bool) (name : List ℕ) (folders : List Folder) (answers : List Answer) (turn : Turn) → IsTag tag → now.selected ≡ None
-    → played tag now (wanting (on_folder name folders (entering read_only))) answers ≡ Some turn → has_ok true tag turn.bytes ≡ false → turn.standing.selected ≡ None
-wanted_none tag now read_only name folders answers turn t none e unsaid = by (writes tag now [] (on_folder name folders (entering read_only)) answers turn e)
+wanted_none : (tag : List ℕ) (now : Standing) (profile : Profile) (read_only : Bool) (name : List ℕ) (folders : List Folder) (answers : List Answer) (turn : Turn) → IsTag tag → now.selected ≡ None
+    → played tag now (wanting (on_folder name folders (entering profile read_only))) answers ≡ Some turn → has_ok true tag turn.bytes ≡ false → turn.standing.selected ≡ None
+wanted_none tag now profile read_only name folders answers turn t none e unsaid = by (writes tag now [] (on_folder name folders (entering profile read_only)) answers turn e)
   where
-    by : Wrote tag now [] (on_folder name folders (entering read_only)) turn → turn.standing.selected ≡ None
+    by : Wrote tag now [] (on_folder name folders (entering profile read_only)) turn → turn.standing.selected ≡ None
     by (wanted only stays) = stays ∙ none
     by (wrote rest p) =
         ap (λ (s : Turn). s.standing.selected) (sym p.makes)
-        ∙ named_none tag now read_only name folders rest p.more t none p.is (ap (λ (s : Turn). has_ok true tag s.bytes) p.makes ∙ unsaid)
+        ∙ named_none tag now profile read_only name folders rest p.more t none p.is (ap (λ (s : Turn). has_ok true tag s.bytes) p.makes ∙ unsaid)
 
 -- the store refused to let the session leave the mailbox, and nothing else was asked of it
 record Kept (now : Standing) (turn : Turn) : Type 0 where
@@ -107,26 +115,26 @@ record Kept (now : Standing) (turn : Turn) : Type 0 where
   events : turn.events ≡ record { call = Leave false; answer = Refused fault } ∷ []
   standing : turn.standing ≡ (closed now (refusal_after fault)).standing
 
-closing_none : (tag : List ℕ) (now : Standing) (read_only : Bool) (name : List ℕ) (folders : List Folder) (selected : Option Selected) (answers : List Answer) (turn : Turn) → IsTag tag → now.selected ≡ selected
-    → played tag now (closing selected (wanting (on_folder name folders (entering read_only)))) answers ≡ Some turn → has_ok true tag turn.bytes ≡ false → (turn.standing.selected ≡ None) ⊎ Kept now turn
-closing_none tag now read_only name folders None answers turn t is e unsaid = inl (wanted_none tag now read_only name folders answers turn t is e unsaid)
-closing_none tag now read_only name folders (Some selected) [] turn t is e unsaid = absurd (none-some turn e)
-closing_none tag now read_only name folders (Some selected) (Left gone ∷ more) turn t is e unsaid =
+closing_none : (tag : List ℕ) (now : Standing) (profile : Profile) (read_only : Bool) (name : List ℕ) (folders : List Folder) (selected : Option Selected) (answers : List Answer) (turn : Turn) → IsTag tag → now.selected ≡ selected
+    → played tag now (closing selected (wanting (on_folder name folders (entering profile read_only)))) answers ≡ Some turn → has_ok true tag turn.bytes ≡ false → (turn.standing.selected ≡ None) ⊎ Kept now turn
+closing_none tag now profile read_only name folders None answers turn t is e unsaid = inl (wanted_none tag now profile read_only name folders answers turn t is e unsaid)
+closing_none tag now profile read_only name folders (Some selected) [] turn t is e unsaid = absurd (none-some turn e)
+closing_none tag now profile read_only name folders (Some selected) (Left gone ∷ more) turn t is e unsaid =
     let next : Standing = record now { selected = None } in
-    let tail : Exchange = wanting (on_folder name folders (entering read_only)) in
+    let tail : Exchange = wanting (on_folder name folders (entering profile read_only)) in
     let m = mapped (having (Leave false) (Left gone)) (played tag next (Put closed_line tail) more) turn e in
     let p = mapped (saying closed_line) (played tag next tail more) m.more m.is in
     let behind : has_ok true tag p.more.bytes ≡ false =
     sym (at_star tag _ t) ∙ ap (λ (s : Turn). has_ok true tag s.bytes) p.makes ∙ ap (λ (s : Turn). has_ok true tag s.bytes) m.makes ∙ unsaid in
-    inl (ap (λ (s : Turn). s.standing.selected) (sym m.makes) ∙ ap (λ (s : Turn). s.standing.selected) (sym p.makes) ∙ wanted_none tag next read_only name folders more p.more t refl p.is behind)
-closing_none tag now read_only name folders (Some selected) (Refused fault ∷ []) turn t is e unsaid =
+    inl (ap (λ (s : Turn). s.standing.selected) (sym m.makes) ∙ ap (λ (s : Turn). s.standing.selected) (sym p.makes) ∙ wanted_none tag next profile read_only name folders more p.more t refl p.is behind)
+closing_none tag now profile read_only name folders (Some selected) (Refused fault ∷ []) turn t is e unsaid =
     let m = mapped (having (Leave false) (Refused fault)) (Some (refused tag now fault)) turn e in
     inr (record {
       fault = fault;
       events = ap (λ (s : Turn). s.events) (sym m.makes) ∙ ap (λ (es : List Event). record { call = Leave false; answer = Refused fault } ∷ es) (only_refused tag now fault m.more m.is).events;
       standing = ap (λ (s : Turn). s.standing) (sym m.makes) ∙ ap (λ (s : Turn). s.standing) (sym (ap (the_turn m.more) m.is));
     })
-closing_none tag now read_only name folders (Some selected) (_ ∷ more) turn t is e unsaid = absurd (none-some turn e)
+closing_none tag now profile read_only name folders (Some selected) (_ ∷ more) turn t is e unsaid = absurd (none-some turn e)
 
 -- ---- lines
 
@@ -138,9 +146,9 @@ tag_of Neither = []
 command_none : (now : Standing) (tag asks : List ℕ) (command : Command) (answers : List Answer) (turn : Turn) → IsTag tag → asked_by tag command ≡ Entering asks → played tag now (on_command now command) answers ≡ Some turn
     → has_ok true asks turn.bytes ≡ false → (turn.standing.selected ≡ None) ⊎ Kept now turn
 command_none now tag asks (commands.Select name) answers turn t a e unsaid =
-    closing_none tag now false name now.folders now.selected answers turn t refl e (ap (λ (g : List ℕ). has_ok true g turn.bytes) (ap tag_of a) ∙ unsaid)
+    closing_none tag now now.profile false name now.folders now.selected answers turn t refl e (ap (λ (g : List ℕ). has_ok true g turn.bytes) (ap tag_of a) ∙ unsaid)
 command_none now tag asks (commands.Examine name) answers turn t a e unsaid =
-    closing_none tag now true name now.folders now.selected answers turn t refl e (ap (λ (g : List ℕ). has_ok true g turn.bytes) (ap tag_of a) ∙ unsaid)
+    closing_none tag now now.profile true name now.folders now.selected answers turn t refl e (ap (λ (g : List ℕ). has_ok true g turn.bytes) (ap tag_of a) ∙ unsaid)
 command_none now tag asks commands.Close answers turn t a e unsaid = absurd cc
 command_none now tag asks commands.Unselect answers turn t a e unsaid = absurd cc
 command_none now tag asks _ answers turn t a e unsaid = absurd cc

@@ -1,4 +1,4 @@
--- The answers of LIST and STATUS tell a client nothing of messages.
+-- The answers of LIST, LSUB and STATUS tell a client nothing of messages.
 use Rattle.std.proofs.Common.{◌≡◌, ℕ, ◌^◌, ◌<◌, ◌==◌, Bool, true, false, List, [], ◌∷◌, ◌++◌, map, ap, arith, ◌∙◌, sym, refl, append_assoc}
 use Rattle.std.specs.Prelude.{decimal, codes, flat_map, IfSome, Some, if◌then◌else◌}
 use Rattle.std.specs.List.{list_all}
@@ -17,6 +17,8 @@ use Rattle.laws_client.specs.Commands.{AreNames}
 use Rattle.laws_client.specs.ListTurns.{is_inner, IsCounted, IsPlain}
 use Rattle.laws_client.proofs.Bytes.{decimal_word_wide, reads-append, whole_line, words_are_inner}
 use Rattle.laws_client.proofs.LinesRead.{not_a_count}
+use Rattle.imap_answers.specs.declared.list.Listing.{Listing}
+use Rattle.imap_answers.specs.declared.list.Listing.TheVariants.{All, Subscribed}
 
 pub both_tell_nothing : (one two : List ℕ) → TellsNothing one → TellsNothing two → TellsNothing (one ++ two)
 both_tell_nothing one two h k messages = reads-append (knowing messages) one two ∙ ap (λ (c : Client). reads c two) (h messages) ∙ k messages
@@ -30,29 +32,36 @@ pub line_tells_nothing : (front : List ℕ) (last : ℕ) → (last == 125) ≡ f
 line_tells_nothing front last other inner nothing messages =
     whole_line messages (front ++ last ∷ []) inner (not_a_count front last other) ∙ ap knowing (nothing messages)
 
--- ---- LIST
+-- ---- LIST and LSUB
 
-pub name_tells_nothing : (name : List ℕ) → IsPlain name → TellsNothing (name_answer name)
-name_tells_nothing name plain messages =
-    ap (λ (n : List ℕ). reads (knowing messages) (name_answer n)) plain.is
+pub name_tells_nothing : (listing : Listing) (name : List ℕ) → IsPlain name → TellsNothing (name_answer listing name)
+name_tells_nothing All name plain messages =
+    ap (λ (n : List ℕ). reads (knowing messages) (name_answer All n)) plain.is
     ∙ line_tells_nothing (codes "* LIST () \"/\" " ++ plain.front) plain.last plain.no_count plain.inner (λ o. refl) messages
+name_tells_nothing Subscribed name plain messages =
+    ap (λ (n : List ℕ). reads (knowing messages) (name_answer Subscribed n)) plain.is
+    ∙ line_tells_nothing (codes "* LSUB () \"/\" " ++ plain.front) plain.last plain.no_count plain.inner (λ o. refl) messages
 
-if_listed : (b : Bool) (name : List ℕ) → IsPlain name → TellsNothing (if b then name_answer name else [])
-if_listed true name plain = name_tells_nothing name plain
-if_listed false name plain = λ messages. refl
+if_listed : (b : Bool) (listing : Listing) (name : List ℕ) → IsPlain name → TellsNothing (if b then name_answer listing name else [])
+if_listed true listing name plain = name_tells_nothing listing name plain
+if_listed false listing name plain = λ messages. refl
 
-names_tell_nothing : (pattern : List ℕ) (folders : List Folder) → AreNames folders → TellsNothing (flat_map (listed pattern) (map (λ (folder : Folder). folder.name) folders))
-names_tell_nothing pattern [] plain = λ messages. refl
-names_tell_nothing pattern (folder ∷ folders) plain =
-    both_tell_nothing (listed pattern folder.name) (flat_map (listed pattern) (map (λ (f : Folder). f.name) folders))
-    (if_listed (is_listed pattern folder.name) folder.name plain.0) (names_tell_nothing pattern folders plain.1)
+names_tell_nothing : (listing : Listing) (pattern : List ℕ) (folders : List Folder) → AreNames folders → TellsNothing (flat_map (listed listing pattern) (map (λ (folder : Folder). folder.name) folders))
+names_tell_nothing listing pattern [] plain = λ messages. refl
+names_tell_nothing listing pattern (folder ∷ folders) plain =
+    both_tell_nothing (listed listing pattern folder.name) (flat_map (listed listing pattern) (map (λ (f : Folder). f.name) folders))
+    (if_listed (is_listed pattern folder.name) listing folder.name plain.0) (names_tell_nothing listing pattern folders plain.1)
 
-pub list_tells_nothing : (reference pattern : List ℕ) (folders : List Folder) → AreNames folders → TellsNothing (list_answer reference pattern (map (λ (folder : Folder). folder.name) folders))
-list_tells_nothing reference pattern folders plain = by (asks_for_root reference pattern)
+root_tells_nothing : (listing : Listing) → TellsNothing (root_answer listing)
+root_tells_nothing All messages = refl
+root_tells_nothing Subscribed messages = refl
+
+pub list_tells_nothing : (listing : Listing) (reference pattern : List ℕ) (folders : List Folder) → AreNames folders → TellsNothing (list_answer listing reference pattern (map (λ (folder : Folder). folder.name) folders))
+list_tells_nothing listing reference pattern folders plain = by (asks_for_root reference pattern)
   where
-    by : (b : Bool) → TellsNothing (if b then root_answer else flat_map (listed (reference ++ pattern)) (map (λ (folder : Folder). folder.name) folders))
-    by true = λ messages. refl
-    by false = names_tell_nothing (reference ++ pattern) folders plain
+    by : (b : Bool) → TellsNothing (if b then root_answer listing else flat_map (listed listing (reference ++ pattern)) (map (λ (folder : Folder). folder.name) folders))
+    by true = root_tells_nothing listing
+    by false = names_tell_nothing listing (reference ++ pattern) folders plain
 
 -- ---- STATUS
 
@@ -63,6 +72,7 @@ word_inner status.UidValidity = refl
 word_inner status.Unseen = refl
 word_inner status.Deleted = refl
 word_inner status.Size = refl
+word_inner status.Recent = refl
 
 number_small : (s : Status) (item : StatusItem) → IsCounted s → status_number s item < 10 ^ 64
 number_small s status.Messages h = omega (arith, h.messages)
@@ -71,6 +81,7 @@ number_small s status.UidValidity h = omega (arith, h.uidvalidity)
 number_small s status.Unseen h = omega (arith, h.unseen)
 number_small s status.Deleted h = omega (arith, h.deleted)
 number_small s status.Size h = omega (arith, h.size)
+number_small s status.Recent h = omega arith
 
 text_inner : (s : Status) (item : StatusItem) → IsCounted s → list_all is_inner (status_text s item) ≡ true
 text_inner s item h =

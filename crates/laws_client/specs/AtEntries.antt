@@ -5,7 +5,6 @@ use Rattle.world.specs.World.{Session}
 use Rattle.imap_grammar.specs.Reading.{read}
 use Rattle.imap_grammar.specs.Verbs.{verb_of}
 use Rattle.imap_grammar.specs.declared.command.Command.{Command}
-use Rattle.imap_session.specs.Commands.{greeting}
 use Rattle.imap_session.specs.Exchange.{tagged}
 use Rattle.house_peers.specs.SeatedVisitor.{SeatedVisitor}
 use Rattle.house.specs.Scene.{Scene, empty_scene, place_of, seat_of}
@@ -18,7 +17,7 @@ use Rattle.laws_client.specs.Client.{Client, Known, knowing}
 use Rattle.laws_client.specs.Appends.{EndsWith}
 use Rattle.laws_client.specs.Clients.{Answer, Told, Words, bytes_in, hears_all}
 use Rattle.laws_client.specs.Current.{shows_all}
-use Rattle.laws_client.specs.ClientRecords.{IsPrintable, KeepsUp, shown_by_then}
+use Rattle.laws_client.specs.ClientRecords.{IsPrintable, KeepsUp, first_words, shown_by_then, user_by_then}
 use Rattle.laws_client.specs.Views.{messages_of}
 use Rattle.imap_session.specs.declared.texts.ResponseText.TheVariants as texts
 use Rattle.imap_session.specs.Texts.{response_text}
@@ -30,7 +29,7 @@ pub record AnswersAt (k : Setup) (entries : List Entry) (entry : Entry) (place :
   pub more : List Told
   pub told : keeps.told ≡ earlier ++ more
   -- what it was told before is what was printed before, and what was still to be printed
-  pub printed : greeting ++ flat_map bytes_in earlier ≡ shown_by_then place [] entries ++ before.session.unsaid
+  pub printed : first_words k (user_by_then place [] entries) ++ flat_map bytes_in earlier ≡ shown_by_then place [] entries ++ before.session.unsaid
   -- where it knows where it is, and the last of that is the OK of a command that shows all, its list is the mailbox as it is behind the entry
   pub current : (front : List Told) (line tag bytes ending : List ℕ) (command : Command) (client : Client) (s : Session) → more ≡ front ++ Answer line bytes ∷ [] → read line ≡ Ok (tag, command) → shows_all command ≡ true
       → bytes ≡ ending ++ tagged tag (response_text (texts.Completed (verb_of command))) → hears_all None (earlier ++ front) ≡ Some client → entry.after.world.session place ≡ Some s

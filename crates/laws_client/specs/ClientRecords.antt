@@ -10,7 +10,7 @@ use Rattle.imap_session.specs.Folders.{folders_of}
 use Rattle.house_peers.specs.Visitor.{greeted}
 use Rattle.house_peers.specs.SeatedVisitor.{SeatedVisitor}
 use Rattle.house.specs.Scene.{LeavesMailbox, Scene, empty_scene, place_of}
-use Rattle.house.specs.Setup.{Setup}
+use Rattle.house.specs.Setup.{Setup, admitted_in}
 use Rattle.settings.specs.declared.config.Config.{Config}
 use Rattle.house.specs.Setup.{setup_of}
 use Rattle.settings.specs.Settings.{IsInRange, config_fault}
@@ -111,7 +111,11 @@ shown_by_then place before (entry ∷ entries) = shown_by_then place (unless (le
 
 -- a session of this user that was just let in stands so
 abbrev pub first_standing : Setup → (user : List ℕ) → Standing
-first_standing k user = (greeted (Some k.max_message) (folders_of k.directory user)).standing
+first_standing k user = (greeted (admitted_in k user) (folders_of k.directory user)).standing
+
+-- and was greeted so
+abbrev pub first_words : Setup → (user : List ℕ) → List ℕ
+first_words k user = greeting (first_standing k user).profile
 
 -- The client of a session that is there: of all that it sent since it was let in and of all that was printed to it, turn by turn, it knows what its session counts.
 pub record KeepsUp (k : Setup) (entries : List Entry) (place : ℕ) (v : SeatedVisitor) (t : Scene) : Type 0 where
@@ -127,7 +131,7 @@ pub record KeepsUp (k : Setup) (entries : List Entry) (place : ℕ) (v : SeatedV
   -- all that it sent was answered, but what waits
   pub answered : sent_by_then place [] entries ≡ sent ++ v.session.waits
   -- it was told the greeting and these answers: all of it is printed, but what is still to be printed
-  pub printed : greeting ++ flat_map bytes_in told ≡ shown_by_then place [] entries ++ v.session.unsaid
+  pub printed : first_words k (user_by_then place [] entries) ++ flat_map bytes_in told ≡ shown_by_then place [] entries ++ v.session.unsaid
   -- where it is in a mailbox it is right about what its session counts there
   pub right : IsRightAbout (view_of t.world place) (hears_all None told)
   -- and where nothing is pending there, its list is the mailbox as it is
@@ -155,7 +159,7 @@ pub record KeptUp (k : Setup) (entries : List Entry) (place : ℕ) (t : Scene) :
   -- all that it sent was answered, but what waited
   pub answered : sent_by_then place [] entries ≡ sent ++ waits
   -- the greeting and these answers are all that was printed to it
-  pub printed : greeting ++ flat_map bytes_in told ≡ shown_by_then place [] entries
+  pub printed : first_words k (user_by_then place [] entries) ++ flat_map bytes_in told ≡ shown_by_then place [] entries
   -- where it was in a mailbox it was right about what its session counted there
   pub right : IsRightAbout (view_of last place) (hears_all None told)
 

@@ -3,6 +3,7 @@ use Rattle.std.specs.Prelude.{◌≡◌, ◌⊎◌, ◌==◌, ◌&&◌, ◌||◌
 use Rattle.imap_grammar.specs.Reading.{read}
 use Rattle.imap_grammar.specs.declared.command.Command.{Command}
 use Rattle.imap_grammar.specs.declared.command.Command.TheVariants as commands
+use Rattle.imap_session.specs.declared.standing.Profile.{Profile}
 use Rattle.imap_session.specs.Exchange.{bye, tagged}
 use Rattle.imap_session.specs.Commands.{greeting}
 use Rattle.house_peers.specs.SeatedVisitor.{SeatedVisitor}
@@ -11,7 +12,7 @@ use Rattle.house.specs.Setup.{Setup}
 use Rattle.exactly_once.specs.Promise.{Entry, IsRecord}
 use Rattle.laws_client.specs.Client.{literal_of}
 use Rattle.laws_client.specs.Clients.{Answer, Told, begins, bytes_in}
-use Rattle.laws_client.specs.ClientRecords.{IsPrintable, KeepsUp, shown_by_then, KeptUp, stays_by_then}
+use Rattle.laws_client.specs.ClientRecords.{IsPrintable, KeepsUp, KeptUp, first_standing, shown_by_then, stays_by_then, user_by_then}
 
 -- ---- a client that cuts
 
@@ -106,21 +107,21 @@ abbrev pub EachIsOne : List Told → Type 0
 EachIsOne [] = Unit {0}
 EachIsOne (one ∷ told) = IsOneAnswer (bytes_in one) × EachIsOne told
 
--- A session's answers are those that the bytes allow, of all that it printed.
-pub record CutsSo (told : List Told) (printed : List ℕ) : Type 0 where
+-- A session's answers are those that the bytes allow, of all that it printed, the greeting of its profile first.
+pub record CutsSo (profile : Profile) (told : List Told) (printed : List ℕ) : Type 0 where
   -- each answer has one tagged line at most, and it is its last
   pub each : EachIsOne told
   -- that of the command which it answers
   pub own : (before after : List Told) (line tag bytes : List ℕ) (command : Command) → told ≡ before ++ Answer line bytes ∷ after → read line ≡ Ok (tag, command) → IsAnswered tag command bytes
   -- so a client that cuts behind each tagged line cuts between these answers, and nowhere else
-  pub cut : cuts (between [] []) printed ≡ cut_between greeting [] told
+  pub cut : cuts (between [] []) printed ≡ cut_between (greeting profile) [] told
 
 -- Over whatever record of a house that was new, of whoever is there: in all that was printed to it and is still to be printed
 abbrev pub AnswersAreCut : Type 0
 AnswersAreCut = (k : Setup) (entries : List Entry) (t : Scene) (place : ℕ) (v : SeatedVisitor) → IsPrintable k → IsRecord k entries (empty_scene k) t
-    → t.visitor place ≡ Some v → v.gone ≡ false → (keeps : KeepsUp k entries place v t) × CutsSo keeps.told (shown_by_then place [] entries ++ v.session.unsaid)
+    → t.visitor place ≡ Some v → v.gone ≡ false → (keeps : KeepsUp k entries place v t) × CutsSo (first_standing k (user_by_then place [] entries)).profile keeps.told (shown_by_then place [] entries ++ v.session.unsaid)
 
 -- And of a session that was let in there last, whose client isn't gone, and that has ended by itself: in all that was printed to it
 abbrev pub AnswersWereCut : Type 0
 AnswersWereCut = (k : Setup) (entries : List Entry) (t : Scene) (place : ℕ) → IsPrintable k → IsRecord k entries (empty_scene k) t
-    → stays_by_then place false entries ≡ true → t.visitor place ≡ None → (kept : KeptUp k entries place t) × CutsSo kept.told (shown_by_then place [] entries)
+    → stays_by_then place false entries ≡ true → t.visitor place ≡ None → (kept : KeptUp k entries place t) × CutsSo (first_standing k (user_by_then place [] entries)).profile kept.told (shown_by_then place [] entries)

@@ -14,6 +14,7 @@ use Rattle.imap_grammar.specs.declared.items.FetchItem.{FetchItem}
 use Rattle.imap_grammar.specs.Reading.{read}
 use Rattle.imap_grammar.specs.declared.command.Command.{Command}
 use Rattle.imap_session.specs.Exchange.{Answer, Exchange, Standing, Turn, bye, kept_tag, played, refusal_text, tagged}
+use Rattle.imap_session.specs.declared.standing.Profile.{Profile}
 use Rattle.imap_session.specs.Commands.{greeting, idle_turn, turn_of, turn_of_long_line, turn_of_verdict}
 use Rattle.delivery_token.specs.declared.Verdict.{Verdict}
 use Rattle.laws_client.specs.Client.{Client, Known, Messages, reads, within}
@@ -61,7 +62,7 @@ abbrev pub RefusalTellsNothing : Type 0
 RefusalTellsNothing = (tag : List ℕ) (fault : MailFault) → IsTag tag → TellsNothing (refusal_text tag fault)
 
 abbrev pub GreetingTellsNothing : Type 0
-GreetingTellsNothing = TellsNothing greeting
+GreetingTellsNothing = (profile : Profile) → TellsNothing (greeting profile)
 
 -- ---- turns
 

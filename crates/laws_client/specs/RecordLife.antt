@@ -1,6 +1,7 @@
 -- One life: a session selects an empty mailbox, a copy comes there meanwhile, and a NOOP shows it.
 use Rattle.std.specs.Prelude.{◌≡◌, ℕ, codes, false, List, [], ◌∷◌, Some, None}
-use Rattle.imap_session.specs.Exchange.{Standing, nothing_sent}
+use Rattle.imap_session.specs.declared.standing.Profile.TheVariants.{Standard}
+use Rattle.imap_session.specs.Exchange.{Standing, begun_with}
 use Rattle.world.specs.First.{one_house}
 use Rattle.world.specs.World.{World, empty_world}
 use Rattle.laws_client.specs.Client.{knowing, unknown}
@@ -10,7 +11,7 @@ use Rattle.laws_client.specs.Views.{view_of}
 
 -- its mailbox is INBOX, and it takes no messages
 abbrev pub one_first : Standing
-one_first = record { folders = record { name = codes "INBOX"; mailbox = 0 } ∷ []; selected = None; idling = None; ended = false; mailing = nothing_sent None }
+one_first = begun_with (record { most = None; profile = Standard; login = None }) (record { name = codes "INBOX"; mailbox = 0 } ∷ [])
 
 abbrev pub one_last : Standing
 one_last = record one_first { selected = Some (record { mailbox = 0; read_only = false }) }

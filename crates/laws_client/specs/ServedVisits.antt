@@ -6,7 +6,8 @@ use Rattle.workers_sync.specs.Carried.{Carried}
 use Rattle.workers_sync.specs.declared.courier.Lost.{Lost}
 use Rattle.settings.specs.Settings.{IsInRange, config_fault, directory_for}
 use Rattle.settings.specs.declared.config.Config.{Config}
-use Rattle.imap_session.specs.Exchange.{Folder, Standing, nothing_sent}
+use Rattle.imap_session.specs.declared.standing.Profile.{Profile}
+use Rattle.imap_session.specs.Exchange.{Admission, Folder, Standing, begun_with}
 use Rattle.imap_session.specs.Commands.{greeting}
 use Rattle.imap_session.specs.Dialogue.{Dialogue, StandsFor}
 use Rattle.imap_session.specs.Folders.{folders_of}
@@ -24,13 +25,9 @@ pub record Beginning : Type 0 where
   pub store : LockedStore
   pub taken : Option (List ℕ)
 
--- what a session is as it is greeted, which has these mailboxes, and takes messages of at most so many bytes, or none
-abbrev pub greeted_with : Option ℕ → List Folder → Standing
-greeted_with most folders = record { folders = folders; selected = None; idling = None; ended = false; mailing = nothing_sent most }
-
--- all that was said: the greeting, and what the client was told since
-abbrev pub said_in : List Told → List ℕ
-said_in told = greeting ++ flat_map bytes_in told
+-- all that was said: the greeting of its profile, and what the client was told since
+abbrev pub said_in : Profile → List Told → List ℕ
+said_in profile told = greeting profile ++ flat_map bytes_in told
 
 -- The visit has come to this since its client was greeted, when it has heard all these bytes and was told all this.
 pub record HasLived (beginning : Beginning) (heard : List ℕ) (told : List Told) (visit : Visit) : Type 0 where
@@ -45,14 +42,14 @@ pub record HasLived (beginning : Beginning) (heard : List ℕ) (told : List Told
   pub legal : Legal visit.selection.history
   -- The output took all that was said, or the first bytes of it where it failed: then the visit is over.
   pub sent : ℕ
-  pub took : Appends beginning.taken visit.taken (take sent (said_in told))
-  pub took_all : visit.failed ≡ false → Appends beginning.taken visit.taken (said_in told)
+  pub took : Appends beginning.taken visit.taken (take sent (said_in beginning.first.profile told))
+  pub took_all : visit.failed ≡ false → Appends beginning.taken visit.taken (said_in beginning.first.profile told)
   pub failed : visit.closed ≡ false → visit.failed ≡ false
 
--- A client that was greeted has begun its visit.
+-- A client that was greeted has begun its visit, however its session was to begin.
 abbrev pub VisitsBegin : Type 0
-VisitsBegin = (most : Option ℕ) (folders : List Folder) (store : LockedStore) (taken : Option (List ℕ)) (visit : Visit) → Legal store.history → IsGreeted most folders store taken visit
-    → HasLived (record { first = greeted_with most folders; store = store; taken = taken }) [] [] visit
+VisitsBegin = (admission : Admission) (folders : List Folder) (store : LockedStore) (taken : Option (List ℕ)) (visit : Visit) → Legal store.history → IsGreeted admission folders store taken visit
+    → HasLived (record { first = begun_with admission folders; store = store; taken = taken }) [] [] visit
 
 -- What a call does of a visit that isn't over: it hears this piece, as `hear`, or has a look, as `look`. It may stop within, and its output may fail; then the visit is over, but for
 -- want of memory in a look.
@@ -73,7 +70,7 @@ VisitsGoOn = (beginning : Beginning) (heard piece : List ℕ) (told : List Told)
 
 -- What a session has to know at first it knows, of whichever user it is, where nothing is wrong with the settings: the names of its mailboxes stand in lines.
 abbrev pub VisitorsStand : Type 0
-VisitorsStand = (config : Config) (most : Option ℕ) (user : List ℕ) → IsInRange config → config_fault config ≡ None → Stands (greeted_with most (folders_of (directory_for config) user))
+VisitorsStand = (config : Config) (admission : Admission) (user : List ℕ) → IsInRange config → config_fault config ≡ None → Stands (begun_with admission (folders_of (directory_for config) user))
 
 -- So at each moment of a visit its client is right about what the session counts, and about flags.
 abbrev pub VisitorsKeepUp : Type 0

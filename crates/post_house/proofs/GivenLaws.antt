@@ -117,7 +117,8 @@ module _ (rows : List Row) (c0 c1 c2 c3 c4 : Config) (is : IsDefault c0 (mailbox
     (ring : c3.ring ≡ number_given rows (codes "ring") c2.ring) (ring_max : c3.ring_max ≡ number_given rows (codes "ring-max") c2.ring_max)
     (rest3 : c3 ≡ record c2 { ring = c3.ring; ring_max = c3.ring_max })
     (uidvalidity : c4.uidvalidity ≡ number_given rows (codes "uidvalidity") c3.uidvalidity) (first_uid : c4.first_uid ≡ number_given rows (codes "first-uid") c3.first_uid)
-    (rest4 : c4 ≡ record c3 { uidvalidity = c4.uidvalidity; first_uid = c4.first_uid }) where
+    (compatible : c4.compatible ≡ is_given (codes "compatible") rows)
+    (rest4 : c4 ≡ record c3 { uidvalidity = c4.uidvalidity; first_uid = c4.first_uid; compatible = c4.compatible }) where
   house : AreHouseSettings rows 1 c4
   house = record {
     host = ap (λ (c : Config). c.host.items) rest4 ∙ ap (λ (c : Config). c.host.items) rest3 ∙ ap (λ (c : Config). c.host.items) rest2 ∙ host ∙ ap (text_given rows (codes "host")) is.host;
@@ -137,6 +138,7 @@ module _ (rows : List Row) (c0 c1 c2 c3 c4 : Config) (is : IsDefault c0 (mailbox
         (ap (λ (c : Config). c.uidvalidity) rest3 ∙ ap (λ (c : Config). c.uidvalidity) rest2 ∙ ap (λ (c : Config). c.uidvalidity) rest1 ∙ is.uidvalidity);
     first_uid = first_uid ∙ ap (number_given rows (codes "first-uid"))
         (ap (λ (c : Config). c.first_uid) rest3 ∙ ap (λ (c : Config). c.first_uid) rest2 ∙ ap (λ (c : Config). c.first_uid) rest1 ∙ is.first_uid);
+    compatible = compatible;
   }
 
   pub all_given : AsksForScript rows c4
@@ -167,6 +169,7 @@ shards_given rows b c given shards rest =
       max_message = ap (λ (x : Config). x.max_message) rest ∙ given.house.max_message;
       uidvalidity = ap (λ (x : Config). x.uidvalidity) rest ∙ given.house.uidvalidity;
       first_uid = ap (λ (x : Config). x.first_uid) rest ∙ given.house.first_uid;
+      compatible = ap (λ (x : Config). x.compatible) rest ∙ given.house.compatible;
     }
 
 -- and what else is given to a server
@@ -190,6 +193,7 @@ server_given rows b c d u r given shards rest1 lmtp_port imap_port workers sessi
         max_message = ap (λ (x : Config). x.max_message) rest ∙ house.max_message;
         uidvalidity = ap (λ (x : Config). x.uidvalidity) rest ∙ house.uidvalidity;
         first_uid = ap (λ (x : Config). x.first_uid) rest ∙ house.first_uid;
+        compatible = ap (λ (x : Config). x.compatible) rest ∙ house.compatible;
       };
       server = record {
         lmtp_port = lmtp_port ∙ ap (number_given rows (codes "lmtp-port")) (ap (λ (x : Config). x.lmtp_port) rest1 ∙ given.server.lmtp_port);

@@ -82,6 +82,7 @@ pub record AreHouseSettings (rows : List Row) (default_shards : ℕ) (c : Config
   pub max_message : c.max_message ≡ number_given rows (codes "max-message") 1048576
   pub uidvalidity : c.uidvalidity ≡ number_given rows (codes "uidvalidity") 1
   pub first_uid : c.first_uid ≡ number_given rows (codes "first-uid") 1
+  pub compatible : c.compatible ≡ is_given (codes "compatible") rows
 
 -- and each of a server
 pub record AreServerSettings (rows : List Row) (c : Config) : Type 0 where

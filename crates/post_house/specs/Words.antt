@@ -37,6 +37,7 @@ house_rules =
     ∷ number_rule (codes "max-message") 1 16777216
     ∷ number_rule (codes "uidvalidity") 1 4294967295
     ∷ number_rule (codes "first-uid") 1 4294967294
+    ∷ flag_rule (codes "compatible")
     ∷ mailbox_rule
     ∷ []
 

@@ -10,8 +10,9 @@ ghost use Rattle.post_house.specs.Asking.{form_given, is_flag, is_given, mailbox
 ghost use Rattle.post_house.specs.Words as words_taken;
 
 use crate::options::{
-    DEPTH, FIRST_UID, Helps, IMAP_PORT, JSON, LMTP_PORT, LOG, MAX_MESSAGE, MESSAGES, NumberOption,
-    RING, RING_MAX, SESSIONS, SHARDS, STATUS_PORT, UIDVALIDITY, WORKERS, command_line,
+    COMPATIBLE, DEPTH, FIRST_UID, Helps, IMAP_PORT, JSON, LMTP_PORT, LOG, MAX_MESSAGE, MESSAGES,
+    NumberOption, RING, RING_MAX, SESSIONS, SHARDS, STATUS_PORT, UIDVALIDITY, WORKERS,
+    command_line,
 };
 use clap::error::ErrorKind;
 use clap::{ArgMatches, Command, Error};
@@ -244,8 +245,11 @@ fn set_windows<'a>(matches: &ArgMatches<'a>, config: &mut Config) -> Result<(), 
     Ok(())
 }
 
-// The UIDs that were given are set.
-fn set_uids<'a>(matches: &ArgMatches<'a>, config: &mut Config) -> Result<(), Refused<'a>>
+// The UIDs that were given are set, and the profile.
+fn set_uids_and_profile<'a>(
+    matches: &ArgMatches<'a>,
+    config: &mut Config,
+) -> Result<(), Refused<'a>>
     requires { IsInRange config.old }
     ensures range { IsInRange config.new }
     ensures uidvalidity { OnOk result (config.new.uidvalidity
@@ -253,14 +257,18 @@ fn set_uids<'a>(matches: &ArgMatches<'a>, config: &mut Config) -> Result<(), Ref
         config.old.uidvalidity) }
     ensures first_uid { OnOk result (config.new.first_uid
         ≡ number_given (rows_of (found_of matches.now)) (codes "first-uid") config.old.first_uid) }
+    ensures compatible { OnOk result (config.new.compatible
+        ≡ is_given (codes "compatible") (rows_of (found_of matches.now))) }
     ensures rest { config.new
         ≡ record config.old {
           uidvalidity = config.new.uidvalidity;
           first_uid = config.new.first_uid;
+          compatible = config.new.compatible;
         } }
 {
     config.uidvalidity = given(matches, UIDVALIDITY, u64::from(config.uidvalidity))? as u32;
     config.first_uid = given(matches, FIRST_UID, u64::from(config.first_uid))? as u32;
+    config.compatible = is_given(matches, COMPATIBLE);
     Ok(())
 }
 
@@ -328,7 +336,7 @@ fn set_given<'a>(
     set_names(alloc, matches, config)?;
     set_sizes(matches, config)?;
     set_windows(matches, config)?;
-    set_uids(matches, config)?;
+    set_uids_and_profile(matches, config)?;
     Ok(())
 }
 

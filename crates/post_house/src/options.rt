@@ -121,6 +121,9 @@ pub(crate) const STATUS_PORT: NumberOption = NumberOption {
 /// Whether what a script prints is told in JSON.
 pub(crate) const JSON: &str = "json";
 
+/// Whether sessions have the compatible profile.
+pub(crate) const COMPATIBLE: &str = "compatible";
+
 /// Whether a server writes a log.
 pub(crate) const LOG: &str = "log";
 
@@ -273,6 +276,18 @@ fn mailboxes<'a>(alloc: Global) -> Arg<'a>
         .required(true)
 }
 
+// Whether sessions have the compatible profile.
+fn compatible<'a>(alloc: Global) -> Arg<'a>
+    ensures rule { rule_of result ≡ words.flag_rule (codes "compatible") }
+    ensures local { result.global ≡ false }
+{
+    flag(
+        alloc,
+        COMPATIBLE,
+        "Sessions begin with a LOGIN, and have what fronts and clients of IMAP4rev1 want besides",
+    )
+}
+
 // A subcommand with what both have: the options of a house, and its mailboxes.
 fn with_house<'a>(
     alloc: Global,
@@ -283,7 +298,8 @@ fn with_house<'a>(
     ensures { IfOk result (HasMore words.house_rules subcommand.entry) }
 {
     let named = with_names_of(alloc, subcommand, &helps.names)?;
-    with_options(alloc, named, HOUSE_OPTIONS, &helps.house)?.arg(mailboxes(alloc))
+    let numbered = with_options(alloc, named, HOUSE_OPTIONS, &helps.house)?;
+    numbered.arg(compatible(alloc))?.arg(mailboxes(alloc))
 }
 
 // Whether what a script prints is told in JSON.

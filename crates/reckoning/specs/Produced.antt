@@ -8,6 +8,7 @@ use Rattle.imap_session.specs.Folders.{folders_of}
 use Rattle.shard_queue.specs.declared.lane.Entry.{Entry}
 use Rattle.shard_queue.specs.declared.ends.ReplyChannel.{ReplyChannel}
 use Rattle.imap_session.specs.Commands.{greeting}
+use Rattle.imap_session.specs.declared.standing.Profile.TheVariants.{Standard}
 use Rattle.house_history.specs.declared.event.Event.{Event}
 use Rattle.session_thread.specs.Life.{Lives, Moment, greeted_at}
 use Rattle.lane_work.specs.declared.worker.Worked.{Worked}
@@ -31,7 +32,7 @@ pub record WasGuest (house : Premises) (mailboxes turns : ℕ) (guest : Guest) (
   pub named : user_numbered guest.user house.directory.homes ≡ Some user
   pub began : List Event
   pub last : Moment
-  pub lives : Lives turns (greeted_at (Some (most_of house.max_message)) (folders_of house.directory user) (record { mailboxes = mailboxes; entered = None; history = began }) greeting) guest.steps.items carried last
+  pub lives : Lives turns (greeted_at (Some (most_of house.max_message)) (folders_of house.directory user) (record { mailboxes = mailboxes; entered = None; history = began }) (greeting Standard)) guest.steps.items carried last
   pub wrote : text ≡ last.text
 
 -- The account of a session that made its steps, as that of a worker: what it said, and of the messages that its client appended what its log has and what it

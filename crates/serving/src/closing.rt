@@ -184,6 +184,7 @@ pub(crate) fn close_or_spend<B: Naming, H: Hall, R: Wait, L: Line>(
         workplace,
         gate,
         guests: _,
+        compatible: _,
         imap: _,
         grips: _,
         signs: _,

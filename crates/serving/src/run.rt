@@ -501,6 +501,8 @@ pub(crate) struct Manning<F, D> {
     pub(crate) at_once: usize,
     /// The berths of sessions, the other producers.
     pub(crate) guests: Vec<Guest>,
+    /// Sessions have the compatible profile: their clients log in.
+    pub(crate) compatible: bool,
     /// For each berth its own end of its bell.
     pub(crate) bells: Vec<Sleeper>,
     /// How many berths each user has.
@@ -564,6 +566,7 @@ pub(crate) fn run_house_in<
         workers,
         at_once,
         guests,
+        compatible,
         bells,
         sessions,
         mail,
@@ -625,6 +628,7 @@ pub(crate) fn run_house_in<
         workplace,
         gate: Unhindered,
         guests,
+        compatible,
         imap,
         grips,
         signs,

@@ -204,6 +204,7 @@ fn serve_in<
         workers,
         at_once,
         guests,
+        compatible: config.compatible,
         bells: sleepers,
         sessions: config.sessions,
         mail,

@@ -24,7 +24,7 @@ use clerks::{Hall, Unhindered};
 use envelope::Directory;
 use house_floor::{Floor, Post, inbox_numbered, most_of};
 use house_history::{Letter, Naming};
-use imap_session::folders_of;
+use imap_session::{admission_of, folders_of};
 use imap_stream::{Berth, Hush, Visit};
 use lane_work::{Context, Desk, LaneCourier, Summons, end_all};
 use line_io::{Sink, Watched};
@@ -73,6 +73,8 @@ pub(crate) struct Gateway<'s, B: Naming> {
     pub(crate) session: u8,
     /// The number of its user.
     pub(crate) user: u8,
+    /// Its session has the compatible profile: the client logs in.
+    pub(crate) compatible: bool,
     /// What its client's session is seen to do.
     pub(crate) sign: Option<&'s Sign>,
     /// How many clients it has had before the one that it serves.
@@ -114,6 +116,7 @@ fn gateway_of<B: Naming, H: Hall>(site: &Site<B, H>, session: u8) -> Gateway<'_,
         door,
         session,
         user,
+        compatible: site.compatible,
         sign: site.signs.get(berth),
         serial: 0,
     }
@@ -147,8 +150,8 @@ fn open_visit<'a, B: Naming, R: Wait, W: Sink + Drop>(
     output: W,
 ) -> Option<Visit<'a, B, R, Unhindered, W>>
     requires live { W.failed output ≡ false }
-    ensures { IfSome result (IsVisitOf gateway.entry.floor.now gateway.entry.user
-        (W.taken output)) }
+    ensures { IfSome result (IsVisitOf gateway.entry.floor.now gateway.entry.compatible
+        gateway.entry.user (W.taken output)) }
 {
     let (floor, gate) = (gateway.floor, gateway.gate);
     let directory = &floor.office.directory;
@@ -156,6 +159,10 @@ fn open_visit<'a, B: Naming, R: Wait, W: Sink + Drop>(
     let bells = floor.depot.sessions.get(usize::from(inbox))?;
     let user = directory.user_of(inbox);
     let Ok(folders) = folders_of(floor.alloc, directory, user) else {
+        return None;
+    };
+    let most = Some(most_of(floor.office.max_message));
+    let Ok(admission) = admission_of(floor.alloc, gateway.compatible, most, user) else {
         return None;
     };
     let store = LockedStore::new(
@@ -166,8 +173,7 @@ fn open_visit<'a, B: Naming, R: Wait, W: Sink + Drop>(
         floor.depot.front.again(),
         bells,
     );
-    let most = Some(most_of(floor.office.max_message));
-    let Ok(visit) = Visit::open(rt, floor.alloc, store, folders, most, output) else {
+    let Ok(visit) = Visit::open(rt, floor.alloc, store, folders, admission, output) else {
         return None;
     };
     Some(visit)
@@ -200,7 +206,7 @@ fn attend_visit<'a, B: Naming, R: Wait, C: Courier>(
 ) -> Happened
     requires ready { C.ready courier.old }
     requires visit { (before : Option (List ℕ))
-        × IsVisitOf gateway.floor.now gateway.user before visit }
+        × IsVisitOf gateway.floor.now gateway.compatible gateway.user before visit }
     ensures ready { C.ready courier.new }
     ensures kept { (first : C) → C.kept first courier.old → C.kept first courier.new }
 {

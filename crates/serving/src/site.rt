@@ -18,6 +18,8 @@ pub(crate) struct Site<B: Naming, H: Hall> {
     pub(crate) gate: Unhindered,
     /// The guest of each berth, in the order of the berths.
     pub(crate) guests: Vec<Guest>,
+    /// Sessions have the compatible profile: their clients log in.
+    pub(crate) compatible: bool,
     /// Where each user's clients come in, in the order of the users.
     pub(crate) imap: Vec<Listening>,
     /// For the connections that threads have at hand.

@@ -1,15 +1,16 @@
 -- A session's steps.
-use Rattle.std.proofs.Common.{◌≡◌, ℕ, suc, ◌+◌, ◌<◌, ◌⊎◌, inl, inr, Bool, true, false, List, [], ◌∷◌, ◌++◌, length, take, drop, get_or, arith, refl, sym, ap, ap₂, ◌∙◌, subst, ◌&&◌, not, is_some, Option, None}
+use Rattle.std.proofs.Common.{◌≡◌, ℕ, suc, ◌+◌, ◌<◌, ◌⊎◌, inl, inr, Bool, true, false, List, [], ◌∷◌, ◌++◌, length, take, drop, get_or, arith, refl, sym, ap, ap₂, ◌∙◌, subst, ◌&&◌, not, is_some, Option}
 use Rattle.std.specs.Global.{Global}
 use Rattle.std.specs.Prelude.{IfErr, OnErr, OnOk, Result, Ok, Err, Vec}
 use Rattle.std.specs.Result.{IsErrAnd}
 use Rattle.imap_session.specs.Commands.{greeting, most_changes}
+use Rattle.imap_session.specs.declared.standing.Profile.TheVariants.{Standard}
 use Rattle.std.proofs.Math.Seq.{split_at}
 use Rattle.std.proofs.lemmas.List.{take_more}
 use Rattle.imap_session.specs.declared.standing.SessionFault.{SessionFault}
 use Rattle.imap_session.specs.declared.standing.SessionFault.TheVariants as faults
 use Rattle.imap_session.specs.declared.standing.SessionFault.TheVariants.{Ended}
-use Rattle.imap_session.specs.Exchange.{Feed, Folder, Refused, Standing, is_idling, nothing_sent}
+use Rattle.imap_session.specs.Exchange.{Feed, Folder, Refused, Standing, begun_with, is_idling}
 use Rattle.mailbox.specs.declared.clients.MailFault.TheVariants.{NoMemory}
 use Rattle.imap_session.specs.Dialogue as dialogue
 use Rattle.imap_session.specs.Store.{IdleTurns}
@@ -17,7 +18,7 @@ use Rattle.imap_session.specs.Dialogue.{Dialogue, ImapConnection, StandsFor}
 use Rattle.settings.specs.declared.step.Step.{Step}
 use Rattle.settings.specs.declared.step.Step.TheVariants.{Say, Await}
 use Rattle.session_thread.specs.Locks.{Holds, LockedStore, shown_in}
-use Rattle.session_thread.specs.Life.{Awaits, Departs, Does, HasShown, HasTurn, IsForgotten, IsOver, IsShortInTurn, Lives, LivesInPart, Moment, Says, SaysInPart, Steps, StopsIn, Turns, another, goes_on, greeted_at, moment, takes_more}
+use Rattle.session_thread.specs.Life.{Awaits, Departs, Does, HasShown, HasTurn, IsForgotten, IsOver, IsShortInTurn, Lives, LivesInPart, Moment, Says, SaysInPart, Steps, StopsIn, Turns, another, goes_on, greeted_at, moment, takes_more, known_client}
 use Rattle.workers_sync.specs.Carried.{Carried}
 use Rattle.workers_sync.specs.declared.courier.Lost.{Lost}
 use Rattle.workers_sync.specs.declared.courier.Lost.TheVariants as lost
@@ -173,7 +174,7 @@ lived_in_part turns room first steps i step carried why now last l is lives goes
 
 -- a client that was just greeted
 abbrev pub first_dialogue : Option ℕ → List Folder → Dialogue
-first_dialogue most folders = record { standing = record { folders = folders; selected = None; idling = None; ended = false; mailing = nothing_sent most }; begun = [] }
+first_dialogue most folders = record { standing = begun_with (known_client most) folders; begun = [] }
 
 -- it left, or is forgotten
 pub left_or_forgotten : {A E P Q : Type 0} (r : Result A E) → OnOk r P → OnErr r Q → P ⊎ Q
@@ -185,18 +186,23 @@ abbrev Lived : (Was Now : List Carried → Type 0) → ℕ → Moment → List S
 Lived Was Now turns first steps new after P =
     (carried : List Carried) × ((done : List Carried) → Was done → Now (done ++ carried)) × ((x : Moment) × Lives turns first steps carried x × (after ≡ x.text) × P x)
 
+-- it was greeted as one of the standard profile
+greeted_so : (most : Option ℕ) (folders : List Folder) (before text : List ℕ) (link : ImapConnection) → StandsFor link (first_dialogue most folders) → text ≡ before ++ greeting link.session.profile
+    → text ≡ before ++ greeting Standard
+greeted_so most folders before text link stands greets = greets ∙ ap (λ (s : Standing). before ++ greeting s.profile) stands.session
+
 lived_whole : (Was Now : List Carried → Type 0) (P : Moment → Type 0) (turns : ℕ) (most : Option ℕ) (folders : List Folder) (steps : List Step) (old new : LockedStore) (before text after : List ℕ) (link last : ImapConnection)
-    → StandsFor link (first_dialogue most folders) → text ≡ before ++ greeting
+    → StandsFor link (first_dialogue most folders) → text ≡ before ++ greeting link.session.profile
     → (carried : List Carried) × ((done : List Carried) → Was done → Now (done ++ carried)) × ((d : Dialogue) → StandsFor link d → (next : Dialogue) × StandsFor last next × Lives turns (moment d old text) steps carried (moment next new after))
-    → ((d : Dialogue) → P (moment d new after)) → Lived Was Now turns (greeted_at most folders old (before ++ greeting)) steps new after P
+    → ((d : Dialogue) → P (moment d new after)) → Lived Was Now turns (greeted_at most folders old (before ++ greeting Standard)) steps new after P
 lived_whole Was Now P turns most folders steps old new before text after link last stands greets h goes =
     let t = h.2 (first_dialogue most folders) stands in
-    (h.0, h.1, (moment t.0 new after, subst (λ (w : List ℕ). Lives turns (greeted_at most folders old w) steps h.0 (moment t.0 new after)) greets t.2, refl, goes t.0))
+    (h.0, h.1, (moment t.0 new after, subst (λ (w : List ℕ). Lives turns (greeted_at most folders old w) steps h.0 (moment t.0 new after)) (greeted_so most folders before text link stands greets) t.2, refl, goes t.0))
 
 pub lived : {A E : Type 0} (r : Result A E) (Was Now : List Carried → Type 0) (turns : ℕ) (most : Option ℕ) (folders : List Folder) (steps : List Step) (old new end : LockedStore) (before text after : List ℕ) (link last : ImapConnection)
-    → StandsFor link (first_dialogue most folders) → text ≡ before ++ greeting
+    → StandsFor link (first_dialogue most folders) → text ≡ before ++ greeting link.session.profile
     → (carried : List Carried) × ((done : List Carried) → Was done → Now (done ++ carried)) × ((d : Dialogue) → StandsFor link d → (next : Dialogue) × StandsFor last next × Lives turns (moment d old text) steps carried (moment next new after))
-    → OnOk r (Departs new end) → OnOk r (Lived Was Now turns (greeted_at most folders old (before ++ greeting)) steps new after (λ x. Departs x.selection end))
+    → OnOk r (Departs new end) → OnOk r (Lived Was Now turns (greeted_at most folders old (before ++ greeting Standard)) steps new after (λ x. Departs x.selection end))
 lived (Ok x) Was Now turns most folders steps old new end before text after link last stands greets h goes =
     lived_whole Was Now (λ x. Departs x.selection end) turns most folders steps old new before text after link last stands greets h (λ d. goes)
 lived (Err e) Was Now turns most folders steps old new end before text after link last stands greets h goes = tt
@@ -209,17 +215,17 @@ Stopped turns room first steps why old end before after =
     ⊎ ((carried : List Carried) × ((x : Moment) × Lives turns first steps carried x × (after ≡ x.text) × IsForgotten x.selection end × (why ≡ lost.Torn)))
 
 pub lived_forgotten : {A : Type 0} (r : Result A Lost) (Was Now : List Carried → Type 0) (turns room : ℕ) (most : Option ℕ) (folders : List Folder) (steps : List Step) (old new end : LockedStore) (before text after : List ℕ) (link last : ImapConnection)
-    → StandsFor link (first_dialogue most folders) → text ≡ before ++ greeting
+    → StandsFor link (first_dialogue most folders) → text ≡ before ++ greeting link.session.profile
     → (carried : List Carried) × ((done : List Carried) → Was done → Now (done ++ carried)) × ((d : Dialogue) → StandsFor link d → (next : Dialogue) × StandsFor last next × Lives turns (moment d old text) steps carried (moment next new after))
-    → OnErr r (IsForgotten new end) → IfErr r (λ why. why ≡ lost.Torn) → IfErr r (λ why. Stopped turns room (greeted_at most folders old (before ++ greeting)) steps why old end before after)
+    → OnErr r (IsForgotten new end) → IfErr r (λ why. why ≡ lost.Torn) → IfErr r (λ why. Stopped turns room (greeted_at most folders old (before ++ greeting Standard)) steps why old end before after)
 lived_forgotten (Ok x) Was Now turns room most folders steps old new end before text after link last stands greets h goes torn = tt
 lived_forgotten (Err why) Was Now turns room most folders steps old new end before text after link last stands greets h goes torn =
     let t = lived_whole Was Now (λ x. IsForgotten x.selection end) turns most folders steps old new before text after link last stands greets h (λ d. goes) in
     inr (inr (t.0, (t.2.0, t.2.1, t.2.2, t.2.3, torn)))
 
-pub lived_some : (turns room : ℕ) (why : Lost) (most : Option ℕ) (folders : List Folder) (steps : List Step) (old new end : LockedStore) (before text after : List ℕ) (link last : ImapConnection) → StandsFor link (first_dialogue most folders) → text ≡ before ++ greeting
+pub lived_some : (turns room : ℕ) (why : Lost) (most : Option ℕ) (folders : List Folder) (steps : List Step) (old new end : LockedStore) (before text after : List ℕ) (link last : ImapConnection) → StandsFor link (first_dialogue most folders) → text ≡ before ++ greeting link.session.profile
     → ((d : Dialogue) → StandsFor link d → (next : Dialogue) × StandsFor last next × LivesInPart turns room (moment d old text) steps why (moment next new after)) → Departs new end ⊎ IsForgotten new end
-    → Stopped turns room (greeted_at most folders old (before ++ greeting)) steps why old end before after
+    → Stopped turns room (greeted_at most folders old (before ++ greeting Standard)) steps why old end before after
 lived_some turns room why most folders steps old new end before text after link last stands greets h goes =
     let t = h (first_dialogue most folders) stands in
-    inr (inl (moment t.0 new after, subst (λ (w : List ℕ). LivesInPart turns room (greeted_at most folders old w) steps why (moment t.0 new after)) greets t.2, refl, goes))
+    inr (inl (moment t.0 new after, subst (λ (w : List ℕ). LivesInPart turns room (greeted_at most folders old w) steps why (moment t.0 new after)) (greeted_so most folders before text link stands greets) t.2, refl, goes))

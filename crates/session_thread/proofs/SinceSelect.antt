@@ -1,29 +1,27 @@
 -- What a session was shown, hold by hold, and what the history says of its mailbox.
-use Rattle.std.proofs.Common.{◌≡◌, ℕ, zero, suc, ◌+◌, ◌-◌, ◌≤◌, Bool, true, false, List, [], ◌∷◌, ◌++◌, length, length-drop, take, drop, map, append-nil, arith, refl, sym, ap, ap₂, ◌∙◌, subst, Option, Some, None, if◌then◌else◌, ◌==◌}
+use Rattle.std.proofs.Common.{◌≡◌, ℕ, zero, suc, ◌+◌, ◌-◌, ◌≤◌, Bool, true, false, List, [], ◌∷◌, ◌++◌, length, length-drop, take, drop, append-nil, arith, refl, sym, ap, ◌∙◌, subst, Option, Some, None, if◌then◌else◌, ◌==◌}
 use Rattle.std.specs.Prelude.{IfSome}
 use Rattle.std.proofs.lemmas.List.{append_assoc, drop-append-le, length-append, length-map, take-append-le}
 use mathlib.Core.List.{IsPrefix}
 use Rattle.change_ring.specs.declared.change.Change.{Change}
-use Rattle.change_ring.specs.Log.{replay, rows_of, view_at}
+use Rattle.change_ring.specs.Log.{replay, view_at}
 use Rattle.cursor_set.specs.Cursors.{CursorHandle, if_of, in_slot, Open}
 use Rattle.mailbox.specs.declared.clients.Opening.{Opening}
 use Rattle.mailbox.specs.declared.clients.Row.{Row}
 use Rattle.mailbox.specs.Mailbox.{Mailbox, row_of}
 use Rattle.mailbox.specs.Stands.{IsKept, Stands, next_of}
-use Rattle.workers_sync.specs.Holds.{Enters, Expunges, Feeds, HasCursor, Reads}
+use Rattle.workers_sync.specs.Holds.{HasCursor, Reads}
 use Rattle.house_history.specs.declared.event.Event as house
 use Rattle.house_history.specs.declared.event.Step.TheVariants as steps
 use Rattle.house_history.specs.Events.{changes_in}
-use Rattle.house_history.specs.Legal.{HasText}
 use Rattle.house_history.proofs.Follow.{changes_grow}
 use Rattle.house_history.proofs.Parts.{same}
 use Rattle.locked_mailbox.specs.Locking.{Knows, LockedMailbox}
-use Rattle.imap_session.specs.Exchange.{Call, Answer, Enter, Look, Read, Count, Alter, Expunge, Feed, Leave, Entered, Looked, Found, Counted, Altered, Expunged, Fed, Left, Refused, Starved, Event}
-use Rattle.imap_session.specs.Store.{Met}
+use Rattle.imap_session.specs.Exchange.{Answer, Enter, Look, Read, Count, Alter, Expunge, Feed, Leave, Entered, Looked, Found, Counted, Altered, Expunged, Fed, Left, Refused, Starved}
 use Rattle.session_thread.specs.declared.locked_store.Entry.{Entry}
-use Rattle.session_thread.specs.Locks.{HasItsText, Held, Holds, In, LockedStore, ShowsOf, entered_at, outside, says, says_nothing, seeing}
+use Rattle.session_thread.specs.Locks.{HasItsText, Held, Holds, In, LockedStore, entered_at, outside, says, says_nothing, seeing}
 use Rattle.session_thread.proofs.Shown.{seen_view}
-use Rattle.session_thread.specs.SinceSelect.{IsUpToCursor, Opens, ShownByCall, ShownSinceSelect, Shows, Tells, WasShown, WasShownIn, shown_since, shown_then}
+use Rattle.session_thread.specs.SinceSelect.{IsUpToCursor, Opens, ShownByCall, ShownSinceSelect, Shows, Tells, WasShown, WasShownIn, shown_then}
 
 -- ---- pieces of lists
 

@@ -11,7 +11,8 @@ use Rattle.workers_sync.specs.Holds.{UnderLock}
 use Rattle.imap_session.specs.declared.standing.After.{After}
 use Rattle.imap_session.specs.declared.standing.After.TheVariants.{Submit}
 use Rattle.imap_session.specs.declared.standing.Append.{Append}
-use Rattle.imap_session.specs.Exchange.{Feed, Folder, Leave, Left, Refused, Sent, Standing, is_idling, kept_tag, may_send, nothing_sent}
+use Rattle.imap_session.specs.declared.standing.Profile.TheVariants.{Standard}
+use Rattle.imap_session.specs.Exchange.{Admission, Feed, Folder, Leave, Left, Refused, Sent, Standing, begun_with, is_idling, kept_tag, may_send}
 use Rattle.imap_session.specs.Commands.{most_changes}
 use Rattle.imap_session.specs.Store.{AnswersVerdict, IdleTurns}
 use Rattle.imap_session.specs.Dialogue.{Answered, Dialogue, answer_room, may_follow, tag_len}
@@ -29,10 +30,14 @@ pub record Moment : Type 0 where
 abbrev pub moment : Dialogue → LockedStore → List ℕ → Moment
 moment dialogue selection text = record { dialogue = dialogue; selection = selection; text = text }
 
--- the first moment of a session with these mailboxes, which has been greeted, and takes messages of at most so many bytes, or none
+-- A session of a plan has the standard profile, and its client is known already. It takes messages of at most so many bytes, or none
+abbrev pub known_client : Option ℕ → Admission
+known_client most = record { most = most; profile = Standard; login = None }
+
+-- the first moment of such a session with these mailboxes, which has been greeted
 abbrev pub greeted_at : Option ℕ → List Folder → LockedStore → List ℕ → Moment
 greeted_at most folders selection text = record {
-  dialogue = record { standing = record { folders = folders; selected = None; idling = None; ended = false; mailing = nothing_sent most }; begun = [] };
+  dialogue = record { standing = begun_with (known_client most) folders; begun = [] };
   selection = selection;
   text = text;
 }

@@ -4,6 +4,7 @@
 ghost use Rattle.std.specs.Prelude.{◌≡◌, ◌++◌, ◌<◌, ◌⊎◌, ℕ, List, None, false, true, IfErr, OnErr, OnOk};
 ghost use Rattle.std.specs.Vec.{vec_capacity};
 ghost use Rattle.imap_session.specs.Commands.{greeting};
+ghost use Rattle.imap_session.specs.declared.standing.Profile.TheVariants.{Standard};
 ghost use Rattle.imap_session.specs.Dialogue.{Dialogue, StandsFor};
 ghost use Rattle.workers_sync.specs.Carried.{Carried};
 ghost use Rattle.session_thread.specs.Life.{Awaits, Departs, IsForgotten, IsOver, IsShortInTurn, Lives, LivesInPart, Moment, Steps, StopsIn, Turns, greeted_at, moment, takes_more};
@@ -12,7 +13,7 @@ use crate::locked_store::LockedStore;
 use crate::speaking::answer;
 use crate::turns::idle_turn;
 use house_history::Naming;
-use imap_session::{After, Folder, ImapConnection, Store};
+use imap_session::{Admission, After, Folder, ImapConnection, Profile, Store};
 use settings::Step;
 use std::alloc::{AllocError, Global};
 use std::sync::Wait;
@@ -182,7 +183,7 @@ pub fn live<B: Naming, R: Wait, G: Gate, C: Courier>(
         ((done : List Carried) → C.carried courier.old done
         → C.carried courier.new (done ++ carried))
         × ((last : Moment) × Lives turns (greeted_at most folders.items store.old (out.old.items
-        ++ greeting)) steps.now carried last
+        ++ greeting Standard)) steps.now carried last
         × (out.new.items ≡ last.text) × Departs last.selection store.new)) }
 
     // After an error nothing was said or done; or it was greeted, made its first steps, stopped in the next, and left or is forgotten;
@@ -190,16 +191,21 @@ pub fn live<B: Naming, R: Wait, G: Gate, C: Courier>(
     ensures err { IfErr result (λ why. (store.new ≡ store.old) × (out.new.items ≡ out.old.items)
         × (why ≡ Lost.NoMemory)
         ⊎ ((last : Moment) × LivesInPart turns (vec_capacity out.new)
-        (greeted_at most folders.items store.old (out.old.items ++ greeting))
+        (greeted_at most folders.items store.old (out.old.items ++ greeting Standard))
         steps.now why last
         × (out.new.items ≡ last.text)
         × (Departs last.selection store.new ⊎ IsForgotten last.selection store.new))
         ⊎ (carried : List Carried) × ((last : Moment)
         × Lives turns (greeted_at most folders.items store.old (out.old.items
-        ++ greeting)) steps.now carried last
+        ++ greeting Standard)) steps.now carried last
         × (out.new.items ≡ last.text) × IsForgotten last.selection store.new × (why ≡ Lost.Torn))) }
 {
-    let mut connection = ImapConnection::new(alloc, folders, most)?;
+    let known = Admission {
+        max_message: most,
+        profile: Profile::Standard,
+        login: None,
+    };
+    let mut connection = ImapConnection::new(alloc, folders, known)?;
     connection.greet(out)?;
     let lived = make_all(alloc, &mut connection, store, courier, steps, turns, out);
     let gone = depart(store);

@@ -15,6 +15,7 @@ fn are_standing(config: &Config) -> bool {
         && config.workers == 4
         && config.lmtp_port == 2424
         && config.imap_port == 14_300
+        && !config.compatible
 }
 
 #[test]

@@ -1,6 +1,6 @@
 //! What a connection answers to whoever brings its bytes: how many it took, and what its client may send next. What it says is shown by scripts.
 
-use crate::sessions::folders;
+use crate::sessions::{folders, standard};
 use crate::stores::store;
 use delivery_token::{Refusal, Verdict};
 use house::CoreStore;
@@ -8,7 +8,7 @@ use imap_session::{After, ImapConnection, Progress};
 use std::alloc::{AllocError, Global};
 
 fn connection(alloc: Global) -> Result<ImapConnection, AllocError> {
-    ImapConnection::new(alloc, folders(alloc)?, Some(1_048_576))
+    ImapConnection::new(alloc, folders(alloc)?, standard(Some(1_048_576)))
 }
 
 // What is done with a connection, and what is wanted of it.

@@ -5,7 +5,9 @@ use crate::stores::{deliver, store};
 use change_ring::{Flags, NO_FLAGS};
 use delivery_token::{Refusal, Verdict};
 use house::CoreStore;
-use imap_session::{After, Folder, Selected, Session, SessionFault};
+use imap_session::{
+    Admission, After, Folder, Profile, Selected, Session, SessionFault, admission_of,
+};
 use std::alloc::{AllocError, Global};
 
 /// The mailboxes of a user with one, the second of the store's.
@@ -16,14 +18,24 @@ pub fn folders(alloc: Global) -> Result<Vec<Folder>, AllocError> {
     Ok(folders)
 }
 
+/// How a client of the standard profile comes in, which appends messages of at most so many bytes, or none.
+pub fn standard(most: Option<u32>) -> Admission {
+    Admission {
+        max_message: most,
+        profile: Profile::Standard,
+        login: None,
+    }
+}
+
 // A session that takes messages of at most so many bytes, or none.
 fn session(alloc: Global, most: Option<u32>) -> Result<Session, AllocError> {
-    Ok(Session::new(folders(alloc)?, most))
+    Ok(Session::new(folders(alloc)?, standard(most)))
 }
 
 // What is done with a session and its store, and what is wanted of it.
 #[derive(Clone, Copy)]
 enum Step {
+    Greets,
     // A message comes to the mailbox.
     Delivered,
     // From now on the store takes the session for another one, which has entered no mailbox.
@@ -76,6 +88,7 @@ fn goes(
     out: &mut Vec<u8>,
 ) -> bool {
     match step {
+        Step::Greets => session.greet(out).is_ok(),
         Step::Delivered => deliver(alloc, &mut store.core, 1),
         Step::Sits(position) => {
             store.session = position;
@@ -272,6 +285,60 @@ const TAKES_NONE: &[Step] = &[
     Step::Line(b"a4 APPEND INBOX {4097+}", Ok(After::Bye)),
     Step::Said(b"* BYE Literal too big\r\n"),
 ];
+
+// A client of the compatible profile logs in before all else, and is offered what IMAP4rev1 has besides.
+const IS_COMPATIBLE: &[Step] = &[
+    Step::Greets,
+    Step::Said(
+        b"* OK [CAPABILITY IMAP4rev2 IMAP4rev1 IDLE NAMESPACE UIDPLUS UNSELECT] \
+IMAP4rev2 server ready\r\n",
+    ),
+    Step::Line(b"a1 CAPABILITY", Ok(After::Go)),
+    Step::Said(
+        b"* CAPABILITY IMAP4rev2 IMAP4rev1 IDLE NAMESPACE UIDPLUS UNSELECT\r\n\
+a1 OK CAPABILITY completed\r\n",
+    ),
+    Step::Line(b"a2 SELECT INBOX", Ok(After::Go)),
+    Step::Said(b"a2 BAD Wrong state\r\n"),
+    Step::Selected(None),
+    Step::Line(b"a3 LOGIN alice SESAME", Ok(After::Go)),
+    Step::Said(b"a3 NO [AUTHENTICATIONFAILED] Another user's port\r\n"),
+    Step::Line(b"a4 LOGIN \"SMITH\" SESAME", Ok(After::Go)),
+    Step::Said(b"a4 OK LOGIN completed\r\n"),
+    Step::Line(b"a5 LOGIN SMITH SESAME", Ok(After::Go)),
+    Step::Said(b"a5 BAD Wrong state\r\n"),
+    Step::Line(b"a6 CHECK", Ok(After::Go)),
+    Step::Said(b"a6 OK CHECK completed\r\n"),
+    Step::Line(b"a7 LSUB \"\" *", Ok(After::Go)),
+    Step::Said(b"* LSUB () \"/\" INBOX\r\na7 OK LSUB completed\r\n"),
+    Step::Line(b"a8 SUBSCRIBE Inbox", Ok(After::Go)),
+    Step::Said(b"a8 OK SUBSCRIBE completed\r\n"),
+    Step::Line(b"a9 SUBSCRIBE Play", Ok(After::Go)),
+    Step::Said(b"a9 NO [NONEXISTENT] No such mailbox\r\n"),
+    Step::Delivered,
+    Step::Line(b"b1 STATUS INBOX (RECENT UNSEEN)", Ok(After::Go)),
+    Step::Said(b"* STATUS INBOX (RECENT 0 UNSEEN 1)\r\nb1 OK STATUS completed\r\n"),
+    Step::Line(b"b2 SELECT INBOX", Ok(After::Go)),
+    ENTERED,
+    Step::Said(
+        b"* FLAGS (\\Answered \\Flagged \\Deleted \\Seen \\Draft)\r\n* 1 EXISTS\r\n\
+* OK [UIDVALIDITY 7] UIDs valid\r\n* OK [UIDNEXT 2] Predicted next UID\r\n\
+* OK [PERMANENTFLAGS (\\Answered \\Flagged \\Deleted \\Seen \\Draft)] Flags kept\r\n\
+* LIST () \"/\" INBOX\r\n* 0 RECENT\r\nb2 OK [READ-WRITE] SELECT completed\r\n",
+    ),
+];
+
+// The same in the session of a client that is to log in first.
+fn played_compatible(alloc: Global, steps: &[Step]) -> Result<Option<usize>, AllocError> {
+    let admission = admission_of(alloc, true, Some(10), b"SMITH")?;
+    let mut session = Session::new(folders(alloc)?, admission);
+    played_with(alloc, &mut session, steps)
+}
+
+#[test]
+fn a_client_of_the_compatible_profile_logs_in(rt: HostRuntime) {
+    assert_eq!(rt; played_compatible(rt.alloc(), IS_COMPATIBLE), Ok(None));
+}
 
 #[test]
 fn a_session_selects_and_ends(rt: HostRuntime) {

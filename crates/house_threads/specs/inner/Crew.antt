@@ -11,6 +11,7 @@ use Rattle.house_threads.specs.declared.consumers.Kept.{Kept}
 use Rattle.house_threads.specs.declared.consumers.Kept.TheVariants as kept
 use Rattle.workers_sync.specs.Carried.{Carried}
 use Rattle.imap_session.specs.Commands.{greeting}
+use Rattle.imap_session.specs.declared.standing.Profile.TheVariants.{Standard}
 use Rattle.session_thread.specs.Life.{Lives, Moment, greeted_at}
 use Rattle.session_thread.specs.Locks.{LockedStore}
 use Rattle.imap_session.specs.Folders.{folders_of}
@@ -50,7 +51,7 @@ IsKept floor n (kept.Here c) = IsServiceOf floor n (manually_drop_value c)
 -- the session that had this selection, of a user with this name, lived through these steps, and said this
 pub record HasLived {B : Type 0} (floor : Floor B) (user : List ℕ) (selection : LockedStore) (guest : Guest) (carried : List Carried) (text : List ℕ) : Type 0 where
   pub last : Moment
-  pub lives : Lives floor.turns (greeted_at (Some (most_of floor.office.max_message)) (folders_of floor.office.directory user) selection greeting) guest.steps.items carried last
+  pub lives : Lives floor.turns (greeted_at (Some (most_of floor.office.max_message)) (folders_of floor.office.directory user) selection (greeting Standard)) guest.steps.items carried last
   pub wrote : text ≡ last.text
 
 -- What a session leaves: its ended permits are its own on each lane, its receiver is of its channel, and where it made all its steps, it heard as many verdicts as it put copies, this is

@@ -10,11 +10,12 @@ use Rattle.mailbox.specs.declared.mailbox.Status.{Status}
 use Rattle.imap_session.specs.declared.standing.After.TheVariants.{Go, Submit}
 use Rattle.imap_session.specs.declared.standing.After.TheVariants as afters
 use Rattle.imap_session.specs.Commands.{unlimited, with_bytes, without_begun, without_sent}
-use Rattle.imap_session.specs.Exchange.{Count, Counted, Fed, Feed, ForLiteral, ForVerdict, Standing, nothing_sent, waiting, Unasked}
+use Rattle.imap_session.specs.declared.standing.Profile.TheVariants.{Standard}
+use Rattle.imap_session.specs.Exchange.{Count, Counted, Fed, Feed, ForLiteral, ForVerdict, Standing, begun_with, waiting, Unasked}
 use Rattle.laws_client.specs.Talks.{Heard, Line, Literal, Talks}
 
 abbrev pub selected : Standing
-selected = record { folders = []; selected = Some (record { mailbox = 0; read_only = false }); idling = None; ended = false; mailing = nothing_sent (Some 10) }
+selected = record (begun_with (record { most = Some 10; profile = Standard; login = None }) []) { selected = Some (record { mailbox = 0; read_only = false }) }
 
 a_noop : Talks selected [] (Line (codes "a1 NOOP") (Fed [] (Add 1 ∷ []) ∷ []) ∷ []) (codes "* 1 EXISTS\r\na1 OK NOOP completed\r\n") (1 ∷ [])
 unfolding read digits

@@ -1,4 +1,4 @@
-use Rattle.std.proofs.Common.{◌≡◌, ◌+◌, ◌-◌, ◌<◌, ◌∙◌, ap, arith, false, inl, length, List, ℕ, None, Option, Some, refl, subst, sym, true, get_or}
+use Rattle.std.proofs.Common.{◌≡◌, ◌+◌, ◌-◌, ◌<◌, ◌∙◌, ap, arith, false, inl, length, List, ℕ, None, Option, Some, subst, sym, true, get_or}
 use Rattle.delivery_core.proofs.Follow.{get_or-any}
 use Rattle.imap_session.specs.Exchange.{Folder}
 use Rattle.imap_session.specs.Folders.{has_user}
@@ -17,7 +17,7 @@ pub returns-in_err-visitor_talks-clause-no_memory : goal.returns-in_err-visitor_
 returns-in_err-visitor_talks-clause-no_memory c =
     on_err c.from_residual-in_err-visitor_talks.result _ λ k s st.
     let i = c.self.inside in
-    let h : House = record { core = i.store.core; callers = i.callers.items; serials = i.serials.items; visitors = i.visitors.items; entered = i.entered.items; directory = i.directory; host = i.host.items; max_message = i.max_message } in
+    let h : House = record { core = i.store.core; callers = i.callers.items; serials = i.serials.items; visitors = i.visitors.items; entered = i.entered.items; directory = i.directory; host = i.host.items; max_message = i.max_message; compatible = i.compatible } in
     let st1 = subst (λ (x : House). StandsFor k x s) (sym c.self.view_is) st in
     let many = ap (λ (x : House). length x.visitors) c.self.view_is in
     let first = ap (λ (x : House). length x.callers) c.self.view_is in
@@ -30,9 +30,9 @@ returns-in_err-visitor_talks-clause-no_memory c =
     let more = subst (λ (n : ℕ). get_or i.entered.items n 0 < most_serials) (sym e1) (subst (λ (x : House). get_or x.entered (c.args.session - 1) 0 < most_serials) (sym c.self.view_is) c.requires.free.more) in
     let seat : c.session_seat-seat.result ≡ length i.callers.items + place = c.session_seat-seat.ensures ∙ ap (λ (n : ℕ). n + (c.args.session - 1)) (sym first) ∙ ap (λ (n : ℕ). length i.callers.items + n) (sym e1) in
     let serial : c.index-serial.result.now ≡ get_or i.entered.items place 0 = c.index-serial.ensures ∙ get_or-any i.entered.items place c.index-serial.result.now 0 ls in
-    let r = entered k false h s place c.session_seat-seat.result c.index-serial.result.now i.max_message c.args.user.now c.in_ok-visitor.visitor c.visitor_talks.new.place c.visitor_talks.new.store.core c.args.out.now.items c.visitor_talks.new.out.items
-    st1 lt seat free known serial (subst (λ (n : ℕ). n < most_serials) (sym serial) more) refl c.visitor_talks.ensures.delivery
-    (λ next heard l. subst (λ (f : List Folder). StandsForSeated c.session_seat-seat.result next heard c.in_ok-visitor.visitor (seated_greeted c.index-serial.result.now (Some i.max_message) f)) c.in_ok-folders.ensures (c.in_ok-visitor.ensures.1 next heard l))
+    let r = entered k false h s place c.session_seat-seat.result c.index-serial.result.now c.in_ok-admission.admission c.args.user.now c.in_ok-visitor.visitor c.visitor_talks.new.place c.visitor_talks.new.store.core c.args.out.now.items c.visitor_talks.new.out.items
+    st1 lt seat free known serial (subst (λ (n : ℕ). n < most_serials) (sym serial) more) c.in_ok-admission.ensures.is c.visitor_talks.ensures.delivery
+    (λ next heard l. subst (λ (f : List Folder). StandsForSeated c.session_seat-seat.result next heard c.in_ok-visitor.visitor (seated_greeted c.index-serial.result.now c.in_ok-admission.admission f)) c.in_ok-folders.ensures (c.in_ok-visitor.ensures.1 next heard l))
     (λ next heard w b stands is. subst (λ (n : ℕ). PlaceTalked k false n next heard w b c.visitor_talks.new.place c.visitor_talks.new.store.core c.args.out.now.items c.visitor_talks.new.out.items) (sym e1)
     (c.in_err-visitor_talks.ensures.err k next heard w b stands (subst (λ (n : ℕ). StandsForSomebody (session_seat k n) next heard (Some c.in_ok-visitor.visitor) (Some b)) e1 is))) in
     inl (record {
@@ -46,7 +46,7 @@ returns-in_err-visitor_talks-clause-no_memory c =
 pub returns-clause-follows : goal.returns-clause-follows
 returns-clause-follows c k s st =
     let i = c.self.inside in
-    let h : House = record { core = i.store.core; callers = i.callers.items; serials = i.serials.items; visitors = i.visitors.items; entered = i.entered.items; directory = i.directory; host = i.host.items; max_message = i.max_message } in
+    let h : House = record { core = i.store.core; callers = i.callers.items; serials = i.serials.items; visitors = i.visitors.items; entered = i.entered.items; directory = i.directory; host = i.host.items; max_message = i.max_message; compatible = i.compatible } in
     let st1 = subst (λ (x : House). StandsFor k x s) (sym c.self.view_is) st in
     let many = ap (λ (x : House). length x.visitors) c.self.view_is in
     let first = ap (λ (x : House). length x.callers) c.self.view_is in
@@ -59,9 +59,9 @@ returns-clause-follows c k s st =
     let more = subst (λ (n : ℕ). get_or i.entered.items n 0 < most_serials) (sym e1) (subst (λ (x : House). get_or x.entered (c.args.session - 1) 0 < most_serials) (sym c.self.view_is) c.requires.free.more) in
     let seat : c.session_seat-seat.result ≡ length i.callers.items + place = c.session_seat-seat.ensures ∙ ap (λ (n : ℕ). n + (c.args.session - 1)) (sym first) ∙ ap (λ (n : ℕ). length i.callers.items + n) (sym e1) in
     let serial : c.index-serial.result.now ≡ get_or i.entered.items place 0 = c.index-serial.ensures ∙ get_or-any i.entered.items place c.index-serial.result.now 0 ls in
-    let r = entered k true h s place c.session_seat-seat.result c.index-serial.result.now i.max_message c.args.user.now c.in_ok-visitor.visitor c.visitor_talks.new.place c.visitor_talks.new.store.core c.args.out.now.items c.visitor_talks.new.out.items
-    st1 lt seat free known serial (subst (λ (n : ℕ). n < most_serials) (sym serial) more) refl c.visitor_talks.ensures.delivery
-    (λ next heard l. subst (λ (f : List Folder). StandsForSeated c.session_seat-seat.result next heard c.in_ok-visitor.visitor (seated_greeted c.index-serial.result.now (Some i.max_message) f)) c.in_ok-folders.ensures (c.in_ok-visitor.ensures.1 next heard l))
+    let r = entered k true h s place c.session_seat-seat.result c.index-serial.result.now c.in_ok-admission.admission c.args.user.now c.in_ok-visitor.visitor c.visitor_talks.new.place c.visitor_talks.new.store.core c.args.out.now.items c.visitor_talks.new.out.items
+    st1 lt seat free known serial (subst (λ (n : ℕ). n < most_serials) (sym serial) more) c.in_ok-admission.ensures.is c.visitor_talks.ensures.delivery
+    (λ next heard l. subst (λ (f : List Folder). StandsForSeated c.session_seat-seat.result next heard c.in_ok-visitor.visitor (seated_greeted c.index-serial.result.now c.in_ok-admission.admission f)) c.in_ok-folders.ensures (c.in_ok-visitor.ensures.1 next heard l))
     (λ next heard w b stands is. subst (λ (n : ℕ). PlaceTalked k true n next heard w b c.visitor_talks.new.place c.visitor_talks.new.store.core c.args.out.now.items c.visitor_talks.new.out.items) (sym e1)
     (c.in_ok-visitor_talks.ensures.ok k next heard w b stands (subst (λ (n : ℕ). StandsForSomebody (session_seat k n) next heard (Some c.in_ok-visitor.visitor) (Some b)) e1 is))) in
     record {

@@ -20,7 +20,7 @@ sure P (Err fault) None after some e asks ok = absurd (true≢false (sym some))
 pub returns : goal.returns
 returns c k s st =
     let i = c.self.inside in
-    let h : House = record { core = i.store.core; callers = i.callers.items; serials = i.serials.items; visitors = i.visitors.items; entered = i.entered.items; directory = i.directory; host = i.host.items; max_message = i.max_message } in
+    let h : House = record { core = i.store.core; callers = i.callers.items; serials = i.serials.items; visitors = i.visitors.items; entered = i.entered.items; directory = i.directory; host = i.host.items; max_message = i.max_message; compatible = i.compatible } in
     let st1 = subst (λ (x : House). StandsFor k x s) (sym c.self.view_is) st in
     let many = ap (λ (x : House). length x.callers) c.self.view_is in
     let e = c.index_of.ensures in

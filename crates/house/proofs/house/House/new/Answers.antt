@@ -21,4 +21,4 @@ returns-clause-stands c =
     c.in_ok-new.ensures.next c.in_ok-empty_seats.ensures (c.in_ok-vec.ensures.items_if_clones_equal (λ y e. e) ∙ ap (λ (n : ℕ). replicate n 0) c.from-2.ensures) c.in_ok-free_places.ensures
     (c.in_ok-vec-2.ensures.items_if_clones_equal (λ y e. e) ∙ ap (λ (n : ℕ). replicate n 0) c.from-3.ensures)
     (c.directory.view_is ∙ made.directory)
-    (c.in_ok-from_slice.ensures.items ∙ c.deref.ensures.value) refl c.requires.shards.0
+    (c.in_ok-from_slice.ensures.items ∙ c.deref.ensures.value) refl refl c.requires.shards.0

@@ -15,7 +15,7 @@ use Rattle.house.proofs.house.House.part.Goals as goal
 pub returns : goal.returns
 returns c k s old st =
     let i = c.self.inside in
-    let h : House = record { core = i.store.core; callers = i.callers.items; serials = i.serials.items; visitors = i.visitors.items; entered = i.entered.items; directory = i.directory; host = i.host.items; max_message = i.max_message } in
+    let h : House = record { core = i.store.core; callers = i.callers.items; serials = i.serials.items; visitors = i.visitors.items; entered = i.entered.items; directory = i.directory; host = i.host.items; max_message = i.max_message; compatible = i.compatible } in
     let st1 = subst (λ (x : House). StandsFor k x s) (sym c.self.view_is) st in
     let many = ap (λ (x : House). length x.visitors) c.self.view_is in
     let e1 = c.index_of.ensures in

@@ -16,7 +16,7 @@ use Rattle.house.proofs.house.House.put_of_connection.Goals as goal
 pub returns-in_err-caller_goes_on-clause-no_memory : goal.returns-in_err-caller_goes_on-clause-no_memory
 returns-in_err-caller_goes_on-clause-no_memory c e k s st =
     let i = c.self.inside in
-    let h : House = record { core = i.store.core; callers = i.callers.items; serials = i.serials.items; visitors = i.visitors.items; entered = i.entered.items; directory = i.directory; host = i.host.items; max_message = i.max_message } in
+    let h : House = record { core = i.store.core; callers = i.callers.items; serials = i.serials.items; visitors = i.visitors.items; entered = i.entered.items; directory = i.directory; host = i.host.items; max_message = i.max_message; compatible = i.compatible } in
     let st1 = subst (λ (x : House). StandsFor k x s) (sym c.self.view_is) st in
     let many = ap (λ (x : House). length x.callers) c.self.view_is in
     let e1 = c.index_of-seat.ensures in
@@ -32,7 +32,7 @@ returns-in_err-caller_goes_on-clause-no_memory c e k s st =
 pub returns-clause-follows : goal.returns-clause-follows
 returns-clause-follows c k s st =
     let i = c.self.inside in
-    let h : House = record { core = i.store.core; callers = i.callers.items; serials = i.serials.items; visitors = i.visitors.items; entered = i.entered.items; directory = i.directory; host = i.host.items; max_message = i.max_message } in
+    let h : House = record { core = i.store.core; callers = i.callers.items; serials = i.serials.items; visitors = i.visitors.items; entered = i.entered.items; directory = i.directory; host = i.host.items; max_message = i.max_message; compatible = i.compatible } in
     let st1 = subst (λ (x : House). StandsFor k x s) (sym c.self.view_is) st in
     let many = ap (λ (x : House). length x.callers) c.self.view_is in
     let e1 = c.index_of-seat.ensures in
@@ -48,7 +48,7 @@ returns-clause-follows c k s st =
 pub returns-in_err-why-clause-changes_nothing : goal.returns-in_err-why-clause-changes_nothing
 returns-in_err-why-clause-changes_nothing c e k s st t printed p =
     let i = c.self.inside in
-    let h : House = record { core = i.store.core; callers = i.callers.items; serials = i.serials.items; visitors = i.visitors.items; entered = i.entered.items; directory = i.directory; host = i.host.items; max_message = i.max_message } in
+    let h : House = record { core = i.store.core; callers = i.callers.items; serials = i.serials.items; visitors = i.visitors.items; entered = i.entered.items; directory = i.directory; host = i.host.items; max_message = i.max_message; compatible = i.compatible } in
     let st1 = subst (λ (x : House). StandsFor k x s) (sym c.self.view_is) st in
     let many = ap (λ (x : House). length x.callers) c.self.view_is in
     let e1 = c.index_of-seat.ensures in
@@ -63,7 +63,7 @@ returns-in_err-why-clause-changes_nothing c e k s st t printed p =
 pub returns-in_err-caller_goes_on-clause-asks : goal.returns-in_err-caller_goes_on-clause-asks
 returns-in_err-caller_goes_on-clause-asks c e =
     let i = c.self.inside in
-    let h : House = record { core = i.store.core; callers = i.callers.items; serials = i.serials.items; visitors = i.visitors.items; entered = i.entered.items; directory = i.directory; host = i.host.items; max_message = i.max_message } in
+    let h : House = record { core = i.store.core; callers = i.callers.items; serials = i.serials.items; visitors = i.visitors.items; entered = i.entered.items; directory = i.directory; host = i.host.items; max_message = i.max_message; compatible = i.compatible } in
     let many = ap (λ (x : House). length x.callers) c.self.view_is in
     let e1 = c.index_of-seat.ensures in
     let number : c.args.connection ≡ c.index_of-seat.result + 1 = let n = c.requires.seat.number in omega (arith, n, e1) in
@@ -75,7 +75,7 @@ returns-in_err-caller_goes_on-clause-asks c e =
 pub returns-in_err-why-clause-asks : goal.returns-in_err-why-clause-asks
 returns-in_err-why-clause-asks c e =
     let i = c.self.inside in
-    let h : House = record { core = i.store.core; callers = i.callers.items; serials = i.serials.items; visitors = i.visitors.items; entered = i.entered.items; directory = i.directory; host = i.host.items; max_message = i.max_message } in
+    let h : House = record { core = i.store.core; callers = i.callers.items; serials = i.serials.items; visitors = i.visitors.items; entered = i.entered.items; directory = i.directory; host = i.host.items; max_message = i.max_message; compatible = i.compatible } in
     let many = ap (λ (x : House). length x.callers) c.self.view_is in
     let e1 = c.index_of-seat.ensures in
     let number : c.args.connection ≡ c.index_of-seat.result + 1 = let n = c.requires.seat.number in omega (arith, n, e1) in

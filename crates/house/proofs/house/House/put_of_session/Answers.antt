@@ -17,7 +17,7 @@ use Rattle.house.proofs.house.House.put_of_session.Goals as goal
 pub returns-in_err-visitor_goes_on-clause-no_memory : goal.returns-in_err-visitor_goes_on-clause-no_memory
 returns-in_err-visitor_goes_on-clause-no_memory c e k s st =
     let i = c.self.inside in
-    let h : House = record { core = i.store.core; callers = i.callers.items; serials = i.serials.items; visitors = i.visitors.items; entered = i.entered.items; directory = i.directory; host = i.host.items; max_message = i.max_message } in
+    let h : House = record { core = i.store.core; callers = i.callers.items; serials = i.serials.items; visitors = i.visitors.items; entered = i.entered.items; directory = i.directory; host = i.host.items; max_message = i.max_message; compatible = i.compatible } in
     let st1 = subst (λ (x : House). StandsFor k x s) (sym c.self.view_is) st in
     let many = ap (λ (x : House). length x.visitors) c.self.view_is in
     let first = ap (λ (x : House). length x.callers) c.self.view_is in
@@ -38,7 +38,7 @@ returns-in_err-visitor_goes_on-clause-no_memory c e k s st =
 pub returns-clause-follows : goal.returns-clause-follows
 returns-clause-follows c k s st =
     let i = c.self.inside in
-    let h : House = record { core = i.store.core; callers = i.callers.items; serials = i.serials.items; visitors = i.visitors.items; entered = i.entered.items; directory = i.directory; host = i.host.items; max_message = i.max_message } in
+    let h : House = record { core = i.store.core; callers = i.callers.items; serials = i.serials.items; visitors = i.visitors.items; entered = i.entered.items; directory = i.directory; host = i.host.items; max_message = i.max_message; compatible = i.compatible } in
     let st1 = subst (λ (x : House). StandsFor k x s) (sym c.self.view_is) st in
     let many = ap (λ (x : House). length x.visitors) c.self.view_is in
     let first = ap (λ (x : House). length x.callers) c.self.view_is in
@@ -59,7 +59,7 @@ returns-clause-follows c k s st =
 pub returns-in_err-why-clause-changes_nothing : goal.returns-in_err-why-clause-changes_nothing
 returns-in_err-why-clause-changes_nothing c e k s st t printed p =
     let i = c.self.inside in
-    let h : House = record { core = i.store.core; callers = i.callers.items; serials = i.serials.items; visitors = i.visitors.items; entered = i.entered.items; directory = i.directory; host = i.host.items; max_message = i.max_message } in
+    let h : House = record { core = i.store.core; callers = i.callers.items; serials = i.serials.items; visitors = i.visitors.items; entered = i.entered.items; directory = i.directory; host = i.host.items; max_message = i.max_message; compatible = i.compatible } in
     let st1 = subst (λ (x : House). StandsFor k x s) (sym c.self.view_is) st in
     let many = ap (λ (x : House). length x.visitors) c.self.view_is in
     let first = ap (λ (x : House). length x.callers) c.self.view_is in
@@ -78,7 +78,7 @@ returns-in_err-why-clause-changes_nothing c e k s st t printed p =
 pub returns-in_err-visitor_goes_on-clause-asks : goal.returns-in_err-visitor_goes_on-clause-asks
 returns-in_err-visitor_goes_on-clause-asks c e =
     let i = c.self.inside in
-    let h : House = record { core = i.store.core; callers = i.callers.items; serials = i.serials.items; visitors = i.visitors.items; entered = i.entered.items; directory = i.directory; host = i.host.items; max_message = i.max_message } in
+    let h : House = record { core = i.store.core; callers = i.callers.items; serials = i.serials.items; visitors = i.visitors.items; entered = i.entered.items; directory = i.directory; host = i.host.items; max_message = i.max_message; compatible = i.compatible } in
     let many = ap (λ (x : House). length x.visitors) c.self.view_is in
     let first = ap (λ (x : House). length x.callers) c.self.view_is in
     let place = c.index_of-place.result in
@@ -93,7 +93,7 @@ returns-in_err-visitor_goes_on-clause-asks c e =
 pub returns-in_err-why-clause-asks : goal.returns-in_err-why-clause-asks
 returns-in_err-why-clause-asks c e =
     let i = c.self.inside in
-    let h : House = record { core = i.store.core; callers = i.callers.items; serials = i.serials.items; visitors = i.visitors.items; entered = i.entered.items; directory = i.directory; host = i.host.items; max_message = i.max_message } in
+    let h : House = record { core = i.store.core; callers = i.callers.items; serials = i.serials.items; visitors = i.visitors.items; entered = i.entered.items; directory = i.directory; host = i.host.items; max_message = i.max_message; compatible = i.compatible } in
     let many = ap (λ (x : House). length x.visitors) c.self.view_is in
     let first = ap (λ (x : House). length x.callers) c.self.view_is in
     let place = c.index_of-place.result in

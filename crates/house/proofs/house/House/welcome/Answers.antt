@@ -16,7 +16,7 @@ pub returns-in_err-caller_goes_on-clause-no_memory : goal.returns-in_err-caller_
 returns-in_err-caller_goes_on-clause-no_memory c =
     on_err c.from_residual-in_err-caller_goes_on.result _ λ k s st.
     let i = c.self.inside in
-    let h : House = record { core = i.store.core; callers = i.callers.items; serials = i.serials.items; visitors = i.visitors.items; entered = i.entered.items; directory = i.directory; host = i.host.items; max_message = i.max_message } in
+    let h : House = record { core = i.store.core; callers = i.callers.items; serials = i.serials.items; visitors = i.visitors.items; entered = i.entered.items; directory = i.directory; host = i.host.items; max_message = i.max_message; compatible = i.compatible } in
     let st1 = subst (λ (x : House). StandsFor k x s) (sym c.self.view_is) st in
     let many = ap (λ (x : House). length x.callers) c.self.view_is in
     let e1 = c.index_of-seat.ensures in
@@ -38,14 +38,14 @@ returns-in_err-caller_goes_on-clause-no_memory c =
       after = r.0;
       printed = r.1;
       plays = subst (λ (n : ℕ). BytesPlay k false s n c.args.piece.now r.0 r.1) e1 r.2;
-      stands = subst (λ (n : ℕ). StandsFor k (record { core = i.store.core; callers = set i.callers.items seat c.caller_goes_on.new.occupant; serials = set i.serials.items seat (n + 1); visitors = i.visitors.items; entered = i.entered.items; directory = i.directory; host = i.host.items; max_message = i.max_message }) r.0) (sym serial) r.3;
+      stands = subst (λ (n : ℕ). StandsFor k (record { core = i.store.core; callers = set i.callers.items seat c.caller_goes_on.new.occupant; serials = set i.serials.items seat (n + 1); visitors = i.visitors.items; entered = i.entered.items; directory = i.directory; host = i.host.items; max_message = i.max_message; compatible = i.compatible }) r.0) (sym serial) r.3;
       out = r.4;
     })
 
 pub returns-clause-follows : goal.returns-clause-follows
 returns-clause-follows c k s st =
     let i = c.self.inside in
-    let h : House = record { core = i.store.core; callers = i.callers.items; serials = i.serials.items; visitors = i.visitors.items; entered = i.entered.items; directory = i.directory; host = i.host.items; max_message = i.max_message } in
+    let h : House = record { core = i.store.core; callers = i.callers.items; serials = i.serials.items; visitors = i.visitors.items; entered = i.entered.items; directory = i.directory; host = i.host.items; max_message = i.max_message; compatible = i.compatible } in
     let st1 = subst (λ (x : House). StandsFor k x s) (sym c.self.view_is) st in
     let many = ap (λ (x : House). length x.callers) c.self.view_is in
     let e1 = c.index_of-seat.ensures in
@@ -67,6 +67,6 @@ returns-clause-follows c k s st =
       after = r.0;
       printed = r.1;
       plays = subst (λ (n : ℕ). BytesPlay k true s n c.args.piece.now r.0 r.1) e1 r.2;
-      stands = subst (λ (n : ℕ). StandsFor k (record { core = i.store.core; callers = set i.callers.items seat c.caller_goes_on.new.occupant; serials = set i.serials.items seat (n + 1); visitors = i.visitors.items; entered = i.entered.items; directory = i.directory; host = i.host.items; max_message = i.max_message }) r.0) (sym serial) r.3;
+      stands = subst (λ (n : ℕ). StandsFor k (record { core = i.store.core; callers = set i.callers.items seat c.caller_goes_on.new.occupant; serials = set i.serials.items seat (n + 1); visitors = i.visitors.items; entered = i.entered.items; directory = i.directory; host = i.host.items; max_message = i.max_message; compatible = i.compatible }) r.0) (sym serial) r.3;
       out = r.4;
     }
