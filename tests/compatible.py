@@ -10,11 +10,11 @@ many passed.
 """
 
 import imaplib
-import smtplib
-import subprocess
 import sys
 
-MAILBOXES = ("alice", "alice/Work", "bob")
+from serving_house import House
+
+USERS, FOLDER = ("alice", "bob"), "alice/Work"
 CAPABILITIES = ("IMAP4REV2", "IMAP4REV1", "IDLE", "NAMESPACE", "UIDPLUS", "UNSELECT")
 PATIENCE = 20
 
@@ -28,30 +28,13 @@ def expect(what, found, wanted):
         failures.append(f"{what}: {found!r}, not {wanted!r}")
 
 
-class Server:
-    """A server on ports that the system chooses, until the block ends."""
-
-    def __init__(self, program, *options):
-        words = [program, "serve", "--lmtp-port", "0", "--imap-port", "0", "--uidvalidity", "7", *options, *MAILBOXES]
-        self.process = subprocess.Popen(words, stdin=subprocess.PIPE, stdout=subprocess.PIPE, text=True)
-        self.mail = self.port()
-        self.alice = self.port()
-        self.bob = self.port()
-
-    def port(self):
-        return int(self.process.stdout.readline().split()[1].rpartition(":")[2])
-
-    def __enter__(self):
-        return self
-
-    def __exit__(self, *raised):
-        self.process.stdin.close()
-        expect("the status at the end", self.process.wait(timeout=PATIENCE), 0)
-        self.process.stdout.close()
-
-    def deliver(self, text, *recipients):
-        with smtplib.LMTP("127.0.0.1", self.mail, timeout=PATIENCE) as relay:
-            expect("what LMTP refused", relay.sendmail("s@a.example", list(recipients), text), {})
+def deliver(house, text, *recipients):
+    """A message over LMTP, answered 250 for each recipient."""
+    lines = ["LHLO c.example", "MAIL FROM:<s@a.example>", *(f"RCPT TO:<{one}@example.org>" for one in recipients), "DATA", *text, ".", "QUIT"]
+    with house.connect_lmtp() as relay:
+        relay.sendall("".join(f"{line}\r\n" for line in lines).encode())
+        replies = b"".join(iter(lambda: relay.recv(65536), b""))
+    expect("copies that were delivered", replies.count(b"250 2.1.5 Delivered"), len(recipients))
 
 
 def connect(port):
@@ -65,9 +48,9 @@ def refused(what, call):
         expect(what, True, True)
 
 
-def before_login(server):
+def before_login(house):
     """Nothing but a LOGIN of this port's user leads on."""
-    client = connect(server.alice)
+    client = connect(house.imap_ports[0])
     expect("the state", client.state, "NONAUTH")
     expect("the capabilities", client.capabilities, CAPABILITIES)
     refused("another user's name", lambda: client.login("bob", "secret"))
@@ -83,12 +66,12 @@ def folders(client):
     expect("STATUS", client.status("INBOX", "(MESSAGES RECENT UNSEEN)"), ("OK", [b"INBOX (MESSAGES 1 RECENT 0 UNSEEN 1)"]))
 
 
-def reading(client, server):
+def reading(client, house):
     expect("SELECT", client.select("INBOX"), ("OK", [b"1"]))
     expect("RECENT", client.response("RECENT"), ("RECENT", [b"0"]))
     text = client.fetch("1", "(BODY[])")[1][0][1]
     expect("the message", text, b"Return-Path: <s@a.example>\r\nSubject: one\r\n\r\nhi\r\n")
-    server.deliver("Subject: two\r\n\r\nhi\r\n", "alice@example.org")
+    deliver(house, ("Subject: two", "", "hi"), "alice")
     expect("CHECK", client.check(), ("OK", [b"CHECK completed"]))
     expect("what CHECK showed", client.response("EXISTS"), ("EXISTS", [b"2"]))
     expect("a flag", client.store("1", "+FLAGS", r"(\Deleted)")[0], "OK")
@@ -97,11 +80,11 @@ def reading(client, server):
     expect("the folder", client.status("Work", "(MESSAGES UNSEEN)"), ("OK", [b"Work (MESSAGES 1 UNSEEN 0)"]))
 
 
-def idling(client, server):
+def idling(client, house):
     """imaplib has no IDLE of its own before Python 3.14."""
     client.send(b"i1 IDLE\r\n")
     expect("IDLE", client.readline(), b"+ idling\r\n")
-    server.deliver("Subject: four\r\n\r\nhi\r\n", "alice@example.org")
+    deliver(house, ("Subject: four", "", "hi"), "alice")
     expect("what came meanwhile", client.readline(), b"* 2 EXISTS\r\n")
     client.send(b"DONE\r\n")
     expect("the end of IDLE", client.readline(), b"i1 OK IDLE completed\r\n")
@@ -109,19 +92,21 @@ def idling(client, server):
 
 def main():
     program = sys.argv[1]
-    with Server(program, "--compatible") as server:
-        server.deliver("Subject: one\r\n\r\nhi\r\n", "alice@example.org", "bob@example.org")
-        client = before_login(server)
-        folders(client)
-        reading(client, server)
-        idling(client, server)
-        expect("LOGOUT", client.logout()[0], "BYE")
-        other = connect(server.bob)
-        expect("another user", other.login("bob", ""), ("OK", [b"LOGIN completed"]))
-        expect("his mail", other.select(readonly=True), ("OK", [b"1"]))
-        other.logout()
-    with Server(program) as server:
-        refused("a client of IMAP4rev1 without the option", lambda: connect(server.alice))
+    house = House(program, USERS, ("--uidvalidity", "7", "--compatible", FOLDER))
+    deliver(house, ("Subject: one", "", "hi"), "alice", "bob")
+    client = before_login(house)
+    folders(client)
+    reading(client, house)
+    idling(client, house)
+    expect("LOGOUT", client.logout()[0], "BYE")
+    other = connect(house.imap_ports[1])
+    expect("another user", other.login("bob", ""), ("OK", [b"LOGIN completed"]))
+    expect("his mail", other.select(readonly=True), ("OK", [b"1"]))
+    other.logout()
+    expect("the status at the end", house.stop(), 0)
+    house = House(program, USERS, ("--uidvalidity", "7"))
+    refused("a client of IMAP4rev1 without the option", lambda: connect(house.imap_ports[0]))
+    expect("the status at its end", house.stop(), 0)
     for failure in failures:
         print(failure)
     print(f"{tried - len(failures)} of {tried} of what a client of IMAP4rev1 finds")

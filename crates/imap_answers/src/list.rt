@@ -133,7 +133,8 @@ fn write_one(name: &[u8], out: &mut Vec<u8>) -> Result<(), AllocError>
 
 // Appends the line of a name that LSUB tells, or nothing where memory is refused.
 fn write_subscribed(name: &[u8], out: &mut Vec<u8>) -> Result<(), AllocError>
-    ensures ok { OnOk result (out.new.items ≡ out.old.items ++ name_answer Listing.Subscribed name.now) }
+    ensures ok { OnOk result (out.new.items
+        ≡ out.old.items ++ name_answer Listing.Subscribed name.now) }
     ensures err { OnErr result (out.new.items ≡ out.old.items) }
     ensures room { vec_capacity out.old ≤ vec_capacity out.new }
 {

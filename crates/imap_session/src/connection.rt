@@ -95,7 +95,8 @@ impl ImapConnection {
     ///
     /// Errors: `AllocError` where memory was refused; then nothing was written.
     pub fn greet(&self, out: &mut Vec<u8>) -> Result<(), AllocError>
-        ensures ok { OnOk result (out.new.items ≡ out.old.items ++ greeting self.now.session.profile) }
+        ensures ok { OnOk result (out.new.items
+            ≡ out.old.items ++ greeting self.now.session.profile) }
         ensures err { OnErr result (out.new.items ≡ out.old.items) }
     {
         self.session.greet(out)

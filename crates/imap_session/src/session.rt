@@ -95,7 +95,8 @@ impl Session {
     pub fn greet(&self, out: &mut Vec<u8>) -> Result<(), AllocError>
         ensures ok { OnOk result (out.new.items ≡ out.old.items ++ greeting self.now.profile) }
         ensures err { OnErr result (out.new.items ≡ out.old.items) }
-        ensures memory { OnErr result (vec_capacity out.old < vec_len out.old + length (greeting self.now.profile)) }
+        ensures memory { OnErr result (vec_capacity out.old
+            < vec_len out.old + length (greeting self.now.profile)) }
     {
         let text = ServerText::Greeting(self.profile);
         out.reserve(text.bytes().len() + 4)?;

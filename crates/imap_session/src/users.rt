@@ -61,7 +61,8 @@ pub fn admission_of(
     max_message: Option<u32>,
     user: &[u8],
 ) -> Result<Admission, AllocError>
-    ensures is { IfOk result (λ admission. admission ≡ admission_of compatible max_message user.now) }
+    ensures is { IfOk result (λ admission.
+        admission ≡ admission_of compatible max_message user.now) }
     ensures memory { compatible ≡ false → IsOk result }
 {
     if !compatible {

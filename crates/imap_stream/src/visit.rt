@@ -96,7 +96,8 @@ fn greeted<W: Sink>(
       begun = [];
     })) }
     ensures empty { IfOk result (λ made. made.1.items ≡ []) }
-    ensures took { OnOk result (Appends (W.taken output.old) (W.taken output.new) (greeting admission.profile)) }
+    ensures took { OnOk result (Appends (W.taken output.old) (W.taken output.new)
+        (greeting admission.profile)) }
     ensures live { OnOk result (W.failed output.new ≡ false) }
     ensures untorn { IfErr result (λ fault. fault ≢ VisitFault.Torn) }
     ensures short { result ≡ Err VisitFault.NoMemory → output.new ≡ output.old }

@@ -48,7 +48,7 @@ same_numbers now = (omega arith, λ s is. inl is)
 
 line_rises : (now : Standing) (line : List ℕ) (answers : List Answer) (turn : Turn) → turn_of now line answers ≡ Some turn → NumbersRise now.mailing turn.standing.mailing
 line_rises now line answers turn e =
-    line_stays (λ (s : Standing). NumbersRise now.mailing s.mailing) (numbers_keep now.mailing) now line answers turn (same_numbers now.mailing) (same_numbers now.mailing) (same_numbers now.mailing) e
+    line_stays (λ (s : Standing). NumbersRise now.mailing s.mailing) (numbers_keep now.mailing) now line answers turn (same_numbers now.mailing) (same_numbers now.mailing) (same_numbers now.mailing) (same_numbers now.mailing) e
 
 turned_rises : (k : Config) (n : ℕ) (now : Standing) (answers : List Answer) (w : World) (turn : Turn) (v : World) → leads_to now (Turned answers) ≡ Some turn → Met (Calls k n) w turn.events v → NumbersRise now.mailing turn.standing.mailing
 turned_rises k n now answers w turn v e met =

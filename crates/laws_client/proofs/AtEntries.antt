@@ -13,7 +13,7 @@ use Rattle.delivery_token.specs.declared.log.Noted.{Noted}
 use Rattle.imap_grammar.specs.Reading.{read}
 use Rattle.imap_grammar.specs.Verbs.{verb_of}
 use Rattle.imap_grammar.specs.declared.command.Command.{Command}
-use Rattle.imap_session.specs.Commands.{greeting, turn_of}
+use Rattle.imap_session.specs.Commands.{turn_of}
 use Rattle.imap_session.specs.Exchange.{Answer as StoreAnswer, Standing, Turn, kept_tag, tagged}
 use Rattle.house.specs.Meets.{Meets}
 use Rattle.house_peers.specs.Visitor.{Visitor}
@@ -35,7 +35,7 @@ use Rattle.laws_client.specs.AtEntries.{AnswersAt, AnswersMakeCurrent, VerdictsM
 use Rattle.laws_client.specs.Clients.{Answer, Told, Words, bytes_in, hears_all}
 use Rattle.laws_client.specs.Current.{shows_all}
 use Rattle.laws_client.specs.Lives.{Lives}
-use Rattle.laws_client.specs.ClientRecords.{IsPrintable, is_left, lets_in, sent_by_then, sent_in, shown_by_then, shown_in, unless}
+use Rattle.laws_client.specs.ClientRecords.{IsPrintable, is_left, lets_in, sent_by_then, sent_in, shown_by_then, shown_in, unless, first_words}
 use Rattle.laws_client.specs.Sizes.{HasShortTexts, HasSmallNumbers}
 use Rattle.laws_client.specs.RecordTurns.{Stands, told_line, told_of}
 use Rattle.laws_client.specs.Views.{IsOfOthers, messages_of}
@@ -213,7 +213,7 @@ talk_current k entries s t event piece q before v b moved later left printed new
       came = c.came;
       said = c.said ++ g.speaks.said;
       reached = record { sent = l.sent; talked = l.since.talked; waits = l.waits };
-      printed = regroup greeting c.said g.speaks.said told_so b.session.unsaid c.printed ∙ ap (λ (x : List ℕ). told_so ++ x) (sym fit) ∙ sym (append_assoc told_so new g.speaks.still);
+      printed = regroup (first_words k a.user) c.said g.speaks.said told_so b.session.unsaid c.printed ∙ ap (λ (x : List ℕ). told_so ++ x) (sym fit) ∙ sym (append_assoc told_so new g.speaks.still);
       whole = still_whole (q + 1) (b.session.unsaid ++ g.speaks.said) g.speaks.still printed whole g.speaks.prints;
     } in
     let at = still_there k s t q heard moved b v later left printed g after there in
@@ -232,7 +232,7 @@ talk_current k entries s t event piece q before v b moved later left printed new
       earlier = base;
       more = grown.0;
       told = same_told ∙ grown.1;
-      printed = ap (λ (x : List ℕ). greeting ++ x) c.reached.talked.bytes ∙ c.printed ∙ ap (λ (x : List ℕ). told_so ++ x) same;
+      printed = ap (λ (x : List ℕ). first_words k a.user ++ x) c.reached.talked.bytes ∙ c.printed ∙ ap (λ (x : List ℕ). told_so ++ x) same;
       current = λ front line tag words ending command client x last reads shows wrote knows session.
           let here = fresh_current k.config c.events q first a.began base told grown.0 g.mid printable.numbers c.came short (first_stands k a.user printable) grown.1 l.since.fresh front line tag words ending command client x last reads shows wrote knows
           (sym (ap (λ (w : World). w.session q) at.0) ∙ session) in

@@ -2,7 +2,6 @@
 use Rattle.std.proofs.Common.{◌≡◌, ℕ, true, false, List, refl, ap, ◌∙◌}
 use Rattle.std.specs.Prelude.{Option, Some, None}
 use Rattle.std.proofs.lemmas.Bool.{false≢true}
-use Rattle.imap_grammar.specs.declared.command.Append.{Append}
 use Rattle.imap_grammar.specs.declared.command.Command.{Command}
 use Rattle.imap_grammar.specs.declared.command.Command.TheVariants as commands
 use Rattle.imap_session.specs.declared.standing.After.TheVariants.{Go}
@@ -13,7 +12,6 @@ use Rattle.imap_session.specs.Exchange.{Answer, Standing, Turn, played, tagged}
 use Rattle.imap_session.specs.Commands.{logged_in, login_completed, logs_in_as, on_command, on_line, says}
 use Rattle.imap_session.proofs.Barring.{line_has, refuses}
 use Rattle.laws_client.specs.Clients.{Asked, Entering, Leaving, Neither, asked_by, has_ok}
-use Rattle.laws_client.specs.Commands.{stays}
 use Rattle.laws_client.specs.Current.{shows_all}
 use Rattle.laws_client.specs.ListTurns.{IsTag}
 use Rattle.laws_client.proofs.RecordEntering.{only_done, tagged_has}
@@ -36,29 +34,16 @@ asked_has P tag commands.Close enters leaves neither = leaves
 asked_has P tag commands.Unselect enters leaves neither = leaves
 asked_has P tag _ enters leaves neither = neither
 
--- LOGIN asks for no mailbox, leaves none and shows nothing
+-- LOGIN asks for no mailbox, leaves none and shows nothing of one
 pub login_asks : (login : Option (List ℕ)) (tag : List ℕ) (command : Command) → logs_in_as login command ≡ true → asked_by tag command ≡ Neither
 login_asks None tag command e = absurd (false≢true e)
 login_asks (Some user) tag (commands.Login name password) e = refl
 login_asks (Some user) tag _ e = absurd (false≢true e)
 
-pub login_stays : (login : Option (List ℕ)) (command : Command) → logs_in_as login command ≡ true → stays command ≡ true
-login_stays None command e = absurd (false≢true e)
-login_stays (Some user) (commands.Login name password) e = refl
-login_stays (Some user) _ e = absurd (false≢true e)
-
 pub login_shows_none : (login : Option (List ℕ)) (command : Command) → logs_in_as login command ≡ true → shows_all command ≡ false
 login_shows_none None command e = absurd (false≢true e)
 login_shows_none (Some user) (commands.Login name password) e = refl
 login_shows_none (Some user) _ e = absurd (false≢true e)
-
-pub noop_logs_none : (login : Option (List ℕ)) → logs_in_as login commands.Noop ≡ false
-noop_logs_none None = refl
-noop_logs_none (Some user) = refl
-
-pub append_logs_none : (login : Option (List ℕ)) (append : Append) → logs_in_as login (commands.Append append) ≡ false
-append_logs_none None append = refl
-append_logs_none (Some user) append = refl
 
 -- ---- what is said
 

@@ -33,9 +33,12 @@ use Rattle.laws_client.proofs.CutBytes.{Ends, Passes, both_pass, cuts-append, in
 use Rattle.laws_client.proofs.LastLines.{IsWord}
 use Rattle.laws_client.proofs.LastLines.{tag_byte, word_inner as tag_inner}
 use Rattle.laws_client.proofs.LastTurns.{decimal_inner, words_inner}
-use Rattle.imap_session.specs.Texts.{response_text}
+use Rattle.imap_session.specs.Texts.{response_text, server_text}
 use Rattle.imap_session.specs.declared.texts.ResponseText.{ResponseText}
-use Rattle.laws_client.proofs.TextRows.{row_inner, text_plain}
+use Rattle.laws_client.proofs.TextRows.{row_inner, text_plain, server_inner, server_plain}
+use Rattle.imap_answers.specs.declared.list.Listing.{Listing}
+use Rattle.imap_answers.specs.declared.list.Listing.TheVariants.{All, Subscribed}
+use Rattle.imap_session.specs.declared.texts.ServerText.{ServerText}
 
 -- ---- lines
 
@@ -87,6 +90,10 @@ text_end text = plain_name (response_text text) (text_plain text)
 pub untagged_passes : (text : ResponseText) → Passes (untagged (response_text text))
 untagged_passes text = star_passes [] (response_text text) refl (row_inner text) (text_end text)
 
+-- and those that are said of the server
+pub server_passes : (text : ServerText) → Passes (untagged (server_text text))
+server_passes text = star_passes [] (server_text text) refl (server_inner text) (plain_name (server_text text) (server_plain text))
+
 pub bye_passes : (text : ResponseText) → Passes (bye (response_text text))
 bye_passes text = star_passes (codes "BYE ") (response_text text) refl (row_inner text) (text_end text)
 
@@ -109,24 +116,28 @@ pub lines_pass : (view : List ℕ) (changes : List Change) → Passes (lines vie
 lines_pass view [] = passes_none
 lines_pass view (c ∷ cs) = both_pass (line view c) (lines (shown view c) cs) (line_passes view c) (lines_pass (shown view c) cs)
 
--- ---- LIST and STATUS
+-- ---- LIST, LSUB and STATUS
 
-name_passes : (name : List ℕ) → IsPlain name → Passes (name_answer name)
-name_passes name plain = star_passes (codes "LIST () \"/\" ") name refl (plain_inner name plain) (plain_name name plain)
+name_passes : (listing : Listing) (name : List ℕ) → IsPlain name → Passes (name_answer listing name)
+name_passes All name plain = star_passes (codes "LIST () \"/\" ") name refl (plain_inner name plain) (plain_name name plain)
+name_passes Subscribed name plain = star_passes (codes "LSUB () \"/\" ") name refl (plain_inner name plain) (plain_name name plain)
 
 if_passes : (b : Bool) (one two : List ℕ) → Passes one → Passes two → Passes (if b then one else two)
 if_passes true one two h k = h
 if_passes false one two h k = k
 
-names_pass : (pattern : List ℕ) (folders : List Folder) → AreNames folders → Passes (flat_map (listed pattern) (map (λ (folder : Folder). folder.name) folders))
-names_pass pattern [] plain = passes_none
-names_pass pattern (folder ∷ folders) plain =
-    both_pass (listed pattern folder.name) (flat_map (listed pattern) (map (λ (f : Folder). f.name) folders))
-    (if_passes (is_listed pattern folder.name) (name_answer folder.name) [] (name_passes folder.name plain.0) passes_none) (names_pass pattern folders plain.1)
+names_pass : (listing : Listing) (pattern : List ℕ) (folders : List Folder) → AreNames folders → Passes (flat_map (listed listing pattern) (map (λ (folder : Folder). folder.name) folders))
+names_pass listing pattern [] plain = passes_none
+names_pass listing pattern (folder ∷ folders) plain =
+    both_pass (listed listing pattern folder.name) (flat_map (listed listing pattern) (map (λ (f : Folder). f.name) folders))
+    (if_passes (is_listed pattern folder.name) (name_answer listing folder.name) [] (name_passes listing folder.name plain.0) passes_none) (names_pass listing pattern folders plain.1)
 
-pub list_passes : (reference pattern : List ℕ) (folders : List Folder) → AreNames folders → Passes (list_answer reference pattern (map (λ (folder : Folder). folder.name) folders))
-list_passes reference pattern folders plain =
-    if_passes (asks_for_root reference pattern) root_answer _ (star_passes (codes "LIST (\\Noselect) \"/\" ") (codes "\"\"") refl refl refl) (names_pass (reference ++ pattern) folders plain)
+root_passes : (listing : Listing) → Passes (root_answer listing)
+root_passes All = star_passes (codes "LIST (\\Noselect) \"/\" ") (codes "\"\"") refl refl refl
+root_passes Subscribed = star_passes (codes "LSUB (\\Noselect) \"/\" ") (codes "\"\"") refl refl refl
+
+pub list_passes : (listing : Listing) (reference pattern : List ℕ) (folders : List Folder) → AreNames folders → Passes (list_answer listing reference pattern (map (λ (folder : Folder). folder.name) folders))
+list_passes listing reference pattern folders plain = if_passes (asks_for_root reference pattern) (root_answer listing) _ (root_passes listing) (names_pass listing (reference ++ pattern) folders plain)
 
 text_inner : (s : Status) (item : StatusItem) → list_all is_inner (status_text s item) ≡ true
 text_inner s item = inner_both (status_word item ++ codes " ") (decimal (status_number s item)) (word_inner item) (decimal_inner (status_number s item))
@@ -157,7 +168,7 @@ opening_passes read_only name o plain =
     (both_pass (exists_line o.count) _ (star_passes (decimal o.count) (codes " EXISTS") (decimal_inner o.count) refl refl)
     (both_pass (validity_line o.uidvalidity) _ (numbered_passes (codes "OK [UIDVALIDITY ") (codes "] UIDs valid") o.uidvalidity refl refl refl)
     (both_pass (next_line o.uidnext) _ (numbered_passes (codes "OK [UIDNEXT ") (codes "] Predicted next UID") o.uidnext refl refl refl)
-    (both_pass (permanent_line read_only) (name_answer name) (permanent_passes read_only) (name_passes name plain))))))
+    (both_pass (permanent_line read_only) (name_answer All name) (permanent_passes read_only) (name_passes All name plain))))))
 
 -- ---- FETCH and STORE
 

@@ -32,7 +32,7 @@ use Rattle.imap_session.specs.declared.standing.Selected.{Selected}
 use Rattle.imap_session.proofs.Unkept.{unkept_by}
 use Rattle.imap_session.specs.Exchange as ex
 use Rattle.imap_session.specs.Exchange.{Answer, Appending, Call, Entered, Looked, Found, Counted, Altered, Expunged, Fed, Left, Refused, Starved, Event as Happened, Exchange, Folder, ForVerdict, Mailing, Sent, Standing, Turn, bye, closed, having, is_idling, kept_behind, kept_tag, played, refusal_after, refusal_text, refused, saying, tagged, untagged}
-use Rattle.imap_session.specs.Commands.{appended_words, appending, closing, completed, counting, entering, expunge_set, fetch_messages, fetched, fetching, folder_of, idle_turn_in, if_writable, is_over, last_number, long_rest_text, long_text, messages_done, most_unasked, nowhere, number_named, on_chosen, on_command, on_found, on_idle_line, on_read, on_rest, on_text, on_verdict, over, refused_text, says, showing, store_messages, storing, turn_behind, turn_of, turn_while, turn_with, unlimited, wanting, wanting_for, without_begun, without_sent, wrong_state, entered_text}
+use Rattle.imap_session.specs.Commands.{appended_words, appending, closing, completed, counting, entering, expunge_set, fetch_messages, fetched, fetching, folder_of, idle_turn_in, if_writable, is_over, last_number, long_rest_text, long_text, messages_done, most_unasked, nowhere, number_named, on_chosen, on_command, on_found, on_idle_line, on_read, on_rest, on_text, on_verdict, over, refused_text, says, showing, store_messages, storing, turn_behind, turn_of, turn_while, turn_with, unlimited, wanting, wanting_for, without_begun, without_sent, wrong_state, arguments_text, entered_text, logged_in, login_completed, logs_in_as, on_line, subscribing, telling_recent}
 use Rattle.laws_client.specs.Commands.{AreNames}
 use Rattle.laws_client.specs.Talks.{Happening, Line, LongLine, Turned, Literal, Heard, leads_to}
 use Rattle.laws_client.specs.ListTurns.{IsPlain, is_inner}
@@ -42,13 +42,20 @@ use Rattle.laws_client.proofs.Turns.{the_turn}
 use Rattle.laws_client.proofs.Untold.{folder_plain}
 use Rattle.laws_client.specs.Cuts.{EndsItself, IsOneAnswer, SaysBye, ends, leaves_open, opens}
 use Rattle.laws_client.proofs.CutBytes.{Ends, Passes, both_pass, passes_none, then_ends}
-use Rattle.laws_client.proofs.CutTexts.{bye_passes, continuing_passes, text_end, untagged_passes, flags_pass, lines_pass, list_passes, opening_passes, plain_end, row_passes, status_passes, tagged_ends}
+use Rattle.laws_client.proofs.CutTexts.{bye_passes, continuing_passes, text_end, untagged_passes, flags_pass, lines_pass, list_passes, opening_passes, plain_end, row_passes, status_passes, tagged_ends, server_passes}
 use Rattle.laws_client.proofs.LastLines.{IsWord}
 use Rattle.laws_client.proofs.LastTurns.{appended_inner}
 use Rattle.imap_session.specs.declared.texts.ResponseText.TheVariants as texts
 use Rattle.imap_session.specs.Texts.{response_text}
 use Rattle.imap_session.specs.declared.texts.ResponseText.{ResponseText}
 use Rattle.laws_client.proofs.TextRows.{row_inner}
+use Rattle.imap_session.specs.declared.standing.Profile.{Profile}
+use Rattle.imap_session.specs.declared.standing.Profile.TheVariants.{Standard, Compatible}
+use Rattle.imap_session.proofs.Barring.{line_has}
+use Rattle.imap_answers.specs.declared.list.Listing.TheVariants.{All, Subscribed}
+use Rattle.imap_grammar.specs.declared.command.Verb.TheVariants as verbs
+use Rattle.imap_session.specs.declared.texts.ServerText.TheVariants as server
+use Rattle.laws_client.proofs.Barred.{line_case}
 
 -- ---- what is read
 
@@ -339,11 +346,18 @@ in_storing o store view done p (uid ∷ uids) gone =
 says_cut : (o : Bool) (text : ResponseText) → SaysCut o (says (response_text text))
 says_cut o text = (row_inner text, text_end text)
 
-in_entering : (o : Bool) → (read_only : Bool) (folder : Folder) → IsPlain folder.name → SaysCut o (entering read_only folder)
-in_entering o read_only folder plain opening = (opening_passes read_only folder.name opening plain, says_cut o (entered_text read_only))
+in_recent : (o : Bool) → (profile : Profile) (x : Exchange) → SaysCut o x → SaysCut o (telling_recent profile x)
+in_recent o Standard x p = p
+in_recent o Compatible x p = (untagged_passes texts.NoneRecent, p)
 
-in_selecting : (o : Bool) → (now : Standing) (read_only : Bool) (name : List ℕ) → AreNames now.folders → SaysCut o (closing now.selected (wanting (on_found (entering read_only) (says (response_text texts.NoSuchMailbox)) (folder_of name now.folders))))
-in_selecting o now read_only name names = in_closing o now.selected _ (passes_none, in_folder o (entering read_only) (in_entering o read_only) (folder_of name now.folders) (folder_plain name now.folders names))
+in_entering : (o : Bool) → (profile : Profile) (read_only : Bool) (folder : Folder) → IsPlain folder.name → SaysCut o (entering profile read_only folder)
+in_entering o profile read_only folder plain opening = (opening_passes read_only folder.name opening plain, in_recent o profile _ (says_cut o (entered_text read_only)))
+
+in_selecting : (o : Bool) → (now : Standing) (read_only : Bool) (name : List ℕ) → AreNames now.folders → SaysCut o (closing now.selected (wanting (on_found (entering now.profile read_only) (says (response_text texts.NoSuchMailbox)) (folder_of name now.folders))))
+in_selecting o now read_only name names = in_closing o now.selected _ (passes_none, in_folder o (entering now.profile read_only) (in_entering o now.profile read_only) (folder_of name now.folders) (folder_plain name now.folders names))
+
+in_subscribing : (o : Bool) → (folders : List Folder) (name : List ℕ) (command : Command) → SaysCut o (wanting (subscribing folders name command))
+in_subscribing o folders name command = (passes_none, in_found o (λ (folder : Folder). completed command) (says (response_text texts.NoSuchMailbox)) (λ folder. says_cut o (texts.Completed (verb_of command))) (refl, refl) (folder_of name folders))
 
 in_over : (o : Bool) → (most : Option ℕ) → SaysCut o (over most)
 in_over o None = (refl, refl)
@@ -361,16 +375,20 @@ command_cut : (now : Standing) (command : Command) → AreNames now.folders → 
 command_cut now commands.Noop names = in_showing false now.selected (completed commands.Noop) (refl, refl)
 command_cut now commands.Logout names = (bye_passes texts.LoggingOut, (refl, refl))
 command_cut now commands.Idle names = (refl, continuing_passes texts.Idling)
-command_cut now commands.Login names = (refl, refl)
+command_cut now (commands.Login user password) names = (refl, refl)
 command_cut now commands.Authenticate names = (refl, refl)
 command_cut now commands.StartTls names = (refl, refl)
-command_cut now commands.Capability names = (untagged_passes texts.Capabilities, (refl, refl))
-command_cut now commands.Namespace names = (untagged_passes texts.Namespaces, (refl, refl))
+command_cut now commands.Capability names = (server_passes (server.Capabilities now.profile), (refl, refl))
+command_cut now commands.Namespace names = (server_passes server.Namespaces, (refl, refl))
 command_cut now (commands.Select name) names = in_selecting false now false name names
 command_cut now (commands.Examine name) names = in_selecting false now true name names
-command_cut now (commands.List reference pattern) names = (list_passes reference pattern now.folders names, in_showing false now.selected (completed (commands.List reference pattern)) (refl, refl))
+command_cut now (commands.List reference pattern) names = (list_passes All reference pattern now.folders names, in_showing false now.selected (completed (commands.List reference pattern)) (refl, refl))
+command_cut now (commands.Lsub reference pattern) names = (list_passes Subscribed reference pattern now.folders names, in_showing false now.selected (completed (commands.Lsub reference pattern)) (refl, refl))
+command_cut now (commands.Subscribe name) names = in_subscribing false now.folders name (commands.Subscribe name)
+command_cut now (commands.Unsubscribe name) names = in_subscribing false now.folders name (commands.Unsubscribe name)
+command_cut now commands.Check names = in_showing false now.selected (completed commands.Check) (refl, refl)
 command_cut now (commands.Status name items) names =
-    (passes_none, in_folder false (counting now name items) (λ folder plain status. (status_passes folder.name items status plain, in_showing false now.selected (completed (commands.Status name items)) (refl, refl))) (folder_of name now.folders) (folder_plain name now.folders names))
+    (passes_none, in_folder false (counting now.selected name items) (λ folder plain status. (status_passes folder.name items status plain, in_showing false now.selected (completed (commands.Status name items)) (refl, refl))) (folder_of name now.folders) (folder_plain name now.folders names))
 command_cut now commands.Close names = in_found false _ wrong_state (λ (s : Selected). (refl, refl)) (refl, refl) now.selected
 command_cut now commands.Unselect names = in_found false _ wrong_state (λ (s : Selected). (refl, refl)) (refl, refl) now.selected
 command_cut now commands.Expunge names = in_writable false now.selected (ex.Expunge None (ex.Feed unlimited (completed commands.Expunge))) (refl, refl)
@@ -424,11 +442,15 @@ fault_cut : (fault : ImapFault) (now : Standing) (answers : List Answer) → Tag
 fault_cut faults.NoTag now [] t = λ short. subst IsOneAnswer (sym (append-nil (untagged (response_text texts.MissingTag)))) (opens (untagged_passes texts.MissingTag))
 fault_cut (faults.Unknown tag) now [] t = λ short. subst IsOneAnswer (sym (append-nil (tagged tag (response_text texts.UnknownCommand)))) (ends (tagged_ends tag (response_text texts.UnknownCommand) t refl refl))
 fault_cut (faults.LeftOut tag) now [] t = λ short. subst IsOneAnswer (sym (append-nil (tagged tag (response_text texts.NotOffered)))) (ends (tagged_ends tag (response_text texts.NotOffered) t refl refl))
-fault_cut (faults.Arguments tag) now [] t = λ short. subst IsOneAnswer (sym (append-nil (tagged tag (response_text texts.InvalidArguments)))) (ends (tagged_ends tag (response_text texts.InvalidArguments) t refl refl))
+fault_cut (faults.Arguments tag verb) now [] t =
+    let text : ResponseText = arguments_text now.profile verb in
+    λ short. subst IsOneAnswer (sym (append-nil (tagged tag (response_text text)))) (ends (tagged_ends tag (response_text text) t (row_inner text) (text_end text)))
 fault_cut fault now (answer ∷ more) t = tt
 
 read_cut : (now : Standing) (r : Result (List ℕ × Command) ImapFault) (answers : List Answer) → TaggedOf IsWord r → AreNames now.folders → TurnOne (on_read now r answers)
-read_cut now (Ok line) answers t names = plain_turn line.0 t (leaves_open line.1) now (on_command now line.1) answers (command_cut now line.1 names)
+read_cut now (Ok line) answers t names =
+    line_has TurnOne now line.0 line.1 answers (λ logs. plain_turn line.0 t false (logged_in now) login_completed answers (says_cut false (texts.Completed verbs.Login)))
+    (λ text is. plain_turn line.0 t false now (says (response_text text)) answers (says_cut false text)) (plain_turn line.0 t (leaves_open line.1) now (on_command now line.1) answers (command_cut now line.1 names))
 read_cut now (Err fault) answers t names = fault_cut fault now answers t
 
 while_cut : (idling : Option (List ℕ)) (now : Standing) (line : List ℕ) (answers : List Answer) → IfSome idling IsWord → AreNames now.folders → TurnOne (turn_while idling now line answers)
@@ -512,5 +534,8 @@ command_one now line tag command answers turn names kept reads e short = by now.
     by None None p q =
         let first : turn_while now.idling now line answers ≡ Some turn = subst (λ (o : Option Appending). turn_behind o now line answers ≡ Some turn) (sym p) e in
         let second : on_read now (read line) answers ≡ Some turn = subst (λ (o : Option (List ℕ)). turn_while o now line answers ≡ Some turn) (sym q) first in
-        let third : played tag now (on_command now command) answers ≡ Some turn = subst (λ (r : Result (List ℕ × Command) ImapFault). on_read now r answers ≡ Some turn) reads second in
-        some_own tag (leaves_open command) (played tag now (on_command now command) answers) turn (played_cut tag word (leaves_open command) now (on_command now command) answers (command_cut now command names)) third short
+        let third : on_line (logs_in_as now.login command) now tag command answers ≡ Some turn = subst (λ (r : Result (List ℕ × Command) ImapFault). on_read now r answers ≡ Some turn) reads second in
+        line_case (OneOf tag (leaves_open command) turn.bytes) now tag command answers turn
+        (λ logs d. some_own tag (leaves_open command) (played tag (logged_in now) login_completed answers) turn (played_cut tag word (leaves_open command) (logged_in now) login_completed answers (says_cut (leaves_open command) (texts.Completed verbs.Login))) d short)
+        (λ text is d. some_own tag (leaves_open command) (played tag now (says (response_text text)) answers) turn (played_cut tag word (leaves_open command) now (says (response_text text)) answers (says_cut (leaves_open command) text)) d short)
+        (λ d. some_own tag (leaves_open command) (played tag now (on_command now command) answers) turn (played_cut tag word (leaves_open command) now (on_command now command) answers (command_cut now command names)) d short) third

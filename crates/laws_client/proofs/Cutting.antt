@@ -14,7 +14,7 @@ use Rattle.laws_client.proofs.IdleTags.{AreTagsOf}
 use Rattle.laws_client.specs.Clients.{Answer, Told, Words, bytes_in}
 use Rattle.laws_client.specs.Cuts.{AnswersAreCut, AnswersWereCut, CutsSo, Cutter, EachIsOne, IsAnswered, IsOneAnswer, between, cut_between, cuts, ends, has_any, is_ended, leaves_open, opens}
 use Rattle.laws_client.specs.Lives.{Lives, comes, others, turns}
-use Rattle.laws_client.specs.ClientRecords.{IsPrintable, first_standing, shown_by_then, user_by_then}
+use Rattle.laws_client.specs.ClientRecords.{IsPrintable, first_standing, first_words, shown_by_then, user_by_then}
 use Rattle.laws_client.specs.Sizes.{HasShortTexts, HasSmallNumbers}
 use Rattle.laws_client.specs.RecordTurns.{Stands, told_line, told_of}
 use Rattle.laws_client.specs.Commands.{AreNames}
@@ -25,8 +25,9 @@ use Rattle.laws_client.specs.Views.{view_of}
 use Rattle.laws_client.proofs.Answered.{told_bytes}
 use Rattle.laws_client.proofs.Boxes.{box_goes}
 use Rattle.laws_client.proofs.CutBytes.{cuts-append}
-use Rattle.laws_client.proofs.CutTexts.{untagged_passes}
-use Rattle.imap_session.specs.declared.texts.ResponseText.TheVariants as texts
+use Rattle.laws_client.proofs.CutTexts.{server_passes}
+use Rattle.imap_session.specs.declared.standing.Profile.{Profile}
+use Rattle.imap_session.specs.declared.texts.ServerText.TheVariants as server
 use Rattle.laws_client.proofs.CutTurns.{AreShort, IsShort, IsShortAnswer, OneOf, command_one, ended, kept_open, turn_cut}
 use Rattle.laws_client.proofs.RecordKeeping.{clients_keep_up, clients_kept_up, short_steps, first_stands, texts_stay_short}
 use Rattle.laws_client.proofs.LastLines.{IsWord}
@@ -153,14 +154,14 @@ cut_so begun answers (one ∷ told) h =
         ∙ sym (ap (λ (b : Bool). if b then cut_between [] (answers ++ (begun ++ bytes_in one) ∷ []) told else cut_between (begun ++ bytes_in one) answers told) yes)
 
 -- the greeting and all that was told
-cut_printed : (told : List Told) (printed : List ℕ) → EachIsOne told → greeting ++ flat_map bytes_in told ≡ printed → cuts (between [] []) printed ≡ cut_between greeting [] told
-cut_printed told printed each e =
-    ap (cuts (between [] [])) (sym e) ∙ cuts-append (between [] []) greeting (flat_map bytes_in told)
-    ∙ ap (λ (c : Cutter). cuts c (flat_map bytes_in told)) (untagged_passes texts.Greeting [] []) ∙ cut_so greeting [] told each
+cut_printed : (profile : Profile) (told : List Told) (printed : List ℕ) → EachIsOne told → greeting profile ++ flat_map bytes_in told ≡ printed → cuts (between [] []) printed ≡ cut_between (greeting profile) [] told
+cut_printed profile told printed each e =
+    ap (cuts (between [] [])) (sym e) ∙ cuts-append (between [] []) (greeting profile) (flat_map bytes_in told)
+    ∙ ap (λ (c : Cutter). cuts c (flat_map bytes_in told)) (server_passes (server.Greeting profile) [] []) ∙ cut_so (greeting profile) [] told each
 
 -- a life from its start to wherever it has come
 cuts_so : (k : Setup) (place : ℕ) (user : List ℕ) (began : World) (events : List WorldEvent) {sent : List ℕ} {told : List Told} {now : Standing} {w : World} (printed : List ℕ) → IsPrintable k → IsWorld k.config events began
-    → Lives k.config place (first_standing k user) began sent told now w → HasShortTexts w → greeting ++ flat_map bytes_in told ≡ printed → CutsSo told printed
+    → Lives k.config place (first_standing k user) began sent told now w → HasShortTexts w → first_words k user ++ flat_map bytes_in told ≡ printed → CutsSo (first_standing k user).profile told printed
 cuts_so k place user began events {told = told} printed printable came lives short e =
     let sound = sound_always k.config events began printable.numbers came in
     let stands = first_stands k user printable in
@@ -168,7 +169,7 @@ cuts_so k place user began events {told = told} printed printable came lives sho
       each = each;
       own = λ before after line tag bytes command same reads.
           own_at before after (Answer line bytes) (subst AreOwn same (lives_own k.config place (first_standing k user) began printable.numbers sound stands lives short)) tag command reads;
-      cut = cut_printed told printed each e;
+      cut = cut_printed (first_standing k user).profile told printed each e;
     }
 
 pub answers_are_cut : AnswersAreCut

@@ -10,13 +10,12 @@ use Rattle.shard_queue.proofs.AtLaws.{at_cases}
 use Rattle.world.specs.World.{Event, IsWorld, Step, World, empty_world}
 use Rattle.world.proofs.Always.{steps_join}
 use Rattle.imap_session.specs.Exchange as calls
-use Rattle.imap_session.specs.Commands.{greeting}
 use Rattle.house_peers.specs.Caller.{Caller}
 use Rattle.imap_session.specs.Folders.{folders_of}
 use Rattle.house_peers.specs.Visitor.{Visitor, greeted}
 use Rattle.house_peers.specs.Visitor.{more_waits as session_more_waits}
 use Rattle.house_peers.specs.SeatedVisitor.{SeatedVisitor, seated_greeted}
-use Rattle.house.specs.Setup.{Setup, session_seat}
+use Rattle.house.specs.Setup.{Setup, session_seat, admitted_in}
 use Rattle.house.specs.Printing.{with_session}
 use Rattle.house.specs.Scene as scene
 use Rattle.house.specs.Scene.{EnterPlay, IdlePlay, LeavePlay, SayPlay, Scene, SessionTalks, place_of}
@@ -24,7 +23,7 @@ use Rattle.house.specs.declared.event.Event as house
 use Rattle.house.specs.declared.event.Event.TheVariants.{Enter, Say, Idle, Leave}
 use Rattle.exactly_once.specs.Promise.{Lines, Piece, Silence}
 use Rattle.exactly_once.proofs.Whole.{IsWhole, greeting_whole, idles_whole, whole_append}
-use Rattle.laws_client.specs.ClientRecords.{began_in, is_left, lets_in, sent_in, shown_in, stays_in, unless, user_in, serial_in}
+use Rattle.laws_client.specs.ClientRecords.{began_in, is_left, lets_in, sent_in, shown_in, stays_in, unless, user_in, serial_in, first_words}
 use Rattle.laws_client.specs.Sizes.{HasSmallNumbers}
 use Rattle.laws_client.specs.Views.{IsOfOthers}
 use Rattle.laws_client.proofs.Recording.{Arrival, Client, Walk, Watched, client_more, client_others, came_as, client_said, goes, heard_small, lingers_watched, parted, stands, still_whole, talks_walk, talks_watched, walk_call, walk_met, walk_parts, walk_then, walk_world, watched_others, watched_walk}
@@ -149,24 +148,24 @@ lines_at q number lines event lets more own e f g h i = record {
 -- ---- a session is let in
 
 pub let_known : (k : Setup) (users : ℕ → Arrival) (sent shown : ℕ → List ℕ) (s : Scene) (session : ℕ) (user : Bor (List ℕ)) (t : Scene) (printed new : List ℕ) (piece : Piece) → HasSmallNumbers k.config → SceneKnown k users sent shown s
-    → (p : EnterPlay k false s (place_of session) user.now t printed) → IsAt (place_of session) (Enter session user) piece true [] new → new ++ p.goes.speaks.still ≡ greeting ++ p.goes.speaks.said
+    → (p : EnterPlay k false s (place_of session) user.now t printed) → IsAt (place_of session) (Enter session user) piece true [] new → new ++ p.goes.speaks.still ≡ first_words k user.now ++ p.goes.speaks.said
     → SceneKnown k (users_then s users (Enter session user)) (sent_then sent (Enter session user)) (shown_then shown (Enter session user) piece) t
 let_known k users sent shown s session user t printed new piece h K p at fits =
     let q : ℕ = place_of session in
-    let first : Visitor = greeted (Some k.max_message) (folders_of k.directory user.now) in
+    let first : Visitor = greeted (admitted_in k user.now) (folders_of k.directory user.now) in
     let a : Arrival = record { user = user.now; began = s.world; stays = true; serial = s.entered q } in
     let c : Client k q a [] [] s.world first = record {
       events = K.events;
       came = K.came;
       said = [];
       reached = record { sent = []; talked = talked_none k.config q (came_as k q a) s.world (tt, tt, tt) refl refl; waits = refl };
-      printed = append-nil greeting;
-      whole = greeting_whole;
+      printed = append-nil (first_words k user.now);
+      whole = greeting_whole (admitted_in k user.now).profile;
     } in
     subst (λ (x : Scene). SceneKnown k (users_then s users (Enter session user)) (sent_then sent (Enter session user)) (shown_then shown (Enter session user) piece) x) (sym p.after)
     (visit_known k users sent shown s q (Enter session user) piece true [] new p.moved p.left s.caller s.next (set_at s.entered q (s.entered q + 1)) s.shut a K at (rw (eq-eqb q q refl) refl)
-    (talks_walk k false q (s.world.heard (session_seat k q)) s.world (seated_greeted (s.entered q) (Some k.max_message) (folders_of k.directory user.now)) p.moved p.left printed p.goes)
-    (talks_watched k false q a [] [] new s.world (seated_greeted (s.entered q) (Some k.max_message) (folders_of k.directory user.now)) p.moved p.left printed
+    (talks_walk k false q (s.world.heard (session_seat k q)) s.world (seated_greeted (s.entered q) (admitted_in k user.now) (folders_of k.directory user.now)) p.moved p.left printed p.goes)
+    (talks_watched k false q a [] [] new s.world (seated_greeted (s.entered q) (admitted_in k user.now) (folders_of k.directory user.now)) p.moved p.left printed
     (heard_small k.config K.events s.world (session_seat k q) h K.came) refl (record { own = refl; due = inl refl; out = λ none. tt }) p.goes fits c))
 
 -- ---- its client sends

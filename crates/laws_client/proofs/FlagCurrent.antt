@@ -49,6 +49,7 @@ use Rattle.laws_client.proofs.FlagWorlds.{the_point}
 use Rattle.imap_session.specs.declared.texts.ResponseText.TheVariants as texts
 use Rattle.imap_session.specs.Texts.{response_text}
 use Rattle.imap_grammar.specs.declared.command.Verb.TheVariants as verbs
+use Rattle.laws_client.proofs.Barred.{line_case, login_shows_none, refused_turn}
 
 -- ---- a cursor at the end of its log
 
@@ -130,8 +131,10 @@ noop_at_end k n now line tag w turn v K a kept reads ok = by now.mailing.begun n
   where
     read_current : on_read now (Ok (tag, commands.Noop)) a.answers ≡ Some turn → IsAtEnd v n
     read_current e =
-        let d : played tag now (showing (Some a.selected) (completed commands.Noop)) a.answers ≡ Some turn = subst (λ (o : Option Selected). played tag now (showing o (completed commands.Noop)) a.answers ≡ Some turn) a.there e in
-        shown_at_end k n tag (response_text (texts.Completed verbs.Noop)) Go now w a.answers turn v K (tags_are_tags line tag commands.Noop reads) d a.met ok
+        let t : IsTag tag = tags_are_tags line tag commands.Noop reads in
+        line_case (IsAtEnd v n) now tag commands.Noop a.answers turn (λ logs d. absurd (false≢true (sym (login_shows_none now.login commands.Noop logs))))
+        (λ text is d. absurd (false≢true (sym (refused_turn tag text now a.answers turn t is d) ∙ ok)))
+        (λ d. shown_at_end k n tag (response_text (texts.Completed verbs.Noop)) Go now w a.answers turn v K t (subst (λ (o : Option Selected). played tag now (showing o (completed commands.Noop)) a.answers ≡ Some turn) a.there d) a.met ok) e
 
     by : (begun : Option Appending) (idling : Option (List ℕ)) → begun ≡ now.mailing.begun → idling ≡ now.idling → IsAtEnd v n
     by (Some b) idling p q = absurd (none-some b.tag (sym (ap (λ (o : Option (List ℕ)). o) kept) ∙ sym (ap (λ (x : Option Appending). kept_behind x now.idling) p)))

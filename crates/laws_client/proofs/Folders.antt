@@ -15,8 +15,10 @@ use Rattle.imap_session.specs.declared.standing.After.TheVariants as afters
 use Rattle.imap_session.specs.declared.standing.Selected.{Selected}
 use Rattle.imap_session.specs.Exchange.{Answer, Entered, Looked, Found, Counted, Altered, Expunged, Fed, Left, Refused, Starved, Exchange, ForDone, ForLiteral, ForVerdict, ForNothing, Done, Wait, Write, Put, Enter, Look, Read, Count, Alter, Expunge, Feed, Leave, Standing, Turn, Appending, Sent, Waiting, closed, having, played, refusal_after, refusal_text, refused, saying, tagged, waiting, unkept}
 use Rattle.imap_session.proofs.Unkept.{unkept_by}
-use Rattle.imap_session.specs.Commands.{idle_turn_in, turn_of, fault_text, on_command, on_idle_line, on_read, on_rest, on_verdict, only_says, turn_behind, turn_of_verdict, turn_while, turn_with, without_begun, without_sent}
+use Rattle.imap_session.specs.Commands.{idle_turn_in, turn_of, fault_text, on_command, on_idle_line, on_read, on_rest, on_verdict, only_says, turn_behind, turn_of_verdict, turn_while, turn_with, without_begun, without_sent, logged_in, login_completed, says}
 use Rattle.delivery_token.specs.declared.Verdict.{Verdict}
+use Rattle.laws_client.proofs.Barred.{line_case}
+use Rattle.imap_session.specs.Texts.{response_text}
 
 abbrev pub the_turn : Turn → Option Turn → Turn
 the_turn d None = d
@@ -106,8 +108,10 @@ fault_keeps now text [] turn e = told now (saying text) (λ s. refl) Go turn e
 fault_keeps now text (answer ∷ more) turn e = absurd (none-some turn e)
 
 read_keeps : (now : Standing) (r : Result (List ℕ × Command) ImapFault) (answers : List Answer) (turn : Turn) → on_read now r answers ≡ Some turn → turn.standing.folders ≡ now.folders
-read_keeps now (Ok line) answers turn e = folders_stay line.0 now (on_command now line.1) answers turn e
-read_keeps now (Err fault) answers turn e = fault_keeps now (fault_text fault) answers turn e
+read_keeps now (Ok line) answers turn e =
+    line_case (turn.standing.folders ≡ now.folders) now line.0 line.1 answers turn (λ logs d. folders_stay line.0 (logged_in now) login_completed answers turn d)
+    (λ text is d. folders_stay line.0 now (says (response_text text)) answers turn d) (λ d. folders_stay line.0 now (on_command now line.1) answers turn d) e
+read_keeps now (Err fault) answers turn e = fault_keeps now (fault_text now.profile fault) answers turn e
 
 while_keeps : (idling : Option (List ℕ)) (now : Standing) (line : List ℕ) (answers : List Answer) (turn : Turn) → turn_while idling now line answers ≡ Some turn → turn.standing.folders ≡ now.folders
 while_keeps None now line answers turn e = read_keeps now (read line) answers turn e

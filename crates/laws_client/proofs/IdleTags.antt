@@ -17,12 +17,14 @@ use Rattle.imap_session.specs.declared.standing.After.TheVariants as afters
 use Rattle.imap_session.specs.declared.standing.Selected.{Selected}
 use Rattle.imap_session.specs.Exchange.{Answer, Entered, Looked, Found, Counted, Altered, Expunged, Fed, Left, Refused, Starved, Exchange, ForDone, ForLiteral, ForVerdict, ForNothing, Done, Wait, Write, Put, Enter, Look, Read, Count, Alter, Expunge, Feed, Leave, Standing, Turn, Appending, Sent, Waiting, closed, having, played, refusal_after, refusal_text, refused, saying, tagged, waiting, Dropped, unkept}
 use Rattle.imap_session.proofs.Unkept.{unkept_by}
-use Rattle.imap_session.specs.Commands.{fault_text, on_command, on_idle_line, on_read, on_rest, on_verdict, only_says, taking, turn_behind, turn_of, turn_of_verdict, turn_while, turn_with, with_bytes, without_begun, without_sent}
+use Rattle.imap_session.specs.Commands.{fault_text, on_command, on_idle_line, on_read, on_rest, on_verdict, only_says, taking, turn_behind, turn_of, turn_of_verdict, turn_while, turn_with, with_bytes, without_begun, without_sent, logged_in, login_completed, says}
 use Rattle.delivery_token.specs.declared.Verdict.{Verdict}
 use Rattle.laws_client.specs.ListTurns.{IsTag}
 use Rattle.laws_client.specs.ListLaws.{KeptTagsAreTags}
 use Rattle.laws_client.proofs.Tags.{TaggedOf, read_tagged_so, word_is_tag}
 use Rattle.laws_client.proofs.Turns.{the_turn}
+use Rattle.imap_session.specs.Texts.{response_text}
+use Rattle.laws_client.proofs.Barred.{line_case}
 
 -- what a session stands for stays so while it answers under a tag: where it ends, where it enters or leaves a mailbox, and where it waits
 pub record Keeps (Q : Standing → Type 0) (tag : List ℕ) : Type 0 where
@@ -125,8 +127,11 @@ fault_keeps P now text [] turn k e = subst (λ (s : Turn). Kept (AreTagsOf P) s)
 fault_keeps P now text (answer ∷ more) turn k e = absurd (none-some turn e)
 
 read_keeps : (P : List ℕ → Type 0) → (now : Standing) (r : Result (List ℕ × Command) ImapFault) (answers : List Answer) (turn : Turn) → TaggedOf P r → AreTagsOf P now → on_read now r answers ≡ Some turn → Kept (AreTagsOf P) turn
-read_keeps P now (Ok line) answers turn t k e = played_keeps (AreTagsOf P) line.0 (tags_keep P line.0 t) now (on_command now line.1) answers turn k e
-read_keeps P now (Err fault) answers turn t k e = fault_keeps P now (fault_text fault) answers turn k e
+read_keeps P now (Ok line) answers turn t k e =
+    line_case (Kept (AreTagsOf P) turn) now line.0 line.1 answers turn (λ logs d. played_keeps (AreTagsOf P) line.0 (tags_keep P line.0 t) (logged_in now) login_completed answers turn k d)
+    (λ text is d. played_keeps (AreTagsOf P) line.0 (tags_keep P line.0 t) now (says (response_text text)) answers turn k d)
+    (λ d. played_keeps (AreTagsOf P) line.0 (tags_keep P line.0 t) now (on_command now line.1) answers turn k d) e
+read_keeps P now (Err fault) answers turn t k e = fault_keeps P now (fault_text now.profile fault) answers turn k e
 
 while_keeps : (P : List ℕ → Type 0) → ((tag : List ℕ) → is_word_of is_tag tag ≡ true → P tag) → (idling : Option (List ℕ)) (now : Standing) (line : List ℕ) (answers : List Answer) (turn : Turn) → IfSome idling P → AreTagsOf P now → turn_while idling now line answers ≡ Some turn → Kept (AreTagsOf P) turn
 while_keeps P make None now line answers turn t k e = read_keeps P now (read line) answers turn (read_tagged_so P make line) k e

@@ -15,7 +15,7 @@ use Rattle.imap_grammar.specs.Verbs.{verb_of}
 use Rattle.imap_session.specs.declared.standing.Selected.{Selected}
 use Rattle.imap_session.specs.Exchange as ex
 use Rattle.imap_session.specs.Exchange.{Answer, Appending, Exchange, Folder, ForVerdict, Mailing, Standing, Turn, bye, played, untagged}
-use Rattle.imap_session.specs.Commands.{appending, asking, closing, completed, counting, entering, expunge_set, fetch_messages, fetching, folder_of, if_writable, is_over, messages_done, most_unasked, notice, noticing, nowhere, number_named, on_chosen, on_command, on_found, on_idle_line, on_read, over, says, showing, store_messages, storing, turn_behind, turn_of, turn_while, unlimited, wanting, wanting_for, without_begun, wrong_state, entered_text}
+use Rattle.imap_session.specs.Commands.{appending, asking, closing, completed, counting, entering, expunge_set, fetch_messages, fetching, folder_of, if_writable, is_over, messages_done, most_unasked, notice, noticing, nowhere, number_named, on_chosen, on_command, on_found, on_idle_line, on_read, over, says, showing, store_messages, storing, subscribing, telling_recent, turn_behind, turn_of, turn_while, unlimited, wanting, wanting_for, without_begun, wrong_state, arguments_text, entered_text, logged_in, login_completed}
 use Rattle.imap_session.specs.Telling.{tells_uid}
 use Rattle.exactly_once.proofs.Whole.{IsWhole, bye_whole, ends, fetched_whole, flags_whole, list_whole, opening_whole}
 use Rattle.laws_client.proofs.IdleTags.{AreTagsOf}
@@ -27,6 +27,11 @@ use Rattle.imap_session.specs.Texts.{response_text}
 use Rattle.imap_session.proofs.Telling.{row_tells_none}
 use Rattle.laws_client.proofs.TextRows.{row_inner}
 use Rattle.imap_session.specs.declared.texts.ResponseText.{ResponseText}
+use Rattle.imap_session.specs.declared.standing.Profile.{Profile}
+use Rattle.imap_session.specs.declared.standing.Profile.TheVariants.{Standard, Compatible}
+use Rattle.imap_session.proofs.Barring.{line_has}
+use Rattle.imap_answers.specs.declared.list.Listing.TheVariants.{All, Subscribed}
+use Rattle.imap_grammar.specs.declared.command.Verb.TheVariants as verbs
 
 pub uid_spares : Spares tells_uid
 uid_spares = record { no = λ rest. refl; bad = λ rest. refl }
@@ -83,11 +88,18 @@ in_storing store view done p (uid ∷ uids) gone =
 says_apart : (text : ResponseText) → SaysApart tells_uid (says (response_text text))
 says_apart text = (row_inner text, row_tells_none text)
 
-in_entering : (read_only : Bool) (folder : Folder) → SaysApart tells_uid (entering read_only folder)
-in_entering read_only folder opening = (opening_whole read_only folder.name opening, says_apart (entered_text read_only))
+in_recent : (profile : Profile) (x : Exchange) → SaysApart tells_uid x → SaysApart tells_uid (telling_recent profile x)
+in_recent Standard x p = p
+in_recent Compatible x p = (ends (codes "* ") (response_text texts.NoneRecent), p)
 
-in_selecting : (now : Standing) (read_only : Bool) (name : List ℕ) → SaysApart tells_uid (closing now.selected (wanting (on_found (entering read_only) (says (response_text texts.NoSuchMailbox)) (folder_of name now.folders))))
-in_selecting now read_only name = in_closing now.selected _ (inl refl, in_folder (entering read_only) (in_entering read_only) (folder_of name now.folders))
+in_entering : (profile : Profile) (read_only : Bool) (folder : Folder) → SaysApart tells_uid (entering profile read_only folder)
+in_entering profile read_only folder opening = (opening_whole read_only folder.name opening, in_recent profile _ (says_apart (entered_text read_only)))
+
+in_selecting : (now : Standing) (read_only : Bool) (name : List ℕ) → SaysApart tells_uid (closing now.selected (wanting (on_found (entering now.profile read_only) (says (response_text texts.NoSuchMailbox)) (folder_of name now.folders))))
+in_selecting now read_only name = in_closing now.selected _ (inl refl, in_folder (entering now.profile read_only) (in_entering now.profile read_only) (folder_of name now.folders))
+
+in_subscribing : (folders : List Folder) (name : List ℕ) (command : Command) → SaysApart tells_uid (wanting (subscribing folders name command))
+in_subscribing folders name command = (inl refl, in_folder (λ (folder : Folder). completed command) (λ folder. says_apart (texts.Completed (verb_of command))) (folder_of name folders))
 
 in_over : (most : Option ℕ) → SaysApart tells_uid (over most)
 in_over None = (refl, refl)
@@ -111,16 +123,21 @@ command_apart : (now : Standing) (command : Command) → EndsFine tells_uid (on_
 command_apart now commands.Noop = says_fine tells_uid uid_spares (on_command now commands.Noop) (in_showing now.selected (completed commands.Noop) (refl, refl))
 command_apart now commands.Logout = says_fine tells_uid uid_spares (on_command now commands.Logout) (bye_whole (response_text texts.LoggingOut), (refl, refl))
 command_apart now commands.Idle = says_fine tells_uid uid_spares (on_command now commands.Idle) (plus_apart tells_uid texts.Idling, tt)
-command_apart now commands.Login = says_fine tells_uid uid_spares (on_command now commands.Login) (refl, refl)
+command_apart now (commands.Login user password) = says_fine tells_uid uid_spares (on_command now (commands.Login user password)) (refl, refl)
 command_apart now commands.Authenticate = says_fine tells_uid uid_spares (on_command now commands.Authenticate) (refl, refl)
 command_apart now commands.StartTls = says_fine tells_uid uid_spares (on_command now commands.StartTls) (refl, refl)
 command_apart now (commands.Select name) = says_fine tells_uid uid_spares (on_command now (commands.Select name)) (in_selecting now false name)
 command_apart now (commands.Examine name) = says_fine tells_uid uid_spares (on_command now (commands.Examine name)) (in_selecting now true name)
 command_apart now (commands.List reference pattern) =
-    says_fine tells_uid uid_spares (on_command now (commands.List reference pattern)) (list_whole reference pattern (map (λ (folder : Folder). folder.name) now.folders), in_showing now.selected (completed (commands.List reference pattern)) (refl, refl))
+    says_fine tells_uid uid_spares (on_command now (commands.List reference pattern)) (list_whole All reference pattern (map (λ (folder : Folder). folder.name) now.folders), in_showing now.selected (completed (commands.List reference pattern)) (refl, refl))
+command_apart now (commands.Lsub reference pattern) =
+    says_fine tells_uid uid_spares (on_command now (commands.Lsub reference pattern)) (list_whole Subscribed reference pattern (map (λ (folder : Folder). folder.name) now.folders), in_showing now.selected (completed (commands.Lsub reference pattern)) (refl, refl))
+command_apart now (commands.Subscribe name) = says_fine tells_uid uid_spares (on_command now (commands.Subscribe name)) (in_subscribing now.folders name (commands.Subscribe name))
+command_apart now (commands.Unsubscribe name) = says_fine tells_uid uid_spares (on_command now (commands.Unsubscribe name)) (in_subscribing now.folders name (commands.Unsubscribe name))
+command_apart now commands.Check = says_fine tells_uid uid_spares (on_command now commands.Check) (in_showing now.selected (completed commands.Check) (refl, refl))
 command_apart now (commands.Status name items) = says_fine tells_uid uid_spares (on_command now (commands.Status name items)) (
   inl refl,
-  in_folder (counting now name items)
+  in_folder (counting now.selected name items)
       (λ folder status. (ends (codes "* STATUS " ++ folder.name ++ codes " (" ++ spaced (map _ items)) (codes ")"), in_showing now.selected (completed (commands.Status name items)) (refl, refl))) (folder_of name now.folders),
 )
 command_apart now commands.Close = says_fine tells_uid uid_spares (on_command now commands.Close) (in_found _ wrong_state (λ (s : Selected). (refl, refl)) (refl, refl) now.selected)
@@ -141,7 +158,7 @@ command_apart now (commands.Store store) =
     (λ view. in_chosen (named_in store.by_uid store.set view) _
     (λ uids. in_storing store view (messages_done (commands.Store store) store.by_uid) (λ gone. in_done (commands.Store store) store.by_uid gone (says_apart (texts.Completed (verb_of (commands.Store store))))) uids false)))
 command_apart now (commands.Append append) = append_fine now.mailing.most now.folders append
-command_apart now command = says_fine tells_uid uid_spares (on_command now command) (notice_apart (notice command) (completed command) (refl, refl))
+command_apart now command = says_fine tells_uid uid_spares (on_command now command) (notice_apart (notice now.profile command) (completed command) (refl, refl))
 
 -- ---- lines
 
@@ -153,11 +170,15 @@ fault_fine : (fault : ImapFault) (now : Standing) (answers : List Answer) → Ta
 fault_fine faults.NoTag now [] t = inr (subst (Apart tells_uid) (sym (append-nil (untagged (response_text texts.MissingTag)))) (star_apart tells_uid texts.MissingTag))
 fault_fine (faults.Unknown tag) now [] t = inr (subst (Apart tells_uid) (sym (append-nil (ex.tagged tag (response_text texts.UnknownCommand)))) (tagged_apart tells_uid tag (response_text texts.UnknownCommand) t refl refl))
 fault_fine (faults.LeftOut tag) now [] t = inr (subst (Apart tells_uid) (sym (append-nil (ex.tagged tag (response_text texts.NotOffered)))) (tagged_apart tells_uid tag (response_text texts.NotOffered) t refl refl))
-fault_fine (faults.Arguments tag) now [] t = inr (subst (Apart tells_uid) (sym (append-nil (ex.tagged tag (response_text texts.InvalidArguments)))) (tagged_apart tells_uid tag (response_text texts.InvalidArguments) t refl refl))
+fault_fine (faults.Arguments tag verb) now [] t =
+    let text : ResponseText = arguments_text now.profile verb in
+    inr (subst (Apart tells_uid) (sym (append-nil (ex.tagged tag (response_text text)))) (tagged_apart tells_uid tag (response_text text) t (row_inner text) (row_tells_none text)))
 fault_fine fault now (answer ∷ more) t = tt
 
 read_fine : (now : Standing) (r : Result (List ℕ × Command) ImapFault) (answers : List Answer) → TaggedOf IsWord r → TurnFine tells_uid (on_read now r answers)
-read_fine now (Ok line) answers t = command_apart now line.1 line.0 t now answers
+read_fine now (Ok line) answers t =
+    line_has (TurnFine tells_uid) now line.0 line.1 answers (λ logs. says_fine tells_uid uid_spares login_completed (says_apart (texts.Completed verbs.Login)) line.0 t (logged_in now) answers)
+    (λ text is. says_fine tells_uid uid_spares (says (response_text text)) (says_apart text) line.0 t now answers) (command_apart now line.1 line.0 t now answers)
 read_fine now (Err fault) answers t = fault_fine fault now answers t
 
 while_fine : (idling : Option (List ℕ)) (now : Standing) (line : List ℕ) (answers : List Answer) → IfSome idling IsWord → TurnFine tells_uid (turn_while idling now line answers)

@@ -68,6 +68,7 @@ mod Shortness
 mod OkCurrent
 mod Selecting
 mod Unselected
+mod LoggedIn
 mod Moments
 mod Distinct
 mod Following

@@ -27,13 +27,16 @@ use Rattle.imap_session.specs.declared.standing.After.TheVariants as afters
 use Rattle.imap_session.specs.declared.standing.Selected.{Selected}
 use Rattle.imap_session.specs.Exchange.{Answer, Entered, Looked, Found, Counted, Altered, Expunged, Fed, Left, Refused, Starved, Exchange, ForDone, ForLiteral, ForVerdict, ForNothing, Done, Wait, Write, Put, Enter, Look, Read, Count, Alter, Expunge, Feed, Leave, Folder, Mailing, Standing, Turn, Appending, Sent, Waiting, closed, having, played, refusal_after, refusal_text, refused, saying, tagged, waiting, unkept, Asked, Dropped, Unasked, bye}
 use Rattle.imap_session.proofs.Unkept.{unkept_by}
-use Rattle.imap_session.specs.Commands.{appending, closing, completed, counting, entering, expunge_set, fault_text, fetch_messages, fetched, fetching, folder_of, idle_turn_in, if_writable, in_writable, is_over, kept_text, last_number, messages_done, most_unasked, nowhere, number_named, on_chosen, on_command, on_folder, on_found, on_idle_line, on_read, on_rest, on_set, on_text, on_verdict, only_says, over, says, selecting, showing, store_messages, stored, storing, taking, turn_behind, turn_of, turn_of_long_line, turn_of_verdict, turn_while, turn_with, unlimited, wanting, wanting_for, with_bytes, without_begun, without_sent, wrong_state, asking, coming}
+use Rattle.imap_session.specs.Commands.{appending, closing, completed, counting, entering, expunge_set, fault_text, fetch_messages, fetched, fetching, folder_of, idle_turn_in, if_writable, in_writable, is_over, kept_text, last_number, messages_done, most_unasked, nowhere, number_named, on_chosen, on_command, on_folder, on_found, on_idle_line, on_read, on_rest, on_set, on_text, on_verdict, only_says, over, says, selecting, showing, store_messages, stored, storing, taking, turn_behind, turn_of, turn_of_long_line, turn_of_verdict, turn_while, turn_with, unlimited, wanting, wanting_for, with_bytes, without_begun, without_sent, wrong_state, asking, coming, entered_text, logged_in, login_completed, subscribing, telling_recent}
 use Rattle.delivery_token.specs.declared.Verdict.{Verdict}
 use Rattle.delivery_token.specs.declared.Verdict.TheVariants as verdicts
 use Rattle.laws_client.proofs.Turns.{the_turn}
 use Rattle.laws_client.proofs.Dialogues.{not_over}
 use Rattle.imap_session.specs.declared.texts.ResponseText.TheVariants as texts
 use Rattle.imap_session.specs.Texts.{response_text}
+use Rattle.imap_session.specs.declared.standing.Profile.{Profile}
+use Rattle.imap_session.specs.declared.standing.Profile.TheVariants.{Standard, Compatible}
+use Rattle.laws_client.proofs.Barred.{line_case}
 
 -- what it has of messages: of one that is announced no more than was, and of one that was submitted no more than it takes
 pub record IsMailShort (most : ℕ) (m : Mailing) : Type 0 where
@@ -161,9 +164,17 @@ fit_closing : (most : ℕ) (selected : Option Selected) (x : Exchange) → Texts
 fit_closing most None x h = h
 fit_closing most (Some selected) x h = h
 
-fit_selecting : (most : ℕ) (now : Standing) (read_only : Bool) (name : List ℕ) → TextsFit most (selecting now read_only name)
+fit_recent : (most : ℕ) (profile : Profile) (x : Exchange) → TextsFit most x → TextsFit most (telling_recent profile x)
+fit_recent most Standard x h = h
+fit_recent most Compatible x h = h
+
+fit_selecting : (most : ℕ) (now : Standing) (read_only : Bool) (name : List ℕ) → TextsFit most (selecting now.profile now.folders now.selected read_only name)
 fit_selecting most now read_only name =
-    fit_closing most now.selected (wanting (on_folder name now.folders (entering read_only))) (fit_found most (entering read_only) (says (response_text texts.NoSuchMailbox)) (folder_of name now.folders) (λ folder o. tt) tt)
+    fit_closing most now.selected (wanting (on_folder name now.folders (entering now.profile read_only)))
+    (fit_found most (entering now.profile read_only) (says (response_text texts.NoSuchMailbox)) (folder_of name now.folders) (λ folder o. fit_recent most now.profile (says (response_text (entered_text read_only))) tt) tt)
+
+fit_subscribing : (most : ℕ) (folders : List Folder) (name : List ℕ) (command : Command) → TextsFit most (subscribing folders name command)
+fit_subscribing most folders name command = fit_found most (λ (folder : Folder). completed command) (says (response_text texts.NoSuchMailbox)) (folder_of name folders) (λ folder. tt) tt
 
 fit_messages : (most : ℕ) (command : Command) (by_uid gone : Bool) → TextsFit most (messages_done command by_uid gone)
 fit_messages most command true gone = tt
@@ -209,8 +220,12 @@ fit_command most now commands.Noop = fit_showing most now.selected (completed co
 fit_command most now (commands.Select name) = fit_selecting most now false name
 fit_command most now (commands.Examine name) = fit_selecting most now true name
 fit_command most now (commands.List reference pattern) = fit_showing most now.selected (completed (commands.List reference pattern)) tt
+fit_command most now (commands.Lsub reference pattern) = fit_showing most now.selected (completed (commands.Lsub reference pattern)) tt
+fit_command most now (commands.Subscribe name) = fit_subscribing most now.folders name (commands.Subscribe name)
+fit_command most now (commands.Unsubscribe name) = fit_subscribing most now.folders name (commands.Unsubscribe name)
+fit_command most now commands.Check = fit_showing most now.selected (completed commands.Check) tt
 fit_command most now (commands.Status name items) =
-    fit_found most (counting now name items) (says (response_text texts.NoSuchMailbox)) (folder_of name now.folders) (λ folder status. fit_showing most now.selected (completed (commands.Status name items)) tt) tt
+    fit_found most (counting now.selected name items) (says (response_text texts.NoSuchMailbox)) (folder_of name now.folders) (λ folder status. fit_showing most now.selected (completed (commands.Status name items)) tt) tt
 fit_command most now commands.Close = fit_found most (λ (selected : Selected). Leave (not selected.read_only) (completed commands.Close)) wrong_state now.selected (λ s. tt) tt
 fit_command most now commands.Unselect = fit_found most (λ (selected : Selected). Leave false (completed commands.Unselect)) wrong_state now.selected (λ s. tt) tt
 fit_command most now commands.Expunge = fit_writable most now (Expunge None (Feed unlimited (completed commands.Expunge))) tt
@@ -268,8 +283,10 @@ fault_keeps most now text [] turn k e = told most now (saying text) (λ s. refl)
 fault_keeps most now text (answer ∷ more) turn k e = absurd (none-some turn e)
 
 read_keeps : (most : ℕ) (now : Standing) (r : Result (List ℕ × Command) ImapFault) (answers : List Answer) (turn : Turn) → IsMailShort most now.mailing → on_read now r answers ≡ Some turn → Kept most turn
-read_keeps most now (Ok line) answers turn k e = mail_stays most line.0 now (on_command now line.1) answers turn (fit_command most now line.1) k e
-read_keeps most now (Err fault) answers turn k e = fault_keeps most now (fault_text fault) answers turn k e
+read_keeps most now (Ok line) answers turn k e =
+    line_case (Kept most turn) now line.0 line.1 answers turn (λ logs d. mail_stays most line.0 (logged_in now) login_completed answers turn tt k d)
+    (λ text is d. mail_stays most line.0 now (says (response_text text)) answers turn tt k d) (λ d. mail_stays most line.0 now (on_command now line.1) answers turn (fit_command most now line.1) k d) e
+read_keeps most now (Err fault) answers turn k e = fault_keeps most now (fault_text now.profile fault) answers turn k e
 
 while_keeps : (most : ℕ) (idling : Option (List ℕ)) (now : Standing) (line : List ℕ) (answers : List Answer) (turn : Turn) → IsMailShort most now.mailing → turn_while idling now line answers ≡ Some turn → Kept most turn
 while_keeps most None now line answers turn k e = read_keeps most now (read line) answers turn k e

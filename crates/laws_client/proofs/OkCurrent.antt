@@ -53,6 +53,8 @@ use Rattle.imap_session.specs.declared.texts.ResponseText.{ResponseText}
 use Rattle.imap_grammar.specs.declared.command.Verb.{Verb}
 use Rattle.imap_grammar.specs.declared.command.Verb.TheVariants as verbs
 use Rattle.std.specs.Str.{bytes_eq}
+use Rattle.imap_session.proofs.Barring.{refuses}
+use Rattle.laws_client.proofs.Barred.{line_case, login_shows_none}
 
 -- ---- how bytes end
 
@@ -248,8 +250,10 @@ messages_last command false gone e = never e
 pub command_last : (now : Standing) (selected : Selected) (command : Command) → now.selected ≡ Some selected → shows_all command ≡ true → ShowsLast false (on_command now command)
 command_last now selected commands.Noop is e = subst (λ (o : Option Selected). ShowsLast false (showing o (completed commands.Noop))) (sym is) (refl, inl refl)
 command_last now selected (commands.List reference pattern) is e = subst (λ (o : Option Selected). ShowsLast false (showing o (completed (commands.List reference pattern)))) (sym is) (refl, inl refl)
+command_last now selected commands.Check is e = subst (λ (o : Option Selected). ShowsLast false (showing o (completed commands.Check))) (sym is) (refl, inl refl)
+command_last now selected (commands.Lsub reference pattern) is e = subst (λ (o : Option Selected). ShowsLast false (showing o (completed (commands.Lsub reference pattern)))) (sym is) (refl, inl refl)
 command_last now selected (commands.Status name items) is e =
-    found_last (counting now name items) (says (response_text texts.NoSuchMailbox)) (folder_of name now.folders)
+    found_last (counting now.selected name items) (says (response_text texts.NoSuchMailbox)) (folder_of name now.folders)
     (λ folder status. subst (λ (o : Option Selected). ShowsLast false (showing o (completed (commands.Status name items)))) (sym is) (refl, inl refl)) (inr missing)
 command_last now selected commands.Expunge is e = writable_last now (Expunge None (Feed unlimited (completed commands.Expunge))) (refl, inl refl)
 command_last now selected (commands.UidExpunge set) is e =
@@ -262,6 +266,15 @@ command_last now selected (commands.Store store) is e = writable_last now (store
     (chosen_last store.by_uid store.set (λ view uids. storing store view (messages_done (commands.Store store) store.by_uid) uids false)
     (λ view uids. storing_last store view (messages_done (commands.Store store) store.by_uid) uids false (λ b. messages_last (commands.Store store) store.by_uid b e)))
 command_last now selected _ is e = never e
+
+-- a command that was refused isn't done
+refused_not_done : (text : ResponseText) → refuses text ≡ true → NotDone (response_text text)
+refused_not_done texts.WrongState is = wrong
+refused_not_done texts.UnknownCommand is = not_done texts.UnknownCommand refl
+refused_not_done texts.NotOffered is = not_done texts.NotOffered refl
+refused_not_done texts.InvalidArguments is = not_done texts.InvalidArguments refl
+refused_not_done texts.LoginFailed is = not_done texts.LoginFailed refl
+refused_not_done _ is = never is
 
 -- ---- their answers
 
@@ -282,8 +295,11 @@ last_was_fed now line tag command selected answers turn front there answered kep
   where
     read_fed : on_read now (Ok (tag, command)) answers ≡ Some turn → LastFed (false ≡ true) turn.events
     read_fed e =
-        ok_current tag [] false now (on_command now command) answers turn (tags_are_tags line tag command reads) (command_last now selected command there shows) e
-        (ap last_of bytes ∙ ends_done front tag (verb_of command))
+        let t : IsTag tag = tags_are_tags line tag command reads in
+        let ends : last_of turn.bytes ≡ the_end = ap last_of bytes ∙ ends_done front tag (verb_of command) in
+        line_case (LastFed (false ≡ true) turn.events) now tag command answers turn (λ logs d. never (sym (login_shows_none now.login command logs) ∙ shows))
+        (λ text is d. ok_current tag [] false now (says (response_text text)) answers turn t (inr (refused_not_done text is)) d ends)
+        (λ d. ok_current tag [] false now (on_command now command) answers turn t (command_last now selected command there shows) d ends) e
 
     by : (begun : Option Appending) (idling : Option (List ℕ)) → begun ≡ now.mailing.begun → idling ≡ now.idling → LastFed (false ≡ true) turn.events
     by (Some b) idling p q = absurd (none-some b.tag (sym kept ∙ sym (ap (λ (x : Option Appending). kept_behind x now.idling) p)))

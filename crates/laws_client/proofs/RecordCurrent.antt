@@ -37,6 +37,7 @@ use Rattle.laws_client.proofs.Moved.{Calls, Moved, moved, rested, stepped}
 use Rattle.imap_session.specs.declared.texts.ResponseText.TheVariants as texts
 use Rattle.imap_session.specs.Texts.{response_text}
 use Rattle.imap_grammar.specs.declared.command.Verb.TheVariants as verbs
+use Rattle.laws_client.proofs.Barred.{line_case, login_shows_none, refused_turn}
 
 abbrev pub the_session : Session → Option Session → Session
 the_session d None = d
@@ -133,8 +134,10 @@ noop_fed now line tag selected answers turn there answered kept reads ok = by no
   where
     read_fed : on_read now (Ok (tag, commands.Noop)) answers ≡ Some turn → LastFed (false ≡ true) turn.events
     read_fed e =
-        let d : played tag now (showing (Some selected) (completed commands.Noop)) answers ≡ Some turn = subst (λ (o : Option Selected). played tag now (showing o (completed commands.Noop)) answers ≡ Some turn) there e in
-        shown_fed tag (response_text (texts.Completed verbs.Noop)) Go now answers turn (tags_are_tags line tag commands.Noop reads) d ok
+        let t : IsTag tag = tags_are_tags line tag commands.Noop reads in
+        line_case (LastFed (false ≡ true) turn.events) now tag commands.Noop answers turn (λ logs d. absurd (false≢true (sym (login_shows_none now.login commands.Noop logs))))
+        (λ text is d. absurd (false≢true (sym (refused_turn tag text now answers turn t is d) ∙ ok)))
+        (λ d. shown_fed tag (response_text (texts.Completed verbs.Noop)) Go now answers turn t (subst (λ (o : Option Selected). played tag now (showing o (completed commands.Noop)) answers ≡ Some turn) there d) ok) e
 
     by : (begun : Option Appending) (idling : Option (List ℕ)) → begun ≡ now.mailing.begun → idling ≡ now.idling → LastFed (false ≡ true) turn.events
     by (Some b) idling p q = absurd (none-some b.tag (sym (ap (λ (o : Option (List ℕ)). o) kept) ∙ sym (ap (λ (x : Option Appending). kept_behind x now.idling) p)))

@@ -7,17 +7,16 @@ use Rattle.line_io.specs.Wire.{IsCut, joined}
 use Rattle.world.specs.World as world
 use Rattle.world.specs.World.{Config, Event, Step, Steps, World, empty_world}
 use Rattle.house_peers.specs.SeatedVisitor.{SeatedVisitor}
-use Rattle.house.specs.Setup.{Setup, session_seat}
+use Rattle.house.specs.Setup.{Setup, session_seat, admitted_in}
 use Rattle.house.specs.Printing.{Prints, of_session}
 use Rattle.house.specs.Scene as scene
 use Rattle.house.specs.Scene.{BytesPlay, ConnectionHears, ConnectionPuts, EnterPlay, HearPlay, IdlePlay, Moves, Plays, PutPlay, SayPlay, Scene, SessionGoes, SessionHears, SessionPuts, SessionTalks, connection_hears, connection_puts, empty_scene, goes_on, opens, place_of, seat_of, session_hears, session_puts}
 use Rattle.house.specs.declared.event.Event as house
 use Rattle.house.specs.declared.event.Event.TheVariants.{Bytes, Vanish, Put, Take, Deliver, Answer, Hear, End, Close, Enter, Say, Idle, Leave}
-use Rattle.imap_session.specs.Commands.{greeting}
 use Rattle.imap_session.specs.Exchange as calls
 use Rattle.exactly_once.specs.Promise.{Entry, HearsLines, IsOwn, IsRecord, Lines, Piece, PutsLines, Replies, Silence, text_of}
 use Rattle.exactly_once.proofs.Whole.{IsWhole, goes_whole, greeting_whole, idles_whole, whole_append}
-use Rattle.laws_client.specs.ClientRecords.{serial_by_then, TextsStayShort, ClientsKeepUp, ClientsKeptUp, ClientsOfHousesKeepUp, IsPrintable, KeepsUp, KeptUp, began_by_then, first_standing, is_left, lets_in, sent_by_then, sent_in, shown_by_then, stays_by_then, user_by_then}
+use Rattle.laws_client.specs.ClientRecords.{serial_by_then, TextsStayShort, ClientsKeepUp, ClientsKeptUp, ClientsOfHousesKeepUp, IsPrintable, KeepsUp, KeptUp, began_by_then, first_standing, is_left, lets_in, sent_by_then, sent_in, shown_by_then, stays_by_then, user_by_then, first_words}
 use Rattle.laws_client.specs.Sizes.{HasShortTexts, HasSmallNumbers}
 use Rattle.laws_client.specs.RecordTurns.{Stands}
 use Rattle.laws_client.specs.Views.{IsOfOthers}
@@ -151,17 +150,18 @@ enter_silent : (k : Setup) (users : ℕ → Arrival) (sent shown : ℕ → List 
     → Then k s users sent shown (Enter session user) Silence t
 enter_silent k users sent shown s session user t h K p =
     let g = p.goes.speaks in
-    let whole : IsWhole (greeting ++ g.said) = whole_append greeting g.said greeting_whole (goes_whole _ false (session_seat k (place_of session)) _ _ s.world p.goes.mid g.spoken g.said g.goes) in
+    let words : List ℕ = first_words k user.now in
+    let whole : IsWhole (words ++ g.said) = whole_append words g.said (greeting_whole (admitted_in k user.now).profile) (goes_whole _ false (session_seat k (place_of session)) _ _ s.world p.goes.mid g.spoken g.said g.goes) in
     let_known k users sent shown s session user t [] [] Silence h K p (silent_at (place_of session) (Enter session user) true [] (eq-eqb (place_of session) (place_of session) refl) refl (not_place session) (λ n other. refl) (λ n other. refl))
-    (fits_silence (place_of session + 1) (greeting ++ g.said) g.still [] whole refl g.prints)
+    (fits_silence (place_of session + 1) (words ++ g.said) g.still [] whole refl g.prints)
 
 enter_lines : (k : Setup) (users : ℕ → Arrival) (sent shown : ℕ → List ℕ) (s : Scene) (session : ℕ) (user : Bor (List ℕ)) (number : ℕ) (lines : List (List ℕ)) (t : Scene) → HasSmallNumbers k.config → SceneKnown k users sent shown s → number ≡ place_of session + 1
-    → (p : EnterPlay k false s (place_of session) user.now t (text_of k (Lines number lines))) → IsCut (greeting ++ p.goes.speaks.said) lines [] → Then k s users sent shown (Enter session user) (Lines number lines) t
+    → (p : EnterPlay k false s (place_of session) user.now t (text_of k (Lines number lines))) → IsCut (first_words k user.now ++ p.goes.speaks.said) lines [] → Then k s users sent shown (Enter session user) (Lines number lines) t
 enter_lines k users sent shown s session user number lines t h K own p cut =
     let g = p.goes.speaks in
     let_known k users sent shown s session user t (text_of k (Lines number lines)) (joined lines) (Lines number lines) h K p
     (lines_at (place_of session) number lines (Enter session user) true [] own (eq-eqb (place_of session) (place_of session) refl) refl (not_place session) (λ n other. refl) (λ n other. refl))
-    (fits_lines k (place_of session + 1) (greeting ++ g.said) g.still lines cut (prints_at k (place_of session) number (greeting ++ g.said) g.still lines own g.prints))
+    (fits_lines k (place_of session + 1) (first_words k user.now ++ g.said) g.still lines cut (prints_at k (place_of session) number (first_words k user.now ++ g.said) g.still lines own g.prints))
 
 pub sent_here : (session : ℕ) (bytes : List ℕ) → (if place_of session == place_of session then bytes else []) ≡ bytes
 sent_here session bytes = rw (eq-eqb (place_of session) (place_of session) refl) refl
@@ -301,7 +301,7 @@ keeps_by k entries t place v printable is c =
         told = talked.told;
         lives = talked.lives;
         answered = c.reached.waits;
-        printed = ap (λ (x : List ℕ). greeting ++ x) talked.bytes ∙ c.printed;
+        printed = ap (λ (x : List ℕ). first_words k user ++ x) talked.bytes ∙ c.printed;
         right = known.right;
         all = λ s at none. subst (λ (view : List ℕ). IsRightAbout view (hears_all None talked.told)) (all_counted k.config t.world place s known.sound.kept at none) known.right;
       };
@@ -363,7 +363,7 @@ kept_by k entries t place printable is f =
         later = f.later;
         moved = f.moved;
         answered = c.reached.waits;
-        printed = ap (λ (x : List ℕ). greeting ++ x) talked.bytes ∙ c.printed ∙ ap (λ (x : List ℕ). shown_by_then place [] entries ++ x) f.silent ∙ append-nil (shown_by_then place [] entries);
+        printed = ap (λ (x : List ℕ). first_words k a.user ++ x) talked.bytes ∙ c.printed ∙ ap (λ (x : List ℕ). shown_by_then place [] entries ++ x) f.silent ∙ append-nil (shown_by_then place [] entries);
         right = (lives_known k.config place (first_standing k a.user) a.began printable.numbers (sound_always k.config c.events a.began printable.numbers c.came) (first_stands k a.user printable) talked.lives short).right;
       };
     }

@@ -28,8 +28,10 @@ use Rattle.laws_client.proofs.LastWords.{uid_spares}
 use Rattle.laws_client.specs.Lives.{IsSentFor}
 use Rattle.exactly_once.specs.Promise.{Entry}
 use Rattle.exactly_once.proofs.Going.{below_itself}
-use Rattle.laws_client.specs.ClientRecords.{KeepsUp, KeptUp, began_by_then}
+use Rattle.laws_client.specs.ClientRecords.{KeepsUp, KeptUp, began_by_then, first_standing, first_words}
 use Rattle.laws_client.specs.Views.{IsOfOthers, NamesTheSame}
+use Rattle.imap_session.specs.declared.standing.Profile.{Profile}
+use Rattle.imap_session.specs.declared.standing.Profile.TheVariants.{Standard, Compatible}
 
 abbrev the_list : Messages → List Known
 the_list None = []
@@ -54,9 +56,14 @@ idle_bytes answers e = absurd (omega (arith, ap length e))
 short_line : IsSentFor LongLine (codes "a\r\n") → ⊥
 short_line (line, many, e) = absurd (omega (arith, many, ap length e, length-append line crlf))
 
+-- each greeting says something
+greeting_some : (profile : Profile) → 0 < length (greeting profile)
+greeting_some Standard = omega arith
+greeting_some Compatible = omega arith
+
 -- one that keeps up, and was never greeted: nothing was printed to it, and nothing is still to be printed
 not_greeted : (k : Setup) (place : ℕ) (v : SeatedVisitor) (t : Scene) → v.session.unsaid ≡ [] → KeepsUp k [] place v t → ⊥
-not_greeted k place v t none keeps = absurd (omega (arith, ap length keeps.printed, ap length none, length-append greeting (flat_map bytes_in keeps.told)))
+not_greeted k place v t none keeps = absurd (omega (arith, ap length keeps.printed, ap length none, length-append (first_words k []) (flat_map bytes_in keeps.told), greeting_some (first_standing k []).profile))
 
 -- nor one that keeps up since another world than that in which it was let in
 began_elsewhere : (k : Setup) (entries : List Entry) (place : ℕ) (v : SeatedVisitor) (t : Scene) (w : World) → w ≢ began_by_then place empty_world (empty_scene k) entries → (keeps : KeepsUp k entries place v t) → keeps.began ≡ w → ⊥
@@ -64,7 +71,7 @@ began_elsewhere k entries place v t w other keeps e = other (sym e ∙ keeps.let
 
 -- and one that kept up to the end, and was never greeted
 not_greeted_to_the_end : (k : Setup) (place : ℕ) (t : Scene) → KeptUp k [] place t → ⊥
-not_greeted_to_the_end k place t kept = absurd (omega (arith, ap length kept.printed, length-append greeting (flat_map bytes_in kept.told)))
+not_greeted_to_the_end k place t kept = absurd (omega (arith, ap length kept.printed, length-append (first_words k []) (flat_map bytes_in kept.told), greeting_some (first_standing k []).profile))
 
 -- two copies under one UID
 two_copies : (uid : ℕ) (before now : Box) (a b : Job) → a ≢ b → Contains now.accepted (a, uid) → Contains now.accepted (b, uid) → NamesTheSame uid before now → ⊥
@@ -129,8 +136,8 @@ two_in_one (opens h) = absurd (omega (arith, ap (λ (c : Cutter). length c.answe
 two_in_one (ends h) = absurd (omega (arith, ap (λ (c : Cutter). length c.answers) (h [] [])))
 
 -- all that was printed, without the greeting
-never_greeted : CutsSo [] [] → ⊥
-never_greeted h = absurd (omega (arith, ap (λ (c : Cutter). length c.begun) h.cut))
+never_greeted : (profile : Profile) → CutsSo profile [] [] → ⊥
+never_greeted profile h = absurd (omega (arith, ap (λ (c : Cutter). length c.begun) h.cut, greeting_some profile))
 
 -- one that ends within a line
 within_a_line : IsOneAnswer (codes "* 2 EXI") → ⊥

@@ -15,7 +15,6 @@ use Rattle.world.proofs.Always.{always, steps_join}
 use Rattle.world.proofs.Mails.{IsIn}
 use Rattle.imap_session.specs.Exchange as calls
 use Rattle.imap_session.specs.Exchange.{Call, Answer}
-use Rattle.imap_session.specs.Commands.{greeting}
 use Rattle.imap_session.specs.Store.{Met}
 use Rattle.house.specs.Meets.{Meets}
 use Rattle.house_peers.specs.Visitor.{Visitor}
@@ -28,7 +27,7 @@ use Rattle.house.proofs.Carried.{speaks_carried}
 use Rattle.exactly_once.specs.Promise.{Lines, text_of}
 use Rattle.exactly_once.proofs.Whole.{IsWhole, cut_of, goes_whole, whole_append}
 use Rattle.laws_client.specs.Commands.{IsPrinted}
-use Rattle.laws_client.specs.ClientRecords.{first_standing}
+use Rattle.laws_client.specs.ClientRecords.{first_standing, first_words}
 use Rattle.laws_client.specs.Sizes.{HasSmallNumbers}
 use Rattle.laws_client.specs.Views.{IsOfOthers}
 use Rattle.laws_client.proofs.Moved.{Calls, Moved, moved, rested, stepped}
@@ -145,7 +144,7 @@ pub record Client (k : Setup) (place : ℕ) (a : Arrival) (sent shown : List ℕ
   pub came : IsWorld k.config events a.began
   pub said : List ℕ
   pub reached : Reached k.config place (came_as k place a) a.began sent said v w
-  pub printed : greeting ++ said ≡ shown ++ v.unsaid
+  pub printed : first_words k a.user ++ said ≡ shown ++ v.unsaid
   pub whole : IsWhole v.unsaid
 
 -- one that has ended by itself, and left its mailbox
@@ -226,7 +225,7 @@ client_said k n a sent shown new said w u v after c reached fits whole = record 
   came = c.came;
   said = c.said ++ said;
   reached = reached;
-  printed = regroup greeting c.said said shown v.unsaid c.printed ∙ ap (λ (x : List ℕ). shown ++ x) (sym fits) ∙ sym (append_assoc shown new after.unsaid);
+  printed = regroup (first_words k a.user) c.said said shown v.unsaid c.printed ∙ ap (λ (x : List ℕ). shown ++ x) (sym fits) ∙ sym (append_assoc shown new after.unsaid);
   whole = whole;
 }
 

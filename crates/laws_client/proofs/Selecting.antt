@@ -151,7 +151,7 @@ in_recent : (profile : Profile) (x : Exchange) → StaysIn x → StaysIn (tellin
 in_recent Standard x h = h
 in_recent Compatible x h = h
 
-in_found : {A : Type 0} (found : A → Exchange) (gone : Exchange) (o : Option A) → ((a : A) → StaysIn (found a)) → StaysIn gone → StaysIn (on_found found gone o)
+pub in_found : {A : Type 0} (found : A → Exchange) (gone : Exchange) (o : Option A) → ((a : A) → StaysIn (found a)) → StaysIn gone → StaysIn (on_found found gone o)
 in_found found gone None h g = g
 in_found found gone (Some a) h g = h a
 
@@ -201,7 +201,7 @@ in_append o folders a =
 in_subscribing : (folders : List Folder) (name : List ℕ) (command : Command) → StaysIn (subscribing folders name command)
 in_subscribing folders name command = in_found (λ (folder : Folder). completed command) (says (response_text texts.NoSuchMailbox)) (folder_of name folders) (λ folder. tt) tt
 
-in_command : (now : Standing) (command : Command) → stays command ≡ true → StaysIn (on_command now command)
+pub in_command : (now : Standing) (command : Command) → stays command ≡ true → StaysIn (on_command now command)
 in_command now commands.Noop e = in_showing now.selected (completed commands.Noop) tt
 in_command now (commands.Select name) e = absurd (false≢true e)
 in_command now (commands.Examine name) e = absurd (false≢true e)
@@ -227,7 +227,7 @@ in_command now (commands.Store store) e = stay_writable now (store_messages stor
 in_command now (commands.Append append) e = in_append now.mailing.most now.folders append
 in_command now _ e = tt
 
-in_rest : (mailing : Mailing) (a : Appending) (empty : Bool) → StaysIn (on_rest mailing a empty)
+pub in_rest : (mailing : Mailing) (a : Appending) (empty : Bool) → StaysIn (on_rest mailing a empty)
 in_rest mailing a empty =
     in_found (λ text. if empty then on_found (on_text mailing a text) nowhere a.mailbox else says (response_text texts.InvalidArguments)) (says (response_text texts.OutOfMemory)) a.text
     (λ text. in_if empty (on_found (on_text mailing a text) nowhere a.mailbox) (says (response_text texts.InvalidArguments)) (in_found (on_text mailing a text) nowhere a.mailbox (λ mailbox. submits text mailbox) tt) tt) tt
@@ -241,7 +241,7 @@ in_rest mailing a empty =
         by false false true = tt
         by false false false = tt
 
-in_idle_line : (selected : Option Selected) (line : List ℕ) → StaysIn (on_idle_line selected line)
+pub in_idle_line : (selected : Option Selected) (line : List ℕ) → StaysIn (on_idle_line selected line)
 in_idle_line selected line = in_if (is_done line) (showing selected (completed commands.Idle)) (says (response_text texts.ExpectedDone)) (in_showing selected (completed commands.Idle) tt) tt
 
 in_verdict : (selected : Option Selected) (mailbox : ℕ) (verdict : Verdict) → StaysIn (on_verdict selected mailbox verdict)
@@ -372,7 +372,7 @@ told_sel now tag command text answers turn client t is e k =
     none_sel true none = absurd (false≢true (sym none))
     none_sel false none = tt
 
-fault_sel : (now : Standing) (text : List ℕ) (answers : List Answer) (turn : Turn) → only_says text now answers ≡ Some turn → turn.standing.selected ≡ now.selected
+pub fault_sel : (now : Standing) (text : List ℕ) (answers : List Answer) (turn : Turn) → only_says text now answers ≡ Some turn → turn.standing.selected ≡ now.selected
 fault_sel now text [] turn e = told now (saying text) (λ s. refl) Go turn e
 fault_sel now text (answer ∷ more) turn e = absurd (none-some turn e)
 
@@ -402,7 +402,7 @@ line_sel now line answers turn client e k = by now.mailing.begun now.idling refl
         let second : on_read now (read line) answers ≡ Some turn = subst (λ (o : Option (List ℕ)). turn_while o now line answers ≡ Some turn) (sym q) first in
         read_sel now (read line) answers turn client (read_tagged line) second k
 
-verdict_sel : (sent : Option Sent) (now : Standing) (verdict : Verdict) (answers : List Answer) (turn : Turn) → turn_with sent now verdict answers ≡ Some turn → turn.standing.selected ≡ now.selected
+pub verdict_sel : (sent : Option Sent) (now : Standing) (verdict : Verdict) (answers : List Answer) (turn : Turn) → turn_with sent now verdict answers ≡ Some turn → turn.standing.selected ≡ now.selected
 verdict_sel None now verdict answers turn e = absurd (none-some turn e)
 verdict_sel (Some sent) now verdict answers turn e = selected_stays sent.tag (without_sent now) (on_verdict now.selected sent.append.mailbox verdict) answers turn (in_verdict now.selected sent.append.mailbox verdict) e
 

@@ -13,7 +13,7 @@ use Rattle.house_history.specs.Legal.{HasUid, Legal}
 use Rattle.workers_sync.specs.Carried.{Carried}
 use Rattle.workers_sync.specs.declared.courier.Lost.{Lost}
 use Rattle.imap_session.specs.declared.standing.After.{After}
-use Rattle.imap_session.specs.Exchange.{Call, Answer, Enter, Look, Read, Count, Alter, Expunge, Feed, Leave, Entered, Looked, Found, Counted, Altered, Expunged, Fed, Left, Refused, Starved, Event, Standing, Turn, may_send, nothing_more}
+use Rattle.imap_session.specs.Exchange.{Call, Answer, Enter, Look, Read, Count, Alter, Expunge, Feed, Leave, Entered, Looked, Found, Counted, Altered, Expunged, Fed, Left, Refused, Starved, Event, Standing, Turn, may_send, nothing_more, begun_with}
 use Rattle.imap_session.specs.Commands.{greeting, turn_of_long_line, with_bytes}
 use Rattle.imap_session.specs.Store.{Met}
 use Rattle.imap_session.specs.Dialogue as dialogue
@@ -31,11 +31,12 @@ use Rattle.laws_client.specs.RecordTurns.{VerdictsArePrinted, told_line, told_of
 use Rattle.laws_client.specs.Talks.{Happening, leads_to}
 use Rattle.laws_client.specs.Talks as talk
 use Rattle.laws_client.specs.Served.{ServedLives, comes, turns}
-use Rattle.laws_client.specs.ServedVisits.{Beginning, HasCalled, HasLived, VisitorsKeepUp, VisitorsStand, VisitsBegin, VisitsGoOn, greeted_with, said_in}
+use Rattle.laws_client.specs.ServedVisits.{Beginning, HasCalled, HasLived, VisitorsKeepUp, VisitorsStand, VisitsBegin, VisitsGoOn, said_in}
 use Rattle.laws_client.specs.ServedVisits as visits
 use Rattle.laws_client.proofs.Folded.{folders_plain, settings_can_be_printed}
 use Rattle.laws_client.proofs.Served.{never, served_lives_are_known, still}
 use Rattle.laws_client.proofs.ServedFlags.{served_lives_tell_flags}
+use Rattle.imap_session.specs.declared.standing.Profile.{Profile}
 
 -- ---- legal histories
 
@@ -338,8 +339,8 @@ take_behind (x ∷ a) b n =
     let on : suc (length a) + n ≡ suc (length a + n) = omega arith in
     ap (λ (k : ℕ). take k (x ∷ (a ++ b))) on ∙ ap (λ (l : List ℕ). x ∷ l) (take_behind a b n)
 
-said_more : (told more : List Told) → said_in (told ++ more) ≡ said_in told ++ flat_map bytes_in more
-said_more told more = ap (λ (l : List ℕ). greeting ++ l) (flat_map-append bytes_in told more) ∙ sym (append_assoc greeting (flat_map bytes_in told) (flat_map bytes_in more))
+said_more : (profile : Profile) (told more : List Told) → said_in profile (told ++ more) ≡ said_in profile told ++ flat_map bytes_in more
+said_more profile told more = ap (λ (l : List ℕ). greeting profile ++ l) (flat_map-append bytes_in told more) ∙ sym (append_assoc (greeting profile) (flat_map bytes_in told) (flat_map bytes_in more))
 
 -- the bytes that were heard, one piece more
 heard_on : (heard piece answered begun lost front sent next rest : List ℕ) → heard ≡ (answered ++ begun) ++ lost → lost ≡ [] → piece ≡ front ++ rest → begun ++ front ≡ sent ++ next → heard ++ piece ≡ ((answered ++ sent) ++ next) ++ rest
@@ -361,8 +362,10 @@ went_on whole P beginning heard piece told old new said L over leads by wholly s
     let is : said ≡ flat_map bytes_in more = g.text ∙ w.wrote in
     let lives = lives_on beginning.first beginning.store L.lives w.lives in
     let live = L.failed still_open.0 in
-    let before : Appends beginning.taken old.taken (said_in told) = L.took_all live in
-    let some : Appends beginning.taken new.taken (said_in told ++ take sends.count said) = Appends-trans beginning.taken old.taken new.taken (said_in told) (take sends.count said) before sends.took in (
+    let profile : Profile = beginning.first.profile in
+    let so : List ℕ = said_in profile told in
+    let before : Appends beginning.taken old.taken so = L.took_all live in
+    let some : Appends beginning.taken new.taken (so ++ take sends.count said) = Appends-trans beginning.taken old.taken new.taken so (take sends.count said) before sends.took in (
       more,
       record {
         dialogue = next.0;
@@ -373,11 +376,11 @@ went_on whole P beginning heard piece told old new said L over leads by wholly s
         none_lost = λ going. nothing_lost new next.0 next.1 piece led.used (led.all (wholly (is_open new.closed new.link.session.ended going).0)) going;
         lives = lives;
         legal = legal_lives L.dialogue.standing old.selection L.legal w.lives;
-        sent = length (said_in told) + sends.count;
+        sent = length so + sends.count;
         took = subst (λ (l : List ℕ). Appends beginning.taken new.taken l)
-            (sym (ap (take (length (said_in told) + sends.count)) (said_more told more ∙ ap (λ (l : List ℕ). said_in told ++ l) (sym is)) ∙ take_behind (said_in told) said sends.count)) some;
-        took_all = λ ok. subst (λ (l : List ℕ). Appends beginning.taken new.taken l) (ap (λ (l : List ℕ). said_in told ++ l) is ∙ sym (said_more told more))
-            (Appends-trans beginning.taken old.taken new.taken (said_in told) said before (sends.took_all ok));
+            (sym (ap (take (length so + sends.count)) (said_more profile told more ∙ ap (λ (l : List ℕ). so ++ l) (sym is)) ∙ take_behind so said sends.count)) some;
+        took_all = λ ok. subst (λ (l : List ℕ). Appends beginning.taken new.taken l) (ap (λ (l : List ℕ). so ++ l) is ∙ sym (said_more profile told more))
+            (Appends-trans beginning.taken old.taken new.taken so said before (sends.took_all ok));
         failed = sends.failed;
       },
     )
@@ -388,23 +391,23 @@ went_on whole P beginning heard piece told old new said L over leads by wholly s
         absurd (true_false (subst (λ (s : Standing). s.ended ≡ true) (sym stands.session) ended) (is_open new.closed new.link.session.ended going).1)
 
 pub visits_begin : VisitsBegin
-visits_begin most folders store taken v legal g = record {
-  dialogue = record { standing = greeted_with most folders; begun = [] };
+visits_begin admission folders store taken v legal g = record {
+  dialogue = record { standing = begun_with admission folders; begun = [] };
   stands = g.stands;
   answered = [];
   lost = [];
   all = refl;
   none_lost = λ going. refl;
-  lives = subst (λ (p : LockedStore). ServedLives (greeted_with most folders) store [] [] (greeted_with most folders) p) (sym g.store) comes;
+  lives = subst (λ (p : LockedStore). ServedLives (begun_with admission folders) store [] [] (begun_with admission folders) p) (sym g.store) comes;
   legal = subst (λ (p : LockedStore). Legal p.history) (sym g.store) legal;
-  sent = length (said_in []);
-  took = subst (λ (l : List ℕ). Appends taken v.taken l) (sym (take-length (said_in []))) greeted;
+  sent = length (said_in admission.profile []);
+  took = subst (λ (l : List ℕ). Appends taken v.taken l) (sym (take-length (said_in admission.profile []))) greeted;
   took_all = λ live. greeted;
   failed = λ goes. g.live;
 }
   where
-    greeted : Appends taken v.taken (said_in [])
-    greeted = subst (λ (l : List ℕ). Appends taken v.taken l) (sym (append-nil greeting)) g.took
+    greeted : Appends taken v.taken (said_in admission.profile [])
+    greeted = subst (λ (l : List ℕ). Appends taken v.taken l) (sym (append-nil (greeting admission.profile))) g.took
 
 -- no piece was heard
 looking : (beginning : Beginning) (heard piece : List ℕ) (told : List Told) (new : Visit) → piece ≡ [] → (more : List Told) × HasLived beginning (heard ++ []) (told ++ more) new → (more : List Told) × HasLived beginning (heard ++ piece) (told ++ more) new
@@ -429,7 +432,7 @@ visits_go_on beginning heard piece told old new L over (visits.looked_in_part_an
     looking beginning heard piece told new none (went_on Wholly (ShowsInPart new.room) beginning heard [] told old new t.said L over t.leads (looks_in_part new.room) (λ goes. tt) (sent_first old t.said new t.sends))
 
 pub visitors_stand : VisitorsStand
-visitors_stand config most user range faultless = record { tags = (tt, tt, tt); names = folders_plain (directory_for config) user (settings_can_be_printed config range faultless).names }
+visitors_stand config admission user range faultless = record { tags = (tt, tt, tt); names = folders_plain (directory_for config) user (settings_can_be_printed config range faultless).names }
 
 pub visitors_keep_up : VisitorsKeepUp
 visitors_keep_up beginning heard told v none stands L = (

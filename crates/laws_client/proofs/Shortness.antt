@@ -1,5 +1,5 @@
 -- Over a whole record no text that is put is too long: of connections, sessions, lanes and mailboxes.
-use Rattle.std.proofs.Common.{◌≡◌, ℕ, ◌+◌, ◌≤◌, ◌<◌, ◌^◌, Bool, false, List, [], ◌∷◌, length, refl, sym, subst, ap, ◌∙◌, arith}
+use Rattle.std.proofs.Common.{◌≡◌, ℕ, ◌+◌, ◌≤◌, ◌<◌, ◌^◌, Bool, false, true, List, [], ◌∷◌, length, refl, sym, subst, ap, ◌∙◌, arith}
 use Rattle.std.specs.Prelude.{Option, Some, None, IfSome}
 use Rattle.shard_queue.specs.At.{set_at}
 use Rattle.shard_queue.proofs.AtLaws.{at_each}
@@ -24,10 +24,10 @@ use Rattle.imap_session.specs.Store.{Met}
 use Rattle.imap_session.specs.Dialogue as imap
 use Rattle.imap_session.specs.Dialogue.{AnswersLine, AnswersOne, Converses, Sends, goes_on, parts as ends_with, reads, silent, too_long}
 use Rattle.house.specs.Meets.{Meets}
-use Rattle.imap_session.specs.Folders.{folders_of}
+use Rattle.imap_session.specs.Folders.{folders_of, admission_of}
 use Rattle.house_peers.specs.SeatedVisitor as seated
 use Rattle.house_peers.specs.SeatedVisitor.{GoesOn, SeatedVisitor, seated_greeted}
-use Rattle.house.specs.Setup.{Setup, session_seat, terms_of}
+use Rattle.house.specs.Setup.{Setup, session_seat, terms_of, admitted_in}
 use Rattle.house.specs.Printing.{ConnectionGoes, Leaves, goes, stays, still_unsaid, with_session}
 use Rattle.house.specs.Scene as scene
 use Rattle.house.specs.Scene.{BytesPlay, EnterPlay, HearPlay, IdlePlay, LeavePlay, Lingers, Parts, Plays, PutPlay, SayPlay, Scene, SessionGoes, SessionTalks, VanishPlay, connection_hears, connection_puts, empty_scene, opens, goes_on as scene_goes_on, parts, place_of, remains, seat_of, session_hears, session_puts, waits, fades}
@@ -249,10 +249,15 @@ hears_short k s seat t printed small B (session_hears q e p) =
 moves_short : (k : Setup) (s : Scene) (event : Event) (t : Scene) (printed : List ℕ) → SceneShort k s → PutsShort event → scene.Moves k s event t printed → SceneShort k t
 moves_short k s event t printed B h m = same_as k t _ m.after (record { world = short_step k.config s.world event m.moved B.world h m.step; callers = B.callers; visitors = B.visitors })
 
+-- in both profiles it takes as many bytes
+takes_as : (compatible : Bool) (most : Option ℕ) (user : List ℕ) → (admission_of compatible most user).most ≡ most
+takes_as false most user = refl
+takes_as true most user = refl
+
 enter_short : (k : Setup) (s : Scene) (q : ℕ) (user : List ℕ) (t : Scene) (printed : List ℕ) → k.max_message < 2 ^ 31 → SceneShort k s → EnterPlay k false s q user t printed → SceneShort k t
 enter_short k s q user t printed small B p =
-    let d = talks_short k false q (s.world.heard (session_seat k q)) s.world (seated_greeted (s.entered q) (Some k.max_message) (folders_of k.directory user)) p.moved p.left printed small
-    (record { to_put = tt; mail = record { takes = refl; begun = tt; sent = tt } }) B.world p.goes in
+    let d = talks_short k false q (s.world.heard (session_seat k q)) s.world (seated_greeted (s.entered q) (admitted_in k user) (folders_of k.directory user)) p.moved p.left printed small
+    (record { to_put = tt; mail = record { takes = takes_as k.compatible (Some k.max_message) user; begun = tt; sent = tt } }) B.world p.goes in
     same_as k t _ p.after (visitor_at k s p.moved q p.left s.next (set_at s.entered q (s.entered q + 1)) s.shut B d.1 d.0)
 
 say_short : (k : Setup) (s : Scene) (q : ℕ) (piece : List ℕ) (t : Scene) (printed : List ℕ) → k.max_message < 2 ^ 31 → SceneShort k s → SayPlay k false s q piece t printed → SceneShort k t

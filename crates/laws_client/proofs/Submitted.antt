@@ -14,8 +14,8 @@ use Rattle.imap_grammar.specs.declared.command.ImapFault.{ImapFault}
 use Rattle.delivery_token.specs.declared.Verdict.{Verdict}
 use Rattle.mailbox.specs.declared.clients.MailFault.TheVariants.{Stranger, Lapped}
 use Rattle.imap_session.specs.declared.standing.Selected.{Selected}
-use Rattle.imap_session.specs.Exchange.{Answer, Fed, Refused, is_idling, Appending, Asked, Dropped, Folder, ForDone, ForLiteral, ForNothing, ForVerdict, Mailing, Sent, Standing, Turn, Unasked, Waiting, played, waiting}
-use Rattle.imap_session.specs.Commands.{due_of, fault_text, idle_turn_in, kept_text, number_named, on_command, on_idle_line, on_read, on_rest, on_verdict, only_says, taking, turn_behind, turn_of, turn_while, turn_with, with_bytes, without_begun, without_sent}
+use Rattle.imap_session.specs.Exchange.{Answer, Fed, Refused, is_idling, Appending, Asked, Dropped, Folder, ForDone, ForLiteral, ForNothing, ForVerdict, Mailing, Sent, Standing, Turn, Unasked, Waiting, waiting}
+use Rattle.imap_session.specs.Commands.{due_of, fault_text, idle_turn_in, kept_text, number_named, on_command, on_idle_line, on_read, on_rest, on_verdict, only_says, taking, turn_behind, turn_of, turn_while, turn_with, with_bytes, without_begun, without_sent, logged_in, login_completed, logs_in_as, on_line, says}
 use Rattle.imap_session.specs.Store.{IdleTurns, Met}
 use Rattle.house_peers.proofs.Rising.{idles_keep}
 use Rattle.laws_client.specs.Talks.{Happening, Line, LongLine, Turned, Literal, Heard, leads_to}
@@ -25,21 +25,25 @@ use Rattle.laws_client.specs.Appends.{IsSentAs}
 use Rattle.laws_client.specs.Lives.{IsSentFor}
 use Rattle.laws_client.proofs.Moved.{Calls}
 use Rattle.laws_client.proofs.Waiting.{ForItsLiteral, ForItsVerdict, IsMail, IsNoAppend, append_mail, idling_mail, other_mail, rest_mail, verdict_mail}
+use Rattle.laws_client.proofs.Barred.{line_case}
+use Rattle.imap_session.specs.Texts.{response_text}
 
 -- ---- what stays so behind a line
 
--- whatever stays so while it answers, and where it no longer idles, or waits for a literal
-pub line_stays : (Q : Standing → Type 0) → ((tag : List ℕ) → Keeps Q tag) → (now : Standing) (line : List ℕ) (answers : List Answer) (turn : Turn) → Q now → Q (record now { idling = None }) → Q (without_begun now)
+-- whatever stays so while it answers, and where it logs in, or no longer idles, or waits for a literal
+pub line_stays : (Q : Standing → Type 0) → ((tag : List ℕ) → Keeps Q tag) → (now : Standing) (line : List ℕ) (answers : List Answer) (turn : Turn) → Q now → Q (logged_in now) → Q (record now { idling = None }) → Q (without_begun now)
     → turn_of now line answers ≡ Some turn → Q turn.standing
-line_stays Q keeps now line answers turn q r s e = behind now.mailing.begun e
+line_stays Q keeps now line answers turn q l r s e = behind now.mailing.begun e
   where
     said : (text : List ℕ) (answers : List Answer) → only_says text now answers ≡ Some turn → Q turn.standing
     said text [] e = subst (λ (t : Turn). Q t.standing) (ap (the_turn turn) e) q
     said text (a ∷ more) e = absurd (none-some turn e)
 
     reads : (found : Result (List ℕ × Command) ImapFault) → on_read now found answers ≡ Some turn → Q turn.standing
-    reads (Ok l) e = played_keeps Q l.0 (keeps l.0) now (on_command now l.1) answers turn q e
-    reads (Err fault) e = said (fault_text fault) answers e
+    reads (Ok c) e =
+        line_case (Q turn.standing) now c.0 c.1 answers turn (λ logs d. played_keeps Q c.0 (keeps c.0) (logged_in now) login_completed answers turn l d)
+        (λ text is d. played_keeps Q c.0 (keeps c.0) now (says (response_text text)) answers turn q d) (λ d. played_keeps Q c.0 (keeps c.0) now (on_command now c.1) answers turn q d) e
+    reads (Err fault) e = said (fault_text now.profile fault) answers e
 
     while : (idling : Option (List ℕ)) → turn_while idling now line answers ≡ Some turn → Q turn.standing
     while None e = reads (read line) e
@@ -233,18 +237,18 @@ unfolding HasFolders
 line_mailed folders sent line now answers turn m due e = behind now.mailing.begun refl e
   where
     same : turn.standing.folders ≡ now.folders
-    same = line_stays (HasFolders now.folders) (folders_keep now.folders) now line answers turn refl refl refl e
+    same = line_stays (HasFolders now.folders) (folders_keep now.folders) now line answers turn refl refl refl refl e
 
     said : (text : List ℕ) (answers : List Answer) → now.mailing.begun ≡ None → only_says text now answers ≡ Some turn → Mailed folders (sent ++ (line ++ crlf)) turn.standing
     said text [] none e = subst (λ (t : Turn). Mailed folders (sent ++ (line ++ crlf)) t.standing) (ap (the_turn turn) e) (same_mail folders sent (line ++ crlf) now now m refl refl none)
     said text (a ∷ more) none e = absurd (none-some turn e)
 
     reads : (found : Result (List ℕ × Command) ImapFault) → read line ≡ found → now.mailing.begun ≡ None → on_read now found answers ≡ Some turn → Mailed folders (sent ++ (line ++ crlf)) turn.standing
-    reads (Err fault) is none e = said (fault_text fault) answers none e
+    reads (Err fault) is none e = said (fault_text now.profile fault) answers none e
     reads (Ok l) is none e =
         command_case l.1
         (λ append same_command.
-        let as_append : played l.0 now (on_command now (commands.Append append)) answers ≡ Some turn = subst (λ (c : Command). played l.0 now (on_command now c) answers ≡ Some turn) same_command e in
+        let as_append : on_line (logs_in_as now.login (commands.Append append)) now l.0 (commands.Append append) answers ≡ Some turn = subst (λ (c : Command). on_line (logs_in_as now.login c) now l.0 c answers ≡ Some turn) same_command e in
         append_begins folders sent line l.0 append now turn.standing m same none (subst (λ (c : Command). read line ≡ Ok (l.0, c)) same_command is) (append_mail l.0 now append answers turn as_append))
         (λ other.
         let mailing = other_mail l.0 now l.1 answers turn other e in

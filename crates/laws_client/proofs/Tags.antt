@@ -54,7 +54,7 @@ verb_tagged : (P : List ℕ → Type 0) (tag : List ℕ) → P tag → (verb : O
 verb_tagged P tag t None = t
 verb_tagged P tag t (Some found) = by (is_left_out found.0) (command_at found.0 found.1)
   where
-    by : (b : Bool) (command : Option Command) → TaggedOf P (if b then Err (LeftOut tag) else of_command tag command)
+    by : (b : Bool) (command : Option Command) → TaggedOf P (if b then Err (LeftOut tag) else of_command tag found.0 command)
     by true command = t
     by false None = t
     by false (Some command) = t

@@ -1,6 +1,6 @@
 -- A SELECT or EXAMINE that isn't answered OK leaves no mailbox selected.
 use Rattle.std.proofs.Common.{◌≡◌, ◌<◌, ◌⊎◌, inl, inr, ℕ, ◌+◌, arith, length, Bool, true, false, ◌==◌, List, [], ◌∷◌, ◌++◌, refl, sym, subst, ap, ◌∙◌, append_assoc}
-use Rattle.std.specs.Prelude.{Option, Some, None, Result, Ok, Err, codes, decimal, ◌&&◌, ◌||◌, if◌then◌else◌}
+use Rattle.std.specs.Prelude.{Option, Some, None, Result, Ok, Err, codes, decimal, ◌&&◌, ◌||◌, if◌then◌else◌, IfSome}
 use Rattle.std.proofs.lemmas.Bool.{false≢true}
 use Rattle.std.proofs.lemmas.Option.{none-some}
 use Rattle.mailbox.specs.declared.clients.MailFault.{MailFault}
@@ -13,27 +13,25 @@ use Rattle.imap_grammar.specs.Reading.{read}
 use Rattle.imap_grammar.specs.declared.command.Command.{Command}
 use Rattle.imap_grammar.specs.declared.command.Command.TheVariants as commands
 use Rattle.imap_grammar.specs.declared.command.ImapFault.{ImapFault}
-use Rattle.imap_session.specs.declared.standing.After.TheVariants.{Go}
 use Rattle.imap_session.specs.declared.standing.Selected.{Selected}
 use Rattle.imap_session.specs.Exchange.{Answer, Appending, Entered, Left, Refused, Event, Exchange, Put, Enter, Leave, Folder, Standing, Turn, closed, having, kept_behind, kept_tag, played, refusal_after, refused, saying, tagged}
-use Rattle.imap_session.specs.Commands.{closing, entering, folder_of, logged_in, on_command, on_folder, on_found, on_read, opened, says, telling_recent, turn_behind, turn_of, turn_while, wanting, entered_text}
+use Rattle.imap_session.specs.Commands.{closing, entering, folder_of, on_command, on_folder, on_found, on_read, opened, says, telling_recent, turn_behind, turn_of, turn_while, wanting, entered_text, barred_at, logs_in_as, on_line}
 use Rattle.imap_session.specs.Store.{Met}
 use Rattle.imap_answers.specs.Answers.{all_flags, opening_text}
 use Rattle.laws_client.specs.ListTurns.{IsTag}
 use Rattle.laws_client.proofs.Tags.{Tagged, read_tagged}
 use Rattle.laws_client.proofs.Turns.{the_turn}
 use Rattle.laws_client.specs.Clients.{Asked, Entering, Leaving, Neither, asked, asked_by, begins, has_ok}
-use Rattle.laws_client.specs.Selecting.{RefusedSelectsNone}
-use Rattle.laws_client.proofs.RecordEntering.{Wrote, at_star, closed_line, recent_done, recent_line, mapped, only_done, only_refused, tagged_has, wanted, writes, wrote}
+use Rattle.laws_client.specs.Selecting.{HasLoggedIn, RefusedSelectsNone}
+use Rattle.laws_client.proofs.RecordEntering.{Wrote, at_star, closed_line, recent_done, recent_line, mapped, only_refused, tagged_has, wanted, writes, wrote}
 use Rattle.laws_client.proofs.Moved.{Calls}
 use Rattle.laws_client.proofs.Selecting.{given_up, selected_stays}
 use Rattle.imap_session.specs.declared.texts.ResponseText.TheVariants as texts
 use Rattle.imap_session.specs.Texts.{response_text}
 use Rattle.imap_session.specs.declared.standing.Profile.{Profile}
 use Rattle.imap_session.specs.declared.standing.Profile.TheVariants.{Standard, Compatible}
-use Rattle.imap_session.proofs.Barring.{refuses}
 use Rattle.imap_session.specs.declared.texts.ResponseText.{ResponseText}
-use Rattle.laws_client.proofs.Barred.{line_case, login_asks}
+use Rattle.laws_client.proofs.Barred.{login_asks}
 
 -- ---- the OK behind what is told of a mailbox that was entered
 
@@ -153,14 +151,47 @@ command_none now tag asks commands.Close answers turn t a e unsaid = absurd cc
 command_none now tag asks commands.Unselect answers turn t a e unsaid = absurd cc
 command_none now tag asks _ answers turn t a e unsaid = absurd cc
 
-read_none : (now : Standing) (r : Result (List ℕ × Command) ImapFault) (asks : List ℕ) (answers : List Answer) (turn : Turn) → Tagged r → asked r ≡ Entering asks → on_read now r answers ≡ Some turn
-    → has_ok true asks turn.bytes ≡ false → (turn.standing.selected ≡ None) ⊎ Kept now turn
-read_none now (Ok line) asks answers turn t a e unsaid = command_none now line.0 asks line.1 answers turn t a e unsaid
-read_none now (Err fault) asks answers turn t a e unsaid = absurd cc
+-- who asks for a mailbox is refused only where it is still to log in
+abbrev early_text : Option (List ℕ) → Option ResponseText
+early_text None = None
+early_text (Some user) = Some texts.WrongState
 
-line_none : (now : Standing) (line asks : List ℕ) (answers : List Answer) (turn : Turn) → kept_tag now ≡ None → asked (read line) ≡ Entering asks → turn_of now line answers ≡ Some turn
+entering_barred : (login : Option (List ℕ)) (profile : Profile) (tag asks : List ℕ) (command : Command) → asked_by tag command ≡ Entering asks → barred_at login profile command ≡ early_text login
+entering_barred None Standard tag asks (commands.Select name) a = refl
+entering_barred None Standard tag asks (commands.Examine name) a = refl
+entering_barred None Standard tag asks commands.Close a = absurd cc
+entering_barred None Standard tag asks commands.Unselect a = absurd cc
+entering_barred None Standard tag asks _ a = absurd cc
+entering_barred None Compatible tag asks command a = refl
+entering_barred (Some user) profile tag asks (commands.Select name) a = refl
+entering_barred (Some user) profile tag asks (commands.Examine name) a = refl
+entering_barred (Some user) profile tag asks commands.Close a = absurd cc
+entering_barred (Some user) profile tag asks commands.Unselect a = absurd cc
+entering_barred (Some user) profile tag asks _ a = absurd cc
+
+barred_none : (now : Standing) (tag asks : List ℕ) (command : Command) (answers : List Answer) (turn : Turn) → IsTag tag → HasLoggedIn now → asked_by tag command ≡ Entering asks
+    → on_line (logs_in_as now.login command) now tag command answers ≡ Some turn → has_ok true asks turn.bytes ≡ false → (turn.standing.selected ≡ None) ⊎ Kept now turn
+barred_none now tag asks command answers turn t h a e unsaid = by (logs_in_as now.login command) refl e
+  where
+    either : (login : Option (List ℕ)) → IfSome login (λ user. now.selected ≡ None) → played tag now (on_found (λ text. says (response_text text)) (on_command now command) (early_text login)) answers ≡ Some turn
+        → (turn.standing.selected ≡ None) ⊎ Kept now turn
+    either None h d = command_none now tag asks command answers turn t a d unsaid
+    either (Some user) h d = inl (selected_stays tag now (says (response_text texts.WrongState)) answers turn tt d ∙ h)
+
+    by : (b : Bool) → logs_in_as now.login command ≡ b → on_line b now tag command answers ≡ Some turn → (turn.standing.selected ≡ None) ⊎ Kept now turn
+    by true logs d = let other : Neither ≡ Entering asks = sym (login_asks now.login tag command logs) ∙ a in absurd cc
+    by false logs d =
+        either now.login h
+        (subst (λ (o : Option ResponseText). played tag now (on_found (λ text. says (response_text text)) (on_command now command) o) answers ≡ Some turn) (entering_barred now.login now.profile tag asks command a) d)
+
+read_none : (now : Standing) (r : Result (List ℕ × Command) ImapFault) (asks : List ℕ) (answers : List Answer) (turn : Turn) → Tagged r → HasLoggedIn now → asked r ≡ Entering asks → on_read now r answers ≡ Some turn
     → has_ok true asks turn.bytes ≡ false → (turn.standing.selected ≡ None) ⊎ Kept now turn
-line_none now line asks answers turn awake a e unsaid = by now.mailing.begun now.idling refl refl awake
+read_none now (Ok line) asks answers turn t h a e unsaid = barred_none now line.0 asks line.1 answers turn t h a e unsaid
+read_none now (Err fault) asks answers turn t h a e unsaid = absurd cc
+
+line_none : (now : Standing) (line asks : List ℕ) (answers : List Answer) (turn : Turn) → HasLoggedIn now → kept_tag now ≡ None → asked (read line) ≡ Entering asks → turn_of now line answers ≡ Some turn
+    → has_ok true asks turn.bytes ≡ false → (turn.standing.selected ≡ None) ⊎ Kept now turn
+line_none now line asks answers turn h awake a e unsaid = by now.mailing.begun now.idling refl refl awake
   where
     by : (begun : Option Appending) (idling : Option (List ℕ)) → begun ≡ now.mailing.begun → idling ≡ now.idling → kept_behind begun idling ≡ None → (turn.standing.selected ≡ None) ⊎ Kept now turn
     by (Some a) idling p q none = absurd (none-some a.tag (sym none))
@@ -168,7 +199,7 @@ line_none now line asks answers turn awake a e unsaid = by now.mailing.begun now
     by None None p q none =
         let first : turn_while now.idling now line answers ≡ Some turn = subst (λ (o : Option Appending). turn_behind o now line answers ≡ Some turn) (sym p) e in
         let second : on_read now (read line) answers ≡ Some turn = subst (λ (o : Option (List ℕ)). turn_while o now line answers ≡ Some turn) (sym q) first in
-        read_none now (read line) asks answers turn (read_tagged line) a second unsaid
+        read_none now (read line) asks answers turn (read_tagged line) h a second unsaid
 
 -- ---- in a world: there who has selected a mailbox may leave it
 
@@ -185,7 +216,7 @@ kept_ends k events w n now turn v is kept met = by kept.fault kept.standing (sub
     by NoMemory e m = absurd m.1.1.1.2
 
 pub refused_selects_none : RefusedSelectsNone
-refused_selects_none k events w n now line tag answers turn v is awake asks e met unsaid = by (line_none now line tag answers turn awake asks e unsaid)
+refused_selects_none k events w n now line tag answers turn v is h awake asks e met unsaid = by (line_none now line tag answers turn h awake asks e unsaid)
   where
     by : (turn.standing.selected ≡ None) ⊎ Kept now turn → (turn.standing.selected ≡ None) ⊎ (turn.standing.ended ≡ true)
     by (inl none) = inl none

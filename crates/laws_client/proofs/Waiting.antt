@@ -25,9 +25,12 @@ use Rattle.imap_session.specs.declared.standing.After.TheVariants as afters
 use Rattle.imap_session.specs.declared.standing.Selected.{Selected}
 use Rattle.imap_session.specs.Exchange as ex
 use Rattle.imap_session.specs.Exchange.{Answer, Appending, Asked, Call, Dropped, Entered, Looked, Found, Counted, Altered, Expunged, Fed, Left, Refused, Starved, Exchange, Folder, ForDone, ForLiteral, ForNothing, ForVerdict, Mailing, Standing, Turn, Unasked, Waiting, bye, closed, having, played, refusal_after, saying, text_before, unkept, waiting, where_long, refused}
-use Rattle.imap_session.specs.Commands.{appending, asking, closing, coming, completed, counting, entering, expunge_set, fetch_messages, fetching, folder_of, if_writable, is_over, last_number, messages_done, most_unasked, notice, noticing, nowhere, number_named, on_chosen, on_command, on_found, on_idle_line, on_rest, on_text, on_verdict, over, says, showing, store_messages, storing, unlimited, wanting, wanting_for, wrong_state}
+use Rattle.imap_session.specs.Commands.{appending, asking, closing, coming, completed, counting, entering, expunge_set, fetch_messages, fetching, folder_of, if_writable, is_over, last_number, messages_done, most_unasked, notice, noticing, nowhere, number_named, on_chosen, on_command, on_found, on_idle_line, on_rest, on_text, on_verdict, over, says, showing, store_messages, storing, telling_recent, unlimited, wanting, wanting_for, wrong_state, entered_text, logged_in, login_completed, logs_in_as, on_line}
 use Rattle.imap_session.specs.declared.texts.ResponseText.TheVariants as texts
 use Rattle.imap_session.specs.Texts.{response_text}
+use Rattle.imap_session.specs.declared.standing.Profile.{Profile}
+use Rattle.imap_session.specs.declared.standing.Profile.TheVariants.{Standard, Compatible}
+use Rattle.laws_client.proofs.Barred.{line_case}
 
 -- ---- an exchange
 
@@ -261,6 +264,10 @@ in_closing : (A : Waiting → Type 0) → (selected : Option Selected) (x : Exch
 in_closing A None x p = p
 in_closing A (Some selected) x p = p
 
+in_recent : (A : Waiting → Type 0) → (profile : Profile) (x : Exchange) → WaitsAs A x → WaitsAs A (telling_recent profile x)
+in_recent A Standard x p = p
+in_recent A Compatible x p = p
+
 in_found : {X : Type 0} (A : Waiting → Type 0) (next : X → Exchange) (gone : Exchange) → ((a : X) → WaitsAs A (next a)) → WaitsAs A gone → (found : Option X) → WaitsAs A (on_found next gone found)
 in_found A next gone p q None = q
 in_found A next gone p q (Some a) = p a
@@ -337,14 +344,20 @@ command_waits : (now : Standing) (command : Command) → IsNoAppend command → 
 command_waits now commands.Noop other = in_showing ForItsDone now.selected (completed commands.Noop) tt
 command_waits now commands.Logout other = tt
 command_waits now commands.Idle other = tt
-command_waits now commands.Login other = tt
+command_waits now (commands.Login user password) other = tt
 command_waits now commands.Authenticate other = tt
 command_waits now commands.StartTls other = tt
-command_waits now (commands.Select name) other = in_closing ForItsDone now.selected _ (in_found ForItsDone (entering false) (says (response_text texts.NoSuchMailbox)) (λ (f : Folder) opening. tt) tt (folder_of name now.folders))
-command_waits now (commands.Examine name) other = in_closing ForItsDone now.selected _ (in_found ForItsDone (entering true) (says (response_text texts.NoSuchMailbox)) (λ (f : Folder) opening. tt) tt (folder_of name now.folders))
+command_waits now (commands.Select name) other =
+    in_closing ForItsDone now.selected _ (in_found ForItsDone (entering now.profile false) (says (response_text texts.NoSuchMailbox)) (λ (f : Folder) opening. in_recent ForItsDone now.profile (says (response_text (entered_text false))) tt) tt (folder_of name now.folders))
+command_waits now (commands.Examine name) other =
+    in_closing ForItsDone now.selected _ (in_found ForItsDone (entering now.profile true) (says (response_text texts.NoSuchMailbox)) (λ (f : Folder) opening. in_recent ForItsDone now.profile (says (response_text (entered_text true))) tt) tt (folder_of name now.folders))
 command_waits now (commands.List reference pattern) other = in_showing ForItsDone now.selected (completed (commands.List reference pattern)) tt
+command_waits now (commands.Lsub reference pattern) other = in_showing ForItsDone now.selected (completed (commands.Lsub reference pattern)) tt
+command_waits now (commands.Subscribe name) other = in_found ForItsDone (λ (f : Folder). completed (commands.Subscribe name)) (says (response_text texts.NoSuchMailbox)) (λ (f : Folder). tt) tt (folder_of name now.folders)
+command_waits now (commands.Unsubscribe name) other = in_found ForItsDone (λ (f : Folder). completed (commands.Unsubscribe name)) (says (response_text texts.NoSuchMailbox)) (λ (f : Folder). tt) tt (folder_of name now.folders)
+command_waits now commands.Check other = in_showing ForItsDone now.selected (completed commands.Check) tt
 command_waits now (commands.Status name items) other =
-    in_found ForItsDone (counting now name items) (says (response_text texts.NoSuchMailbox)) (λ (f : Folder) status. in_showing ForItsDone now.selected (completed (commands.Status name items)) tt) tt (folder_of name now.folders)
+    in_found ForItsDone (counting now.selected name items) (says (response_text texts.NoSuchMailbox)) (λ (f : Folder) status. in_showing ForItsDone now.selected (completed (commands.Status name items)) tt) tt (folder_of name now.folders)
 command_waits now commands.Close other = in_found ForItsDone _ wrong_state (λ (s : Selected). tt) tt now.selected
 command_waits now commands.Unselect other = in_found ForItsDone _ wrong_state (λ (s : Selected). tt) tt now.selected
 command_waits now commands.Expunge other = in_writable ForItsDone now.selected (ex.Expunge None (ex.Feed unlimited (completed commands.Expunge))) tt
@@ -359,7 +372,7 @@ command_waits now (commands.Store store) other =
     (λ view. in_chosen ForItsDone (named_in store.by_uid store.set view) _
     (λ uids. in_storing ForItsDone store view (messages_done (commands.Store store) store.by_uid) (λ gone. in_done ForItsDone (commands.Store store) store.by_uid gone tt) uids false))
 command_waits now (commands.Append append) other = absurd other
-command_waits now command other = notice_waits ForItsDone (notice command) (completed command) tt
+command_waits now command other = notice_waits ForItsDone (notice now.profile command) (completed command) tt
 
 done_mail : (tag : List ℕ) (m next : Mailing) → IsMail ForItsDone tag m next → next ≡ m
 done_mail tag m next (inl e) = e
@@ -374,15 +387,26 @@ done_drops mailbox flags size p = absurd p
 some_mail : (A : Waiting → Type 0) (tag : List ℕ) (m : Mailing) (o : Option Turn) (turn : Turn) → TurnMail A tag m o → o ≡ Some turn → IsMail A tag m turn.standing.mailing
 some_mail A tag m o turn p e = subst (TurnMail A tag m) e p
 
-pub other_mail : (tag : List ℕ) (now : Standing) (command : Command) (answers : List Answer) (turn : Turn) → IsNoAppend command → played tag now (on_command now command) answers ≡ Some turn → turn.standing.mailing ≡ now.mailing
-other_mail tag now command answers turn other e =
-    done_mail tag now.mailing turn.standing.mailing (some_mail ForItsDone tag now.mailing _ turn (played_mail ForItsDone done_drops tag now (on_command now command) answers (command_waits now command other)) e)
+-- one that waits for nothing but DONE
+so_mail : (tag : List ℕ) (now : Standing) (x : Exchange) (answers : List Answer) (turn : Turn) → WaitsAs ForItsDone x → played tag now x answers ≡ Some turn → turn.standing.mailing ≡ now.mailing
+so_mail tag now x answers turn w e = done_mail tag now.mailing turn.standing.mailing (some_mail ForItsDone tag now.mailing _ turn (played_mail ForItsDone done_drops tag now x answers w) e)
 
-pub append_mail : (tag : List ℕ) (now : Standing) (append : Append) (answers : List Answer) (turn : Turn) → played tag now (on_command now (commands.Append append)) answers ≡ Some turn
+-- it was refused
+pub refused_mail : (tag words : List ℕ) (now : Standing) (answers : List Answer) (turn : Turn) → played tag now (says words) answers ≡ Some turn → turn.standing.mailing ≡ now.mailing
+refused_mail tag words now answers turn e = so_mail tag now (says words) answers turn tt e
+
+pub other_mail : (tag : List ℕ) (now : Standing) (command : Command) (answers : List Answer) (turn : Turn) → IsNoAppend command → on_line (logs_in_as now.login command) now tag command answers ≡ Some turn → turn.standing.mailing ≡ now.mailing
+other_mail tag now command answers turn other e =
+    line_case (turn.standing.mailing ≡ now.mailing) now tag command answers turn (λ logs d. so_mail tag (logged_in now) login_completed answers turn tt d)
+    (λ text is d. refused_mail tag (response_text text) now answers turn d) (λ d. so_mail tag now (on_command now command) answers turn (command_waits now command other) d) e
+
+pub append_mail : (tag : List ℕ) (now : Standing) (append : Append) (answers : List Answer) (turn : Turn) → on_line (logs_in_as now.login (commands.Append append)) now tag (commands.Append append) answers ≡ Some turn
     → IsMail (ForItsLiteral (number_named append.name now.folders) append) tag now.mailing turn.standing.mailing
 append_mail tag now append answers turn e =
     let A : Waiting → Type 0 = ForItsLiteral (number_named append.name now.folders) append in
-    some_mail A tag now.mailing _ turn (played_mail A (literal_drops (number_named append.name now.folders) append) tag now (on_command now (commands.Append append)) answers (append_waits now.mailing.most now.folders append)) e
+    line_case (IsMail A tag now.mailing turn.standing.mailing) now tag (commands.Append append) answers turn (λ logs d. inl (so_mail tag (logged_in now) login_completed answers turn tt d))
+    (λ text is d. inl (refused_mail tag (response_text text) now answers turn d))
+    (λ d. some_mail A tag now.mailing _ turn (played_mail A (literal_drops (number_named append.name now.folders) append) tag now (on_command now (commands.Append append)) answers (append_waits now.mailing.most now.folders append)) d) e
 
 -- ---- other lines, and verdicts
 
@@ -390,16 +414,14 @@ idling_waits : (selected : Option Selected) (line : List ℕ) → WaitsAs ForIts
 idling_waits selected line = in_either ForItsDone (is_done line) (showing selected (completed commands.Idle)) (says (response_text texts.ExpectedDone)) (in_showing ForItsDone selected (completed commands.Idle) tt) tt
 
 pub idling_mail : (tag : List ℕ) (now : Standing) (selected : Option Selected) (line : List ℕ) (answers : List Answer) (turn : Turn) → played tag now (on_idle_line selected line) answers ≡ Some turn → turn.standing.mailing ≡ now.mailing
-idling_mail tag now selected line answers turn e =
-    done_mail tag now.mailing turn.standing.mailing (some_mail ForItsDone tag now.mailing _ turn (played_mail ForItsDone done_drops tag now (on_idle_line selected line) answers (idling_waits selected line)) e)
+idling_mail tag now selected line answers turn e = so_mail tag now (on_idle_line selected line) answers turn (idling_waits selected line) e
 
 verdict_waits : (selected : Option Selected) (mailbox : ℕ) (verdict : Verdict) → WaitsAs ForItsDone (on_verdict selected mailbox verdict)
 verdict_waits selected mailbox (verdicts.Stored uid) = λ status. in_showing ForItsDone selected _ tt
 verdict_waits selected mailbox (verdicts.Refused why) = tt
 
 pub verdict_mail : (tag : List ℕ) (now : Standing) (selected : Option Selected) (mailbox : ℕ) (verdict : Verdict) (answers : List Answer) (turn : Turn) → played tag now (on_verdict selected mailbox verdict) answers ≡ Some turn → turn.standing.mailing ≡ now.mailing
-verdict_mail tag now selected mailbox verdict answers turn e =
-    done_mail tag now.mailing turn.standing.mailing (some_mail ForItsDone tag now.mailing _ turn (played_mail ForItsDone done_drops tag now (on_verdict selected mailbox verdict) answers (verdict_waits selected mailbox verdict)) e)
+verdict_mail tag now selected mailbox verdict answers turn e = so_mail tag now (on_verdict selected mailbox verdict) answers turn (verdict_waits selected mailbox verdict) e
 
 -- behind a literal it waits for the verdict on that message
 abbrev pub ForItsVerdict : Appending → Bool → Waiting → Type 0

@@ -11,7 +11,7 @@ ghost use Rattle.laws_client.specs.RecordLaws.{CallsAreSeen, CountedAreGiven, En
 ghost use Rattle.laws_client.specs.Lives.{LivesAreKnown};
 ghost use Rattle.laws_client.specs.RecordLife.{OneLifeIsLived};
 ghost use Rattle.laws_client.specs.ClientRecords.{ClientsKeepUp, ClientsKeptUp, ClientsOfHousesKeepUp, RecordsMoveOn, SettingsCanBePrinted, TextsStayShort};
-ghost use Rattle.laws_client.specs.Selecting.{KnowingIsSelected, RefusedSelectsNone};
+ghost use Rattle.laws_client.specs.Selecting.{KnowingIsSelected, LoginComesFirst, RefusedSelectsNone};
 ghost use Rattle.laws_client.specs.RecordTurns.{StandsStill, TurnIsKnown};
 
 /// In every world that came from the empty one: the UIDs and the positions of what a session counts can be printed, and what
@@ -52,7 +52,8 @@ pub fn uids_stay()
 /// before a turn, hears what is said in it, and is right about what the session counts then; whatever it sent, whatever is
 /// answered, and wherever the store or memory refuses. Of the session it is asked that its mailboxes' names stand in lines,
 /// and that its tags are tags; it stays so. A SELECT or EXAMINE that isn't answered OK leaves no mailbox selected (RFC 9051,
-/// 6.3.2), wherever memory is refused, or the session has ended.
+/// 6.3.2), wherever memory is refused, or the session has ended. Of the session it is asked there that none is selected before its
+/// client has logged in, which is so all its life (`lives_are_known`).
 pub fn turns_are_known()
     // A client that was right about what its session counts hears a turn, and is right about what the session counts then.
     ensures turn { TurnIsKnown }
@@ -67,7 +68,8 @@ pub fn turns_are_known()
 /// So it is at each moment of a session's life, with all that others do between its turns: since a SELECT or EXAMINE was
 /// answered OK, the client's list is as long as what the session counts, each UID that it knows is the one at that position, and
 /// no number was out of its list. It knows where it is from that answer on, for as long as it asks for none of SELECT, EXAMINE, CLOSE
-/// and UNSELECT. Where it knows where it is, its session has selected a mailbox.
+/// and UNSELECT. Where it knows where it is, its session has selected a mailbox. In the compatible profile a client logs in first:
+/// till then no mailbox is selected.
 pub fn lives_are_known()
     // At each moment of a session's life its client is right about what the session counts, where it knows where it is.
     ensures life { LivesAreKnown }
@@ -77,6 +79,9 @@ pub fn lives_are_known()
 
     // Where it knows where it is, its session has selected a mailbox.
     ensures selected { KnowingIsSelected }
+
+    // However a session begins, none is selected before its client has logged in.
+    ensures login { LoginComesFirst }
 {}
 
 /// One life, by computing: a session selects an empty mailbox, a copy comes there meanwhile, and a NOOP shows it. Its client then
@@ -86,8 +91,8 @@ pub fn one_life_happens()
 {}
 
 /// Where all that was pending was shown in a session's last call, what it counts is all that is there at that moment. So it is
-/// where NOOP, LIST, STATUS, EXPUNGE, UID EXPUNGE, UID FETCH, UID STORE or the DONE of an IDLE is answered OK in a mailbox that is
-/// selected (RFC 9051, 5.2 and 6.1.2; RFC 2177). A client that knows where it is, and has read such a command's answer to its end,
+/// where NOOP, CHECK, LIST, LSUB, STATUS, EXPUNGE, UID EXPUNGE, UID FETCH, UID STORE or the DONE of an IDLE is answered OK in a mailbox
+/// that is selected (RFC 9051, 5.2 and 6.1.2; RFC 2177; RFC 3501, 6.3.9 and 6.4.1). A client that knows where it is, and has read such a command's answer to its end,
 /// has a list of the mailbox as it is.
 pub fn lists_are_current()
     // Where the last call of a turn was for all that is pending, and was answered, the session counts all that is in its mailbox.

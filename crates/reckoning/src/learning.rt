@@ -23,7 +23,8 @@ fn teach_all<B: Naming>(worked: &[Worked<B>], front: &mut Front<B>)
 
 // No producer has sent more by this front than by what it knows itself, where all of that is known there.
 fn have_sent_all<B: Naming>(worked: &mut Vec<Worked<B>>, front: &Front<B>)
-    ensures same { (worked.new.items ≡ worked.old.items) × (vec_len worked.new ≡ vec_len worked.old) }
+    ensures same { (worked.new.items ≡ worked.old.items)
+        × (vec_len worked.new ≡ vec_len worked.old) }
     ensures each { All (HasSentAll front.now) worked.old.items }
 {
     for number in 0..worked.len() {
@@ -33,7 +34,8 @@ fn have_sent_all<B: Naming>(worked: &mut Vec<Worked<B>>, front: &Front<B>)
 
 /// The front has then what each producer knows of the history, and no producer has sent more by it. The producers are as they were.
 pub fn learn_all<B: Naming>(worked: &mut Vec<Worked<B>>, front: &mut Front<B>)
-    ensures same { (worked.new.items ≡ worked.old.items) × (vec_len worked.new ≡ vec_len worked.old) }
+    ensures same { (worked.new.items ≡ worked.old.items)
+        × (vec_len worked.new ≡ vec_len worked.old) }
     ensures before { IsPrefix front.old front.new }
     ensures legal { Legal front.new }
     ensures each { All (IsKnownIn front.new) worked.old.items }

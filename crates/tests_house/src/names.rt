@@ -1,6 +1,6 @@
 //! Names that no mailbox of a house has: with a quote or a backslash, or with a slash in them. What is expected is what RFC 9051 says of them.
 
-use imap_answers::{patterns_match_what_they_stand_for, write_list};
+use imap_answers::{Listing, patterns_match_what_they_stand_for, write_list};
 use imap_grammar::{Command, Name, read_line};
 use std::alloc::{AllocError, Global};
 
@@ -49,7 +49,7 @@ fn listed(alloc: Global, line: &[u8], names: &[&[u8]]) -> Result<Vec<u8>, AllocE
         return Err(AllocError);
     };
     let mut out = Vec::new(alloc);
-    write_list(alloc, &reference, &pattern, names, &mut out)?;
+    write_list(alloc, Listing::All, &reference, &pattern, names, &mut out)?;
     Ok(out)
 }
 

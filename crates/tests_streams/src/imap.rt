@@ -10,7 +10,7 @@ use crate::wires::{Marks, Tally, Wire, wait_until};
 use change_ring::NO_FLAGS;
 use delivery_token::{Text, Verdict};
 use house_history::{Naming, Opened};
-use imap_session::{After, Folder};
+use imap_session::{Admission, After, Folder, Profile, admission_of};
 use imap_stream::{Berth, Visit, VisitFault};
 use line_io::Watched;
 use mailbox::Limits;
@@ -145,6 +145,15 @@ pub(crate) fn folders(alloc: Global) -> Result<Vec<Folder>, AllocError> {
     Ok(folders)
 }
 
+// A client that is known already, and may append messages of so many bytes, if any.
+pub(crate) fn known(most: Option<u32>) -> Admission {
+    Admission {
+        max_message: most,
+        profile: Profile::Standard,
+        login: None,
+    }
+}
+
 // The courier of a session that takes no message: it is never asked.
 fn nobody<'a, B: Naming, R: Wait>(rt: &'a R, house: &'a TestHouse<B>) -> TestCourier<'a, B, R> {
     TestCourier::new(rt, house, Some(Lost::Torn))
@@ -171,7 +180,7 @@ pub(crate) fn open<'x, B: Naming, R: Wait>(
         return None;
     };
     let store = store_of(rt, tally, 0, house, &[]);
-    match Visit::open(rt, alloc, store, folders, most, wire) {
+    match Visit::open(rt, alloc, store, folders, known(most), wire) {
         Ok(visit) => Some(visit),
         Err(_) => None,
     }
@@ -647,6 +656,7 @@ fn greeted<B: Naming, R: Wait>(
     rt: &R,
     alloc: Global,
     history: Opened,
+    admission: Admission,
     told: &mut Vec<u8>,
 ) -> Result<bool, AllocError>
     requires { history ≡ B.book }
@@ -654,7 +664,14 @@ fn greeted<B: Naming, R: Wait>(
     let house = a_mailbox::<B, R>(rt, alloc, history, false)?;
     let tally = Tally::new();
     let store = store_of(rt, &tally, 0, &house, &[]);
-    let visit = Visit::open(rt, alloc, store, folders(alloc)?, None, Watched::new(told));
+    let visit = Visit::open(
+        rt,
+        alloc,
+        store,
+        folders(alloc)?,
+        admission,
+        Watched::new(told),
+    );
     Ok(visit.is_ok())
 }
 
@@ -662,10 +679,24 @@ fn greeted<B: Naming, R: Wait>(
 fn a_client_is_greeted(rt: HostRuntime) -> Result<(), AllocError> {
     let mut told = Vec::new(rt.alloc());
     let (alloc, history) = (rt.alloc(), Opened::new());
-    assert!(rt; greeted::<Brand, HostRuntime>(&rt, alloc, history, &mut told)?);
+    assert!(rt; greeted::<Brand, HostRuntime>(&rt, alloc, history, known(None), &mut told)?);
     assert_eq!(rt;
         told.as_slice(),
         b"* PREAUTH IMAP4rev2 server ready\r\n".as_slice()
+    );
+    Ok(())
+}
+
+// One of the compatible profile is told what it may ask for, and that it isn't known.
+#[test]
+fn a_client_that_logs_in_is_greeted(rt: HostRuntime) -> Result<(), AllocError> {
+    let mut told = Vec::new(rt.alloc());
+    let (alloc, history) = (rt.alloc(), Opened::new());
+    let admission = admission_of(alloc, true, None, b"alice")?;
+    assert!(rt; greeted::<Brand, HostRuntime>(&rt, alloc, history, admission, &mut told)?);
+    assert_eq!(rt;
+        told.as_slice(),
+        b"* OK [CAPABILITY IMAP4rev2 IMAP4rev1 IDLE NAMESPACE UIDPLUS UNSELECT] IMAP4rev2 server ready\r\n".as_slice()
     );
     Ok(())
 }

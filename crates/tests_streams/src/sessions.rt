@@ -4,6 +4,7 @@
 ghost use Rattle.std.specs.Prelude.{◌≡◌, None};
 
 use crate::houses::{TestHouse, open_house};
+use crate::imap::known;
 use crate::thread_couriers::{TestCourier, Way};
 use change_ring::{FlagOp, Flags, NO_FLAGS};
 use delivery_token::{Text, Verdict};
@@ -692,7 +693,7 @@ fn told_by_another<B: Naming, R: Wait>(
     let tally = Tally::new();
     let mut said = Vec::new(alloc);
     let mut store = store_of(rt, &tally, 0, house, &[]);
-    let mut connection = ImapConnection::new(alloc, folders(alloc)?, None)?;
+    let mut connection = ImapConnection::new(alloc, folders(alloc)?, known(None))?;
     let _ = connection.take(alloc, b"a1 SELECT INBOX\r\n", &mut store, &mut said);
     if !takes_more(&connection) {
         return Err(AllocError);

@@ -28,6 +28,11 @@ refused : hears (Some (knowing (Some (unknown ∷ [])))) (Answer (codes "a SELEC
 unfolding read
 refused = refl
 
+-- or that comes before its LOGIN
+too_early : hears (Some (knowing (Some (unknown ∷ [])))) (Answer (codes "a SELECT INBOX") (codes "a BAD Wrong state\r\n")) ≡ None
+unfolding read
+too_early = refl
+
 -- and so where it was told that the mailbox is closed
 closed_first : hears (Some (knowing (Some (unknown ∷ [])))) (Answer (codes "a SELECT x") (codes "* OK [CLOSED] Previous mailbox is closed\r\na NO [NONEXISTENT] No such mailbox\r\n")) ≡ None
 unfolding read

@@ -10,6 +10,10 @@ seventy = codes "* PREAUTH IMAP4rev2 server ready\r\n* FLAGS (\\Answered \\Flagg
 abbrev pub partial : List ℕ
 partial = codes "* PREAUTH IMAP4rev2 server ready\r\n* FLAGS (\\Answered \\Flagged \\Deleted \\Seen \\Draft)\r\n* 1 EXISTS\r\n* OK [UIDVALIDITY 7] UIDs valid\r\n* OK [UIDNEXT 2] Predicted next UID\r\n* OK [PERMANENTFLAGS (\\Answered \\Flagged \\Deleted \\Seen \\Draft)] Flags kept\r\n* LIST () \"/\" INBOX\r\na1 OK [READ-WRITE] SELECT completed\r\n* 1 FETCH (BODY[TEXT]<1> {3}\r\nell FLAGS (\\Seen))\r\na2 OK FETCH completed\r\n* 1 FETCH (RFC822.SIZE 49)\r\na3 OK FETCH completed\r\n* 1 FETCH (BODY[HEADER] {42}\r\nReturn-Path: <s@a.example>\r\nSubject: x\r\n\r\n)\r\na4 OK FETCH completed\r\n"
 
+-- in the compatible profile: a client logs in, selects, and its CHECK shows that one of two messages is gone
+abbrev pub in_the_old_way : List ℕ
+in_the_old_way = codes "* OK [CAPABILITY IMAP4rev2 IMAP4rev1 IDLE NAMESPACE UIDPLUS UNSELECT] IMAP4rev2 server ready\r\na1 OK LOGIN completed\r\n* FLAGS (\\Answered \\Flagged \\Deleted \\Seen \\Draft)\r\n* 2 EXISTS\r\n* OK [UIDVALIDITY 7] UIDs valid\r\n* OK [UIDNEXT 3] Predicted next UID\r\n* OK [PERMANENTFLAGS (\\Answered \\Flagged \\Deleted \\Seen \\Draft)] Flags kept\r\n* LIST () \"/\" INBOX\r\n* 0 RECENT\r\na2 OK [READ-WRITE] SELECT completed\r\n* LSUB () \"/\" INBOX\r\na3 OK LSUB completed\r\n* 1 EXPUNGE\r\na4 OK CHECK completed\r\n"
+
 -- so many messages, whose UIDs follow one another
 abbrev pub deleted_from : ℕ → ℕ → List Known
 deleted_from uid zero = []
@@ -22,3 +26,7 @@ seventy_are_known = refl
 -- texts in literals tell nothing, and \Seen behind one of them is read
 partial_is_known : reads fresh partial ≡ knowing (Some (record { uid = None; flags = Some (codes "\\Seen" ∷ []) } ∷ []))
 partial_is_known = refl
+
+-- what stands there of recent messages tells nothing
+old_way_is_known : reads fresh in_the_old_way ≡ knowing (Some (record { uid = None; flags = None } ∷ []))
+old_way_is_known = refl

@@ -1,3 +1,4 @@
+use Rattle.laws_client.proofs.LoggedIn.{login_comes_first}
 use Rattle.laws_client.proofs.Living.{knows_where_it_is, lives_are_known}
 use Rattle.laws_client.proofs.Selecting.{knowing_is_selected}
 use Rattle.laws_client.proofs.record_laws.lives_are_known.Goals as goal
@@ -10,3 +11,6 @@ returns-clause-knows c = knows_where_it_is
 
 pub returns-clause-selected : goal.returns-clause-selected
 returns-clause-selected c = knowing_is_selected
+
+pub returns-clause-login : goal.returns-clause-login
+returns-clause-login c = login_comes_first

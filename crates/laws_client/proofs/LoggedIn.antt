@@ -1,0 +1,124 @@
+-- A client that is to log in first has no mailbox selected till then.
+use Rattle.std.proofs.Common.{◌≡◌, ℕ, ◌==◌, Bool, true, false, List, [], ◌∷◌, length, refl, sym, subst, ap, ◌∙◌}
+use Rattle.std.specs.Prelude.{Option, Some, None, IfSome, Result, Ok, Err}
+use Rattle.std.proofs.lemmas.Option.{none-some}
+use Rattle.mailbox.specs.declared.clients.MailFault.TheVariants.{Stranger, Lapped}
+use Rattle.world.specs.World.{Config, World}
+use Rattle.delivery_token.specs.declared.Verdict.{Verdict}
+use Rattle.imap_grammar.specs.Reading.{read}
+use Rattle.imap_grammar.specs.Verbs.{verb_of}
+use Rattle.imap_grammar.specs.declared.command.Command.{Command}
+use Rattle.imap_grammar.specs.declared.command.Command.TheVariants as commands
+use Rattle.imap_grammar.specs.declared.command.ImapFault.{ImapFault}
+use Rattle.imap_session.specs.declared.standing.Selected.{Selected}
+use Rattle.imap_session.specs.Exchange.{Answer, Fed, Refused, Appending, ForDone, ForLiteral, ForNothing, ForVerdict, Sent, Standing, Turn, Waiting, is_idling, played, waiting}
+use Rattle.imap_session.specs.Commands.{barred_at, before_login, fault_text, idle_turn_in, logged_in, login_completed, logs_in_as, on_command, on_found, on_idle_line, on_line, on_read, on_rest, on_verdict, says, turn_behind, turn_while, turn_with, without_begun, without_sent}
+use Rattle.imap_session.specs.Texts.{response_text}
+use Rattle.laws_client.specs.Clients.{Told}
+use Rattle.laws_client.specs.Lives.{Lives, comes, turns, others}
+use Rattle.laws_client.specs.Selecting.{HasLoggedIn, LoginComesFirst}
+use Rattle.laws_client.specs.Talks.{Happening, Line, LongLine, Turned, Literal, Heard, leads_to}
+use Rattle.laws_client.proofs.IdleTags.{Keeps, played_keeps}
+use Rattle.laws_client.proofs.Selecting.{StaysIn, fault_sel, idle_selected, in_command, in_found, in_idle_line, in_rest, selected_stays, verdict_sel}
+use Rattle.laws_client.proofs.Submitted.{line_stays}
+use Rattle.laws_client.proofs.Turns.{the_turn}
+
+-- ---- who has logged in
+
+NoLogin : Standing → Type 0
+NoLogin s = s.login ≡ None
+
+waits_on : (tag : List ℕ) (now : Standing) (w : Waiting) → NoLogin now → NoLogin (waiting tag w now)
+unfolding NoLogin
+waits_on tag now ForDone k = k
+waits_on tag now (ForLiteral coming mailbox flags size) k = k
+waits_on tag now (ForVerdict mailbox flags text) k = k
+waits_on tag now ForNothing k = k
+
+keeps : (tag : List ℕ) → Keeps NoLogin tag
+unfolding NoLogin
+keeps tag = record { ends = λ now k. k; enters = λ now selected k. k; waits = waits_on tag }
+
+idle_login : (selected : Option Selected) (idling : Bool) (now : Standing) (answers : List Answer) (turn : Turn) → idle_turn_in selected idling now answers ≡ Some turn → turn.standing.login ≡ now.login
+idle_login (Some selected) true now [] turn e = absurd (none-some turn e)
+idle_login (Some selected) true now (Fed met changes ∷ []) turn e = ap (λ (t : Turn). t.standing.login) (sym (ap (the_turn turn) e))
+idle_login (Some selected) true now (Refused Lapped ∷ []) turn e = ap (λ (t : Turn). t.standing.login) (sym (ap (the_turn turn) e))
+idle_login (Some selected) true now (Refused Stranger ∷ []) turn e = ap (λ (t : Turn). t.standing.login) (sym (ap (the_turn turn) e))
+idle_login (Some selected) true now (_ ∷ more) turn e = absurd (none-some turn e)
+idle_login (Some selected) false now [] turn e = ap (λ (t : Turn). t.standing.login) (sym (ap (the_turn turn) e))
+idle_login (Some selected) false now (a ∷ more) turn e = absurd (none-some turn e)
+idle_login None true now [] turn e = ap (λ (t : Turn). t.standing.login) (sym (ap (the_turn turn) e))
+idle_login None true now (a ∷ more) turn e = absurd (none-some turn e)
+idle_login None false now [] turn e = ap (λ (t : Turn). t.standing.login) (sym (ap (the_turn turn) e))
+idle_login None false now (a ∷ more) turn e = absurd (none-some turn e)
+
+heard_login : (sent : Option Sent) (now : Standing) (verdict : Verdict) (answers : List Answer) (turn : Turn) → now.login ≡ None → turn_with sent now verdict answers ≡ Some turn → turn.standing.login ≡ None
+unfolding NoLogin
+heard_login None now verdict answers turn none e = absurd (none-some turn e)
+heard_login (Some sent) now verdict answers turn none e = played_keeps NoLogin sent.tag (keeps sent.tag) (without_sent now) (on_verdict now.selected sent.append.mailbox verdict) answers turn none e
+
+none_asked : (now : Standing) (happening : Happening) (turn : Turn) → now.login ≡ None → leads_to now happening ≡ Some turn → turn.standing.login ≡ None
+unfolding NoLogin
+none_asked now (Line line answers) turn none e = line_stays NoLogin keeps now line answers turn none refl none none e
+none_asked now LongLine turn none e = ap (λ (t : Turn). t.standing.login) (sym (ap (the_turn turn) e)) ∙ none
+none_asked now (Turned answers) turn none e = idle_login now.selected (is_idling now) now answers turn e ∙ none
+none_asked now (Literal kept bytes) turn none e = ap (λ (t : Turn). t.standing.login) (sym (ap (the_turn turn) e)) ∙ none
+none_asked now (Heard verdict answers) turn none e = heard_login now.mailing.sent now verdict answers turn none e
+
+-- ---- who is still to log in
+
+-- what it may ask enters no mailbox
+early_stays : (now : Standing) (command : Command) → StaysIn (on_found (λ text. says (response_text text)) (on_command now command) (before_login (verb_of command)))
+early_stays now (commands.Select name) = tt
+early_stays now (commands.Examine name) = tt
+early_stays now commands.Close = tt
+early_stays now commands.Unselect = tt
+early_stays now command = in_found (λ text. says (response_text text)) (on_command now command) (before_login (verb_of command)) (λ text. tt) (in_command now command refl)
+
+line_early : (now : Standing) (tag user : List ℕ) (command : Command) (answers : List Answer) (turn : Turn) → now.login ≡ Some user → on_line (logs_in_as now.login command) now tag command answers ≡ Some turn → turn.standing.selected ≡ now.selected
+line_early now tag user command answers turn early e = by (logs_in_as now.login command) e
+  where
+    by : (b : Bool) → on_line b now tag command answers ≡ Some turn → turn.standing.selected ≡ now.selected
+    by true d = selected_stays tag (logged_in now) login_completed answers turn tt d
+    by false d = selected_stays tag now (on_found (λ text. says (response_text text)) (on_command now command) (before_login (verb_of command))) answers turn (early_stays now command)
+        (subst (λ (login : Option (List ℕ)). played tag now (on_found (λ text. says (response_text text)) (on_command now command) (barred_at login now.profile command)) answers ≡ Some turn) early d)
+
+read_early : (now : Standing) (user : List ℕ) (r : Result (List ℕ × Command) ImapFault) (answers : List Answer) (turn : Turn) → now.login ≡ Some user → on_read now r answers ≡ Some turn → turn.standing.selected ≡ now.selected
+read_early now user (Ok line) answers turn early e = line_early now line.0 user line.1 answers turn early e
+read_early now user (Err fault) answers turn early e = fault_sel now (fault_text now.profile fault) answers turn e
+
+while_early : (idling : Option (List ℕ)) (now : Standing) (user line : List ℕ) (answers : List Answer) (turn : Turn) → now.login ≡ Some user → turn_while idling now line answers ≡ Some turn → turn.standing.selected ≡ now.selected
+while_early None now user line answers turn early e = read_early now user (read line) answers turn early e
+while_early (Some tag) now user line answers turn early e = selected_stays tag (record now { idling = None }) (on_idle_line now.selected line) answers turn (in_idle_line now.selected line) e
+
+behind_early : (begun : Option Appending) (now : Standing) (user line : List ℕ) (answers : List Answer) (turn : Turn) → now.login ≡ Some user → turn_behind begun now line answers ≡ Some turn → turn.standing.selected ≡ now.selected
+behind_early None now user line answers turn early e = while_early now.idling now user line answers turn early e
+behind_early (Some a) now user line answers turn early e = selected_stays a.tag (without_begun now) (on_rest now.mailing a (length line == 0)) answers turn (in_rest now.mailing a (length line == 0)) e
+
+happens_early : (now : Standing) (user : List ℕ) (happening : Happening) (turn : Turn) → now.login ≡ Some user → leads_to now happening ≡ Some turn → turn.standing.selected ≡ now.selected
+happens_early now user (Line line answers) turn early e = behind_early now.mailing.begun now user line answers turn early e
+happens_early now user LongLine turn early e = ap (λ (t : Turn). t.standing.selected) (sym (ap (the_turn turn) e))
+happens_early now user (Turned answers) turn early e = idle_selected now.selected (is_idling now) now answers turn e
+happens_early now user (Literal kept bytes) turn early e = ap (λ (t : Turn). t.standing.selected) (sym (ap (the_turn turn) e))
+happens_early now user (Heard verdict answers) turn early e = verdict_sel now.mailing.sent now verdict answers turn e
+
+-- ---- a turn, and a whole life
+
+none_selected : (login : Option (List ℕ)) (selected : Option Selected) → selected ≡ None → IfSome login (λ user. selected ≡ None)
+none_selected None selected e = tt
+none_selected (Some user) selected e = e
+
+turn_logged_in : (now : Standing) (happening : Happening) (turn : Turn) → HasLoggedIn now → leads_to now happening ≡ Some turn → HasLoggedIn turn.standing
+turn_logged_in now happening turn h e = by now.login refl h
+  where
+    by : (login : Option (List ℕ)) → now.login ≡ login → IfSome login (λ user. now.selected ≡ None) → HasLoggedIn turn.standing
+    by None none h = subst (λ (login : Option (List ℕ)). IfSome login (λ user. turn.standing.selected ≡ None)) (sym (none_asked now happening turn none e)) tt
+    by (Some user) early h = none_selected turn.standing.login turn.standing.selected (happens_early now user happening turn early e ∙ h)
+
+lives_logged_in : (k : Config) (n : ℕ) (first : Standing) (began : World) {sent : List ℕ} {told : List Told} {now : Standing} {w : World} → HasLoggedIn first → Lives k n first began sent told now w → HasLoggedIn now
+lives_logged_in k n first began h comes = h
+lives_logged_in k n first began h (turns {now = now} lives happening bytes turn v sent printed e met) = turn_logged_in now happening turn (lives_logged_in k n first began h lives) e
+lives_logged_in k n first began h (others lives event v o step) = lives_logged_in k n first began h lives
+
+pub login_comes_first : LoginComesFirst
+login_comes_first k n admission folders began sent told now w lives = lives_logged_in k n _ began (none_selected admission.login None refl) lives
