@@ -161,8 +161,8 @@ fn open_visit<'a, B: Naming, R: Wait, W: Sink + Drop>(
     let Ok(folders) = folders_of(floor.alloc, directory, user) else {
         return None;
     };
-    let most = Some(most_of(floor.office.max_message));
-    let Ok(admission) = admission_of(floor.alloc, gateway.compatible, most, user) else {
+    let limit = most_of(floor.office.max_message);
+    let Ok(admission) = admission_of(floor.alloc, gateway.compatible, Some(limit), user) else {
         return None;
     };
     let store = LockedStore::new(

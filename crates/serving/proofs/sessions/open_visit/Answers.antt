@@ -1,4 +1,5 @@
 use Rattle.std.proofs.Common.{rules}
+use Rattle.house_floor.specs.Left.{most_of}
 use Rattle.house_floor.proofs.Finding.{user_named}
 use Rattle.serving.proofs.Visits.{greeted_as}
 use Rattle.serving.proofs.sessions.open_visit.Goals as goal
@@ -11,5 +12,6 @@ returns g c =
     record {
       name = name;
       named = user_named homes c.in_ok-inbox.inbox c.args.gateway.user name (search rules) (search rules) (search rules);
-      greeted = greeted_as _ _ _ _ _ _ _ _ (search rules) (search rules) (search rules) c.in-Ok-open.ensures.ok;
+      greeted = greeted_as c.args.gateway.compatible name c.in-Ok-admission_of.admission c.most_of-limit.result (most_of floor.office.max_message) _ _ _ _ _ _
+          c.in-Ok-admission_of.ensures.is c.most_of-limit.ensures (search rules) (search rules) c.in-Ok-open.ensures.ok;
     }
