@@ -10,7 +10,7 @@ use crate::wires::{Marks, Tally, Wire, wait_until};
 use change_ring::NO_FLAGS;
 use delivery_token::{Text, Verdict};
 use house_history::{Naming, Opened};
-use imap_session::{Admission, After, Folder, Profile, admission_of};
+use imap_session::{Admission, After, Folder, Profile};
 use imap_stream::{Berth, Visit, VisitFault};
 use line_io::Watched;
 use mailbox::Limits;
@@ -656,7 +656,6 @@ fn greeted<B: Naming, R: Wait>(
     rt: &R,
     alloc: Global,
     history: Opened,
-    admission: Admission,
     told: &mut Vec<u8>,
 ) -> Result<bool, AllocError>
     requires { history ≡ B.book }
@@ -679,24 +678,10 @@ fn greeted<B: Naming, R: Wait>(
 fn a_client_is_greeted(rt: HostRuntime) -> Result<(), AllocError> {
     let mut told = Vec::new(rt.alloc());
     let (alloc, history) = (rt.alloc(), Opened::new());
-    assert!(rt; greeted::<Brand, HostRuntime>(&rt, alloc, history, known(None), &mut told)?);
+    assert!(rt; greeted::<Brand, HostRuntime>(&rt, alloc, history, &mut told)?);
     assert_eq!(rt;
         told.as_slice(),
         b"* PREAUTH IMAP4rev2 server ready\r\n".as_slice()
-    );
-    Ok(())
-}
-
-// One of the compatible profile is told what it may ask for, and that it isn't known.
-#[test]
-fn a_client_that_logs_in_is_greeted(rt: HostRuntime) -> Result<(), AllocError> {
-    let mut told = Vec::new(rt.alloc());
-    let (alloc, history) = (rt.alloc(), Opened::new());
-    let admission = admission_of(alloc, true, None, b"alice")?;
-    assert!(rt; greeted::<Brand, HostRuntime>(&rt, alloc, history, admission, &mut told)?);
-    assert_eq!(rt;
-        told.as_slice(),
-        b"* OK [CAPABILITY IMAP4rev2 IMAP4rev1 IDLE NAMESPACE UIDPLUS UNSELECT] IMAP4rev2 server ready\r\n".as_slice()
     );
     Ok(())
 }
