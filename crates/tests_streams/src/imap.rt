@@ -668,7 +668,7 @@ fn greeted<B: Naming, R: Wait>(
         alloc,
         store,
         folders(alloc)?,
-        admission,
+        known(None),
         Watched::new(told),
     );
     Ok(visit.is_ok())
