@@ -14,7 +14,7 @@ import sys
 
 from serving_house import House
 
-USERS, FOLDER = ("alice", "bob"), "alice/Work"
+USERS = ("alice", "bob")
 CAPABILITIES = ("IMAP4REV2", "IMAP4REV1", "IDLE", "NAMESPACE", "UIDPLUS", "UNSELECT")
 PATIENCE = 20
 
@@ -59,15 +59,16 @@ def before_login(house):
 
 
 def folders(client):
-    expect("LSUB", client.lsub(), ("OK", [b'() "/" INBOX', b'() "/" Work']))
-    expect("SUBSCRIBE", client.subscribe("Work")[0], "OK")
+    expect("LSUB", client.lsub(), ("OK", [b'() "/" INBOX']))
+    expect("SUBSCRIBE", client.subscribe("inbox")[0], "OK")
     expect("SUBSCRIBE of none", client.subscribe("Play")[0], "NO")
-    expect("UNSUBSCRIBE", client.unsubscribe("Work")[0], "OK")
+    expect("UNSUBSCRIBE", client.unsubscribe("INBOX")[0], "OK")
     expect("STATUS", client.status("INBOX", "(MESSAGES RECENT UNSEEN)"), ("OK", [b"INBOX (MESSAGES 1 RECENT 0 UNSEEN 1)"]))
 
 
 def reading(client, house):
     expect("SELECT", client.select("INBOX"), ("OK", [b"1"]))
+    expect("EXISTS", client.response("EXISTS"), ("EXISTS", [b"1"]))
     expect("RECENT", client.response("RECENT"), ("RECENT", [b"0"]))
     text = client.fetch("1", "(BODY[])")[1][0][1]
     expect("the message", text, b"Return-Path: <s@a.example>\r\nSubject: one\r\n\r\nhi\r\n")
@@ -76,8 +77,8 @@ def reading(client, house):
     expect("what CHECK showed", client.response("EXISTS"), ("EXISTS", [b"2"]))
     expect("a flag", client.store("1", "+FLAGS", r"(\Deleted)")[0], "OK")
     expect("EXPUNGE", client.expunge(), ("OK", [b"1"]))
-    expect("APPEND", client.append("Work", r"(\Seen)", None, b"Subject: three\r\n\r\nhi\r\n")[0], "OK")
-    expect("the folder", client.status("Work", "(MESSAGES UNSEEN)"), ("OK", [b"Work (MESSAGES 1 UNSEEN 0)"]))
+    expect("APPEND", client.append("INBOX", r"(\Seen)", None, b"Subject: three\r\n\r\nhi\r\n")[0], "OK")
+    expect("what is there", client.status("INBOX", "(MESSAGES UNSEEN)"), ("OK", [b"INBOX (MESSAGES 2 UNSEEN 1)"]))
 
 
 def idling(client, house):
@@ -85,14 +86,14 @@ def idling(client, house):
     client.send(b"i1 IDLE\r\n")
     expect("IDLE", client.readline(), b"+ idling\r\n")
     deliver(house, ("Subject: four", "", "hi"), "alice")
-    expect("what came meanwhile", client.readline(), b"* 2 EXISTS\r\n")
+    expect("what came meanwhile", client.readline(), b"* 3 EXISTS\r\n")
     client.send(b"DONE\r\n")
     expect("the end of IDLE", client.readline(), b"i1 OK IDLE completed\r\n")
 
 
 def main():
     program = sys.argv[1]
-    house = House(program, USERS, ("--uidvalidity", "7", "--compatible", FOLDER))
+    house = House(program, USERS, ("--uidvalidity", "7", "--compatible"))
     deliver(house, ("Subject: one", "", "hi"), "alice", "bob")
     client = before_login(house)
     folders(client)
