@@ -22,6 +22,7 @@ setup = record {
   directory = home;
   host = codes "mx.example.org";
   max_message = 1000;
+  compatible = false;
 }
 
 -- ---- a record
