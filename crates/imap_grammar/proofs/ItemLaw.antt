@@ -14,7 +14,7 @@ use Rattle.imap_grammar.specs.Bytes.{is_digit}
 use Rattle.imap_grammar.specs.Cuts.{cut_at}
 use Rattle.imap_grammar.specs.Numbers.{number_up_to}
 use Rattle.imap_grammar.specs.Items.{section_of, greatest_span, span_between, span_of, partial_of, body_of, body_or_peek, fetch_item_of, status_item_of}
-use Rattle.imap_grammar.specs.Grammar.{section_word, Number63, PartialIs, ItemIs, status_word, StatusItemIs}
+use Rattle.imap_grammar.specs.Grammar.{rfc822_word, section_word, Number63, PartialIs, ItemIs, status_word, StatusItemIs}
 use Rattle.imap_grammar.specs.declared.items.Section.{Section}
 use Rattle.imap_grammar.specs.declared.items.Section.TheVariants.{Whole, Header, Text}
 use Rattle.imap_grammar.specs.declared.items.Span.{Span}
@@ -231,7 +231,11 @@ item_lowered : Option FetchItem → List ℕ → Option FetchItem
 item_lowered other low =
     cond (bytes_eq low (map to_ascii_lowercase (codes "UID"))) (Some fetch.Uid)
     (cond (bytes_eq low (map to_ascii_lowercase (codes "FLAGS"))) (Some fetch.Flags)
-    (cond (bytes_eq low (map to_ascii_lowercase (codes "RFC822.SIZE"))) (Some fetch.Size) other))
+    (cond (bytes_eq low (map to_ascii_lowercase (codes "RFC822.SIZE"))) (Some fetch.Size)
+    (cond (bytes_eq low (map to_ascii_lowercase (codes "INTERNALDATE"))) (Some fetch.InternalDate)
+    (cond (bytes_eq low (map to_ascii_lowercase (codes "RFC822"))) (Some (fetch.Rfc822 Whole))
+    (cond (bytes_eq low (map to_ascii_lowercase (codes "RFC822.HEADER"))) (Some (fetch.Rfc822 Header))
+    (cond (bytes_eq low (map to_ascii_lowercase (codes "RFC822.TEXT"))) (Some (fetch.Rfc822 Text)) other))))))
 
 body_made : Bool → Section → Option Span → Option FetchItem
 body_made peek section part = Some (fetch.Body peek section part)
@@ -295,6 +299,10 @@ unfolding item_lowered
 item_again fetch.Uid w h = ap (item_lowered (body_or_peek (past_keyword (codes "BODY[") w) (past_keyword (codes "BODY.PEEK[") w))) h
 item_again fetch.Flags w h = ap (item_lowered (body_or_peek (past_keyword (codes "BODY[") w) (past_keyword (codes "BODY.PEEK[") w))) h
 item_again fetch.Size w h = ap (item_lowered (body_or_peek (past_keyword (codes "BODY[") w) (past_keyword (codes "BODY.PEEK[") w))) h
+item_again fetch.InternalDate w h = ap (item_lowered (body_or_peek (past_keyword (codes "BODY[") w) (past_keyword (codes "BODY.PEEK[") w))) h
+item_again (fetch.Rfc822 Whole) w h = ap (item_lowered (body_or_peek (past_keyword (codes "BODY[") w) (past_keyword (codes "BODY.PEEK[") w))) h
+item_again (fetch.Rfc822 Header) w h = ap (item_lowered (body_or_peek (past_keyword (codes "BODY[") w) (past_keyword (codes "BODY.PEEK[") w))) h
+item_again (fetch.Rfc822 Text) w h = ap (item_lowered (body_or_peek (past_keyword (codes "BODY[") w) (past_keyword (codes "BODY.PEEK[") w))) h
 item_again (fetch.Body true section part) w h = body_item true section part w h
 item_again (fetch.Body false section part) w h = body_item false section part w h
 
@@ -336,21 +344,22 @@ body_sound w x None (Some rest) e f h =
     subst (λ y. ItemIs y w) k.2 k.3
 body_sound w x None None e f h = absurd cc
 
+-- the first word of a list that a text is
+item_step : (t : Bool) (word : List ℕ) (y x : FetchItem) (w : List ℕ) (other : Option FetchItem) → is_same w word ≡ t → cond t (Some y) other ≡ Some x
+    → (Keyword word w → ItemIs y w) → (other ≡ Some x → ItemIs x w) → ItemIs x w
+item_step true word y x w other e h here next = let is : y ≡ x = cc in subst (λ z. ItemIs z w) is (here (same_sound word w e))
+item_step false word y x w other e h here next = next h
+
 pub item_sound : (x : FetchItem) (w : List ℕ) → fetch_item_of w ≡ Some x → ItemIs x w
 item_sound x w e =
-    let body : Option FetchItem = body_or_peek (past_keyword (codes "BODY[") w) (past_keyword (codes "BODY.PEEK[") w) in
-    let size : Option FetchItem = cond (is_same w (codes "RFC822.SIZE")) (Some fetch.Size) body in
-    let flags : Option FetchItem = cond (is_same w (codes "FLAGS")) (Some fetch.Flags) size in
-    elim (either (is_same w (codes "UID")) (Some fetch.Uid) flags (Some x) e) [
-      | inl q ↦ let is : fetch.Uid ≡ x = cc in subst (λ y. ItemIs y w) is (same_sound (codes "UID") w q.0)
-      | inr q ↦ elim (either (is_same w (codes "FLAGS")) (Some fetch.Flags) size (Some x) q.1) [
-        | inl r ↦ let is : fetch.Flags ≡ x = cc in subst (λ y. ItemIs y w) is (same_sound (codes "FLAGS") w r.0)
-        | inr r ↦ elim (either (is_same w (codes "RFC822.SIZE")) (Some fetch.Size) body (Some x) r.1) [
-          | inl s ↦ let is : fetch.Size ≡ x = cc in subst (λ y. ItemIs y w) is (same_sound (codes "RFC822.SIZE") w s.0)
-          | inr s ↦ body_sound w x (past_keyword (codes "BODY[") w) (past_keyword (codes "BODY.PEEK[") w) refl refl s.1
-        ]
-      ]
-    ]
+    item_step (is_same w (codes "UID")) (codes "UID") fetch.Uid x w _ refl e (λ k. k)
+    (λ e. item_step (is_same w (codes "FLAGS")) (codes "FLAGS") fetch.Flags x w _ refl e (λ k. k)
+    (λ e. item_step (is_same w (codes "RFC822.SIZE")) (codes "RFC822.SIZE") fetch.Size x w _ refl e (λ k. k)
+    (λ e. item_step (is_same w (codes "INTERNALDATE")) (codes "INTERNALDATE") fetch.InternalDate x w _ refl e (λ k. k)
+    (λ e. item_step (is_same w (codes "RFC822")) (codes "RFC822") (fetch.Rfc822 Whole) x w _ refl e (λ k. k)
+    (λ e. item_step (is_same w (codes "RFC822.HEADER")) (codes "RFC822.HEADER") (fetch.Rfc822 Header) x w _ refl e (λ k. k)
+    (λ e. item_step (is_same w (codes "RFC822.TEXT")) (codes "RFC822.TEXT") (fetch.Rfc822 Text) x w _ refl e (λ k. k)
+    (λ e. body_sound w x (past_keyword (codes "BODY[") w) (past_keyword (codes "BODY.PEEK[") w) refl refl e)))))))
 
 -- neither spaces nor parentheses stand in an item
 abbrev IsOut : ℕ → Type 0
@@ -360,6 +369,9 @@ record CleanWords (c : ℕ) : Type 0 where
   uid : Many (is_other c) (map to_ascii_lowercase (codes "UID"))
   flags : Many (is_other c) (map to_ascii_lowercase (codes "FLAGS"))
   size : Many (is_other c) (map to_ascii_lowercase (codes "RFC822.SIZE"))
+  date : Many (is_other c) (map to_ascii_lowercase (codes "INTERNALDATE"))
+  fast : Many (is_other c) (map to_ascii_lowercase (codes "FAST"))
+  part : (which : Section) → Many (is_other c) (map to_ascii_lowercase (rfc822_word which))
   body : Many (is_other c) (map to_ascii_lowercase (codes "BODY["))
   peek : Many (is_other c) (map to_ascii_lowercase (codes "BODY.PEEK["))
   header : Many (is_other c) (map to_ascii_lowercase (codes "HEADER"))
@@ -380,25 +392,43 @@ item_clean : (c : ℕ) → IsOut c → CleanWords c → (x : FetchItem) (w : Lis
 item_clean c o k fetch.Uid w h = word_clean c o.0 w _ h k.uid
 item_clean c o k fetch.Flags w h = word_clean c o.0 w _ h k.flags
 item_clean c o k fetch.Size w h = word_clean c o.0 w _ h k.size
+item_clean c o k fetch.InternalDate w h = word_clean c o.0 w _ h k.date
+item_clean c o k (fetch.Rfc822 which) w h = word_clean c o.0 w _ h (k.part which)
 item_clean c o k (fetch.Body true section part) w h = body_clean c o k true section part w k.peek h
 item_clean c o k (fetch.Body false section part) w h = body_clean c o k false section part w k.body h
+
+part_spaces : (which : Section) → Many (is_other 32) (map to_ascii_lowercase (rfc822_word which))
+part_spaces Whole = (refl, (refl, (refl, (refl, (refl, (refl, tt))))))
+part_spaces Header = (refl, (refl, (refl, (refl, (refl, (refl, (refl, (refl, (refl, (refl, (refl, (refl, (refl, tt)))))))))))))
+part_spaces Text = (refl, (refl, (refl, (refl, (refl, (refl, (refl, (refl, (refl, (refl, (refl, tt)))))))))))
 
 spaces_out : CleanWords 32
 spaces_out = record {
   uid = (refl, (refl, (refl, tt)));
   flags = (refl, (refl, (refl, (refl, (refl, tt)))));
   size = (refl, (refl, (refl, (refl, (refl, (refl, (refl, (refl, (refl, (refl, (refl, tt)))))))))));
+  date = (refl, (refl, (refl, (refl, (refl, (refl, (refl, (refl, (refl, (refl, (refl, (refl, tt))))))))))));
+  fast = (refl, (refl, (refl, (refl, tt))));
+  part = part_spaces;
   body = (refl, (refl, (refl, (refl, (refl, tt)))));
   peek = (refl, (refl, (refl, (refl, (refl, (refl, (refl, (refl, (refl, (refl, tt))))))))));
   header = (refl, (refl, (refl, (refl, (refl, (refl, tt))))));
   text = (refl, (refl, (refl, (refl, tt))));
 }
 
+part_closes : (which : Section) → Many (is_other 41) (map to_ascii_lowercase (rfc822_word which))
+part_closes Whole = (refl, (refl, (refl, (refl, (refl, (refl, tt))))))
+part_closes Header = (refl, (refl, (refl, (refl, (refl, (refl, (refl, (refl, (refl, (refl, (refl, (refl, (refl, tt)))))))))))))
+part_closes Text = (refl, (refl, (refl, (refl, (refl, (refl, (refl, (refl, (refl, (refl, (refl, tt)))))))))))
+
 closes_out : CleanWords 41
 closes_out = record {
   uid = (refl, (refl, (refl, tt)));
   flags = (refl, (refl, (refl, (refl, (refl, tt)))));
   size = (refl, (refl, (refl, (refl, (refl, (refl, (refl, (refl, (refl, (refl, (refl, tt)))))))))));
+  date = (refl, (refl, (refl, (refl, (refl, (refl, (refl, (refl, (refl, (refl, (refl, (refl, tt))))))))))));
+  fast = (refl, (refl, (refl, (refl, tt))));
+  part = part_closes;
   body = (refl, (refl, (refl, (refl, (refl, tt)))));
   peek = (refl, (refl, (refl, (refl, (refl, (refl, (refl, (refl, (refl, (refl, tt))))))))));
   header = (refl, (refl, (refl, (refl, (refl, (refl, tt))))));
@@ -409,6 +439,10 @@ item_some : (x : FetchItem) (w : List ℕ) → ItemIs x w → 0 < length w
 item_some fetch.Uid w h = let n = word_length (codes "UID") w h in omega (arith, n)
 item_some fetch.Flags w h = let n = word_length (codes "FLAGS") w h in omega (arith, n)
 item_some fetch.Size w h = let n = word_length (codes "RFC822.SIZE") w h in omega (arith, n)
+item_some fetch.InternalDate w h = let n = word_length (codes "INTERNALDATE") w h in omega (arith, n)
+item_some (fetch.Rfc822 Whole) w h = let n = word_length (codes "RFC822") w h in omega (arith, n)
+item_some (fetch.Rfc822 Header) w h = let n = word_length (codes "RFC822.HEADER") w h in omega (arith, n)
+item_some (fetch.Rfc822 Text) w h = let n = word_length (codes "RFC822.TEXT") w h in omega (arith, n)
 item_some (fetch.Body true section part) w h =
     let n = word_length (codes "BODY.PEEK[") h.front h.first in
     omega (arith, n, ap length h.parts, length-append h.front h.back)
@@ -501,11 +535,19 @@ status_bare x w h = (let n = word_length (status_word x) w h in omega (arith, n,
 pub status_open : (x : StatusItem) (w : List ℕ) → StatusItemIs x w → Many (is_other 41) w
 status_open x w h = status_clean 41 refl status_closes x w h
 
+part_opens : (which : Section) → Many (is_other 40) (map to_ascii_lowercase (rfc822_word which))
+part_opens Whole = (refl, (refl, (refl, (refl, (refl, (refl, tt))))))
+part_opens Header = (refl, (refl, (refl, (refl, (refl, (refl, (refl, (refl, (refl, (refl, (refl, (refl, (refl, tt)))))))))))))
+part_opens Text = (refl, (refl, (refl, (refl, (refl, (refl, (refl, (refl, (refl, (refl, (refl, tt)))))))))))
+
 opens_out : CleanWords 40
 opens_out = record {
   uid = (refl, (refl, (refl, tt)));
   flags = (refl, (refl, (refl, (refl, (refl, tt)))));
   size = (refl, (refl, (refl, (refl, (refl, (refl, (refl, (refl, (refl, (refl, (refl, tt)))))))))));
+  date = (refl, (refl, (refl, (refl, (refl, (refl, (refl, (refl, (refl, (refl, (refl, (refl, tt))))))))))));
+  fast = (refl, (refl, (refl, (refl, tt))));
+  part = part_opens;
   body = (refl, (refl, (refl, (refl, (refl, tt)))));
   peek = (refl, (refl, (refl, (refl, (refl, (refl, (refl, (refl, (refl, (refl, tt))))))))));
   header = (refl, (refl, (refl, (refl, (refl, (refl, tt))))));
@@ -514,3 +556,37 @@ opens_out = record {
 
 pub item_alone : (x : FetchItem) (w : List ℕ) → ItemIs x w → Many (is_other 40) w
 item_alone x w h = item_clean 40 (refl, refl, (refl, refl, refl, refl)) opens_out x w h
+
+-- ---- FAST
+
+-- no item has as many bytes as FAST
+item_length : (x : FetchItem) (w : List ℕ) → ItemIs x w → length w ≡ 4 → ⊥
+item_length fetch.Uid w h e = let n = word_length (codes "UID") w h in omega (arith, n, e)
+item_length fetch.Flags w h e = let n = word_length (codes "FLAGS") w h in omega (arith, n, e)
+item_length fetch.Size w h e = let n = word_length (codes "RFC822.SIZE") w h in omega (arith, n, e)
+item_length fetch.InternalDate w h e = let n = word_length (codes "INTERNALDATE") w h in omega (arith, n, e)
+item_length (fetch.Rfc822 Whole) w h e = let n = word_length (codes "RFC822") w h in omega (arith, n, e)
+item_length (fetch.Rfc822 Header) w h e = let n = word_length (codes "RFC822.HEADER") w h in omega (arith, n, e)
+item_length (fetch.Rfc822 Text) w h e = let n = word_length (codes "RFC822.TEXT") w h in omega (arith, n, e)
+item_length (fetch.Body true section part) w h e =
+    let n = word_length (codes "BODY.PEEK[") h.front h.first in
+    omega (arith, n, e, ap length h.parts, length-append h.front h.back)
+item_length (fetch.Body false section part) w h e =
+    let n = word_length (codes "BODY[") h.front h.first in
+    omega (arith, n, e, ap length h.parts, length-append h.front h.back)
+
+other_length : (t : Bool) (w : List ℕ) → is_same w (codes "FAST") ≡ t → (length w ≡ 4 → ⊥) → t ≡ false
+other_length true w e h = absurd (h (word_length (codes "FAST") w (same_sound (codes "FAST") w e)))
+other_length false w e h = refl
+
+pub item_not_fast : (x : FetchItem) (w : List ℕ) → ItemIs x w → is_same w (codes "FAST") ≡ false
+item_not_fast x w h = other_length (is_same w (codes "FAST")) w refl (item_length x w h)
+
+pub is_fast : (w : List ℕ) → Keyword (codes "FAST") w → is_same w (codes "FAST") ≡ true
+is_fast w h = ap (λ (l : List ℕ). bytes_eq l (map to_ascii_lowercase (codes "FAST"))) h
+
+pub fast_bare : (w : List ℕ) → Keyword (codes "FAST") w → Some1 is_not_space w
+fast_bare w h = (let n = word_length (codes "FAST") w h in omega (arith, n), word_clean 32 refl w _ h spaces_out.fast)
+
+pub fast_alone : (w : List ℕ) → Keyword (codes "FAST") w → Many (is_other 40) w
+fast_alone w h = word_clean 40 refl w _ h opens_out.fast

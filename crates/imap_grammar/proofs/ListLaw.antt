@@ -1,7 +1,8 @@
 -- Lists of items and of flags, in parentheses and without: what is spelled is read, and what is read is spelled.
 use Rattle.std.proofs.Common.{◌≡◌, ℕ, ◌<◌, Bool, true, false, cond, List, [], ◌∷◌, ◌++◌, length, drop, refl, ap, sym, subst, ◌∙◌, arith, append_assoc, inl, inr}
-use Rattle.std.specs.Prelude.{Option, Some, None, is_some, ◌==◌, ◌&&◌, ◌||◌, not}
+use Rattle.std.specs.Prelude.{Option, Some, None, codes, is_some, ◌==◌, ◌&&◌, ◌||◌, not}
 use Rattle.std.specs.List.{list_all, filter_map, cons_option}
+use Rattle.std.specs.Str.{str_eq_ignore_ascii_case as is_same}
 use Rattle.std.proofs.lemmas.Bool.Decides.{Decides-eqb}
 use Rattle.change_ring.specs.declared.change.Flags.{Flags}
 use Rattle.envelope.proofs.Case.{decides_false}
@@ -10,19 +11,20 @@ use Rattle.envelope.proofs.Tails.{each_of}
 use Rattle.envelope.proofs.Tokens.{Stops}
 use Rattle.envelope.proofs.Words.{both_true, all_of, append_none, is_both}
 use Rattle.envelope.specs.Bytes.{is_space, is_not_space}
-use Rattle.envelope.specs.Grammar.{Many, Some1, Spaces, Gap, Joined}
+use Rattle.envelope.specs.Grammar.{Keyword, Many, Some1, Spaces, Gap, Joined}
 use Rattle.envelope.specs.Reading.{◌>>=◌, first_is, words, past_byte}
 use Rattle.imap_grammar.specs.Bytes.{is_atom}
-use Rattle.imap_grammar.specs.Items.{fetch_item_of, fetch_items_of, is_word_of, is_flag_after, is_flag, flags_among}
+use Rattle.imap_grammar.specs.Items.{fast_items, fetch_item_of, fetch_items_of, is_word_of, is_flag_after, is_flag, flags_among}
 use Rattle.imap_grammar.specs.Grammar.{Others, Separated, Parenthesized, ItemIs, ItemsAre, Flag, FlagWord, FlagWords, FlagsAre}
-use Rattle.imap_grammar.specs.Reading.{word_at, is_blank, is_tight, in_parentheses, are_items, fetch_items_in, fetch_items_at, flags_in, flags_at}
+use Rattle.imap_grammar.specs.Reading.{word_at, is_blank, is_tight, in_parentheses, are_items, fetch_items_in, fetch_word_in, fetch_items_at, flags_in, flags_at}
 use Rattle.imap_grammar.specs.declared.items.FetchItem.{FetchItem}
 use Rattle.imap_grammar.proofs.Cuts.{is_other}
 use Rattle.imap_grammar.proofs.Tokens.{starts, excludes, many_map, many_joined, blank_first, word_again, word_parts, not_true}
 use Rattle.imap_grammar.proofs.Separated.{AllRead, FoundWords, words_again, words_sound, said}
 use Rattle.imap_grammar.proofs.Parens.{separated_tight, separated_starts, tight_stops, tight_end, blank_again, blank_sound, paren_again, paren_sound}
 use Rattle.imap_grammar.proofs.WordLaws.{word_alone}
-use Rattle.imap_grammar.proofs.ItemLaw.{item_again, item_sound, item_bare, item_open, item_alone}
+use Rattle.imap_grammar.proofs.Keywords.{same_sound}
+use Rattle.imap_grammar.proofs.ItemLaw.{item_again, item_sound, item_bare, item_open, item_alone, item_not_fast, is_fast, fast_bare, fast_alone}
 
 -- ---- bytes of lists
 
@@ -119,28 +121,38 @@ first_other c [] rest h m = absurd (omega (arith, h))
 first_other c (x ∷ xs) rest h m = not_true (x == c) m.0
 
 abbrev items_bare : List ℕ → Option (List FetchItem)
-items_bare bytes = cond (is_blank (word_at bytes).1) (fetch_items_in (word_at bytes).0) None
+items_bare bytes = cond (is_blank (word_at bytes).1) (fetch_word_in (word_at bytes).0) None
+
+-- a word alone, and what it says
+alone_again : (items : List FetchItem) (text sp : List ℕ) → Some1 is_not_space text → Many (is_other 40) text → Spaces sp → fetch_word_in text ≡ Some items
+    → fetch_items_at (text ++ sp) ≡ Some items
+alone_again items text sp w out s e =
+    ap (λ (t : Bool). cond t (in_parentheses (text ++ sp) >>= fetch_items_in) (items_bare (text ++ sp))) (first_other 40 text sp w.0 out)
+    ∙ ap (λ (c : List ℕ × List ℕ). cond (is_blank c.1) (fetch_word_in c.0) None) (word_again text sp w.1 (blank_first sp s))
+    ∙ ap (λ (t : Bool). cond t (fetch_word_in text) None) (blank_again sp s)
+    ∙ e
 
 pub items_again : (items : List FetchItem) (text sp : List ℕ) → ItemsAre items text → Spaces sp → fetch_items_at (text ++ sp) ≡ Some items
 items_again items text sp (inl h) s =
     let w = item_bare h.0 text h.2 in
-    let pair : List ℕ × List ℕ = (text, sp) in
     let all : AllRead fetch_item_of (words text) (h.0 ∷ []) = subst (λ l. AllRead fetch_item_of l (h.0 ∷ [])) (sym (word_alone text w))
     (record { all = ap (λ o. is_some o && true) (item_again h.0 text h.2); are = ap (λ o. cons_option o []) (item_again h.0 text h.2) }) in
-    ap (λ (t : Bool). cond t (in_parentheses (text ++ sp) >>= fetch_items_in) (items_bare (text ++ sp))) (first_other 40 text sp w.0 (item_alone h.0 text h.2))
-    ∙ ap (λ (c : List ℕ × List ℕ). cond (is_blank c.1) (fetch_items_in c.0) None) (word_again text sp w.1 (blank_first sp s))
-    ∙ ap (λ (t : Bool). cond t (fetch_items_in text) None) (blank_again sp s)
+    alone_again items text sp w (item_alone h.0 text h.2) s
+    (ap (λ (t : Bool). cond t (Some fast_items) (fetch_items_in text)) (item_not_fast h.0 text h.2)
     ∙ read_list fetch_item_of text h.0 [] all
-    ∙ ap (λ l. Some l) (sym h.1)
-items_again items text sp (inr q) s =
+    ∙ ap (λ l. Some l) (sym h.1))
+items_again items text sp (inr (inl h)) s =
+    alone_again items text sp (fast_bare text h.1) (fast_alone text h.1) s
+    (ap (λ (t : Bool). cond t (Some fast_items) (fetch_items_in text)) (is_fast text h.1) ∙ ap (λ l. Some l) (sym h.0))
+items_again items text sp (inr (inr q)) s =
     let k = listed_again fetch_item_of ItemIs item_again item_bare item_open items text sp q s in
     let unclosed : first_is 40 (text ++ sp) ≡ true = ap (λ l. first_is 40 (l ++ sp)) (paren_text (Separated Gap ItemIs items) text q).1 in
     ap (λ (t : Bool). cond t (in_parentheses (text ++ sp) >>= fetch_items_in) (items_bare (text ++ sp))) unclosed
     ∙ ap (λ o. o >>= fetch_items_in) k.found
     ∙ k.read
 
-alone_sound : (w rest bytes : List ℕ) (items : List FetchItem) → bytes ≡ w ++ rest → Many is_not_space w → is_blank rest ≡ true → fetch_items_in w ≡ Some items → Joined (ItemsAre items) Spaces bytes
-alone_sound w rest bytes items e m b h =
+one_sound : (w rest bytes : List ℕ) (items : List FetchItem) → bytes ≡ w ++ rest → Many is_not_space w → is_blank rest ≡ true → fetch_items_in w ≡ Some items → Joined (ItemsAre items) Spaces bytes
+one_sound w rest bytes items e m b h =
     let k = guard_some (are_items fetch_item_of (words w)) (fetch_items_of w) items h in
     let t = both_true (list_all (λ v. is_some (fetch_item_of v)) (words w)) (not (length (words w) == 0)) k.0 in
     let one : words w ≡ w ∷ [] = word_alone w (none_empty w t.1, m) in
@@ -149,15 +161,24 @@ alone_sound w rest bytes items e m b h =
     let are : items ≡ x.0 ∷ [] = sym k.1 ∙ ap (filter_map fetch_item_of) one ∙ ap (λ o. cons_option o []) x.1 in
     record { front = w; back = rest; parts = e; first = inl (x.0, are, item_sound x.0 w x.1); second = blank_sound rest b }
 
+alone_sound : (w rest bytes : List ℕ) (items : List FetchItem) → bytes ≡ w ++ rest → Many is_not_space w → is_blank rest ≡ true → fetch_word_in w ≡ Some items → Joined (ItemsAre items) Spaces bytes
+alone_sound w rest bytes items e m b h =
+    elim (either (is_same w (codes "FAST")) (Some fast_items) (fetch_items_in w) (Some items) h) [
+      | inl q ↦
+          let are : fast_items ≡ items = cc in
+          record { front = w; back = rest; parts = e; first = inr (inl (sym are, same_sound (codes "FAST") w q.0)); second = blank_sound rest b }
+      | inr q ↦ one_sound w rest bytes items e m b q.1
+    ]
+
 pub items_sound : (items : List FetchItem) (bytes : List ℕ) → Many is_not_space (word_at bytes).0 → fetch_items_at bytes ≡ Some items → Joined (ItemsAre items) Spaces bytes
 items_sound items bytes m e =
     elim (either (first_is 40 bytes) (in_parentheses bytes >>= fetch_items_in) (items_bare bytes) (Some items) e) [
       | inl q ↦
           let k = bind_some (in_parentheses bytes) fetch_items_in items q.1 in
           let j = listed_sound fetch_item_of ItemIs item_sound bytes k.0 items k.1 k.2 in
-          record { front = j.front; back = j.back; parts = j.parts; first = inr j.first; second = j.second }
+          record { front = j.front; back = j.back; parts = j.parts; first = inr (inr j.first); second = j.second }
       | inr q ↦
-          elim (either (is_blank (word_at bytes).1) (fetch_items_in (word_at bytes).0) None (Some items) q.1) [
+          elim (either (is_blank (word_at bytes).1) (fetch_word_in (word_at bytes).0) None (Some items) q.1) [
             | inl r ↦ alone_sound (word_at bytes).0 (word_at bytes).1 bytes items (word_parts bytes) m r.0 r.1
             | inr r ↦ absurd (let bad : None ≡ Some items = r.1 in cc)
           ]
@@ -369,7 +390,8 @@ paren_starts P text rest q = subst (λ l. Stops is_space (l ++ rest)) (sym (q.pa
 
 pub items_starts : (items : List FetchItem) (text rest : List ℕ) → ItemsAre items text → Stops is_space (text ++ rest)
 items_starts items text rest (inl h) = starts is_not_space (λ b e. not_true (is_space b) e) text rest (item_bare h.0 text h.2)
-items_starts items text rest (inr q) = paren_starts (Separated Gap ItemIs items) text rest q
+items_starts items text rest (inr (inl h)) = starts is_not_space (λ b e. not_true (is_space b) e) text rest (fast_bare text h.1)
+items_starts items text rest (inr (inr q)) = paren_starts (Separated Gap ItemIs items) text rest q
 
 pub flags_starts : (flags : Flags) (text rest : List ℕ) → FlagsAre flags text → Stops is_space (text ++ rest)
 flags_starts flags text rest ([], e, inl q) = absurd q

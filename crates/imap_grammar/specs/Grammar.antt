@@ -9,7 +9,7 @@ use Rattle.envelope.specs.Grammar.{Rule, ◌⨾◌, Exactly, Keyword, Some1, Spa
 use Rattle.imap_grammar.specs.Bytes.{is_tag, is_atom, is_pattern, is_digit, is_quotable, is_special}
 use Rattle.imap_grammar.specs.Numbers.{most_size, number_of}
 use Rattle.imap_grammar.specs.declared.command.Literal.{Literal}
-use Rattle.imap_grammar.specs.Items.{flags_among}
+use Rattle.imap_grammar.specs.Items.{fast_items, flags_among}
 use Rattle.imap_grammar.specs.Verbs.{word_of, stands_behind_uid, is_left_out, verb_of}
 use Rattle.imap_grammar.specs.declared.set.SeqNumber.{SeqNumber}
 use Rattle.imap_grammar.specs.declared.set.SeqNumber.TheVariants.{Number, Star}
@@ -95,16 +95,26 @@ PartialIs None = Exactly []
 PartialIs (Some span) =
     Exactly (codes "<") ⨾ Number63 span.origin ⨾ Exactly (codes ".") ⨾ (λ text. Number63 span.count text × (1 ≤ span.count)) ⨾ Exactly (codes ">")
 
+abbrev pub rfc822_word : Section → List ℕ
+rfc822_word Whole = codes "RFC822"
+rfc822_word Header = codes "RFC822.HEADER"
+rfc822_word Text = codes "RFC822.TEXT"
+
 abbrev pub ItemIs : FetchItem → Rule
 ItemIs fetch.Uid = Keyword (codes "UID")
 ItemIs fetch.Flags = Keyword (codes "FLAGS")
 ItemIs fetch.Size = Keyword (codes "RFC822.SIZE")
+ItemIs fetch.InternalDate = Keyword (codes "INTERNALDATE")
+ItemIs (fetch.Rfc822 which) = Keyword (rfc822_word which)
 ItemIs (fetch.Body peek section part) =
     Keyword (if peek then codes "BODY.PEEK[" else codes "BODY[") ⨾ Keyword (section_word section) ⨾ Exactly (codes "]") ⨾ PartialIs part
 
--- one item, or one or more in parentheses
+-- one item, or FAST, or one or more items in parentheses
 abbrev pub ItemsAre : List FetchItem → Rule
-ItemsAre items text = ((item : FetchItem) × (items ≡ item ∷ []) × ItemIs item text) ⊎ Parenthesized (Separated Gap ItemIs items) text
+ItemsAre items text =
+    ((item : FetchItem) × (items ≡ item ∷ []) × ItemIs item text)
+    ⊎ ((items ≡ fast_items) × Keyword (codes "FAST") text)
+    ⊎ Parenthesized (Separated Gap ItemIs items) text
 
 abbrev pub status_word : StatusItem → List ℕ
 status_word status.Messages = codes "MESSAGES"

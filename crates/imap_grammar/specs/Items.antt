@@ -1,5 +1,5 @@
 -- Items of FETCH and STATUS, and flags: how their words are read.
-use Rattle.std.specs.Prelude.{ℕ, Bool, true, false, codes, List, length, Option, Some, None, ◌==◌, ◌&&◌, not, if◌then◌else◌}
+use Rattle.std.specs.Prelude.{ℕ, Bool, true, false, codes, List, [], ◌∷◌, length, Option, Some, None, ◌==◌, ◌&&◌, not, if◌then◌else◌}
 use Rattle.std.specs.List.{list_all, list_any, filter_map}
 use Rattle.std.specs.Str.{str_eq_ignore_ascii_case as is_same}
 use Rattle.change_ring.specs.declared.change.Flags.{Flags}
@@ -63,16 +63,35 @@ fetch_item_of word =
     if is_same word (codes "UID") then Some fetch.Uid
     else if is_same word (codes "FLAGS") then Some fetch.Flags
     else if is_same word (codes "RFC822.SIZE") then Some fetch.Size
+    else if is_same word (codes "INTERNALDATE") then Some fetch.InternalDate
+    else if is_same word (codes "RFC822") then Some (fetch.Rfc822 Whole)
+    else if is_same word (codes "RFC822.HEADER") then Some (fetch.Rfc822 Header)
+    else if is_same word (codes "RFC822.TEXT") then Some (fetch.Rfc822 Text)
     else body_or_peek (past_keyword (codes "BODY[") word) (past_keyword (codes "BODY.PEEK[") word)
 
 -- the items that the words of a text say
 abbrev pub fetch_items_of : List ℕ → List FetchItem
 fetch_items_of text = filter_map fetch_item_of (words text)
 
--- the read of this item sets \Seen
+-- what FAST stands for (RFC 9051, 6.4.5)
+abbrev pub fast_items : List FetchItem
+fast_items = fetch.Flags ∷ fetch.InternalDate ∷ fetch.Size ∷ []
+
+abbrev pub is_header : Section → Bool
+is_header Header = true
+is_header _ = false
+
+-- the read of this item sets \Seen; of RFC822's items that of the header doesn't (RFC 3501, 6.4.5)
 abbrev pub marks_seen : FetchItem → Bool
 marks_seen (fetch.Body peek which span) = not peek
+marks_seen (fetch.Rfc822 which) = not (is_header which)
 marks_seen _ = false
+
+-- the standard profile doesn't have this item
+abbrev pub is_compatible : FetchItem → Bool
+is_compatible fetch.InternalDate = true
+is_compatible (fetch.Rfc822 which) = true
+is_compatible _ = false
 
 -- ---- STATUS
 

@@ -16,7 +16,7 @@ use Rattle.imap_grammar.specs.Cuts.{cut_at}
 use Rattle.imap_grammar.specs.Numbers.{most_size, number_of}
 use Rattle.imap_grammar.specs.declared.command.Literal.{Literal}
 use Rattle.imap_grammar.specs.Sets.{range_of, ranges_of}
-use Rattle.imap_grammar.specs.Items.{fetch_item_of, fetch_items_of, status_item_of, status_items_of, is_flag, is_word_of, flags_among}
+use Rattle.imap_grammar.specs.Items.{fetch_item_of, fetch_items_of, fast_items, status_item_of, status_items_of, is_flag, is_word_of, flags_among}
 use Rattle.imap_grammar.specs.Verbs.{word_of, is_left_out, offered, left_out, behind_uid, alone}
 use Rattle.imap_grammar.specs.declared.set.SeqRange.{SeqRange}
 use Rattle.imap_grammar.specs.declared.items.FetchItem.{FetchItem}
@@ -102,11 +102,15 @@ are_items f words = list_all (λ word. is_some (f word)) words && not (length wo
 abbrev pub fetch_items_in : List ℕ → Option (List FetchItem)
 fetch_items_in text = if are_items fetch_item_of (words text) then Some (fetch_items_of text) else None
 
+-- one item, or FAST
+abbrev pub fetch_word_in : List ℕ → Option (List FetchItem)
+fetch_word_in word = if is_same word (codes "FAST") then Some fast_items else fetch_items_in word
+
 abbrev pub fetch_items_at : List ℕ → Option (List FetchItem)
 fetch_items_at bytes =
     if first_is 40 bytes
     then (in_parentheses bytes >>= fetch_items_in)
-    else (if is_blank (word_at bytes).1 then fetch_items_in (word_at bytes).0 else None)
+    else (if is_blank (word_at bytes).1 then fetch_word_in (word_at bytes).0 else None)
 
 abbrev pub status_items_in : List ℕ → Option (List StatusItem)
 status_items_in text = if are_items status_item_of (words text) then Some (status_items_of text) else None

@@ -112,7 +112,7 @@ fn fetch_items_at(bytes: &[u8]) -> Option<FetchItems<'_>>
     }
     let (word, rest) = word_at(bytes);
     if is_blank(rest) {
-        FetchItems::of(word)
+        FetchItems::of_word(word)
     } else {
         None
     }

@@ -4,7 +4,8 @@
 ghost use Rattle.std.specs.Prelude.{◌≡◌, ◌++◌, ◌∷◌, [], IfOk, MatchOption, OnOk, is_some, option_to_list};
 ghost use Rattle.std.specs.List.{list_all, list_any};
 ghost use Rattle.envelope.specs.Reading.{words};
-ghost use Rattle.imap_grammar.specs.Items.{section_of, span_between, span_of, partial_of, body_of, fetch_item_of, fetch_items_of, marks_seen, is_recent, status_item_of, status_items_of};
+ghost use Rattle.imap_grammar.specs.Items.{section_of, span_between, span_of, partial_of, body_of, fetch_item_of, fetch_items_of, is_header, is_compatible, marks_seen, is_recent, status_item_of, status_items_of};
+ghost use Rattle.imap_grammar.specs.declared.items.FetchItem.TheVariants as fetch;
 
 use crate::cut::cut_at;
 use crate::number::number_up_to;
@@ -39,6 +40,13 @@ pub enum FetchItem {
     Uid,
     Flags,
     Size,
+    /// When it came: not of the standard profile.
+    InternalDate,
+    /// What RFC 3501, 6.4.5 calls RFC822, RFC822.HEADER and RFC822.TEXT: not of the standard profile.
+    Rfc822 {
+        /// Which part of the text.
+        section: Section,
+    },
     Body {
         /// \Seen isn't set.
         peek: bool,
@@ -164,6 +172,12 @@ fn body_of(peek: bool, text: &[u8]) -> Option<FetchItem>
     })
 }
 
+fn rfc822(section: Section) -> FetchItem
+    ensures { result ≡ fetch.Rfc822 section }
+{
+    FetchItem::Rfc822 { section }
+}
+
 /// The item of FETCH that a word is.
 fn fetch_item(word: &[u8]) -> Option<FetchItem>
     ensures { result ≡ fetch_item_of word.now }
@@ -176,6 +190,18 @@ fn fetch_item(word: &[u8]) -> Option<FetchItem>
     }
     if word.eq_ignore_ascii_case(b"RFC822.SIZE") {
         return Some(FetchItem::Size);
+    }
+    if word.eq_ignore_ascii_case(b"INTERNALDATE") {
+        return Some(FetchItem::InternalDate);
+    }
+    if word.eq_ignore_ascii_case(b"RFC822") {
+        return Some(rfc822(Section::Whole));
+    }
+    if word.eq_ignore_ascii_case(b"RFC822.HEADER") {
+        return Some(rfc822(Section::Header));
+    }
+    if word.eq_ignore_ascii_case(b"RFC822.TEXT") {
+        return Some(rfc822(Section::Text));
     }
     match past_keyword(b"BODY[", word) {
         Some(rest) => body_of(false, rest),
@@ -250,11 +276,18 @@ fn items_in(alloc: Global, text: &[u8]) -> Result<Vec<FetchItem>, AllocError>
     Ok(items)
 }
 
+fn is_header(section: Section) -> bool
+    ensures { result ≡ is_header section }
+{
+    matches!(section, Section::Header)
+}
+
 fn marks_seen(item: FetchItem) -> bool
     ensures { result ≡ marks_seen item }
 {
     match item {
         FetchItem::Body { peek, .. } => !peek,
+        FetchItem::Rfc822 { section } => !is_header(section),
         _ => false,
     }
 }
@@ -274,6 +307,34 @@ fn items_mark_seen(text: &[u8]) -> bool
     let mut rest = text;
     while let Some((word, others)) = next_word(rest) {
         if word_marks_seen(word) {
+            return true;
+        }
+        rest = others;
+    }
+    false
+}
+
+fn is_compatible(item: FetchItem) -> bool
+    ensures { result ≡ is_compatible item }
+{
+    matches!(item, FetchItem::InternalDate | FetchItem::Rfc822 { .. })
+}
+
+fn word_is_compatible(word: &[u8]) -> bool
+    ensures { result ≡ list_any is_compatible (option_to_list (fetch_item_of word.now)) }
+{
+    match fetch_item(word) {
+        Some(item) => is_compatible(item),
+        None => false,
+    }
+}
+
+fn items_have_compatible(text: &[u8]) -> bool
+    ensures { result ≡ list_any is_compatible (fetch_items_of text.now) }
+{
+    let mut rest = text;
+    while let Some((word, others)) = next_word(rest) {
+        if word_is_compatible(word) {
             return true;
         }
         rest = others;
@@ -321,14 +382,22 @@ fn first_status_item(text: &[u8]) -> Option<(StatusItem, &[u8])>
 impl<'a> FetchItems<'a> {
     ghost use Rattle.std.specs.Prelude.{◌≡◌, IfOk};
     ghost use Rattle.std.specs.List.{list_any};
-    ghost use Rattle.imap_grammar.specs.Items.{marks_seen};
-    ghost use Rattle.imap_grammar.specs.Reading.{fetch_items_in};
+    ghost use Rattle.imap_grammar.specs.Items.{is_compatible, marks_seen};
+    ghost use Rattle.imap_grammar.specs.Reading.{fetch_items_in, fetch_word_in};
 
-    /// Whether the read that answers these sets \Seen: a BODY without PEEK is among them (RFC 9051, 6.4.5).
+    /// Whether the read that answers these sets \Seen: a BODY without PEEK is among them (RFC 9051, 6.4.5), or RFC822 or
+    /// RFC822.TEXT (RFC 3501, 6.4.5).
     pub fn mark_seen(&self) -> bool
         ensures { result ≡ list_any marks_seen self.now }
     {
         items_mark_seen(self.spelled)
+    }
+
+    /// Whether one is among them that the standard profile doesn't have.
+    pub fn have_compatible(&self) -> bool
+        ensures { result ≡ list_any is_compatible self.now }
+    {
+        items_have_compatible(self.spelled)
     }
 
     /// The items, in the order in which they were asked. An error where memory is refused.
@@ -347,6 +416,18 @@ impl<'a> FetchItems<'a> {
         } else {
             None
         }
+    }
+
+    /// The item that a word says, or those that FAST stands for.
+    pub(crate) fn of_word(word: &'a [u8]) -> Option<FetchItems<'a>>
+        ensures { result ≡ fetch_word_in word.now }
+    {
+        if word.eq_ignore_ascii_case(b"FAST") {
+            return Some(FetchItems {
+                spelled: b"FLAGS INTERNALDATE RFC822.SIZE",
+            });
+        }
+        FetchItems::of(word)
     }
 }
 
