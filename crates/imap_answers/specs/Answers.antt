@@ -10,7 +10,9 @@ use Rattle.cursor_set.specs.Lines.{flag_words, spaced}
 use Rattle.envelope.specs.Bytes.{is_not_slash}
 use Rattle.envelope.specs.Grammar.{Many}
 use Rattle.envelope.specs.Reading.{first_is}
-use Rattle.imap_grammar.specs.Grammar.{section_word, status_word}
+use Rattle.mail_date.specs.Fields.{message_date}
+use Rattle.mail_date.specs.Internal.{internal_text}
+use Rattle.imap_grammar.specs.Grammar.{rfc822_word, section_word, status_word}
 use Rattle.imap_grammar.specs.declared.items.Section.{Section}
 use Rattle.imap_grammar.specs.declared.items.Section.TheVariants.{Whole, Header, Text}
 use Rattle.imap_grammar.specs.declared.items.Span.{Span}
@@ -68,10 +70,20 @@ abbrev pub body_text : Section → Option Span → List ℕ → List ℕ
 body_text which span text =
     codes "BODY[" ++ section_word which ++ codes "]" ++ origin_text span ++ codes " " ++ literal (part span (section which text))
 
+-- as RFC 3501 has it, 7.4.2
+abbrev pub rfc822_text : Section → List ℕ → List ℕ
+rfc822_text which text = rfc822_word which ++ codes " " ++ literal (section which text)
+
+-- the date of the message with this text, in quotes (RFC 9051, 7.5.2)
+abbrev pub date_item : List ℕ → List ℕ
+date_item text = codes "INTERNALDATE \"" ++ internal_text (message_date text) ++ codes "\""
+
 abbrev pub item_text : Row → FetchItem → List ℕ
 item_text row fetch.Uid = codes "UID " ++ decimal row.uid
 item_text row fetch.Flags = flags_text row.flags
 item_text row fetch.Size = codes "RFC822.SIZE " ++ decimal (length row.text)
+item_text row fetch.InternalDate = date_item row.text
+item_text row (fetch.Rfc822 which) = rfc822_text which row.text
 item_text row (fetch.Body peek which span) = body_text which span row.text
 
 abbrev pub is_uid : FetchItem → Bool

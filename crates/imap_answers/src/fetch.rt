@@ -8,8 +8,9 @@ ghost use Rattle.cursor_set.specs.Lines.{spaced};
 ghost use Rattle.imap_answers.specs.Answers.{item_text, uid_first, flags_last, answered, is_uid, is_flags, row_answer};
 ghost use Rattle.imap_answers.specs.inner.Joined.{lead, joined, is_none};
 
+use crate::date::write_date;
 use crate::flags::write_flags;
-use crate::sections::write_body;
+use crate::sections::{write_body, write_rfc822};
 use crate::words::{write_number, write_space};
 use imap_grammar::FetchItem;
 use itoa::Buffer;
@@ -27,6 +28,8 @@ fn write_item(row: &Row, item: FetchItem, out: &mut Vec<u8>) -> Result<(), Alloc
         FetchItem::Uid => write_number(b"UID ", u128::from(row.uid), out),
         FetchItem::Flags => write_flags(row.flags, out),
         FetchItem::Size => write_number(b"RFC822.SIZE ", row.text.as_slice().len() as u128, out),
+        FetchItem::InternalDate => write_date(row.text.as_slice(), out),
+        FetchItem::Rfc822 { section } => write_rfc822(section, row.text.as_slice(), out),
         FetchItem::Body {
             peek: _,
             section,

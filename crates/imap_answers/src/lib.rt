@@ -2,6 +2,7 @@
 //! names that a pattern stands for. How commands are spelled is told in `imap_grammar`; who is answered what and when, in the crates above.
 #![tactic(auto)]
 
+mod date;
 mod fetch;
 mod flags;
 mod laws;

@@ -2,8 +2,8 @@
 //! these. Which part is asked for stands in the command.
 
 ghost use Rattle.std.specs.Prelude.{◌≡◌, ◌++◌, ◌≤◌, length, take, drop, codes, decimal, OnOk, OnErr, vec_capacity};
-ghost use Rattle.imap_grammar.specs.Grammar.{section_word};
-ghost use Rattle.imap_answers.specs.Answers.{header, section, is_crlf, literal, body_text};
+ghost use Rattle.imap_grammar.specs.Grammar.{rfc822_word, section_word};
+ghost use Rattle.imap_answers.specs.Answers.{header, section, is_crlf, literal, body_text, rfc822_text};
 
 use imap_grammar::{Section, Span};
 use itoa::Buffer;
@@ -68,6 +68,44 @@ fn section_word(section: Section) -> &'static [u8]
         Section::Header => b"HEADER",
         Section::Text => b"TEXT",
     }
+}
+
+fn rfc822_word(section: Section) -> &'static [u8]
+    ensures { result.now ≡ rfc822_word section }
+{
+    match section {
+        Section::Whole => b"RFC822",
+        Section::Header => b"RFC822.HEADER",
+        Section::Text => b"RFC822.TEXT",
+    }
+}
+
+/// Appends bytes as a literal behind this word.
+fn write_named(word: &[u8], bytes: &[u8], out: &mut Vec<u8>) -> Result<(), AllocError>
+    ensures ok { OnOk result (out.new.items
+        ≡ out.old.items ++ (word.now ++ codes " " ++ literal bytes.now)) }
+    ensures err { OnErr result (out.new.items ≡ out.old.items) }
+    ensures room { vec_capacity out.old ≤ vec_capacity out.new }
+{
+    let mut digits = Buffer::new();
+    let count = digits.format(bytes.len()).as_bytes();
+    append_parts(
+        &[word, b" {".as_slice(), count, b"}\r\n".as_slice(), bytes],
+        out,
+    )
+}
+
+/// Appends a part of a text as RFC 3501 has it, or nothing where memory is refused.
+pub(crate) fn write_rfc822(
+    which: Section,
+    text: &[u8],
+    out: &mut Vec<u8>,
+) -> Result<(), AllocError>
+    ensures ok { OnOk result (out.new.items ≡ out.old.items ++ rfc822_text which text.now) }
+    ensures err { OnErr result (out.new.items ≡ out.old.items) }
+    ensures room { vec_capacity out.old ≤ vec_capacity out.new }
+{
+    write_named(rfc822_word(which), section_of(which, text), out)
 }
 
 /// Appends a section with all its bytes.

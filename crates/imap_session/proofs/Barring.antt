@@ -10,7 +10,7 @@ use Rattle.imap_session.specs.declared.standing.Profile.TheVariants.{Standard, C
 use Rattle.imap_session.specs.declared.texts.ResponseText.{ResponseText}
 use Rattle.imap_session.specs.declared.texts.ResponseText.TheVariants as texts
 use Rattle.imap_session.specs.Exchange.{Answer, Exchange, Standing, Turn, played}
-use Rattle.imap_session.specs.Commands.{answering, arguments_text, asks_recent, barred, barred_at, before_login, lacking_or, logged_in, login_completed, logs_in_as, on_command, on_found, on_line, says, standard_lacks, unoffered}
+use Rattle.imap_session.specs.Commands.{answering, arguments_text, asks_compatible, barred, barred_at, before_login, lacking_or, logged_in, login_completed, logs_in_as, on_command, on_found, on_line, says, standard_lacks, unoffered}
 use Rattle.imap_session.specs.Texts.{response_text}
 
 -- a text that refuses a command for what it is
@@ -35,7 +35,7 @@ lacking_refuses verbs.Unsubscribe = refl
 lacking_refuses _ = tt
 
 unoffered_refuses : (profile : Profile) (command : Command) → Refuses (unoffered profile command)
-unoffered_refuses Standard command = by (asks_recent command)
+unoffered_refuses Standard command = by (asks_compatible command)
   where
     by : (t : Bool) → Refuses (if t then Some texts.InvalidArguments else standard_lacks (verb_of command))
     by true = refl

@@ -24,7 +24,7 @@ use Rattle.imap_grammar.specs.declared.command.ImapFault.TheVariants as faults
 use Rattle.imap_grammar.specs.Sets.{named_in}
 use Rattle.imap_grammar.specs.Verbs.{verb_of}
 use Rattle.imap_grammar.specs.Reading.{is_done, read}
-use Rattle.imap_grammar.specs.Items.{is_recent, marks_seen}
+use Rattle.imap_grammar.specs.Items.{is_compatible, is_recent, marks_seen}
 use Rattle.imap_answers.specs.Answers.{flags_answer, is_inbox, list_answer, opening_text, row_answer, status_answer}
 use Rattle.imap_session.specs.declared.standing.After.TheVariants.{Go, Bye}
 use Rattle.imap_session.specs.declared.standing.After.TheVariants as afters
@@ -328,13 +328,15 @@ abbrev pub unoffered_verb : Profile → Verb → Option ResponseText
 unoffered_verb Standard verb = standard_lacks verb
 unoffered_verb Compatible verb = None
 
-abbrev pub asks_recent : Command → Bool
-asks_recent (commands.Status name items) = list_any is_recent items
-asks_recent _ = false
+-- it asks for something of a mailbox or a message that the standard profile doesn't have
+abbrev pub asks_compatible : Command → Bool
+asks_compatible (commands.Status name items) = list_any is_recent items
+asks_compatible (commands.Fetch fetch) = list_any is_compatible fetch.items
+asks_compatible _ = false
 
--- the same of a whole command: RECENT is no item of the standard profile's STATUS
+-- the same of a whole command
 abbrev pub unoffered : Profile → Command → Option ResponseText
-unoffered Standard command = if asks_recent command then Some texts.InvalidArguments else standard_lacks (verb_of command)
+unoffered Standard command = if asks_compatible command then Some texts.InvalidArguments else standard_lacks (verb_of command)
 unoffered Compatible command = None
 
 -- what is said to a client that is to log in first. Few commands are for it too (RFC 9051, 6.1 and 6.2), and a LOGIN that is carried out never comes here

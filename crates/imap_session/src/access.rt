@@ -3,7 +3,7 @@
 
 ghost use Rattle.std.specs.Prelude.{◌≡◌};
 ghost use Rattle.std.specs.Option.{option_copied};
-ghost use Rattle.imap_session.specs.Commands.{arguments_text, asks_recent, barred_at, before_login, logs_in_as, standard_lacks, unoffered, unoffered_verb};
+ghost use Rattle.imap_session.specs.Commands.{arguments_text, asks_compatible, barred_at, before_login, logs_in_as, standard_lacks, unoffered, unoffered_verb};
 
 use crate::standing::Profile;
 use crate::texts::ResponseText;
@@ -41,11 +41,13 @@ pub(crate) fn arguments_text(profile: Profile, verb: Verb) -> ResponseText
     }
 }
 
-fn asks_recent(command: &Command<'_>) -> bool
-    ensures { result ≡ asks_recent command.now }
+// Whether it asks for something of a message or a mailbox that the standard profile doesn't have.
+fn asks_compatible(command: &Command<'_>) -> bool
+    ensures { result ≡ asks_compatible command.now }
 {
     match command {
         Command::Status { items, .. } => items.have_recent(),
+        Command::Fetch(fetch) => fetch.items.have_compatible(),
         _ => false,
     }
 }
@@ -55,7 +57,7 @@ fn unoffered(profile: Profile, command: &Command<'_>) -> Option<ResponseText>
 {
     match profile {
         Profile::Standard => {
-            if asks_recent(command) {
+            if asks_compatible(command) {
                 Some(ResponseText::InvalidArguments)
             } else {
                 standard_lacks(command.verb())

@@ -13,8 +13,8 @@ use Rattle.line_io.specs.Wire.{crlf}
 use Rattle.mailbox.specs.declared.clients.Opening.{Opening}
 use Rattle.mailbox.specs.declared.clients.Row.{Row}
 use Rattle.mailbox.specs.declared.mailbox.Status.{Status}
-use Rattle.imap_answers.specs.Answers.{all_flags, answered, asks_for_root, flags_answer, is_listed, item_text, list_answer, listed, literal, name_answer, opening_text, origin_text, part, root_answer, row_answer, section, status_answer, status_number, status_text}
-use Rattle.imap_grammar.specs.Grammar.{section_word, status_word}
+use Rattle.imap_answers.specs.Answers.{all_flags, answered, asks_for_root, date_item, flags_answer, is_listed, item_text, list_answer, listed, literal, name_answer, opening_text, origin_text, part, root_answer, row_answer, section, status_answer, status_number, status_text}
+use Rattle.imap_grammar.specs.Grammar.{rfc822_word, section_word, status_word}
 use Rattle.imap_grammar.specs.declared.items.FetchItem.{FetchItem}
 use Rattle.imap_grammar.specs.declared.items.FetchItem.TheVariants as fetch
 use Rattle.imap_grammar.specs.declared.items.Section.{Section}
@@ -25,7 +25,7 @@ use Rattle.imap_session.specs.Exchange.{Folder, bye, continuing, tagged, untagge
 use Rattle.laws_client.specs.Client.{count_of, literal_of}
 use Rattle.laws_client.specs.Commands.{AreNames}
 use Rattle.laws_client.specs.ListTurns.{IsPlain, is_inner}
-use Rattle.laws_client.proofs.Kept.{part_small}
+use Rattle.laws_client.proofs.Kept.{date_inner, part_small, rfc822_inner}
 use Rattle.laws_client.proofs.Opening.{flags_line, next_line, opening_shape, permanent_line, validity_line}
 use Rattle.laws_client.proofs.Untold.{inner_both, plain_inner, word_inner}
 use Rattle.laws_client.specs.Cuts.{Cutter, amid, between, cut_line, cuts, is_tagged}
@@ -207,6 +207,11 @@ one_item row fetch.Uid h = item_inner (codes "UID " ++ decimal row.uid) (inner_b
 one_item row fetch.Flags h =
     item_inner (codes "FLAGS (" ++ spaced (flag_words row.flags) ++ codes ")") (inner_both (codes "FLAGS (" ++ spaced (flag_words row.flags)) (codes ")") (inner_both (codes "FLAGS (") (spaced (flag_words row.flags)) refl (words_inner row.flags)) refl)
 one_item row fetch.Size h = item_inner (codes "RFC822.SIZE " ++ decimal (length row.text)) (inner_both (codes "RFC822.SIZE ") (decimal (length row.text)) refl (decimal_inner (length row.text)))
+one_item row fetch.InternalDate h = item_inner (date_item row.text) (date_inner row.text)
+one_item row (fetch.Rfc822 which) h =
+    let front : List ℕ = rfc822_word which ++ codes " " in
+    item_both front (literal (section which row.text)) (item_inner front (rfc822_inner which))
+    (item_literal (section which row.text) (part_small (record row { uid = 0 }) which None (record { uid = omega arith; text = h })))
 one_item row (fetch.Body peek which span) h =
     let front : List ℕ = codes "BODY[" ++ section_word which ++ codes "]" ++ origin_text span ++ codes " " in
     item_both front (literal (part span (section which row.text)))

@@ -6,6 +6,8 @@ use Rattle.std.proofs.lemmas.Bool.{false≢true}
 use Rattle.change_ring.specs.declared.change.Flags.{Flags}
 use Rattle.cursor_set.specs.Lines.{spaced}
 use Rattle.mailbox.specs.declared.clients.Row.{Row}
+use Rattle.mail_date.proofs.Plain.{message_dated}
+use Rattle.mail_date.specs.Fields.{message_date}
 use Rattle.imap_answers.specs.Answers.{answered, flags_last, is_uid, part, section, uid_first}
 use Rattle.imap_grammar.specs.declared.items.FetchItem.{FetchItem}
 use Rattle.imap_grammar.specs.declared.items.FetchItem.TheVariants as fetch
@@ -14,7 +16,7 @@ use Rattle.imap_grammar.specs.declared.items.Span.{Span}
 use Rattle.laws_client.specs.Client.{Known, closing, flag_names, into_first, items, number, unopened, with_flags, with_uid, words}
 use Rattle.laws_client.specs.Fetches.{AreToldParts, IsToldPart}
 use Rattle.laws_client.proofs.Bytes.{decimal_digits, decimal_says}
-use Rattle.laws_client.proofs.Items.{body_words, digits_closed, digits_other, flag_list, flag_list_other, is_other, number_words, other_passes, tail, words_append}
+use Rattle.laws_client.proofs.Items.{body_words, date_other, date_read, date_words, digits_closed, digits_other, flag_list, flag_list_other, is_other, number_words, other_passes, rfc822_other, rfc822_read, rfc822_words, tail, words_append}
 use Rattle.laws_client.proofs.Kept.{IsSmall, body_word, count_kept, item_kept, part_small}
 
 -- ---- words
@@ -67,12 +69,24 @@ body_item P Q row peek which span last small told =
     subst (λ (ws : List (List ℕ)). LeadOn P P Q ws) (sym (body_words peek which span bytes last told (part_small row which span small)))
     (others_lead P Q (body_word which span ∷ (count_kept bytes ++ tail last) ∷ []) refl)
 
+date_leads : (P Q : Known → Type 0) (row : Row) (last : Bool) → LeadOn P P Q (words (item_kept row fetch.InternalDate ++ tail last))
+date_leads P Q row last =
+    subst (λ (ws : List (List ℕ)). LeadOn P P Q ws) (sym (date_read row.text last))
+    (others_lead P Q (date_words (message_date row.text) last) (date_other (message_date row.text) last (message_dated row.text)))
+
+rfc822_leads : (P Q : Known → Type 0) (row : Row) (which : Section) (last : Bool) → IsSmall row → LeadOn P P Q (words (item_kept row (fetch.Rfc822 which) ++ tail last))
+rfc822_leads P Q row which last small =
+    subst (λ (ws : List (List ℕ)). LeadOn P P Q ws) (sym (rfc822_read row which last small))
+    (others_lead P Q (rfc822_words which (section which row.text) last) (rfc822_other which (section which row.text) last))
+
 -- an item by which nothing is lost
 item_leads : (P Q : Known → Type 0) (row : Row) (item : FetchItem) (last : Bool) → ((m : Known) → P m → P (with_uid (Some row.uid) m)) → LeavesFlagsOpen P → IsSmall row → IsToldPart item
     → LeadOn P P Q (words (item_kept row item ++ tail last))
 item_leads P Q row fetch.Uid last u stays small told = uid_item P P Q row last u small
 item_leads P Q row fetch.Flags last u stays small told = flags_lead P Q row.flags last stays
 item_leads P Q row fetch.Size last u stays small told = size_item P Q row last small
+item_leads P Q row fetch.InternalDate last u stays small told = date_leads P Q row last
+item_leads P Q row (fetch.Rfc822 which) last u stays small told = rfc822_leads P Q row which last small
 item_leads P Q row (fetch.Body peek which span) last u stays small told = body_item P Q row peek which span last small told
 
 -- the words of the items, cut behind the first
@@ -102,6 +116,8 @@ Asks [] = ⊥
 Asks (fetch.Uid ∷ list) = Unit {0}
 Asks (fetch.Flags ∷ list) = Asks list
 Asks (fetch.Size ∷ list) = Asks list
+Asks (fetch.InternalDate ∷ list) = Asks list
+Asks (fetch.Rfc822 which ∷ list) = Asks list
 Asks (fetch.Body peek which span ∷ list) = Asks list
 
 abbrev Any : Known → Type 0
@@ -115,6 +131,8 @@ items_learn row [] asks small told = absurd asks
 items_learn row (fetch.Uid ∷ []) asks small told = uid_item Any (HasUid row.uid) (HasUid row.uid) row true (λ m any. refl) small
 items_learn row (fetch.Flags ∷ []) asks small told = absurd asks
 items_learn row (fetch.Size ∷ []) asks small told = absurd asks
+items_learn row (fetch.InternalDate ∷ []) asks small told = absurd asks
+items_learn row (fetch.Rfc822 which ∷ []) asks small told = absurd asks
 items_learn row (fetch.Body peek which span ∷ []) asks small told = absurd asks
 items_learn row (fetch.Uid ∷ other ∷ list) asks small told =
     let H : Known → Type 0 = HasUid row.uid in
@@ -126,6 +144,12 @@ items_learn row (fetch.Flags ∷ other ∷ list) asks small told =
 items_learn row (fetch.Size ∷ other ∷ list) asks small told =
     let H : Known → Type 0 = HasUid row.uid in
     then_others Any Any H H row fetch.Size other list (size_item Any H row false small) (items_learn row (other ∷ list) asks small told.1)
+items_learn row (fetch.InternalDate ∷ other ∷ list) asks small told =
+    let H : Known → Type 0 = HasUid row.uid in
+    then_others Any Any H H row fetch.InternalDate other list (date_leads Any H row false) (items_learn row (other ∷ list) asks small told.1)
+items_learn row (fetch.Rfc822 which ∷ other ∷ list) asks small told =
+    let H : Known → Type 0 = HasUid row.uid in
+    then_others Any Any H H row (fetch.Rfc822 which) other list (rfc822_leads Any H row which false small) (items_learn row (other ∷ list) asks small told.1)
 items_learn row (fetch.Body peek which span ∷ other ∷ list) asks small told =
     let H : Known → Type 0 = HasUid row.uid in
     then_others Any Any H H row (fetch.Body peek which span) other list (body_item Any H row peek which span false small told.0) (items_learn row (other ∷ list) asks small told.1)
@@ -147,6 +171,8 @@ asks_behind [] two h = h
 asks_behind (fetch.Uid ∷ one) two h = tt
 asks_behind (fetch.Flags ∷ one) two h = asks_behind one two h
 asks_behind (fetch.Size ∷ one) two h = asks_behind one two h
+asks_behind (fetch.InternalDate ∷ one) two h = asks_behind one two h
+asks_behind (fetch.Rfc822 which ∷ one) two h = asks_behind one two h
 asks_behind (fetch.Body peek which span ∷ one) two h = asks_behind one two h
 
 asks_before : (one two : List FetchItem) → Asks one → Asks (one ++ two)
@@ -154,6 +180,8 @@ asks_before [] two h = absurd h
 asks_before (fetch.Uid ∷ one) two h = tt
 asks_before (fetch.Flags ∷ one) two h = asks_before one two h
 asks_before (fetch.Size ∷ one) two h = asks_before one two h
+asks_before (fetch.InternalDate ∷ one) two h = asks_before one two h
+asks_before (fetch.Rfc822 which ∷ one) two h = asks_before one two h
 asks_before (fetch.Body peek which span ∷ one) two h = asks_before one two h
 
 any_asks : (list : List FetchItem) → list_any is_uid list ≡ true → Asks list
@@ -161,6 +189,8 @@ any_asks [] e = absurd (false≢true e)
 any_asks (fetch.Uid ∷ list) e = tt
 any_asks (fetch.Flags ∷ list) e = any_asks list e
 any_asks (fetch.Size ∷ list) e = any_asks list e
+any_asks (fetch.InternalDate ∷ list) e = any_asks list e
+any_asks (fetch.Rfc822 which ∷ list) e = any_asks list e
 any_asks (fetch.Body peek which span ∷ list) e = any_asks list e
 
 pub answered_asks : (by_uid newly_seen : Bool) (list : List FetchItem) → (by_uid || list_any is_uid list) ≡ true → Asks (answered by_uid newly_seen list)

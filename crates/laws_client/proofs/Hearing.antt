@@ -66,6 +66,8 @@ Asks [] = ⊥
 Asks (fetch.Flags ∷ list) = Unit {0}
 Asks (fetch.Uid ∷ list) = Asks list
 Asks (fetch.Size ∷ list) = Asks list
+Asks (fetch.InternalDate ∷ list) = Asks list
+Asks (fetch.Rfc822 which ∷ list) = Asks list
 Asks (fetch.Body peek which span ∷ list) = Asks list
 
 -- the words of the items, cut behind the first
@@ -86,6 +88,8 @@ items_learn row [] asks small told = absurd asks
 items_learn row (fetch.Flags ∷ []) asks small told = flags_learn row true
 items_learn row (fetch.Uid ∷ []) asks small told = absurd asks
 items_learn row (fetch.Size ∷ []) asks small told = absurd asks
+items_learn row (fetch.InternalDate ∷ []) asks small told = absurd asks
+items_learn row (fetch.Rfc822 which ∷ []) asks small told = absurd asks
 items_learn row (fetch.Body peek which span ∷ []) asks small told = absurd asks
 items_learn row (fetch.Flags ∷ other ∷ list) asks small told =
     subst (Learns row) (cut_first row fetch.Flags other list)
@@ -93,6 +97,8 @@ items_learn row (fetch.Flags ∷ other ∷ list) asks small told =
     (subst (λ (t : List ℕ). Learns row (words t)) (append-nil (item_kept row fetch.Flags)) (flags_learn row false)) (items_keep (Heard row) (Heard row) row (other ∷ list) (heard_allows row) small told.1))
 items_learn row (fetch.Uid ∷ other ∷ list) asks small told = pass_first row fetch.Uid other list small told (items_learn row (other ∷ list) asks small told.1)
 items_learn row (fetch.Size ∷ other ∷ list) asks small told = pass_first row fetch.Size other list small told (items_learn row (other ∷ list) asks small told.1)
+items_learn row (fetch.InternalDate ∷ other ∷ list) asks small told = pass_first row fetch.InternalDate other list small told (items_learn row (other ∷ list) asks small told.1)
+items_learn row (fetch.Rfc822 which ∷ other ∷ list) asks small told = pass_first row (fetch.Rfc822 which) other list small told (items_learn row (other ∷ list) asks small told.1)
 items_learn row (fetch.Body peek which span ∷ other ∷ list) asks small told = pass_first row (fetch.Body peek which span) other list small told (items_learn row (other ∷ list) asks small told.1)
 
 opened_learn : (row : Row) (ws : List (List ℕ)) → Learns row ws → (m : Known) → Heard row (items (unopened (into_first 40 ws)) m)
@@ -129,6 +135,8 @@ asks_behind [] two h = h
 asks_behind (fetch.Flags ∷ one) two h = tt
 asks_behind (fetch.Uid ∷ one) two h = asks_behind one two h
 asks_behind (fetch.Size ∷ one) two h = asks_behind one two h
+asks_behind (fetch.InternalDate ∷ one) two h = asks_behind one two h
+asks_behind (fetch.Rfc822 which ∷ one) two h = asks_behind one two h
 asks_behind (fetch.Body peek which span ∷ one) two h = asks_behind one two h
 
 asks_before : (one two : List FetchItem) → Asks one → Asks (one ++ two)
@@ -136,6 +144,8 @@ asks_before [] two h = absurd h
 asks_before (fetch.Flags ∷ one) two h = tt
 asks_before (fetch.Uid ∷ one) two h = asks_before one two h
 asks_before (fetch.Size ∷ one) two h = asks_before one two h
+asks_before (fetch.InternalDate ∷ one) two h = asks_before one two h
+asks_before (fetch.Rfc822 which ∷ one) two h = asks_before one two h
 asks_before (fetch.Body peek which span ∷ one) two h = asks_before one two h
 
 any_asks : (list : List FetchItem) → list_any is_flags list ≡ true → Asks list
@@ -143,6 +153,8 @@ any_asks [] e = absurd (false≢true e)
 any_asks (fetch.Flags ∷ list) e = tt
 any_asks (fetch.Uid ∷ list) e = any_asks list e
 any_asks (fetch.Size ∷ list) e = any_asks list e
+any_asks (fetch.InternalDate ∷ list) e = any_asks list e
+any_asks (fetch.Rfc822 which ∷ list) e = any_asks list e
 any_asks (fetch.Body peek which span ∷ list) e = any_asks list e
 
 list_asks : (newly_seen : Bool) (list : List FetchItem) → (list_any is_flags list || newly_seen) ≡ true → Asks (list ++ flags_last newly_seen list)

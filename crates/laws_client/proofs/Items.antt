@@ -8,8 +8,13 @@ use Rattle.std.proofs.lemmas.List.Folds.{list_all-append}
 use Rattle.change_ring.specs.declared.change.Flags.{Flags}
 use Rattle.cursor_set.specs.Lines.{flag_words, spaced}
 use Rattle.mailbox.specs.declared.clients.Row.{Row}
-use Rattle.imap_answers.specs.Answers.{origin_text, part, section}
-use Rattle.imap_grammar.specs.Grammar.{section_word}
+use Rattle.mail_date.proofs.Plain.{date_plain, is_date_byte, message_dated, time_digit_first, time_plain, zone_plain}
+use Rattle.mail_date.specs.Dates.{is_date}
+use Rattle.mail_date.specs.Fields.{message_date}
+use Rattle.mail_date.specs.Internal.{date_text, sign, time_text, two_digits, zone_text}
+use Rattle.mail_date.specs.declared.stamp.Stamp.{Stamp}
+use Rattle.imap_answers.specs.Answers.{date_item, origin_text, part, section}
+use Rattle.imap_grammar.specs.Grammar.{rfc822_word, section_word}
 use Rattle.imap_grammar.specs.declared.items.FetchItem.{FetchItem}
 use Rattle.imap_grammar.specs.declared.items.FetchItem.TheVariants as fetch
 use Rattle.imap_grammar.specs.declared.items.Section.{Section}
@@ -20,7 +25,7 @@ use Rattle.laws_client.specs.Client.{Known, words, into_first, is_digit, number,
 use Rattle.laws_client.specs.Beliefs.{IsOf}
 use Rattle.laws_client.specs.Fetches.{IsToldPart, AreToldParts}
 use Rattle.laws_client.proofs.Bytes.{is_word, decimal_word, decimal_digits, decimal_says, first_of, rest_of}
-use Rattle.laws_client.proofs.Kept.{body_word, count_kept, item_kept, IsSmall, part_small}
+use Rattle.laws_client.proofs.Kept.{body_word, count_kept, each_date_byte, item_kept, IsSmall, part_small}
 
 -- ---- words
 
@@ -217,12 +222,74 @@ count_unspaced bytes h =
 regrouped : (a b c : List ℕ) → ((a ++ 32 ∷ []) ++ b) ++ c ≡ a ++ 32 ∷ (b ++ c)
 regrouped a b c = simp append_assoc
 
+-- a literal behind its name
+named_words : (name bytes : List ℕ) (last : Bool) → list_all is_unspaced name ≡ true → length bytes < 2 ^ 64
+    → words ((name ++ codes " " ++ count_kept bytes) ++ tail last) ≡ name ∷ (count_kept bytes ++ tail last) ∷ []
+named_words name bytes last unspaced h =
+    ap words (regrouped name (count_kept bytes) (tail last)) ∙ words_append name (count_kept bytes ++ tail last)
+    ∙ rw (one_word name unspaced, one_word (count_kept bytes ++ tail last) (tail_unspaced (count_kept bytes) last (count_unspaced bytes h))) refl
+
 pub body_words : (peek : Bool) (which : Section) (span : Option Span) (bytes : List ℕ) (last : Bool) → IsToldPart (fetch.Body peek which span) → length bytes < 2 ^ 64
     → words ((body_word which span ++ codes " " ++ count_kept bytes) ++ tail last) ≡ body_word which span ∷ (count_kept bytes ++ tail last) ∷ []
-body_words peek which span bytes last told h =
-    let body : List ℕ = body_word which span in
-    ap words (regrouped body (count_kept bytes) (tail last)) ∙ words_append body (count_kept bytes ++ tail last)
-    ∙ rw (one_word body (body_unspaced peek which span told), one_word (count_kept bytes ++ tail last) (tail_unspaced (count_kept bytes) last (count_unspaced bytes h))) refl
+body_words peek which span bytes last told h = named_words (body_word which span) bytes last (body_unspaced peek which span told) h
+
+rfc822_unspaced : (which : Section) → list_all is_unspaced (rfc822_word which) ≡ true
+rfc822_unspaced Whole = refl
+rfc822_unspaced Header = refl
+rfc822_unspaced Text = refl
+
+abbrev pub rfc822_words : Section → List ℕ → Bool → List (List ℕ)
+rfc822_words which bytes last = rfc822_word which ∷ (count_kept bytes ++ tail last) ∷ []
+
+-- what a client reads of a part of a text that RFC822 names, and no word of it is UID or FLAGS
+pub rfc822_read : (row : Row) (which : Section) (last : Bool) → IsSmall row → words (item_kept row (fetch.Rfc822 which) ++ tail last) ≡ rfc822_words which (section which row.text) last
+rfc822_read row which last small = named_words (rfc822_word which) (section which row.text) last (rfc822_unspaced which) (part_small row which None small)
+
+pub rfc822_other : (which : Section) (bytes : List ℕ) (last : Bool) → list_all is_other (rfc822_words which bytes last) ≡ true
+rfc822_other Whole bytes last = refl
+rfc822_other Header bytes last = refl
+rfc822_other Text bytes last = refl
+
+-- ---- dates
+
+date_byte_unspaced : (b : ℕ) → is_date_byte b ≡ true → is_unspaced b ≡ true
+date_byte_unspaced b h = rw (not_true (b == 32) (excludes is_date_byte 32 refl b h)) refl
+
+date_shape : (front day time zone last end : List ℕ)
+    → ((front ++ (day ++ 32 ∷ [] ++ time ++ 32 ∷ [] ++ zone)) ++ last) ++ end ≡ (front ++ day) ++ 32 ∷ (time ++ 32 ∷ ((zone ++ last) ++ end))
+date_shape front day time zone last end = simp append_assoc
+
+abbrev pub date_words : Stamp → Bool → List (List ℕ)
+date_words s last = codes "INTERNALDATE" ∷ (34 ∷ date_text s) ∷ time_text s ∷ ((zone_text s ++ codes "\"") ++ tail last) ∷ []
+
+-- what a client reads of a date, and no word of it is UID or FLAGS
+pub date_read : (text : List ℕ) (last : Bool) → words (date_item text ++ tail last) ≡ date_words (message_date text) last
+date_read text last =
+    let s : Stamp = message_date text in
+    let dated : is_date s ≡ true = message_dated text in
+    let day : List ℕ = date_text s in
+    let time : List ℕ = time_text s in
+    let zone : List ℕ = (zone_text s ++ codes "\"") ++ tail last in
+    let day_one : words (34 ∷ day) ≡ (34 ∷ day) ∷ [] = one_word (34 ∷ day) (each_date_byte is_unspaced date_byte_unspaced day (date_plain s dated)) in
+    let time_one : words time ≡ time ∷ [] = one_word time (each_date_byte is_unspaced date_byte_unspaced time (time_plain s dated)) in
+    let zone_unspaced : list_all is_unspaced (zone_text s ++ codes "\"") ≡ true =
+    list_all-append is_unspaced (zone_text s) (codes "\"") ∙ rw (each_date_byte is_unspaced date_byte_unspaced (zone_text s) (zone_plain s dated)) refl in
+    let zone_one : words zone ≡ zone ∷ [] = one_word zone (tail_unspaced (zone_text s ++ codes "\"") last zone_unspaced) in
+    ap words (date_shape (codes "INTERNALDATE \"") day time (zone_text s) (codes "\"") (tail last))
+    ∙ words_append (codes "INTERNALDATE \"" ++ day) (time ++ 32 ∷ zone)
+    ∙ ap (λ (ws : List (List ℕ)). ws ++ words (time ++ 32 ∷ zone)) (words_append (codes "INTERNALDATE") (34 ∷ day))
+    ∙ rw (day_one, words_append time zone) (rw (time_one, zone_one) refl)
+
+zone_other : (is_west : Bool) (hours minutes last end : List ℕ) → is_other (((sign is_west ++ hours ++ minutes) ++ last) ++ end) ≡ true
+zone_other true hours minutes last end = refl
+zone_other false hours minutes last end = refl
+
+pub date_other : (s : Stamp) (last : Bool) → is_date s ≡ true → list_all is_other (date_words s last) ≡ true
+date_other s last dated =
+    let t = time_digit_first s dated in
+    let time : is_other (time_text s) ≡ true = ap is_other t.2 ∙ digit_is_other t.0 t.3 in
+    let zone : is_other ((zone_text s ++ codes "\"") ++ tail last) ≡ true = zone_other s.zone.is_west (two_digits s.zone.hours) (two_digits s.zone.minutes) (codes "\"") (tail last) in
+    rw (time, zone) refl
 
 pub item_harmless : (row : Row) (item : FetchItem) (last : Bool) → IsSmall row → IsToldPart item → Harmless row.uid (words (item_kept row item ++ tail last))
 item_harmless row fetch.Uid last small told =
@@ -232,6 +299,12 @@ item_harmless row fetch.Size last small told =
     let n : ℕ = length row.text in
     subst (λ (ws : List (List ℕ)). Harmless row.uid (codes "RFC822.SIZE" ∷ ws)) (sym (number_words n last small.text))
     (others_harmless row.uid (codes "RFC822.SIZE" ∷ (decimal n ++ tail last) ∷ []) (rw (digits_other (decimal n) last (decimal_digits n small.text)) refl))
+item_harmless row fetch.InternalDate last small told =
+    subst (λ (ws : List (List ℕ)). Harmless row.uid ws) (sym (date_read row.text last))
+    (others_harmless row.uid (date_words (message_date row.text) last) (date_other (message_date row.text) last (message_dated row.text)))
+item_harmless row (fetch.Rfc822 which) last small told =
+    subst (λ (ws : List (List ℕ)). Harmless row.uid ws) (sym (rfc822_read row which last small))
+    (others_harmless row.uid (rfc822_words which (section which row.text) last) (rfc822_other which (section which row.text) last))
 item_harmless row (fetch.Body peek which span) last small told =
     let bytes : List ℕ = part span (section which row.text) in
     subst (λ (ws : List (List ℕ)). Harmless row.uid ws) (sym (body_words peek which span bytes last told (part_small row which span small)))

@@ -7,8 +7,14 @@ use Rattle.std.proofs.lemmas.List.{append-nil, length-drop, reverse-append, reve
 use Rattle.std.proofs.lemmas.List.Folds.{list_all-append}
 use Rattle.cursor_set.specs.Lines.{spaced}
 use Rattle.mailbox.specs.declared.clients.Row.{Row}
-use Rattle.imap_answers.specs.Answers.{crlf, is_crlf, flags_text, header, header_from, item_text, literal, origin_text, part, section}
-use Rattle.imap_grammar.specs.Grammar.{section_word}
+use Rattle.mail_date.proofs.Plain.{date_plain, is_date_byte, message_dated, time_plain, zone_plain}
+use Rattle.mail_date.specs.Dates.{is_date}
+use Rattle.mail_date.specs.Fields.{message_date}
+use Rattle.mail_date.specs.Internal.{date_text, internal_text, time_text, zone_text}
+use Rattle.mail_date.specs.declared.stamp.Stamp.{Stamp}
+use Rattle.imap_grammar.proofs.Tokens.{excludes, not_true}
+use Rattle.imap_answers.specs.Answers.{crlf, date_item, is_crlf, flags_text, header, header_from, item_text, literal, origin_text, part, section}
+use Rattle.imap_grammar.specs.Grammar.{rfc822_word, section_word}
 use Rattle.imap_grammar.specs.declared.items.FetchItem.{FetchItem}
 use Rattle.imap_grammar.specs.declared.items.FetchItem.TheVariants as fetch
 use Rattle.imap_grammar.specs.declared.items.Section.{Section}
@@ -17,7 +23,7 @@ use Rattle.imap_grammar.specs.declared.items.Span.{Span}
 use Rattle.laws_client.specs.Client.{Client, Messages, knowing, within, reads, line_ends, literal_of, told}
 use Rattle.laws_client.specs.ListTurns.{is_inner}
 use Rattle.laws_client.specs.Fetches.{IsToldPart, AreToldParts}
-use Rattle.laws_client.proofs.Bytes.{reads-append, inner_byte, inner_text, words_are_inner, decimal_word}
+use Rattle.laws_client.proofs.Bytes.{first_of, rest_of, reads-append, inner_byte, inner_text, words_are_inner, decimal_word}
 use Rattle.laws_client.proofs.LinesRead.{flags_inner, flags_part}
 use Rattle.laws_client.proofs.Literals.{literal_leaves_its_count}
 
@@ -58,12 +64,45 @@ abbrev pub item_kept : Row → FetchItem → List ℕ
 item_kept row fetch.Uid = codes "UID " ++ decimal row.uid
 item_kept row fetch.Flags = flags_text row.flags
 item_kept row fetch.Size = codes "RFC822.SIZE " ++ decimal (length row.text)
+item_kept row fetch.InternalDate = date_item row.text
+item_kept row (fetch.Rfc822 which) = rfc822_word which ++ codes " " ++ count_kept (section which row.text)
 item_kept row (fetch.Body peek which span) = body_word which span ++ codes " " ++ count_kept (part span (section which row.text))
 
 -- the numbers of a row can be printed
 pub record IsSmall (row : Row) : Type 0 where
   pub uid : row.uid < 2 ^ 64
   pub text : length row.text < 2 ^ 64
+
+-- ---- dates
+
+-- what is so of each byte of a date is so of all of them
+pub each_date_byte : (q : ℕ → Bool) → ((b : ℕ) → is_date_byte b ≡ true → q b ≡ true) → (text : List ℕ) → list_all is_date_byte text ≡ true → list_all q text ≡ true
+each_date_byte q f [] h = refl
+each_date_byte q f (b ∷ bs) h = rw (f b (first_of is_date_byte b bs h), each_date_byte q f bs (rest_of is_date_byte b bs h)) refl
+
+both_all : (q : ℕ → Bool) (a b : List ℕ) → list_all q a ≡ true → list_all q b ≡ true → list_all q (a ++ b) ≡ true
+both_all q a b h k = list_all-append q a b ∙ rw (h, k) refl
+
+date_byte_inner : (b : ℕ) → is_date_byte b ≡ true → is_inner b ≡ true
+date_byte_inner b h = rw (not_true (b == 10) (excludes is_date_byte 10 refl b h)) refl
+
+stamp_inner : (s : Stamp) → is_date s ≡ true → list_all is_inner (internal_text s) ≡ true
+stamp_inner s h =
+    let day : list_all is_inner (date_text s) ≡ true = each_date_byte is_inner date_byte_inner (date_text s) (date_plain s h) in
+    let time : list_all is_inner (time_text s) ≡ true = each_date_byte is_inner date_byte_inner (time_text s) (time_plain s h) in
+    let zone : list_all is_inner (zone_text s) ≡ true = each_date_byte is_inner date_byte_inner (zone_text s) (zone_plain s h) in
+    both_all is_inner (date_text s ++ codes " " ++ time_text s ++ codes " ") (zone_text s)
+    (both_all is_inner (date_text s ++ codes " " ++ time_text s) (codes " ")
+    (both_all is_inner (date_text s ++ codes " ") (time_text s) (both_all is_inner (date_text s) (codes " ") day refl) time) refl) zone
+
+-- no date ends a line
+pub date_inner : (text : List ℕ) → list_all is_inner (date_item text) ≡ true
+date_inner text =
+    let date : List ℕ = internal_text (message_date text) in
+    both_all is_inner (codes "INTERNALDATE \"" ++ date) (codes "\"")
+    (both_all is_inner (codes "INTERNALDATE \"") date refl (stamp_inner (message_date text) (message_dated text))) refl
+
+-- ---- lengths
 
 header_most : (fresh : Bool) (text : List ℕ) → length (header_from fresh text) ≤ length text
 header_most fresh [] = omega arith
@@ -117,12 +156,22 @@ flags_all text h = by (list_all is_inner text) (sym (list_all-append is_inner te
     by true k = refl
     by false k = absurd (false≢true k)
 
+pub rfc822_inner : (which : Section) → list_all is_inner (rfc822_word which ++ codes " ") ≡ true
+rfc822_inner Whole = refl
+rfc822_inner Header = refl
+rfc822_inner Text = refl
+
 pub item_keeping : (row : Row) (item : FetchItem) → IsSmall row → IsToldPart item → Keeping (item_text row item) (item_kept row item)
 item_keeping row fetch.Uid small told = both_keeping (codes "UID ") (codes "UID ") (decimal row.uid) (decimal row.uid) (inner_keeping (codes "UID ") refl) (number_keeping row.uid small.uid)
 item_keeping row fetch.Flags small told =
     inner_keeping (flags_part row.flags) (flags_all (flags_part row.flags) (flags_inner row.flags.answered row.flags.flagged row.flags.deleted row.flags.seen row.flags.draft))
 item_keeping row fetch.Size small told =
     both_keeping (codes "RFC822.SIZE ") (codes "RFC822.SIZE ") (decimal (length row.text)) (decimal (length row.text)) (inner_keeping (codes "RFC822.SIZE ") refl) (number_keeping (length row.text) small.text)
+item_keeping row fetch.InternalDate small told = inner_keeping (date_item row.text) (date_inner row.text)
+item_keeping row (fetch.Rfc822 which) small told =
+    let front : List ℕ = rfc822_word which ++ codes " " in
+    let bytes : List ℕ = section which row.text in
+    both_keeping front front (literal bytes) (count_kept bytes) (inner_keeping front (rfc822_inner which)) (literal_keeping bytes (part_small row which None small))
 item_keeping row (fetch.Body peek which span) small told =
     let front : List ℕ = codes "BODY[" ++ section_word which ++ codes "]" in
     let bytes : List ℕ = part span (section which row.text) in

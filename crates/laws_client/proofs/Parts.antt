@@ -17,6 +17,8 @@ item_told : (item : FetchItem) (text : List ℕ) → ItemIs item text → IsTold
 item_told fetch.Uid text is = tt
 item_told fetch.Flags text is = tt
 item_told fetch.Size text is = tt
+item_told fetch.InternalDate text is = tt
+item_told (fetch.Rfc822 section) text is = tt
 item_told (fetch.Body peek section None) text is = tt
 item_told (fetch.Body peek section (Some span)) text is = omega (arith, is.second.second.second.second.first.1)
 
@@ -30,7 +32,8 @@ separated_told (item ∷ items) text are = (item_told item are.front are.first, 
 
 items_told : (items : List FetchItem) (text : List ℕ) → ItemsAre items text → AreToldParts items
 items_told items text (inl (item, is, one)) = subst (λ (xs : List FetchItem). AreToldParts xs) (sym is) (item_told item text one, tt)
-items_told items text (inr many) = separated_told items many.second.front many.second.first
+items_told items text (inr (inl (are, fast))) = subst (λ (xs : List FetchItem). AreToldParts xs) (sym are) (tt, (tt, (tt, tt)))
+items_told items text (inr (inr many)) = separated_told items many.second.front many.second.first
 
 line_told : (tag : List ℕ) (command : Command) (line : List ℕ) → Line tag command line → HasToldParts command
 line_told tag (commands.Fetch f) line is = items_told f.items _ is.second.second.second.first.second.second.second

@@ -6,6 +6,8 @@ use Rattle.std.proofs.lemmas.Bool.{false≢true}
 use Rattle.change_ring.specs.declared.change.Flags.{Flags}
 use Rattle.cursor_set.specs.Lines.{flag_words, position, spaced}
 use Rattle.mailbox.specs.declared.clients.Row.{Row}
+use Rattle.mail_date.proofs.Plain.{message_dated}
+use Rattle.mail_date.specs.Fields.{message_date}
 use Rattle.imap_answers.specs.Answers.{answered, fetch_answer, item_text, part, row_answer, section, flags_answer}
 use Rattle.imap_grammar.specs.declared.items.FetchItem.{FetchItem}
 use Rattle.imap_grammar.specs.declared.items.FetchItem.TheVariants as fetch
@@ -16,7 +18,7 @@ use Rattle.laws_client.proofs.Each.{IsIn, is_in, is_told}
 use Rattle.laws_client.proofs.Fetched.{answer_read, answered_told, row_of, store_items, store_shape, store_told}
 use Rattle.laws_client.proofs.Chosen.{small_in}
 use Rattle.laws_client.proofs.Follows.{position_most}
-use Rattle.laws_client.proofs.Items.{body_words, digits_closed, digits_other, flag_list, flag_list_other, flags_of, is_other, number_words, other_passes, tail, words_append}
+use Rattle.laws_client.proofs.Items.{body_words, date_other, date_read, date_words, digits_closed, digits_other, flag_list, flag_list_other, flags_of, is_other, number_words, other_passes, rfc822_other, rfc822_read, rfc822_words, tail, words_append}
 use Rattle.laws_client.proofs.Kept.{body_word, count_kept, item_kept, IsSmall, part_small}
 use Rattle.laws_client.specs.Flags.{Believes, FlagsOf, Point, counted}
 use Rattle.laws_client.specs.FlagTurns.{LeavesFlags}
@@ -107,6 +109,12 @@ item_keeps P Q row fetch.Size last a small told =
     let n : ℕ = length row.text in
     subst (λ (ws : List (List ℕ)). Keeps P Q (codes "RFC822.SIZE" ∷ ws)) (sym (number_words n last small.text))
     (others_keep P Q (codes "RFC822.SIZE" ∷ (decimal n ++ tail last) ∷ []) (rw (digits_other (decimal n) last (decimal_digits n small.text)) refl))
+item_keeps P Q row fetch.InternalDate last a small told =
+    subst (λ (ws : List (List ℕ)). Keeps P Q ws) (sym (date_read row.text last))
+    (others_keep P Q (date_words (message_date row.text) last) (date_other (message_date row.text) last (message_dated row.text)))
+item_keeps P Q row (fetch.Rfc822 which) last a small told =
+    subst (λ (ws : List (List ℕ)). Keeps P Q ws) (sym (rfc822_read row which last small))
+    (others_keep P Q (rfc822_words which (section which row.text) last) (rfc822_other which (section which row.text) last))
 item_keeps P Q row (fetch.Body peek which span) last a small told =
     let bytes : List ℕ = part span (section which row.text) in
     subst (λ (ws : List (List ℕ)). Keeps P Q ws) (sym (body_words peek which span bytes last told (part_small row which span small)))

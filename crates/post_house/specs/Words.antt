@@ -51,7 +51,7 @@ logged_rules =
     number_rule (codes "lmtp-port") 0 65535
     ∷ number_rule (codes "imap-port") 0 65472
     ∷ number_rule (codes "workers") 1 8
-    ∷ number_rule (codes "sessions") 1 4
+    ∷ number_rule (codes "sessions") 1 16
     ∷ flag_rule (codes "log")
     ∷ []
 
@@ -77,8 +77,8 @@ program = record {
 abbrev pub faults_at : List Text → Kinds
 faults_at words = fault_of program words
 
--- what clap takes, and the program doesn't: a number that is spelled with other than digits, a port of users or of the page that is neither 0 nor high enough, no mailbox, no
--- subcommand
+-- what clap takes, and the program doesn't: a number that is spelled with other than digits, a port of users or of the page that is neither 0 nor high enough, more sessions
+-- than the standard profile has, no mailbox, no subcommand
 abbrev pub own_faults : Kinds
 own_faults = kind.ValueValidation ∷ kind.MissingRequiredArgument ∷ kind.MissingSubcommand ∷ []
 

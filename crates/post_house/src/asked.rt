@@ -1,10 +1,10 @@
 //! What the words of a command line ask for, and the settings that they come to.
 
-ghost use Rattle.std.specs.Prelude.{◌≡◌, ◌≢◌, ◌≤◌, ◌<◌, [], codes, length, map, IfOk, MatchResult, OnOk, Some};
+ghost use Rattle.std.specs.Prelude.{◌≡◌, ◌≢◌, ◌≤◌, ◌<◌, [], codes, false, length, map, IfOk, MatchResult, OnOk, Some};
 ghost use Rattle.std.specs.Char.{is_ascii_digit};
 ghost use Rattle.std.specs.List.{list_all};
 ghost use Rattle.clap.specs.Words.{IsAmong, app_of, first_of, found_of, kind_of, rows_of, subcommand_rows_of};
-ghost use Rattle.settings.specs.Settings.{IsDefault, IsFrom, IsInRange};
+ghost use Rattle.settings.specs.Settings.{IsDefault, IsFrom, IsInRange, most_sessions};
 ghost use Rattle.post_house.specs.Asking.{AsksBy, AsksFor, AsksForScript, IsAskedInRange};
 ghost use Rattle.post_house.specs.Asking.{form_given, is_flag, is_given, mailboxes_given, number_given, port_of, reporting_given, server_shards, text_given, uidvalidity_given};
 ghost use Rattle.post_house.specs.Words as words_taken;
@@ -19,7 +19,7 @@ use clap::{ArgMatches, Command, Error};
 use script::Form;
 use serving::{Reporting, Uidvalidity};
 use settings::Config;
-use settings::numbers::LEAST_IMAP_PORT;
+use settings::numbers::{LEAST_IMAP_PORT, SESSIONS as STANDARD_SESSIONS, sessions_of};
 use std::alloc::{AllocError, Global};
 use std::convert::AsStr;
 
@@ -51,6 +51,8 @@ enum Refused<'a> {
     Spelling(&'static str, &'a str),
     /// A port of this option that is neither 0 nor 1024 or more.
     LowPort(&'static str, u64),
+    /// So many sessions of one user are more than the standard profile has.
+    Sessions(u64),
     /// There is no mailbox.
     NoMailbox,
     /// There is no subcommand.
@@ -134,6 +136,24 @@ fn given_page_port<'a>(matches: &ArgMatches<'a>) -> Result<Option<u16>, Refused<
     let number = given(matches, STATUS_PORT, 0)?;
     let port = allowed_port(STATUS_PORT.name, number)?;
     Ok(Some(port))
+}
+
+// The sessions of each user that were given, or else their default: no more than the profile has.
+fn given_sessions<'a>(
+    matches: &ArgMatches<'a>,
+    compatible: bool,
+    default: u8,
+) -> Result<u8, Refused<'a>>
+    requires { IsFrom 1 (most_sessions compatible) default }
+    ensures range { IfOk result (IsFrom 1 (most_sessions compatible)) }
+    ensures value { IfOk result (λ n.
+        n ≡ number_given (rows_of (found_of matches.now)) (codes "sessions") default) }
+{
+    let count = given(matches, SESSIONS, u64::from(default))?;
+    if !sessions_of(compatible).allows(count) {
+        return Err(Refused::Sessions(count));
+    }
+    Ok(count as u8)
 }
 
 // A name is set where one was given.
@@ -245,12 +265,13 @@ fn set_windows<'a>(matches: &ArgMatches<'a>, config: &mut Config) -> Result<(), 
     Ok(())
 }
 
-// The UIDs that were given are set, and the profile.
+// The UIDs that were given are set, and the profile, which is the standard one before.
 fn set_uids_and_profile<'a>(
     matches: &ArgMatches<'a>,
     config: &mut Config,
 ) -> Result<(), Refused<'a>>
-    requires { IsInRange config.old }
+    requires range { IsInRange config.old }
+    requires standard { config.old.compatible ≡ false }
     ensures range { IsInRange config.new }
     ensures uidvalidity { OnOk result (config.new.uidvalidity
         ≡ number_given (rows_of (found_of matches.now)) (codes "uidvalidity")
@@ -317,7 +338,7 @@ fn set_server<'a>(matches: &ArgMatches<'a>, config: &mut Config) -> Result<(), R
     config.lmtp_port = given(matches, LMTP_PORT, u64::from(config.lmtp_port))? as u16;
     config.imap_port = given_user_port(matches, config.imap_port)?;
     config.workers = given(matches, WORKERS, u64::from(config.workers))? as u8;
-    config.sessions = given(matches, SESSIONS, u64::from(config.sessions))? as u8;
+    config.sessions = given_sessions(matches, config.compatible, config.sessions)?;
     Ok(())
 }
 
@@ -327,7 +348,8 @@ fn set_given<'a>(
     matches: &ArgMatches<'a>,
     config: &mut Config,
 ) -> Result<(), Refused<'a>>
-    requires { IsInRange config.old }
+    requires range { IsInRange config.old }
+    requires standard { config.old.compatible ≡ false }
     ensures range { IsInRange config.new }
     ensures given { OnOk result
         (IsDefault config.old (mailboxes_given (rows_of (found_of matches.now)))
@@ -488,6 +510,21 @@ fn too_low<'a>(
     command.error(ErrorKind::ValueValidation, &reason)
 }
 
+// The mistake in more sessions than the standard profile has.
+fn too_many_sessions<'a>(
+    alloc: Global,
+    command: &mut Command<'a>,
+    count: u64,
+) -> Result<Error, AllocError>
+    ensures { IfOk result (λ e. kind_of e ≡ ErrorKind.ValueValidation) }
+{
+    let reason = format!(in alloc;
+        "invalid value '{}' for '--{}': without --{} it is not more than {}",
+        count, SESSIONS.name, COMPATIBLE, STANDARD_SESSIONS.most
+    )?;
+    command.error(ErrorKind::ValueValidation, &reason)
+}
+
 // What clap tells of a mistake that it didn't find itself.
 fn error_of<'a>(
     alloc: Global,
@@ -499,6 +536,7 @@ fn error_of<'a>(
     match refused {
         Refused::Spelling(name, text) => misspelled(alloc, command, name, text),
         Refused::LowPort(name, port) => too_low(alloc, command, name, port),
+        Refused::Sessions(count) => too_many_sessions(alloc, command, count),
         Refused::NoMailbox => {
             command.error(ErrorKind::MissingRequiredArgument, "there is no mailbox")
         }
@@ -536,7 +574,8 @@ fn asked_by<'a, S: AsStr>(
 /// right.
 ///
 /// The error is clap's: a mistake in the words, a number that is out of its range or has other than digits, a port of users or of
-/// the page from 1 to 1023, or a request for help; of kind `OutOfMemory` where memory is refused.
+/// the page from 1 to 1023, more than 4 sessions of a user without `--compatible`, or a request for help; of kind `OutOfMemory` where
+/// memory is refused.
 pub fn asked_of<'a, S: AsStr>(alloc: Global, words: &'a [S]) -> Result<Asked, Error>
     ensures range { IfOk result IsAskedInRange }
     ensures asks { IfOk result (AsksFor (map S.text words.entry.now)) }

@@ -102,8 +102,8 @@ pub(crate) const WORKERS: NumberOption = NumberOption {
 pub(crate) const SESSIONS: NumberOption = NumberOption {
     name: "sessions",
     help: "Sessions of each user that are served at a time",
-    number: numbers::SESSIONS,
-    besides: "",
+    number: numbers::COMPATIBLE_SESSIONS,
+    besides: "; without --compatible 4 at most",
 };
 
 /// The port of a server's page, which has none where that isn't given.

@@ -33,10 +33,10 @@ pub(crate) fn berths_for(
     directory: &Directory,
     count: u8,
 ) -> Result<Vec<Guest>, AllocError>
-    requires { count ≤ 4 }
+    requires { count ≤ 16 }
     ensures named { IfOk result (λ vs.
         All (λ v. user_numbered v.user directory.now.homes ≢ None) vs.items) }
-    ensures few { IfOk result (λ vs. vec_len vs ≤ 256) }
+    ensures few { IfOk result (λ vs. vec_len vs ≤ 1024) }
     ensures count { IfOk result (λ vs. vec_len vs ≡ count * length (users_of directory.now.homes)) }
 {
     let mut guests = Vec::new(alloc);

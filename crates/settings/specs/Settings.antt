@@ -37,6 +37,10 @@ pub record IsDefault (c : Config) (words : List (List ℕ)) : Type 0 where
 abbrev pub IsFrom : (least most n : ℕ) → Type 0
 IsFrom least most n = (least ≤ n) × (n ≤ most)
 
+-- so many sessions of one user may be open at a time, in the compatible profile and in the standard one
+abbrev pub most_sessions : Bool → ℕ
+most_sessions compatible = if compatible then 16 else 4
+
 -- each number is in its range, and there is a mailbox
 pub record IsInRange (c : Config) : Type 0 where
   pub mailboxes : 0 < length c.mailboxes.items
@@ -48,7 +52,7 @@ pub record IsInRange (c : Config) : Type 0 where
   pub max_message : IsFrom 1 16777216 c.max_message
   pub uidvalidity : IsFrom 1 4294967295 c.uidvalidity
   pub first_uid : IsFrom 1 4294967294 c.first_uid
-  pub sessions : IsFrom 1 4 c.sessions
+  pub sessions : IsFrom 1 (most_sessions c.compatible) c.sessions
   pub workers : IsFrom 1 8 c.workers
   -- 0 is for ports that the system chooses
   pub lmtp_port : IsFrom 0 65535 c.lmtp_port

@@ -2,7 +2,7 @@
 
 ghost use Rattle.std.specs.Prelude.{◌≡◌, ◌≢◌, ◌<◌, ◌≤◌, IfOk, length, map, true, false};
 ghost use Rattle.envelope.specs.Names.{texts};
-ghost use Rattle.settings.specs.Settings.{IsDefault, IsFrom, IsInRange, fault_named};
+ghost use Rattle.settings.specs.Settings.{IsDefault, IsFrom, IsInRange, fault_named, most_sessions};
 
 use crate::numbers;
 use envelope::DirectoryFault;
@@ -35,7 +35,8 @@ pub struct Config {
     pub uidvalidity: u32,
     /// The UID of a mailbox's first message, 1 to 4294967294.
     pub first_uid: u32,
-    /// So many sessions of one user may run as threads, 1 to 4. A house that is played step by step doesn't look at it.
+    /// So many sessions of one user may run as threads, 1 to 4, and to 16 in the compatible profile. A house that is played step by
+    /// step doesn't look at it.
     pub sessions: u8,
     /// So many LMTP connections may be served at a time, 1 to 8. Only a server looks at it, and at the ports.
     pub workers: u8,
@@ -143,7 +144,8 @@ impl Config {
         ensures mailboxes { result ≡ true → 0 < length self.now.mailboxes.items }
         ensures shards { result ≡ true → IsFrom 1 8 self.now.shards }
         ensures depth { result ≡ true → IsFrom 1 1024 self.now.depth }
-        ensures sessions { result ≡ true → IsFrom 1 4 self.now.sessions }
+        ensures sessions { result ≡ true →
+            IsFrom 1 (most_sessions self.now.compatible) self.now.sessions }
         ensures beyond { result ≡ false → IsInRange self.now → ⊥ }
     {
         if self.mailboxes.is_empty() {
@@ -155,7 +157,7 @@ impl Config {
         if !numbers::DEPTH.allows(self.depth as u64) {
             return false;
         }
-        if !numbers::SESSIONS.allows(u64::from(self.sessions)) {
+        if !numbers::sessions_of(self.compatible).allows(u64::from(self.sessions)) {
             return false;
         }
         true

@@ -2,7 +2,7 @@
 //! both from here. What the numbers are for is told in `config`.
 
 ghost use Rattle.std.specs.Prelude.{◌≡◌, true, false};
-ghost use Rattle.settings.specs.Settings.{IsFrom};
+ghost use Rattle.settings.specs.Settings.{IsFrom, most_sessions};
 
 /// A number among the settings.
 #[derive(Clone, Copy, Debug, PartialEq, Eq)]
@@ -81,12 +81,32 @@ pub const FIRST_UID: Number = Number {
     default: 1,
 };
 
-/// Sessions of each user that run or are served at a time.
+/// Sessions of each user that run or are served at a time, in the standard profile.
 pub const SESSIONS: Number = Number {
     least: 1,
     most: 4,
     default: 2,
 };
+
+/// Sessions of each user that run or are served at a time, in the compatible profile: its clients open several, and a front one for each
+/// of its own.
+pub const COMPATIBLE_SESSIONS: Number = Number {
+    least: 1,
+    most: 16,
+    default: 2,
+};
+
+/// Sessions of each user, in either profile.
+pub fn sessions_of(compatible: bool) -> Number
+    ensures least { result.least ≡ 1 }
+    ensures most { result.most ≡ most_sessions compatible }
+{
+    if compatible {
+        COMPATIBLE_SESSIONS
+    } else {
+        SESSIONS
+    }
+}
 
 /// LMTP connections that are served at a time.
 pub const WORKERS: Number = Number {

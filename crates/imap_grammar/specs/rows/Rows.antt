@@ -289,6 +289,36 @@ two_bare : read (codes "a1 FETCH 1 UID FLAGS") ≡ Err (Arguments (codes "a1") v
 unfolding read
 two_bare = refl
 
+-- ---- items that the standard profile doesn't have
+
+date : read (codes "a1 FETCH 1 InternalDate") ≡ Ok (codes "a1", say.Fetch (record { by_uid = false; set = range (Number 1) (Number 1) ∷ []; items = fetch.InternalDate ∷ [] }))
+unfolding read
+date = refl
+
+parts_by_name : read (codes "a1 FETCH 1 (RFC822.HEADER rfc822.text RFC822)") ≡ Ok (codes "a1", say.Fetch (record { by_uid = false; set = range (Number 1) (Number 1) ∷ []; items = fetch.Rfc822 Header ∷ fetch.Rfc822 Text ∷ fetch.Rfc822 Whole ∷ [] }))
+unfolding read
+parts_by_name = refl
+
+fast : read (codes "a1 FETCH 1 Fast ") ≡ Ok (codes "a1", say.Fetch (record { by_uid = false; set = range (Number 1) (Number 1) ∷ []; items = fetch.Flags ∷ fetch.InternalDate ∷ fetch.Size ∷ [] }))
+unfolding read
+fast = refl
+
+fast_among_items : read (codes "a1 FETCH 1 (FAST UID)") ≡ Err (Arguments (codes "a1") verbs.Fetch)
+unfolding read
+fast_among_items = refl
+
+fast_in_parentheses : read (codes "a1 FETCH 1 (FAST)") ≡ Err (Arguments (codes "a1") verbs.Fetch)
+unfolding read
+fast_in_parentheses = refl
+
+part_of_rfc822 : read (codes "a1 FETCH 1 RFC822<0.4>") ≡ Err (Arguments (codes "a1") verbs.Fetch)
+unfolding read
+part_of_rfc822 = refl
+
+full : read (codes "a1 FETCH 1 FULL") ≡ Err (Arguments (codes "a1") verbs.Fetch)
+unfolding read
+full = refl
+
 envelope : read (codes "a1 FETCH 1 ENVELOPE") ≡ Err (Arguments (codes "a1") verbs.Fetch)
 unfolding read
 envelope = refl

@@ -1,0 +1,9 @@
+pub mod Steps
+pub mod Blanks
+pub mod Sound
+pub mod BlanksAgain
+pub mod Again
+pub mod Back
+pub mod Plain
+pub mod HeaderSound
+pub mod HeaderAgain

@@ -1,0 +1,9 @@
+pub mod Bytes
+pub mod Dates
+pub mod Grammar
+pub mod Reading
+pub mod Fields
+pub mod Header
+pub mod Internal
+pub mod InternalBack
+pub mod rows

@@ -1,0 +1,22 @@
+//! The date of a message, without a clock: what the last relay wrote into the first Received field of its header
+//! (RFC 5322, sections 3.3, 3.6.7 and 4.3), and the form in which IMAP writes a date (RFC 9051, date-time).
+//! Which answers have a date in them is for the crates above.
+#![tactic(auto)]
+
+mod field;
+mod front;
+mod internal;
+mod laws;
+mod parts;
+mod place;
+mod stamp;
+#[cfg(test)]
+mod tests;
+
+pub use field::message_date;
+pub use internal::{INTERNAL_LEN, write_internal_date};
+pub use laws::{
+    the_first_received_is_taken, what_is_read_is_spelled, what_is_spelled_is_read,
+    what_is_written_is_read,
+};
+pub use stamp::{Stamp, Zone};
