@@ -34,6 +34,7 @@ REFUSED = (
     "script --lmtp-port 2424 alice",
     "serve --workers 0 alice",
     "serve --sessions 5 alice",
+    "serve --compatible --sessions 17 alice",
     "serve --imap-port 80 alice",
     "serve --imap-port 1023 alice",
     "serve --imap-port 65473 alice",

@@ -9,14 +9,18 @@ capabilities. What each command answers is compared with what RFC 3501 and RFC 9
 many passed.
 """
 
+import calendar
 import imaplib
+import socket
 import sys
+import time
 
 from serving_house import House
 
 USERS = ("alice", "bob")
 CAPABILITIES = ("IMAP4REV2", "IMAP4REV1", "IDLE", "NAMESPACE", "UIDPLUS", "UNSELECT")
 PATIENCE = 20
+MOST_SESSIONS = 16
 
 tried, failures = 0, []
 
@@ -66,6 +70,42 @@ def folders(client):
     expect("STATUS", client.status("INBOX", "(MESSAGES RECENT UNSEEN)"), ("OK", [b"INBOX (MESSAGES 1 RECENT 0 UNSEEN 1)"]))
 
 
+def dates(client, house):
+    """When a message came is what its last relay wrote; without that it is the first second of 1970, of which imaplib makes a time too."""
+    received = ("Received: from a.example by mx.example.org", "\t(Postfix) id 4; Tue, 24 Nov 2026 10:20:30 +0100 (CET)", "Received: by a.example; Mon, 2 Nov 2026 1:02:03 GMT")
+    deliver(house, (*received, "Subject: dated", "", "hi"), "alice")
+    expect("SELECT", client.select("INBOX"), ("OK", [b"2"]))
+    found = client.fetch("1:*", "(INTERNALDATE)")[1]
+    expect("dates", found, [b'1 (INTERNALDATE "01-Jan-1970 00:00:00 +0000")', b'2 (INTERNALDATE "24-Nov-2026 10:20:30 +0100")'])
+    expect("a time of it", calendar.timegm(time.gmtime(time.mktime(imaplib.Internaldate2tuple(found[1])))), calendar.timegm((2026, 11, 24, 9, 20, 30)))
+    header = b"Return-Path: <s@a.example>\r\nSubject: one\r\n\r\n"
+    expect("a header", client.fetch("1", "(RFC822.HEADER)")[1][0], (b"1 (RFC822.HEADER {%d}" % len(header), header))
+    expect("a message", client.fetch("1", "(RFC822)")[1], [(b"1 (RFC822 {%d}" % (len(header) + 4), header + b"hi\r\n"), b" FLAGS (\\Seen))"])
+    expect("FAST", client.fetch("1", "FAST")[1], [b'1 (FLAGS (\\Seen) INTERNALDATE "01-Jan-1970 00:00:00 +0000" RFC822.SIZE %d)' % (len(header) + 4)])
+    expect("what is taken back", client.store("1", "-FLAGS", r"(\Seen)")[0], "OK")
+    expect("a flag", client.store("2", "+FLAGS", r"(\Deleted)")[0], "OK")
+    expect("EXPUNGE", client.expunge(), ("OK", [b"2"]))
+    expect("CLOSE", client.close()[0], "OK")
+
+
+def many(house):
+    """Sixteen sessions of one user are open at a time; one more is told so after two seconds, and is let in once another has left."""
+    clients = [connect(house.imap_ports[0]) for _ in range(MOST_SESSIONS)]
+    for client in clients:
+        expect("one of many", client.login("alice", "x")[0], "OK")
+    for client in clients:
+        expect("each of them serves", client.select("INBOX", readonly=True)[0], "OK")
+    began = time.monotonic()
+    with socket.create_connection(("127.0.0.1", house.imap_ports[0]), timeout=PATIENCE) as late:
+        expect("one too many", b"".join(iter(lambda: late.recv(4096), b"")), b"* BYE Too many sessions\r\n")
+    expect("how long it waited", 1.5 < time.monotonic() - began < 5, True)
+    clients.pop().logout()
+    clients.append(connect(house.imap_ports[0]))
+    expect("one that came when another had left", clients[-1].login("alice", "x")[0], "OK")
+    for client in clients:
+        client.logout()
+
+
 def reading(client, house):
     expect("SELECT", client.select("INBOX"), ("OK", [b"1"]))
     expect("EXISTS", client.response("EXISTS"), ("EXISTS", [b"1"]))
@@ -93,10 +133,11 @@ def idling(client, house):
 
 def main():
     program = sys.argv[1]
-    house = House(program, USERS, ("--uidvalidity", "7", "--compatible"))
+    house = House(program, USERS, ("--uidvalidity", "7", "--compatible", "--sessions", str(MOST_SESSIONS)))
     deliver(house, ("Subject: one", "", "hi"), "alice", "bob")
     client = before_login(house)
     folders(client)
+    dates(client, house)
     reading(client, house)
     idling(client, house)
     expect("LOGOUT", client.logout()[0], "BYE")
@@ -104,6 +145,7 @@ def main():
     expect("another user", other.login("bob", ""), ("OK", [b"LOGIN completed"]))
     expect("his mail", other.select(readonly=True), ("OK", [b"1"]))
     other.logout()
+    many(house)
     expect("the status at the end", house.stop(), 0)
     house = House(program, USERS, ("--uidvalidity", "7"))
     refused("a client of IMAP4rev1 without the option", lambda: connect(house.imap_ports[0]))

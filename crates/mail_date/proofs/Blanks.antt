@@ -37,15 +37,15 @@ decides_false false h n = refl
 abbrev pub inside : Bool → ℕ → Place
 inside e d = record { is_quoted = false; is_escaped = e; depth = d }
 
--- so many comments are closed, and what is blank follows
-abbrev Closes : ℕ → List ℕ → Type 0
-Closes zero text = Blank text
-Closes (suc d) text = (inner : List ℕ) × (rest : List ℕ) × (text ≡ inner ++ 41 ∷ rest) × Inside inner × Closes d rest
+-- so many comments are closed, and such a text follows
+abbrev pub Closes : (List ℕ → Type 0) → ℕ → List ℕ → Type 0
+Closes P zero text = P text
+Closes P (suc d) text = (inner : List ℕ) × (rest : List ℕ) × (text ≡ inner ++ 41 ∷ rest) × Inside inner × Closes P d rest
 
-abbrev Found : Bool → ℕ → List ℕ → Type 0
-Found false d text = Closes d text
-Found true zero text = Unit {0}
-Found true (suc d) text = (b : ℕ) × (more : List ℕ) × (text ≡ b ∷ more) × Closes (suc d) more
+abbrev pub Found : (List ℕ → Type 0) → Bool → ℕ → List ℕ → Type 0
+Found P false d text = Closes P d text
+Found P true zero text = Unit {0}
+Found P true (suc d) text = (b : ℕ) × (more : List ℕ) × (text ≡ b ∷ more) × Closes P (suc d) more
 
 white_cases : (a b c d : Bool) → (((a || b) || c) || d) ≡ true → (a ≡ true) ⊎ (b ≡ true) ⊎ (c ≡ true) ⊎ (d ≡ true)
 white_cases true b c d e = inl refl
@@ -103,21 +103,21 @@ pub within : (d b : ℕ) → behind (inside false (suc d)) b ≡ chosen (b == 92
 within d b = ap (λ (z : Bool). stepped z d b) (not_zero d)
 
 -- a byte before what closes so many comments
-closes_more : (d b : ℕ) (more : List ℕ) → (k o c : Bool) → (b == 92) ≡ k → (b == 40) ≡ o → (b == 41) ≡ c
-    → Found k (cond k (suc d) (cond o (suc (suc d)) (cond c d (suc d)))) more → Closes (suc d) (b ∷ more)
-closes_more d b more true o c e f g w =
+pub closes_more : (P : List ℕ → Type 0) (d b : ℕ) (more : List ℕ) → (k o c : Bool) → (b == 92) ≡ k → (b == 40) ≡ o → (b == 41) ≡ c
+    → Found P k (cond k (suc d) (cond o (suc (suc d)) (cond c d (suc d)))) more → Closes P (suc d) (b ∷ more)
+closes_more P d b more true o c e f g w =
     let is : b ≡ 92 = (Decides-eqb b 92).0 e in
     (92 ∷ w.0 ∷ w.3.0, w.3.1, ap (λ (x : ℕ). x ∷ more) is ∙ ap (λ (l : List ℕ). 92 ∷ l) (w.2 ∙ ap (λ (l : List ℕ). w.0 ∷ l) w.3.2), grammar.escaped w.3.3, w.3.4)
-closes_more d b more false true c e f g w =
+closes_more P d b more false true c e f g w =
     let is : b ≡ 40 = (Decides-eqb b 40).0 f in
     let same : b ∷ more ≡ 40 ∷ (w.0 ++ 41 ∷ (w.4.0 ++ 41 ∷ w.4.1)) = ap (λ (x : ℕ). x ∷ more) is ∙ ap (λ (l : List ℕ). 40 ∷ l) (w.2 ∙ ap (λ (l : List ℕ). w.0 ++ 41 ∷ l) w.4.2) in
     (40 ∷ (w.0 ++ 41 ∷ w.4.0), w.4.1, same ∙ ap (λ (l : List ℕ). 40 ∷ l) (sym (append_assoc w.0 (41 ∷ w.4.0) (41 ∷ w.4.1))), grammar.nested w.0 w.4.0 refl w.3 w.4.3, w.4.4)
-closes_more d b more false false true e f g w =
+closes_more P d b more false false true e f g w =
     ([], more, ap (λ (x : ℕ). x ∷ more) ((Decides-eqb b 41).0 g), grammar.end, w)
-closes_more d b more false false false e f g w =
+closes_more P d b more false false false e f g w =
     (b ∷ w.0, w.1, ap (λ (l : List ℕ). b ∷ l) w.2, grammar.plain (plain_byte b e f g) w.3, w.4)
 
-at_place : (k o c : Bool) (d : ℕ) → chosen k o c d ≡ inside k (cond k (suc d) (cond o (suc (suc d)) (cond c d (suc d))))
+pub at_place : (k o c : Bool) (d : ℕ) → chosen k o c d ≡ inside k (cond k (suc d) (cond o (suc (suc d)) (cond c d (suc d))))
 at_place true o c d = refl
 at_place false true c d = ap (λ (n : ℕ). inside false n) (omega arith)
 at_place false false true d = ap (λ (n : ℕ). inside false n) (omega arith)
@@ -131,7 +131,7 @@ goes_on : (t w : Bool) (o : Option ℕ) (n : ℕ) → t ≡ false → cond (t &&
 goes_on true w o n f e = absurd cc
 goes_on false w o n f e = e
 
-pub blank_found : (bytes : List ℕ) (e : Bool) (d n : ℕ) → blank_len (inside e d) bytes ≡ Some n → Found e d (take n bytes)
+pub blank_found : (bytes : List ℕ) (e : Bool) (d n : ℕ) → blank_len (inside e d) bytes ≡ Some n → Found Blank e d (take n bytes)
 blank_found [] false zero n h = subst (λ (k : ℕ). Blank (take k [])) (let s : 0 ≡ n = cc in s) grammar.end
 blank_found [] true zero n h = tt
 blank_found [] e (suc d) n h = absurd (nothing (suc d == 0) n (not_zero d) h)
@@ -160,6 +160,6 @@ blank_found (b ∷ bs) false (suc d) n h =
     let o = b == 40 in
     let c = b == 41 in
     let p : behind (inside false (suc d)) b ≡ inside k (cond k (suc d) (cond o (suc (suc d)) (cond c d (suc d)))) = within d b ∙ at_place k o c d in
-    subst (Closes (suc d)) (sym (shown m.0 n b bs m.2))
-    (closes_more d b (take m.0 bs) k o c refl refl refl
+    subst (Closes Blank (suc d)) (sym (shown m.0 n b bs m.2))
+    (closes_more Blank d b (take m.0 bs) k o c refl refl refl
     (blank_found bs k (cond k (suc d) (cond o (suc (suc d)) (cond c d (suc d)))) m.0 (sym (ap (λ (p : Place). blank_len p bs) p) ∙ m.1)))

@@ -55,7 +55,7 @@ plain_is true c k e = absurd cc
 plain_is false true k e = absurd cc
 plain_is false false true e = absurd cc
 
-plain_behind : (d b : ℕ) → is_plain b ≡ true → behind (inside false (suc d)) b ≡ inside false (suc d)
+pub plain_behind : (d b : ℕ) → is_plain b ≡ true → behind (inside false (suc d)) b ≡ inside false (suc d)
 plain_behind d b p =
     let f = plain_is (b == 40) (b == 41) (b == 92) p in
     within d b

@@ -7,3 +7,6 @@ pub mod Back
 pub mod Plain
 pub mod HeaderSound
 pub mod HeaderAgain
+pub mod Places
+pub mod Semicolons
+pub mod Message

@@ -1,8 +1,8 @@
 //! What follows from the definitions, for readers and for proofs above. No code runs here.
 
 ghost use Rattle.std.specs.Prelude.{◌≡◌, ℕ, List, Some, true};
-ghost use Rattle.mail_date.specs.Fields.{received_body};
-ghost use Rattle.mail_date.specs.Header.{FirstReceived};
+ghost use Rattle.mail_date.specs.Fields.{received_body, date_part, message_date, no_date};
+ghost use Rattle.mail_date.specs.Header.{FirstReceived, BehindLast, Says};
 ghost use Rattle.mail_date.specs.declared.stamp.Stamp.{Stamp};
 ghost use Rattle.mail_date.specs.Grammar.{DateTime};
 ghost use Rattle.mail_date.specs.Reading.{date_time};
@@ -30,4 +30,18 @@ pub fn what_is_written_is_read()
 pub fn the_first_received_is_taken()
     ensures sound { (text body : List ℕ) → received_body true text ≡ Some body → FirstReceived text body }
     ensures complete { (text body : List ℕ) → FirstReceived text body → received_body true text ≡ Some body }
+{}
+
+/// What is read as the date is what stands behind the field's last semicolon that no quoted string and no comment
+/// holds, by the written rules; and where there is such a semicolon, what stands behind it is read.
+pub fn the_last_semicolon_is_taken()
+    ensures sound { (body part : List ℕ) → date_part body ≡ Some part → BehindLast body part }
+    ensures complete { (body part : List ℕ) → BehindLast body part → date_part body ≡ Some part }
+{}
+
+/// The date of a message is the one that its first Received field says by the written rules; where that says none, it
+/// is 01-Jan-1970 00:00:00 +0000.
+pub fn a_message_has_the_date_that_it_says()
+    ensures says { (text : List ℕ) (s : Stamp) → Says text s → message_date text ≡ s }
+    ensures silent { (text : List ℕ) → ((s : Stamp) → Says text s → ⊥) → message_date text ≡ no_date }
 {}

@@ -16,7 +16,7 @@ mod tests;
 pub use field::message_date;
 pub use internal::{INTERNAL_LEN, write_internal_date};
 pub use laws::{
-    the_first_received_is_taken, what_is_read_is_spelled, what_is_spelled_is_read,
-    what_is_written_is_read,
+    a_message_has_the_date_that_it_says, the_first_received_is_taken, the_last_semicolon_is_taken,
+    what_is_read_is_spelled, what_is_spelled_is_read, what_is_written_is_read,
 };
 pub use stamp::{Stamp, Zone};

@@ -40,6 +40,8 @@ pub enum Happened {
     Gone,
     /// The client missed so many changes that it can't be told them any more.
     Lapsed,
+    /// It was one client too many of its user, and was told so.
+    TurnedAway,
     /// The server stops.
     Shut,
     /// What came couldn't be read, or what was said couldn't be sent.
@@ -231,6 +233,7 @@ fn words(what: Happened) -> &'static [u8]
         Happened::Quit => b"quit",
         Happened::Gone => b"gone",
         Happened::Lapsed => b"lapsed",
+        Happened::TurnedAway => b"turned away",
         Happened::Shut => b"shut",
         Happened::Broken => b"broken",
         Happened::OutOfMemory => b"out of memory",

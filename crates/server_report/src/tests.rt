@@ -126,6 +126,7 @@ fn call_lines(alloc: Global) -> Result<Vec<u8>, AllocError> {
         Happened::Quit,
         Happened::Gone,
         Happened::Lapsed,
+        Happened::TurnedAway,
         Happened::Shut,
         Happened::Broken,
         Happened::OutOfMemory,
@@ -141,7 +142,7 @@ fn each_thing_that_happens_has_its_words(rt: HostRuntime) -> Result<(), AllocErr
     let lines = call_lines(rt.alloc())?;
     let n = "lmtp 73786976294838206464";
     let wanted = format!(in rt.alloc();
-        "{n} open\n{n} idle\n{n} quit\n{n} gone\n{n} lapsed\n{n} shut\n{n} broken\n{n} out of memory\n{n} torn\n"
+        "{n} open\n{n} idle\n{n} quit\n{n} gone\n{n} lapsed\n{n} turned away\n{n} shut\n{n} broken\n{n} out of memory\n{n} torn\n"
     )?;
     assert_eq!(rt; lines.as_slice(), wanted.as_bytes());
     Ok(())

@@ -6,9 +6,13 @@ use Rattle.settings.specs.declared.config.ConfigFault.{ConfigFault}
 use Rattle.settings.specs.declared.config.ConfigFault.TheVariants as settings
 use Rattle.serving.specs.Announcing.{users_of}
 
--- the berths of sessions: for each user so many as may be open at a time
+-- The berths of a user: as many as sessions may be open at a time. In the compatible profile there is one more, where one too many is told so.
+abbrev pub berths_of_user : Config → ℕ
+berths_of_user c = if c.compatible then c.sessions + 1 else c.sessions
+
+-- the berths of all users
 abbrev pub berths_in : Config → ℕ
-berths_in c = c.sessions * length (users_of (directory_for c).homes)
+berths_in c = berths_of_user c * length (users_of (directory_for c).homes)
 
 -- each worker, and each berth, whose clients may append messages
 abbrev pub producers_in : Config → ℕ

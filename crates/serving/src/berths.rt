@@ -4,9 +4,12 @@ ghost use Rattle.std.specs.Prelude.{ℕ, ◌≡◌, ◌≢◌, ◌≤◌, ◌+�
 ghost use Rattle.envelope.specs.Directory.{Home};
 ghost use Rattle.house_floor.specs.Users.{user_numbered};
 ghost use Rattle.serving.specs.Announcing.{users_of};
+ghost use Rattle.serving.specs.Producers.{berths_of_user};
+ghost use Rattle.settings.specs.Settings.{IsInRange};
 
 use envelope::Directory;
 use house_floor::{Guest, is_nobody};
+use settings::Config;
 use std::alloc::{AllocError, Global};
 
 // So many berths more, of this user.
@@ -25,6 +28,19 @@ fn add_berths(alloc: Global, user: u8, count: u8, guests: &mut Vec<Guest>) -> Re
     Ok(())
 }
 
+/// How many berths each user has: in the compatible profile one more than clients are served at a time, so that one too many is told so.
+pub(crate) fn berths_of_user(config: &Config) -> u8
+    requires { IsInRange config.now }
+    ensures count { result ≡ berths_of_user config.now }
+    ensures few { result ≤ 17 }
+{
+    if config.compatible {
+        config.sessions + 1
+    } else {
+        config.sessions
+    }
+}
+
 /// So many berths for each user, in the order of the users.
 ///
 /// Errors: `AllocError` where memory is refused.
@@ -33,10 +49,10 @@ pub(crate) fn berths_for(
     directory: &Directory,
     count: u8,
 ) -> Result<Vec<Guest>, AllocError>
-    requires { count ≤ 16 }
+    requires { count ≤ 17 }
     ensures named { IfOk result (λ vs.
         All (λ v. user_numbered v.user directory.now.homes ≢ None) vs.items) }
-    ensures few { IfOk result (λ vs. vec_len vs ≤ 1024) }
+    ensures few { IfOk result (λ vs. vec_len vs ≤ 1088) }
     ensures count { IfOk result (λ vs. vec_len vs ≡ count * length (users_of directory.now.homes)) }
 {
     let mut guests = Vec::new(alloc);

@@ -185,6 +185,7 @@ pub(crate) fn close_or_spend<B: Naming, H: Hall, R: Wait, L: Line>(
         gate,
         guests: _,
         compatible: _,
+        limits: _,
         imap: _,
         grips: _,
         signs: _,

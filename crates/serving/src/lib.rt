@@ -9,6 +9,7 @@ mod closing;
 mod equipment;
 mod fault;
 mod gathering;
+mod limit;
 mod page;
 mod reporting;
 mod run;

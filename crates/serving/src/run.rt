@@ -19,6 +19,7 @@ use crate::closing::{Over, close_or_spend, give_up};
 use crate::equipment::{Crowd, Equipment, Rooms, crowd_for, make_rooms};
 use crate::fault::ServeFault;
 use crate::reporting::{Writing, start_writing};
+use crate::limit::ClientLimit;
 use crate::sessions::{Furnishings, start_berths};
 use crate::site::Site;
 use crate::sockets::Sockets;
@@ -503,6 +504,8 @@ pub(crate) struct Manning<F, D> {
     pub(crate) guests: Vec<Guest>,
     /// Sessions have the compatible profile: their clients log in.
     pub(crate) compatible: bool,
+    /// How many clients of each user are served at a time, in the compatible profile.
+    pub(crate) limits: Vec<ClientLimit>,
     /// For each berth its own end of its bell.
     pub(crate) bells: Vec<Sleeper>,
     /// How many berths each user has.
@@ -567,6 +570,7 @@ pub(crate) fn run_house_in<
         at_once,
         guests,
         compatible,
+        limits,
         bells,
         sessions,
         mail,
@@ -629,6 +633,7 @@ pub(crate) fn run_house_in<
         gate: Unhindered,
         guests,
         compatible,
+        limits,
         imap,
         grips,
         signs,

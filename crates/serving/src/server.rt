@@ -12,8 +12,9 @@ ghost use Rattle.serving.specs.inner.Faults.{IsOfSettings, IsOfSocket};
 ghost use Rattle.house_floor.specs.Users.{user_numbered};
 
 use crate::announcing::announce;
-use crate::berths::{berths_for, count_users};
+use crate::berths::{berths_for, berths_of_user, count_users};
 use crate::fault::ServeFault;
+use crate::limit::{ClientLimit, limits_for};
 use crate::reporting::{Records, Reporting, Writing, records_for};
 use crate::run::{Manning, run_house_in};
 use crate::sockets::{Open, Sockets, open_sockets};
@@ -73,10 +74,12 @@ fn sizes_of(config: &Config, berths: usize) -> Sizes<'_>
     }
 }
 
-// Whom a server is for: the directory of its users, and the berths of their sessions.
+// Whom a server is for: the directory of its users, the berths of their sessions, and how many of these are served at a time.
+#[derive(Drop)]
 struct Layout {
     directory: Directory,
     guests: Vec<Guest>,
+    limits: Vec<ClientLimit>,
 }
 
 // What these settings lay out. Errors: `Config` of their first fault, and `NoMemory`.
@@ -93,11 +96,17 @@ fn lay_out(alloc: Global, config: &Config) -> Result<Layout, ServeFault>
     ensures fault { IfErr result IsOfSettings }
 {
     let directory = directory_of(alloc, config)?;
-    let guests = berths_for(alloc, &directory, config.sessions)?;
+    let guests = berths_for(alloc, &directory, berths_of_user(config))?;
     if MOST_PRODUCERS < usize::from(config.workers) + guests.len() {
         return Err(ServeFault::Config(ConfigFault::TooMany));
     }
-    Ok(Layout { directory, guests })
+    let users = count_users(&directory);
+    let limits = limits_for(alloc, config.compatible, users, config.sessions)?;
+    Ok(Layout {
+        directory,
+        guests,
+        limits,
+    })
 }
 
 // The listeners of a server, and what is to be said of them.
@@ -189,7 +198,11 @@ fn serve_in<
         log,
         writing,
     } = ready;
-    let Layout { directory, guests } = layout;
+    let Layout {
+        directory,
+        guests,
+        limits,
+    } = layout;
     let Listeners { sockets, lines } = listeners;
     let sizes = sizes_of(config, guests.len());
     let Opened {
@@ -205,8 +218,9 @@ fn serve_in<
         at_once,
         guests,
         compatible: config.compatible,
+        limits,
         bells: sleepers,
-        sessions: config.sessions,
+        sessions: berths_of_user(config),
         mail,
         log,
         writing,
@@ -285,12 +299,12 @@ pub fn serve_house<
         uidvalidity,
         report,
     } = beginning;
-    let Layout { directory, guests } = lay_out(alloc, config)?;
+    let layout = lay_out(alloc, config)?;
     let Listeners { sockets, lines } = listen(
         rt,
         alloc,
         config,
-        &directory,
+        &layout.directory,
         report.status,
         uidvalidity,
     )?;
@@ -301,7 +315,7 @@ pub fn serve_house<
         history,
         config,
         Ready {
-            layout: Layout { directory, guests },
+            layout,
             mail,
             listeners: Listeners { sockets, lines },
             log,

@@ -18,6 +18,7 @@ ghost use Rattle.clerks.specs.Keeping.{parts_of};
 ghost use Rattle.serving_workers.specs.Leaving.{AreAttended, IsHired, IsServed, has_thread, serves_mail};
 
 use crate::equipment::SharedBerth;
+use crate::limit::{ClientLimit, turn_away};
 use crate::site::Site;
 use crate::visiting::{Incoming, Sign, Signed, Visitor};
 use clerks::{Hall, Unhindered};
@@ -75,6 +76,8 @@ pub(crate) struct Gateway<'s, B: Naming> {
     pub(crate) user: u8,
     /// Its session has the compatible profile: the client logs in.
     pub(crate) compatible: bool,
+    /// How many clients of its user are served at a time, where one too many is told so.
+    pub(crate) limit: Option<&'s ClientLimit>,
     /// What its client's session is seen to do.
     pub(crate) sign: Option<&'s Sign>,
     /// How many clients it has had before the one that it serves.
@@ -117,6 +120,7 @@ fn gateway_of<B: Naming, H: Hall>(site: &Site<B, H>, session: u8) -> Gateway<'_,
         session,
         user,
         compatible: site.compatible,
+        limit: site.limits.get(usize::from(user)),
         sign: site.signs.get(berth),
         serial: 0,
     }
@@ -247,6 +251,44 @@ fn serve_client<'a, B: Naming, R: Wait, C: Courier>(
     attend_visit(rt, berth, courier, gateway, visit, stream, buffer)
 }
 
+// A client that is one too many is told so, unless the house stops; and how it ended.
+fn send_away(door: Door<'_>, mut output: Watched<Timely<TcpStream>>) -> Happened
+    requires { ⟦<Watched<Timely<TcpStream>> as Sink>⟧.failed output ≡ false }
+{
+    if door.is_shut() {
+        return Happened::Shut;
+    }
+    // Where it can't be told there is nobody who waits.
+    let _ = turn_away(&mut output);
+    Happened::TurnedAway
+}
+
+// One client, served in its turn where there is a limit, or sent away; and how it ended.
+fn serve_in_turn<'a, B: Naming, R: Wait, C: Courier>(
+    rt: &'a R,
+    berth: &ClientBerth<'a, B, R>,
+    courier: &mut C,
+    gateway: Gateway<'a, B>,
+    stream: &TcpStream,
+    output: Watched<Timely<TcpStream>>,
+    buffer: &mut [u8],
+) -> Happened
+    requires ready { C.ready courier.old }
+    requires live { ⟦<Watched<Timely<TcpStream>> as Sink>⟧.failed output ≡ false }
+    ensures ready { C.ready courier.new }
+    ensures kept { (first : C) → C.kept first courier.old → C.kept first courier.new }
+{
+    let Some(limit) = gateway.limit else {
+        return serve_client(rt, berth, courier, gateway, stream, output, buffer);
+    };
+    if !limit.wait_for_turn(rt, &gateway.door) {
+        return send_away(gateway.door, output);
+    }
+    let end = serve_client(rt, berth, courier, gateway, stream, output, buffer);
+    limit.release(rt);
+    end
+}
+
 // The client that was accepted is at hand while it is served. Whoever stops the house sets its mark first and then looks for what is at
 // hand, so the mark is looked at behind that.
 fn receive<'a, B: Naming, R: Wait, C: Courier>(
@@ -268,7 +310,7 @@ fn receive<'a, B: Naming, R: Wait, C: Courier>(
         let visitor = visitor_of(gateway);
         visitor.open(rt);
         gateway.door.show(gateway.serial);
-        let end = serve_client(rt, berth, courier, gateway, &input, output, buffer);
+        let end = serve_in_turn(rt, berth, courier, gateway, &input, output, buffer);
         visitor.tell(rt, end);
         gateway.door.part(line, &input, buffer);
         gateway.door.hide();

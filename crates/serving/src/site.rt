@@ -1,6 +1,7 @@
 //! What all threads of a server share. What is dealt to each of them, and what they do, stands elsewhere.
 
 use crate::equipment::Grips;
+use crate::limit::ClientLimit;
 use crate::page::Page;
 use crate::visiting::Sign;
 use clerks::{Hall, Unhindered};
@@ -20,6 +21,8 @@ pub(crate) struct Site<B: Naming, H: Hall> {
     pub(crate) guests: Vec<Guest>,
     /// Sessions have the compatible profile: their clients log in.
     pub(crate) compatible: bool,
+    /// How many clients of each user are served at a time, in the compatible profile: in the order of the users.
+    pub(crate) limits: Vec<ClientLimit>,
     /// Where each user's clients come in, in the order of the users.
     pub(crate) imap: Vec<Listening>,
     /// For the connections that threads have at hand.

@@ -1,5 +1,5 @@
--- What bodies and proofs say besides: whose folders a client of a berth is shown.
-use Rattle.std.specs.Prelude.{◌≡◌, ℕ, Bool, List, None, Option, Some, length}
+-- What bodies and proofs say besides: whose folders a client of a berth is shown, and what one too many is told.
+use Rattle.std.specs.Prelude.{◌≡◌, ℕ, Bool, List, None, Option, Some, codes, length}
 use Rattle.house_floor.specs.Users.{user_numbered}
 use Rattle.house_floor.specs.declared.floor.Floor.{Floor}
 use Rattle.imap_session.specs.Folders.{admission_of, folders_of}
@@ -12,3 +12,7 @@ pub record IsVisitOf {B : Type 0} (floor : Floor B) (compatible : Bool) (user : 
   pub name : List ℕ
   pub named : user_numbered user floor.office.directory.homes ≡ Some name
   pub greeted : IsGreeted (admission_of compatible (Some (most_of floor.office.max_message)) name) (folders_of floor.office.directory name) (record { mailboxes = length floor.depot.mailboxes.items; entered = None; history = floor.depot.front }) before visit
+
+-- what a client is told that is one too many
+abbrev pub turned_away : List ℕ
+turned_away = codes "* BYE Too many sessions\r\n"

@@ -5,4 +5,4 @@ use Rattle.serving.proofs.berths.berths_for.Given as goal
 
 abbrev pub invariant-loop-user : goal.invariant-loop-user
 invariant-loop-user l =
-    All (λ v. user_numbered v.user l.directory.homes ≢ None) l.guests.items × (vec_len l.guests ≤ 16 * l.user) × (vec_len l.guests ≡ l.count * l.user) × (l.user ≤ length (users_of l.directory.homes))
+    All (λ v. user_numbered v.user l.directory.homes ≢ None) l.guests.items × (vec_len l.guests ≤ 17 * l.user) × (vec_len l.guests ≡ l.count * l.user) × (l.user ≤ length (users_of l.directory.homes))
