@@ -28,8 +28,10 @@ pub fn what_is_written_is_read()
 /// The field whose date is taken is the first Received field of the header, by the written rules: each body that is
 /// taken is that of such a field, and where there is such a field its body is taken.
 pub fn the_first_received_is_taken()
-    ensures sound { (text body : List ℕ) → received_body true text ≡ Some body → FirstReceived text body }
-    ensures complete { (text body : List ℕ) → FirstReceived text body → received_body true text ≡ Some body }
+    ensures sound { (text body : List ℕ) →
+        received_body true text ≡ Some body → FirstReceived text body }
+    ensures complete { (text body : List ℕ) →
+        FirstReceived text body → received_body true text ≡ Some body }
 {}
 
 /// What is read as the date is what stands behind the field's last semicolon that no quoted string and no comment
@@ -43,5 +45,6 @@ pub fn the_last_semicolon_is_taken()
 /// is 01-Jan-1970 00:00:00 +0000.
 pub fn a_message_has_the_date_that_it_says()
     ensures says { (text : List ℕ) (s : Stamp) → Says text s → message_date text ≡ s }
-    ensures silent { (text : List ℕ) → ((s : Stamp) → Says text s → ⊥) → message_date text ≡ no_date }
+    ensures silent { (text : List ℕ) →
+        ((s : Stamp) → Says text s → ⊥) → message_date text ≡ no_date }
 {}
