@@ -49,11 +49,15 @@ rm -rf "$docs/examples/drawing/__pycache__" "$docs/examples/pytest/__pycache__" 
 gzip -9n <CHANGELOG.md >"$docs/changelog.gz"
 mkdir -p "$root/usr/share/man/man8"
 packaging/man_page.py "$program" README.md | gzip -9n >"$root/usr/share/man/man8/post_house.8.gz"
-# The unit of examples/, with the places of the package in it.
+# The unit of examples/, and what the front's adds to it, with the places of the package in them.
+with_places() {
+    sed 's|/usr/local/lib/post_house/hold_open.sh /usr/local/bin/post_house|/usr/bin/post_house|
+        s|/usr/local/share/doc/post_house/|/usr/share/doc/post-house/|
+        s|/usr/local/|/usr/|g' "$1"
+}
 mkdir -p "$root/usr/lib/systemd/system"
-sed 's|/usr/local/lib/post_house/hold_open.sh /usr/local/bin/post_house|/usr/bin/post_house|
-    s|/usr/local/share/doc/post_house/|/usr/share/doc/post-house/|
-    s|/usr/local/|/usr/|g' examples/post_house.service >"$root/usr/lib/systemd/system/post_house.service"
+with_places examples/post_house.service >"$root/usr/lib/systemd/system/post_house.service"
+with_places examples/front/post_house.conf >"$docs/examples/front/post_house.conf"
 chmod -R u=rwX,go=rX "$root"
 
 # The libraries that the program loads, and the least version of the C library whose names it asks for.

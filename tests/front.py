@@ -40,6 +40,8 @@ PATIENCE = 20
 # The system's user that nothing belongs to; the recipe has one of its own.
 NOBODY = 65534
 ARRIVALS = 20
+# So many clients a user may have at once, by the recipe.
+CLIENTS = 12
 CANNOT = b"[CANNOT] Not offered here"
 
 
@@ -241,6 +243,11 @@ def answer(client, items, message="1"):
     return (literals or found)[-1]
 
 
+def seconds_of(line):
+    """The INTERNALDATE of an answer, in seconds since 1970."""
+    return int(time.mktime(imaplib.Internaldate2tuple(line)))
+
+
 def flags(client, message):
     return set(imaplib.ParseFlags(answer(client, "(FLAGS)", message))) - {rb"\Recent"}
 
@@ -308,7 +315,7 @@ def reading(alice, bob, front):
 def dates(alice, bob, front):
     with front.reader("alice") as client:
         found = [answer(client, "(INTERNALDATE)", str(number)) for number in (1, 2, 3)]
-        expect("when they came", [calendar.timegm(time.gmtime(time.mktime(imaplib.Internaldate2tuple(line)))) for line in found], DATES)
+        expect("when they came", [seconds_of(line) for line in found], DATES)
 
 
 def searching(alice, bob, front):
@@ -403,7 +410,10 @@ def mail_through_the_front(alice, bob, front):
         expect("its answers", [relay.getreply()[0] for _ in people], [250, 250, 250])
     for user, mailbox in (("alice", "INBOX"), ("bob", "INBOX"), ("alice", "Work")):
         with front.reader(user, mailbox) as client:
-            expect(f"what {user} has in {mailbox}", len(client.search(None, "SUBJECT", '"for all"')[1][0].split()), 1)
+            found = client.search(None, "SUBJECT", '"for all"')[1][0].decode().split()
+            expect(f"what {user} has in {mailbox}", len(found), 1)
+            age = time.time() - seconds_of(answer(client, "(INTERNALDATE)", found[0]))
+            expect("whether Dovecot wrote when it came", -2 < age < 60, True)
 
 
 def what_is_refused(alice, bob, front):
@@ -411,6 +421,7 @@ def what_is_refused(alice, bob, front):
         before = [client.status(name, "(MESSAGES)") for name in ("INBOX", "Work")]
         refused("COPY", lambda: client.copy("1", "Work"), CANNOT)
         refused("MOVE", lambda: client.uid("MOVE", "1", "Work"), CANNOT)
+        refused("a keyword", lambda: client.store("1", "+FLAGS", "($Forwarded)"), b"[CANNOT] Can't create new keywords")
         refused("CREATE", lambda: client.create("Trash"), CANNOT)
         refused("RENAME", lambda: client.rename("Work", "Play"), CANNOT)
         # Behind a DELETE Dovecot no longer has its mailbox selected there, which it doesn't know: this client goes.
@@ -418,6 +429,13 @@ def what_is_refused(alice, bob, front):
     with front.reader("alice") as client:
         expect("whether all is there", [client.status(name, "(MESSAGES)") for name in ("INBOX", "Work")], before)
         expect("her message", answer(client, "(BODY.PEEK[2])"), b"AAEC")
+
+
+def too_many(alice, bob, front):
+    with contextlib.ExitStack() as stack:
+        for _ in range(CLIENTS):
+            stack.enter_context(front.reader("alice"))
+        refused("one client more", lambda: front.connect().login("alice", PASSWORDS["alice"]), b"[LIMIT]")
 
 
 def no_errors(alice, bob, front):
@@ -428,7 +446,8 @@ def a_server_that_is_away(alice, bob, front):
     bob.stop()
     client = front.connect()
     client.login("bob", PASSWORDS["bob"])
-    refused("SELECT", lambda: client.select("INBOX"), b"")
+    refused("SELECT", lambda: client.select("INBOX"), b"Internal error occurred")
+    client.shutdown()
     with smtplib.LMTP("127.0.0.1", front.lmtp) as relay:
         relay.ehlo()
         relay.mail("sender@example.com")
@@ -454,8 +473,9 @@ CHECKS = (
     ("IDLE", idling),
     ("each user sees the own server's mail alone", two_users),
     ("one transaction of LMTP for both users and a folder", mail_through_the_front),
+    ("twelve clients of a user, and one more that is refused", too_many),
     ("no warning and no error in Dovecot's log", no_errors),
-    ("COPY, MOVE, CREATE, RENAME, DELETE are refused, and nothing is lost", what_is_refused),
+    ("COPY, MOVE, keywords, CREATE, RENAME, DELETE are refused, and nothing is lost", what_is_refused),
     ("a server that is away and comes again", a_server_that_is_away),
 )
 

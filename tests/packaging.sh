@@ -3,7 +3,8 @@
 #
 #     tests/packaging.sh PROGRAM
 #
-# What is tried of it stands in tests/packaged.py: a server that takes mail, shows it and is stopped by SIGTERM; its man page; its unit.
+# What is tried of it stands in tests/packaged.py: a server that takes mail, shows it and is stopped by SIGTERM; its man page; its unit. And each file of
+# examples/front is in it, and the drop-in there runs what the package has.
 # Wanted: dpkg-deb. Where it isn't installed nothing is tried, and that is said.
 set -eu
 program=$(realpath -- "$1")
@@ -22,4 +23,17 @@ package=$("$here/../packaging/build.sh" "$program" "$room/one")
 again=$("$here/../packaging/build.sh" "$program" "$room/other")
 cmp "$package" "$again"
 dpkg-deb -x "$package" "$room/root"
+front=$room/root/usr/share/doc/post-house/examples/front
+for file in "$here"/../examples/front/*; do
+    [ -s "$front/${file##*/}" ] || {
+        echo "FAILED: the package has no examples/front/${file##*/}"
+        exit 1
+    }
+done
+grep -o '/usr/[a-z_/.]*' "$front/post_house.conf" | while read -r place; do
+    [ -x "$room/root$place" ] || {
+        echo "FAILED: the front's drop-in runs $place, which the package doesn't have"
+        exit 1
+    }
+done
 "$here/packaged.py" "$room/root" "$program"
