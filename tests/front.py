@@ -3,10 +3,12 @@
 
     tests/front.py PROGRAM
 
-One server has alice with her folder Work, another one has bob; both run with `--compatible`. Dovecot runs in a scratch folder, with a copy of examples/front/ in which
-only ports, paths and the system's user are others. Python's imaplib is the client. It comes over TLS, with the passwords of the example. Tried are: who gets in; what is read, found,
-sorted and threaded; flags, removals and appended messages, seen from both sides; how soon a client that idles is told of mail; mail to both users through Dovecot's
-LMTP; what is refused; and a server that is away and comes again. It prints a line for each thing tried, and ends with 1 where one isn't as expected.
+One server has alice with her folder Work, another one has bob; both run with `--compatible`. Dovecot runs in a scratch folder, with a copy of examples/front/ in
+which only ports, paths and the system's user are others. Python's imaplib is the client. It comes over TLS, with the passwords of the example.
+
+Tried are: who gets in; what is read, found, sorted and threaded; flags, removals and appended messages, seen from both sides; how soon a client that idles is told
+of mail; mail to both users through Dovecot's LMTP; what is refused; and a server that is away and comes again. It prints a line for each thing tried, and ends with
+1 where one isn't as expected.
 
 Wanted: Dovecot 2.3 with IMAP and LMTP, openssl, the superuser. Where Dovecot isn't installed nothing is tried, and that is said.
 """
