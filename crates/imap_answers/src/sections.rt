@@ -96,11 +96,7 @@ fn write_named(word: &[u8], bytes: &[u8], out: &mut Vec<u8>) -> Result<(), Alloc
 }
 
 /// Appends a part of a text as RFC 3501 has it, or nothing where memory is refused.
-pub(crate) fn write_rfc822(
-    which: Section,
-    text: &[u8],
-    out: &mut Vec<u8>,
-) -> Result<(), AllocError>
+pub(crate) fn write_rfc822(which: Section, text: &[u8], out: &mut Vec<u8>) -> Result<(), AllocError>
     ensures ok { OnOk result (out.new.items ≡ out.old.items ++ rfc822_text which text.now) }
     ensures err { OnErr result (out.new.items ≡ out.old.items) }
     ensures room { vec_capacity out.old ≤ vec_capacity out.new }
