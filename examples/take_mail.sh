@@ -32,11 +32,12 @@ room=$(mktemp -d)
 trap 'rm -rf "$room"' EXIT
 trap 'exit 1' HUP INT TERM
 
-# Asks the server: what stands behind the port in the address, then curl's options.
+# Asks the server: what stands behind the port in the address, then curl's options. Where clients log in (`--compatible`) any
+# password is right; else nobody is asked for one.
 ask() {
     address=imap://127.0.0.1:$port/$1
     shift
-    curl -sS -m 60 -o "$room/answer" "$@" "$address"
+    curl -sS -m 60 -u "$user:x" -o "$room/answer" "$@" "$address"
 }
 
 # The names of the user's mailboxes, each a line.
@@ -65,6 +66,8 @@ Host 127.0.0.1
 Port $port
 SSLType None
 User $user
+Pass x
+AuthMechs LOGIN
 
 IMAPStore far
 Account house

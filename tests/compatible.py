@@ -11,8 +11,12 @@ many passed.
 
 import calendar
 import imaplib
+import os
+import shutil
 import socket
+import subprocess
 import sys
+import tempfile
 import time
 
 from serving_house import House
@@ -131,6 +135,23 @@ def idling(client, house):
     expect("the end of IDLE", client.readline(), b"i1 OK IDLE completed\r\n")
 
 
+def taking_out(house):
+    """The script that takes mail out of a server logs in too, and leaves nothing there. It is tried where mbsync and curl are installed."""
+    if not (shutil.which("mbsync") and shutil.which("curl")):
+        return
+    script = os.path.join(os.path.dirname(os.path.abspath(__file__)), "..", "examples", "take_mail.sh")
+    with tempfile.TemporaryDirectory() as folder:
+        taken = subprocess.run([script, folder, str(house.imap_ports[0]), *USERS], capture_output=True, timeout=60)
+        expect("take_mail.sh", (taken.returncode, b"Error" in taken.stderr), (0, False))
+        found = [len(os.listdir(f"{folder}/{user}/INBOX/new")) + len(os.listdir(f"{folder}/{user}/INBOX/cur")) for user in USERS]
+        expect("mail that was taken out", found, [3, 1])
+    for port, user in zip(house.imap_ports, USERS):
+        client = connect(port)
+        client.login(user, "")
+        expect("what is left", client.select(), ("OK", [b"0"]))
+        client.logout()
+
+
 def main():
     program = sys.argv[1]
     house = House(program, USERS, ("--uidvalidity", "7", "--compatible", "--sessions", str(MOST_SESSIONS)))
@@ -146,6 +167,7 @@ def main():
     expect("his mail", other.select(readonly=True), ("OK", [b"1"]))
     other.logout()
     many(house)
+    taking_out(house)
     expect("the status at the end", house.stop(), 0)
     house = House(program, USERS, ("--uidvalidity", "7"))
     refused("a client of IMAP4rev1 without the option", lambda: connect(house.imap_ports[0]))
