@@ -1,7 +1,7 @@
 //! How many clients of a user are served at a time in the compatible profile, where one too many waits a little and is told so. What the others are answered
 //! stands in `sessions`.
 
-ghost use Rattle.std.specs.Prelude.{◌≡◌, ℕ, IfOk, OnOk, codes, false, take, vec_len};
+ghost use Rattle.std.specs.Prelude.{◌≡◌, IfErr, OnOk, false, take, true};
 ghost use Rattle.std.specs.Io.KnownBytes.{Appends};
 ghost use Rattle.serving.specs.inner.Visiting.{turned_away};
 
@@ -83,9 +83,10 @@ pub(crate) fn limits_for(
 /// Errors: `SendFault` where the output fails; it took the first bytes of that.
 pub(crate) fn turn_away<W: Sink>(output: &mut W) -> Result<(), SendFault>
     requires { W.failed output.old ≡ false }
-    ensures told { (n : ℕ) × Appends (W.taken output.old) (W.taken output.new)
-        (take n turned_away) }
     ensures all { OnOk result (Appends (W.taken output.old) (W.taken output.new) turned_away) }
+    ensures fault { IfErr result (λ f.
+        Appends (W.taken output.old) (W.taken output.new) (take f.sent turned_away)) }
+    ensures failed { IfErr result (λ f. W.failed output.new ≡ true) }
 {
     send(output, b"* BYE Too many sessions\r\n")
 }
