@@ -285,7 +285,7 @@ fetch_sound by_uid c rest e =
           back = w.1;
           parts = word_parts a.0;
           first = set_sound b.0 w.0 b.1;
-          second = record { front = i.gap; back = d.0; parts = i.parts; first = i.is; second = items_sound f.0 d.0 (many_taken is_not_space d.0) f.1 };
+          second = record { front = i.gap; back = d.0; parts = i.parts; first = i.is; second = items_sound f.0 d.0 f.1 };
         };
       },
     )

@@ -1,5 +1,5 @@
 -- Items of FETCH and STATUS: what is spelled is read, and what is read is spelled.
-use Rattle.std.proofs.Common.{◌≡◌, ℕ, suc, ◌<◌, ◌≤◌, Bool, true, false, cond, List, [], ◌∷◌, ◌++◌, length, take, drop, refl, ap, sym, subst, ◌∙◌, arith, append_assoc, length-append, inl, inr}
+use Rattle.std.proofs.Common.{◌≡◌, ℕ, suc, ◌<◌, ◌≤◌, Bool, true, false, cond, List, [], ◌∷◌, ◌++◌, length, take, drop, refl, ap, sym, subst, ◌∙◌, arith, append_assoc, length-append, append-nil, inl, inr}
 use Rattle.std.specs.Prelude.{Option, Some, None, codes, ◌==◌, not, map}
 use Rattle.std.specs.Char.{to_ascii_lowercase}
 use Rattle.std.specs.Str.{bytes_eq, str_eq_ignore_ascii_case as is_same}
@@ -10,13 +10,15 @@ use Rattle.envelope.proofs.Sound.{bind_some, guard_some, either, byte_sound}
 use Rattle.envelope.specs.Bytes.{is_not_space}
 use Rattle.envelope.specs.Grammar.{Keyword, Many, Some1, Exactly, ◌⨾◌}
 use Rattle.envelope.specs.Reading.{◌>>=◌, past_byte, past_keyword}
-use Rattle.imap_grammar.specs.Bytes.{is_digit}
+use Rattle.imap_grammar.specs.Bytes.{is_digit, is_field_byte}
 use Rattle.imap_grammar.specs.Cuts.{cut_at}
 use Rattle.imap_grammar.specs.Numbers.{number_up_to}
-use Rattle.imap_grammar.specs.Items.{section_of, greatest_span, span_between, span_of, partial_of, body_of, body_or_peek, fetch_item_of, status_item_of}
-use Rattle.imap_grammar.specs.Grammar.{rfc822_word, section_word, Number63, PartialIs, ItemIs, status_word, StatusItemIs}
+use Rattle.imap_grammar.specs.Items.{is_word_of, section_of, fields_of, fields_or, part_of, greatest_span, span_between, span_of, partial_of, body_of, body_or_peek, fetch_item_of, status_item_of}
+use Rattle.imap_grammar.specs.Grammar.{FieldName, PartIs, Separated, Others, rfc822_word, section_word, Number63, PartialIs, ItemIs, status_word, StatusItemIs}
 use Rattle.imap_grammar.specs.declared.items.Section.{Section}
 use Rattle.imap_grammar.specs.declared.items.Section.TheVariants.{Whole, Header, Text}
+use Rattle.imap_grammar.specs.declared.items.BodyPart.{BodyPart}
+use Rattle.imap_grammar.specs.declared.items.BodyPart.TheVariants as parts
 use Rattle.imap_grammar.specs.declared.items.Span.{Span}
 use Rattle.imap_grammar.specs.declared.items.FetchItem.{FetchItem}
 use Rattle.imap_grammar.specs.declared.items.FetchItem.TheVariants as fetch
@@ -25,7 +27,11 @@ use Rattle.imap_grammar.specs.declared.items.StatusItem.TheVariants as status
 use Rattle.imap_grammar.proofs.Cuts.{is_other, cut_sound, cut_again}
 use Rattle.imap_grammar.proofs.Keywords.{word_length, word_clean, past_again, FoundKeyword, past_sound, same_sound, lowered, map_take}
 use Rattle.imap_grammar.proofs.SetLaw.{number_again, number_sound}
+use Rattle.imap_grammar.proofs.Separated.{AllRead, parts_again, parts_sound}
 use Rattle.imap_grammar.proofs.Tokens.{excludes, many_map, many_joined}
+use Rattle.imap_grammar.proofs.ItemWords.{ItemWord, Outside, open_behind}
+use Rattle.imap_grammar.proofs.Outside.{outside_plain, outside_within, both_outside, both_behind, opened_word}
+use Rattle.imap_grammar.proofs.Fields.{fields_again, fields_sound, fields_clean, past_short, word_differs}
 
 empty : (xs : List ℕ) → (length xs == 0) ≡ true → xs ≡ []
 empty [] e = refl
@@ -71,6 +77,63 @@ section_clean : (c : ℕ) → to_ascii_lowercase c ≡ c → Many (is_other c) (
 section_clean c e a b Whole text h = word_clean c e text [] h tt
 section_clean c e a b Header text h = word_clean c e text _ h a
 section_clean c e a b Text text h = word_clean c e text _ h b
+
+-- ---- parts
+
+section_short : (section : Section) (text : List ℕ) → Keyword (section_word section) text → length text ≤ 6
+section_short Whole text h = let n = word_length [] text h in omega (arith, n)
+section_short Header text h = let n = word_length (codes "HEADER") text h in omega (arith, n)
+section_short Text text h = let n = word_length (codes "TEXT") text h in omega (arith, n)
+
+part_again : (part : BodyPart) (text : List ℕ) → PartIs part text → part_of text ≡ Some part
+part_again (parts.Section section) text h =
+    let short = section_short section text h in
+    ap (λ o. fields_or o (past_keyword (codes "HEADER.FIELDS.NOT (") text) text) (past_short (codes "HEADER.FIELDS (") text (omega (arith, short)))
+    ∙ ap (λ o. fields_or None o text) (past_short (codes "HEADER.FIELDS.NOT (") text (omega (arith, short)))
+    ∙ ap (λ o. o >>= (λ s. Some (parts.Section s))) (section_again section text h)
+part_again (parts.Fields false names) text q =
+    ap part_of q.parts
+    ∙ ap (λ o. fields_or o (past_keyword (codes "HEADER.FIELDS.NOT (") (q.front ++ q.back)) (q.front ++ q.back)) (past_again (codes "HEADER.FIELDS (") q.front q.back q.first)
+    ∙ fields_again false names q.back q.second
+part_again (parts.Fields true names) text q =
+    let differs : is_same (take 15 (q.front ++ q.back)) (codes "HEADER.FIELDS (") ≡ false = word_differs (codes "HEADER.FIELDS (") (codes "HEADER.FIELDS.NOT (") q.front q.back q.first (omega arith) refl in
+    ap part_of q.parts
+    ∙ ap (λ (t : Bool). fields_or (cond t (Some (drop 15 (q.front ++ q.back))) None) (past_keyword (codes "HEADER.FIELDS.NOT (") (q.front ++ q.back)) (q.front ++ q.back)) differs
+    ∙ ap (λ o. fields_or None o (q.front ++ q.back)) (past_again (codes "HEADER.FIELDS.NOT (") q.front q.back q.first)
+    ∙ fields_again true names q.back q.second
+
+some_section : Section → Option BodyPart
+some_section s = Some (parts.Section s)
+
+part_case : (part : BodyPart) (text : List ℕ) (o p : Option (List ℕ)) → past_keyword (codes "HEADER.FIELDS (") text ≡ o → past_keyword (codes "HEADER.FIELDS.NOT (") text ≡ p
+    → fields_or o p text ≡ Some part → PartIs part text
+unfolding some_section
+part_case part text (Some rest) p e f h =
+    let k = fields_sound false rest part h in
+    let w = past_sound (codes "HEADER.FIELDS (") text rest e in
+    subst (λ x. PartIs x text) (sym k.1) (record { front = w.text; back = rest; parts = w.parts; first = w.is; second = k.2 })
+part_case part text None (Some rest) e f h =
+    let k = fields_sound true rest part h in
+    let w = past_sound (codes "HEADER.FIELDS.NOT (") text rest f in
+    subst (λ x. PartIs x text) (sym k.1) (record { front = w.text; back = rest; parts = w.parts; first = w.is; second = k.2 })
+part_case part text None None e f h =
+    let k = bind_some (section_of text) some_section part h in
+    let is : parts.Section k.0 ≡ part = inside k.2 in
+    subst (λ x. PartIs x text) is (section_sound k.0 text k.1)
+  where
+    inside : {y z : BodyPart} → Some y ≡ Some z → y ≡ z
+    inside g = cc
+
+part_sound : (part : BodyPart) (text : List ℕ) → part_of text ≡ Some part → PartIs part text
+part_sound part text e = part_case part text (past_keyword (codes "HEADER.FIELDS (") text) (past_keyword (codes "HEADER.FIELDS.NOT (") text) refl refl e
+
+-- no bracket closes within
+part_clean : (part : BodyPart) (text : List ℕ) → PartIs part text → Many (is_other 93) text
+part_clean (parts.Section section) text h = section_clean 93 refl (refl, (refl, (refl, (refl, (refl, (refl, tt)))))) (refl, (refl, (refl, (refl, tt)))) section text h
+part_clean (parts.Fields false names) text q =
+    subst (Many (is_other 93)) (sym q.parts) (many_joined (is_other 93) q.front q.back (word_clean 93 refl q.front _ q.first (refl, (refl, (refl, (refl, (refl, (refl, (refl, (refl, (refl, (refl, (refl, (refl, (refl, (refl, (refl, tt)))))))))))))))) (fields_clean names q.back q.second))
+part_clean (parts.Fields true names) text q =
+    subst (Many (is_other 93)) (sym q.parts) (many_joined (is_other 93) q.front q.back (word_clean 93 refl q.front _ q.first (refl, (refl, (refl, (refl, (refl, (refl, (refl, (refl, (refl, (refl, (refl, (refl, (refl, (refl, (refl, (refl, (refl, (refl, (refl, tt)))))))))))))))))))) (fields_clean names q.back q.second))
 
 -- ---- spans
 
@@ -237,33 +300,31 @@ item_lowered other low =
     (cond (bytes_eq low (map to_ascii_lowercase (codes "RFC822.HEADER"))) (Some (fetch.Rfc822 Header))
     (cond (bytes_eq low (map to_ascii_lowercase (codes "RFC822.TEXT"))) (Some (fetch.Rfc822 Text)) other))))))
 
-body_made : Bool → Section → Option Span → Option FetchItem
-body_made peek section part = Some (fetch.Body peek section part)
+body_made : Bool → BodyPart → Option Span → Option FetchItem
+body_made peek part span = Some (fetch.Body peek part span)
 
 body_cut : Bool → List ℕ × List ℕ → Option FetchItem
-body_cut peek cut = section_of cut.0 >>= (λ section. partial_of cut.1 >>= body_made peek section)
+body_cut peek cut = part_of cut.0 >>= (λ part. partial_of cut.1 >>= body_made peek part)
 
-body_again : (peek : Bool) (section : Section) (part : Option Span) (rest : List ℕ) → (Keyword (section_word section) ⨾ Exactly (93 ∷ []) ⨾ PartialIs part) rest
-    → body_of peek rest ≡ Some (fetch.Body peek section part)
+body_again : (peek : Bool) (part : BodyPart) (span : Option Span) (rest : List ℕ) → (PartIs part ⨾ Exactly (93 ∷ []) ⨾ PartialIs span) rest
+    → body_of peek rest ≡ Some (fetch.Body peek part span)
 unfolding body_made body_cut
-body_again peek section part rest q =
+body_again peek part span rest q =
     let a = q.front in
     let b = q.second.back in
     let pair : List ℕ × List ℕ = (a, b) in
     let whole : rest ≡ a ++ 93 ∷ b = q.parts ∙ ap (λ l. a ++ l) (q.second.parts ∙ ap (λ l. l ++ b) q.second.first) in
-    let clean : Many (is_other 93) a =
-    section_clean 93 refl (refl, (refl, (refl, (refl, (refl, (refl, tt)))))) (refl, (refl, (refl, (refl, tt)))) section a q.first in
-    let cut : cut_at 93 rest ≡ Some pair = ap (cut_at 93) whole ∙ cut_again 93 a b clean in
+    let cut : cut_at 93 rest ≡ Some pair = ap (cut_at 93) whole ∙ cut_again 93 a b (part_clean part a q.first) in
     ap (λ o. o >>= body_cut peek) cut
-    ∙ ap (λ o. o >>= (λ s. partial_of b >>= body_made peek s)) (section_again section a q.first)
-    ∙ ap (λ o. o >>= body_made peek section) (partial_again part b q.second.second)
+    ∙ ap (λ o. o >>= (λ p. partial_of b >>= body_made peek p)) (part_again part a q.first)
+    ∙ ap (λ o. o >>= body_made peek part) (partial_again span b q.second.second)
 
 -- what BODY and BODY.PEEK begin with
 abbrev body_word : Bool → List ℕ
 body_word peek = cond peek (codes "BODY.PEEK[") (codes "BODY[")
 
-abbrev BodyIs : Bool → Section → Option Span → List ℕ → Type 0
-BodyIs peek section part = Keyword (body_word peek) ⨾ Keyword (section_word section) ⨾ Exactly (93 ∷ []) ⨾ PartialIs part
+abbrev BodyIs : Bool → BodyPart → Option Span → List ℕ → Type 0
+BodyIs peek part span = Keyword (body_word peek) ⨾ PartIs part ⨾ Exactly (93 ∷ []) ⨾ PartialIs span
 
 body_lowered : (peek : Bool) (low : List ℕ) (other : Option FetchItem) → item_lowered other (map to_ascii_lowercase (body_word peek) ++ low) ≡ other
 unfolding item_lowered
@@ -284,15 +345,15 @@ body_past true kw rest h =
     ap (λ (t : Bool). body_or_peek (cond t (Some (drop 5 (kw ++ rest))) None) (past_keyword (codes "BODY.PEEK[") (kw ++ rest))) differs
     ∙ ap (body_or_peek None) (past_again (codes "BODY.PEEK[") kw rest h)
 
-body_item : (peek : Bool) (section : Section) (part : Option Span) (w : List ℕ) → BodyIs peek section part w → fetch_item_of w ≡ Some (fetch.Body peek section part)
+body_item : (peek : Bool) (part : BodyPart) (span : Option Span) (w : List ℕ) → BodyIs peek part span w → fetch_item_of w ≡ Some (fetch.Body peek part span)
 unfolding item_lowered
-body_item peek section part w q =
+body_item peek part span w q =
     let other : List ℕ → Option FetchItem = λ l. body_or_peek (past_keyword (codes "BODY[") l) (past_keyword (codes "BODY.PEEK[") l) in
     ap fetch_item_of q.parts
     ∙ ap (item_lowered (other (q.front ++ q.back))) (lowered (body_word peek) q.front q.back q.first)
     ∙ body_lowered peek (map to_ascii_lowercase q.back) (other (q.front ++ q.back))
     ∙ body_past peek q.front q.back q.first
-    ∙ body_again peek section part q.back q.second
+    ∙ body_again peek part span q.back q.second
 
 pub item_again : (x : FetchItem) (w : List ℕ) → ItemIs x w → fetch_item_of w ≡ Some x
 unfolding item_lowered
@@ -303,15 +364,15 @@ item_again fetch.InternalDate w h = ap (item_lowered (body_or_peek (past_keyword
 item_again (fetch.Rfc822 Whole) w h = ap (item_lowered (body_or_peek (past_keyword (codes "BODY[") w) (past_keyword (codes "BODY.PEEK[") w))) h
 item_again (fetch.Rfc822 Header) w h = ap (item_lowered (body_or_peek (past_keyword (codes "BODY[") w) (past_keyword (codes "BODY.PEEK[") w))) h
 item_again (fetch.Rfc822 Text) w h = ap (item_lowered (body_or_peek (past_keyword (codes "BODY[") w) (past_keyword (codes "BODY.PEEK[") w))) h
-item_again (fetch.Body true section part) w h = body_item true section part w h
-item_again (fetch.Body false section part) w h = body_item false section part w h
+item_again (fetch.Body true part span) w h = body_item true part span w h
+item_again (fetch.Body false part span) w h = body_item false part span w h
 
 body_found : (peek : Bool) (w rest : List ℕ) (x : FetchItem) → FoundKeyword (body_word peek) w rest → body_of peek rest ≡ Some x
-    → (section : Section) × (part : Option Span) × (fetch.Body peek section part ≡ x) × BodyIs peek section part w
+    → (part : BodyPart) × (span : Option Span) × (fetch.Body peek part span ≡ x) × BodyIs peek part span w
 unfolding body_made body_cut
 body_found peek w rest x k e =
     let a = bind_some (cut_at 93 rest) (body_cut peek) x e in
-    let b = bind_some (section_of a.0.0) (λ s. partial_of a.0.1 >>= body_made peek s) x a.2 in
+    let b = bind_some (part_of a.0.0) (λ p. partial_of a.0.1 >>= body_made peek p) x a.2 in
     let c = bind_some (partial_of a.0.1) (body_made peek b.0) x b.2 in
     let p = cut_sound 93 rest a.0.0 a.0.1 a.1 in (
       b.0,
@@ -326,7 +387,7 @@ body_found peek w rest x k e =
           front = a.0.0;
           back = 93 ∷ a.0.1;
           parts = p.whole;
-          first = section_sound b.0 a.0.0 b.1;
+          first = part_sound b.0 a.0.0 b.1;
           second = record { front = 93 ∷ []; back = a.0.1; parts = refl; first = refl; second = partial_sound c.0 a.0.1 c.1 };
         };
       },
@@ -361,79 +422,60 @@ item_sound x w e =
     (λ e. item_step (is_same w (codes "RFC822.TEXT")) (codes "RFC822.TEXT") (fetch.Rfc822 Text) x w _ refl e (λ k. k)
     (λ e. body_sound w x (past_keyword (codes "BODY[") w) (past_keyword (codes "BODY.PEEK[") w) refl refl e)))))))
 
--- neither spaces nor parentheses stand in an item
-abbrev IsOut : ℕ → Type 0
-IsOut c = (to_ascii_lowercase c ≡ c) × (is_digit c ≡ false) × ((not (60 == c) ≡ true) × (not (46 == c) ≡ true) × (not (62 == c) ≡ true) × (not (93 == c) ≡ true))
+-- ---- words of items
 
-record CleanWords (c : ℕ) : Type 0 where
-  uid : Many (is_other c) (map to_ascii_lowercase (codes "UID"))
-  flags : Many (is_other c) (map to_ascii_lowercase (codes "FLAGS"))
-  size : Many (is_other c) (map to_ascii_lowercase (codes "RFC822.SIZE"))
-  date : Many (is_other c) (map to_ascii_lowercase (codes "INTERNALDATE"))
-  fast : Many (is_other c) (map to_ascii_lowercase (codes "FAST"))
-  part : (which : Section) → Many (is_other c) (map to_ascii_lowercase (rfc822_word which))
-  body : Many (is_other c) (map to_ascii_lowercase (codes "BODY["))
-  peek : Many (is_other c) (map to_ascii_lowercase (codes "BODY.PEEK["))
-  header : Many (is_other c) (map to_ascii_lowercase (codes "HEADER"))
-  text : Many (is_other c) (map to_ascii_lowercase (codes "TEXT"))
+-- the word of an item that is a word alone
+abbrev item_keyword : FetchItem → List ℕ
+item_keyword fetch.Uid = codes "UID"
+item_keyword fetch.Flags = codes "FLAGS"
+item_keyword fetch.Size = codes "RFC822.SIZE"
+item_keyword fetch.InternalDate = codes "INTERNALDATE"
+item_keyword (fetch.Rfc822 which) = rfc822_word which
+item_keyword (fetch.Body peek part span) = []
 
-body_clean : (c : ℕ) → IsOut c → CleanWords c → (peek : Bool) (section : Section) (part : Option Span) (w : List ℕ) → Many (is_other c) (map to_ascii_lowercase (body_word peek)) → BodyIs peek section part w → Many (is_other c) w
-body_clean c o k peek section part w m q =
-    let r = q.second in
-    let b = r.second in
-    subst (Many (is_other c)) (sym q.parts)
-    (many_joined (is_other c) q.front q.back (word_clean c o.0 q.front _ q.first m)
-    (subst (Many (is_other c)) (sym r.parts)
-    (many_joined (is_other c) r.front r.back (section_clean c o.0 k.header k.text section r.front r.first)
-    (subst (Many (is_other c)) (sym b.parts)
-    (many_joined (is_other c) b.front b.back (subst (Many (is_other c)) (sym b.first) (o.2.3, tt)) (partial_clean c o.1 o.2.0 o.2.1 o.2.2 part b.back b.second))))))
+abbrev NotBody : FetchItem → Type 0
+NotBody (fetch.Body peek part span) = ⊥
+NotBody x = Unit {0}
 
-item_clean : (c : ℕ) → IsOut c → CleanWords c → (x : FetchItem) (w : List ℕ) → ItemIs x w → Many (is_other c) w
-item_clean c o k fetch.Uid w h = word_clean c o.0 w _ h k.uid
-item_clean c o k fetch.Flags w h = word_clean c o.0 w _ h k.flags
-item_clean c o k fetch.Size w h = word_clean c o.0 w _ h k.size
-item_clean c o k fetch.InternalDate w h = word_clean c o.0 w _ h k.date
-item_clean c o k (fetch.Rfc822 which) w h = word_clean c o.0 w _ h (k.part which)
-item_clean c o k (fetch.Body true section part) w h = body_clean c o k true section part w k.peek h
-item_clean c o k (fetch.Body false section part) w h = body_clean c o k false section part w k.body h
+word_32 : (x : FetchItem) → NotBody x → Many (is_other 32) (map to_ascii_lowercase (item_keyword x))
+word_32 fetch.Uid h = (refl, (refl, (refl, tt)))
+word_32 fetch.Flags h = (refl, (refl, (refl, (refl, (refl, tt)))))
+word_32 fetch.Size h = (refl, (refl, (refl, (refl, (refl, (refl, (refl, (refl, (refl, (refl, (refl, tt)))))))))))
+word_32 fetch.InternalDate h = (refl, (refl, (refl, (refl, (refl, (refl, (refl, (refl, (refl, (refl, (refl, (refl, tt))))))))))))
+word_32 (fetch.Rfc822 Whole) h = (refl, (refl, (refl, (refl, (refl, (refl, tt))))))
+word_32 (fetch.Rfc822 Header) h = (refl, (refl, (refl, (refl, (refl, (refl, (refl, (refl, (refl, (refl, (refl, (refl, (refl, tt)))))))))))))
+word_32 (fetch.Rfc822 Text) h = (refl, (refl, (refl, (refl, (refl, (refl, (refl, (refl, (refl, (refl, (refl, tt)))))))))))
+word_32 (fetch.Body peek part span) h = absurd h
 
-part_spaces : (which : Section) → Many (is_other 32) (map to_ascii_lowercase (rfc822_word which))
-part_spaces Whole = (refl, (refl, (refl, (refl, (refl, (refl, tt))))))
-part_spaces Header = (refl, (refl, (refl, (refl, (refl, (refl, (refl, (refl, (refl, (refl, (refl, (refl, (refl, tt)))))))))))))
-part_spaces Text = (refl, (refl, (refl, (refl, (refl, (refl, (refl, (refl, (refl, (refl, (refl, tt)))))))))))
+word_40 : (x : FetchItem) → NotBody x → Many (is_other 40) (map to_ascii_lowercase (item_keyword x))
+word_40 fetch.Uid h = (refl, (refl, (refl, tt)))
+word_40 fetch.Flags h = (refl, (refl, (refl, (refl, (refl, tt)))))
+word_40 fetch.Size h = (refl, (refl, (refl, (refl, (refl, (refl, (refl, (refl, (refl, (refl, (refl, tt)))))))))))
+word_40 fetch.InternalDate h = (refl, (refl, (refl, (refl, (refl, (refl, (refl, (refl, (refl, (refl, (refl, (refl, tt))))))))))))
+word_40 (fetch.Rfc822 Whole) h = (refl, (refl, (refl, (refl, (refl, (refl, tt))))))
+word_40 (fetch.Rfc822 Header) h = (refl, (refl, (refl, (refl, (refl, (refl, (refl, (refl, (refl, (refl, (refl, (refl, (refl, tt)))))))))))))
+word_40 (fetch.Rfc822 Text) h = (refl, (refl, (refl, (refl, (refl, (refl, (refl, (refl, (refl, (refl, (refl, tt)))))))))))
+word_40 (fetch.Body peek part span) h = absurd h
 
-spaces_out : CleanWords 32
-spaces_out = record {
-  uid = (refl, (refl, (refl, tt)));
-  flags = (refl, (refl, (refl, (refl, (refl, tt)))));
-  size = (refl, (refl, (refl, (refl, (refl, (refl, (refl, (refl, (refl, (refl, (refl, tt)))))))))));
-  date = (refl, (refl, (refl, (refl, (refl, (refl, (refl, (refl, (refl, (refl, (refl, (refl, tt))))))))))));
-  fast = (refl, (refl, (refl, (refl, tt))));
-  part = part_spaces;
-  body = (refl, (refl, (refl, (refl, (refl, tt)))));
-  peek = (refl, (refl, (refl, (refl, (refl, (refl, (refl, (refl, (refl, (refl, tt))))))))));
-  header = (refl, (refl, (refl, (refl, (refl, (refl, tt))))));
-  text = (refl, (refl, (refl, (refl, tt))));
-}
+word_41 : (x : FetchItem) → NotBody x → Many (is_other 41) (map to_ascii_lowercase (item_keyword x))
+word_41 fetch.Uid h = (refl, (refl, (refl, tt)))
+word_41 fetch.Flags h = (refl, (refl, (refl, (refl, (refl, tt)))))
+word_41 fetch.Size h = (refl, (refl, (refl, (refl, (refl, (refl, (refl, (refl, (refl, (refl, (refl, tt)))))))))))
+word_41 fetch.InternalDate h = (refl, (refl, (refl, (refl, (refl, (refl, (refl, (refl, (refl, (refl, (refl, (refl, tt))))))))))))
+word_41 (fetch.Rfc822 Whole) h = (refl, (refl, (refl, (refl, (refl, (refl, tt))))))
+word_41 (fetch.Rfc822 Header) h = (refl, (refl, (refl, (refl, (refl, (refl, (refl, (refl, (refl, (refl, (refl, (refl, (refl, tt)))))))))))))
+word_41 (fetch.Rfc822 Text) h = (refl, (refl, (refl, (refl, (refl, (refl, (refl, (refl, (refl, (refl, (refl, tt)))))))))))
+word_41 (fetch.Body peek part span) h = absurd h
 
-part_closes : (which : Section) → Many (is_other 41) (map to_ascii_lowercase (rfc822_word which))
-part_closes Whole = (refl, (refl, (refl, (refl, (refl, (refl, tt))))))
-part_closes Header = (refl, (refl, (refl, (refl, (refl, (refl, (refl, (refl, (refl, (refl, (refl, (refl, (refl, tt)))))))))))))
-part_closes Text = (refl, (refl, (refl, (refl, (refl, (refl, (refl, (refl, (refl, (refl, (refl, tt)))))))))))
-
-closes_out : CleanWords 41
-closes_out = record {
-  uid = (refl, (refl, (refl, tt)));
-  flags = (refl, (refl, (refl, (refl, (refl, tt)))));
-  size = (refl, (refl, (refl, (refl, (refl, (refl, (refl, (refl, (refl, (refl, (refl, tt)))))))))));
-  date = (refl, (refl, (refl, (refl, (refl, (refl, (refl, (refl, (refl, (refl, (refl, (refl, tt))))))))))));
-  fast = (refl, (refl, (refl, (refl, tt))));
-  part = part_closes;
-  body = (refl, (refl, (refl, (refl, (refl, tt)))));
-  peek = (refl, (refl, (refl, (refl, (refl, (refl, (refl, (refl, (refl, (refl, tt))))))))));
-  header = (refl, (refl, (refl, (refl, (refl, (refl, tt))))));
-  text = (refl, (refl, (refl, (refl, tt))));
-}
+word_91 : (x : FetchItem) → NotBody x → Many (is_other 91) (map to_ascii_lowercase (item_keyword x))
+word_91 fetch.Uid h = (refl, (refl, (refl, tt)))
+word_91 fetch.Flags h = (refl, (refl, (refl, (refl, (refl, tt)))))
+word_91 fetch.Size h = (refl, (refl, (refl, (refl, (refl, (refl, (refl, (refl, (refl, (refl, (refl, tt)))))))))))
+word_91 fetch.InternalDate h = (refl, (refl, (refl, (refl, (refl, (refl, (refl, (refl, (refl, (refl, (refl, (refl, tt))))))))))))
+word_91 (fetch.Rfc822 Whole) h = (refl, (refl, (refl, (refl, (refl, (refl, tt))))))
+word_91 (fetch.Rfc822 Header) h = (refl, (refl, (refl, (refl, (refl, (refl, (refl, (refl, (refl, (refl, (refl, (refl, (refl, tt)))))))))))))
+word_91 (fetch.Rfc822 Text) h = (refl, (refl, (refl, (refl, (refl, (refl, (refl, (refl, (refl, (refl, (refl, tt)))))))))))
+word_91 (fetch.Body peek part span) h = absurd h
 
 item_some : (x : FetchItem) (w : List ℕ) → ItemIs x w → 0 < length w
 item_some fetch.Uid w h = let n = word_length (codes "UID") w h in omega (arith, n)
@@ -443,18 +485,79 @@ item_some fetch.InternalDate w h = let n = word_length (codes "INTERNALDATE") w 
 item_some (fetch.Rfc822 Whole) w h = let n = word_length (codes "RFC822") w h in omega (arith, n)
 item_some (fetch.Rfc822 Header) w h = let n = word_length (codes "RFC822.HEADER") w h in omega (arith, n)
 item_some (fetch.Rfc822 Text) w h = let n = word_length (codes "RFC822.TEXT") w h in omega (arith, n)
-item_some (fetch.Body true section part) w h =
+item_some (fetch.Body true part span) w h =
     let n = word_length (codes "BODY.PEEK[") h.front h.first in
     omega (arith, n, ap length h.parts, length-append h.front h.back)
-item_some (fetch.Body false section part) w h =
+item_some (fetch.Body false part span) w h =
     let n = word_length (codes "BODY[") h.front h.first in
     omega (arith, n, ap length h.parts, length-append h.front h.back)
 
-pub item_bare : (x : FetchItem) (w : List ℕ) → ItemIs x w → Some1 is_not_space w
-item_bare x w h = (item_some x w h, item_clean 32 (refl, refl, (refl, refl, refl, refl)) spaces_out x w h)
+-- no such byte stands outside of brackets, and each bracket that opens is closed
+record Kept (c : ℕ) (w : List ℕ) : Type 0 where
+  outside : Outside c false w
+  closed : open_behind false w ≡ false
 
-pub item_open : (x : FetchItem) (w : List ℕ) → ItemIs x w → Many (is_other 41) w
-item_open x w h = item_clean 41 (refl, refl, (refl, refl, refl, refl)) closes_out x w h
+plain_kept : (c : ℕ) (x : FetchItem) (w : List ℕ) → to_ascii_lowercase c ≡ c → Many (is_other c) (map to_ascii_lowercase (item_keyword x)) → Many (is_other 91) (map to_ascii_lowercase (item_keyword x))
+    → Keyword (item_keyword x) w → Kept c w
+plain_kept c x w e m n h =
+    let k = outside_plain c w (word_clean c e w _ h m) (word_clean 91 refl w _ h n) in
+    record { outside = k.0; closed = k.1 }
+
+-- BODY or BODY.PEEK, without its bracket
+abbrev bare_word : Bool → List ℕ
+bare_word peek = cond peek (codes "BODY.PEEK") (codes "BODY")
+
+body_front : (peek : Bool) (c : ℕ) (kw : List ℕ) → to_ascii_lowercase c ≡ c → Many (is_other c) (map to_ascii_lowercase (bare_word peek)) → not (91 == c) ≡ true → Keyword (body_word peek) kw
+    → Outside c false kw × (open_behind false kw ≡ true)
+body_front true c kw e m b h = opened_word c (codes "BODY.PEEK") kw e m (refl, (refl, (refl, (refl, (refl, (refl, (refl, (refl, (refl, tt))))))))) b h
+body_front false c kw e m b h = opened_word c (codes "BODY") kw e m (refl, (refl, (refl, (refl, tt)))) b h
+
+body_kept : (c : ℕ) → to_ascii_lowercase c ≡ c → (not (91 == c) ≡ true) → is_digit c ≡ false → (not (60 == c) ≡ true) → (not (46 == c) ≡ true) → (not (62 == c) ≡ true)
+    → (peek : Bool) (part : BodyPart) (span : Option Span) (w : List ℕ) → Many (is_other c) (map to_ascii_lowercase (bare_word peek)) → BodyIs peek part span w → Kept c w
+body_kept c e v d x y z peek part span w m q =
+    let r = q.second in
+    let b = r.second in
+    let front = body_front peek c q.front e m v q.first in
+    let inner = outside_within c r.front (part_clean part r.front r.first) in
+    let last = outside_plain c b.back (partial_clean c d x y z span b.back b.second) (partial_clean 91 refl refl refl refl span b.back b.second) in
+    let end : Outside c true b.front × (open_behind true b.front ≡ false) = subst (λ l. Outside c true l × (open_behind true l ≡ false)) (sym b.first) ((refl, tt), refl) in
+    let tail = both_outside c true b.front b.back false end.0 end.1 last.0 in
+    let tail_closed = both_behind true b.front b.back false end.1 ∙ last.1 in
+    let most = both_outside c true r.front (b.front ++ b.back) true inner.0 inner.1 tail in
+    let most_closed = both_behind true r.front (b.front ++ b.back) true inner.1 ∙ tail_closed in
+    let back : Outside c true q.back × (open_behind true q.back ≡ false) =
+    subst (λ l. Outside c true l × (open_behind true l ≡ false)) (sym (r.parts ∙ ap (λ l. r.front ++ l) b.parts)) (most, most_closed) in
+    subst (Kept c) (sym q.parts) (record {
+      outside = both_outside c false q.front q.back true front.0 front.1 back.0;
+      closed = both_behind false q.front q.back true front.1 ∙ back.1;
+    })
+
+item_kept : (c : ℕ) → to_ascii_lowercase c ≡ c → (not (91 == c) ≡ true) → is_digit c ≡ false → (not (60 == c) ≡ true) → (not (46 == c) ≡ true) → (not (62 == c) ≡ true)
+    → ((x : FetchItem) → NotBody x → Many (is_other c) (map to_ascii_lowercase (item_keyword x))) → ((peek : Bool) → Many (is_other c) (map to_ascii_lowercase (bare_word peek)))
+    → (x : FetchItem) (w : List ℕ) → ItemIs x w → Kept c w
+item_kept c e v d x y z f g fetch.Uid w h = plain_kept c fetch.Uid w e (f fetch.Uid tt) (word_91 fetch.Uid tt) h
+item_kept c e v d x y z f g fetch.Flags w h = plain_kept c fetch.Flags w e (f fetch.Flags tt) (word_91 fetch.Flags tt) h
+item_kept c e v d x y z f g fetch.Size w h = plain_kept c fetch.Size w e (f fetch.Size tt) (word_91 fetch.Size tt) h
+item_kept c e v d x y z f g fetch.InternalDate w h = plain_kept c fetch.InternalDate w e (f fetch.InternalDate tt) (word_91 fetch.InternalDate tt) h
+item_kept c e v d x y z f g (fetch.Rfc822 which) w h = plain_kept c (fetch.Rfc822 which) w e (f (fetch.Rfc822 which) tt) (word_91 (fetch.Rfc822 which) tt) h
+item_kept c e v d x y z f g (fetch.Body true part span) w h = body_kept c e v d x y z true part span w (g true) h
+item_kept c e v d x y z f g (fetch.Body false part span) w h = body_kept c e v d x y z false part span w (g false) h
+
+bare_32 : (peek : Bool) → Many (is_other 32) (map to_ascii_lowercase (bare_word peek))
+bare_32 true = (refl, (refl, (refl, (refl, (refl, (refl, (refl, (refl, (refl, tt)))))))))
+bare_32 false = (refl, (refl, (refl, (refl, tt))))
+
+bare_41 : (peek : Bool) → Many (is_other 41) (map to_ascii_lowercase (bare_word peek))
+bare_41 true = (refl, (refl, (refl, (refl, (refl, (refl, (refl, (refl, (refl, tt)))))))))
+bare_41 false = (refl, (refl, (refl, (refl, tt))))
+
+pub item_word : (x : FetchItem) (w : List ℕ) → ItemIs x w → ItemWord w
+item_word x w h =
+    let k = item_kept 32 refl refl refl refl refl refl word_32 bare_32 x w h in
+    record { some = item_some x w h; whole = k.outside; closed = k.closed }
+
+pub item_unclosed : (x : FetchItem) (w : List ℕ) → ItemIs x w → Outside 41 false w
+item_unclosed x w h = (item_kept 41 refl refl refl refl refl refl word_41 bare_41 x w h).outside
 
 -- ---- items of STATUS
 
@@ -535,27 +638,50 @@ status_bare x w h = (let n = word_length (status_word x) w h in omega (arith, n,
 pub status_open : (x : StatusItem) (w : List ℕ) → StatusItemIs x w → Many (is_other 41) w
 status_open x w h = status_clean 41 refl status_closes x w h
 
-part_opens : (which : Section) → Many (is_other 40) (map to_ascii_lowercase (rfc822_word which))
-part_opens Whole = (refl, (refl, (refl, (refl, (refl, (refl, tt))))))
-part_opens Header = (refl, (refl, (refl, (refl, (refl, (refl, (refl, (refl, (refl, (refl, (refl, (refl, (refl, tt)))))))))))))
-part_opens Text = (refl, (refl, (refl, (refl, (refl, (refl, (refl, (refl, (refl, (refl, (refl, tt)))))))))))
+-- a text that begins with bytes of which none opens a parenthesis
+pub record NoParenthesis (w : List ℕ) : Type 0 where
+  pub front : List ℕ
+  pub back : List ℕ
+  pub whole : w ≡ front ++ back
+  pub some : 0 < length front
+  pub clean : Many (is_other 40) front
 
-opens_out : CleanWords 40
-opens_out = record {
-  uid = (refl, (refl, (refl, tt)));
-  flags = (refl, (refl, (refl, (refl, (refl, tt)))));
-  size = (refl, (refl, (refl, (refl, (refl, (refl, (refl, (refl, (refl, (refl, (refl, tt)))))))))));
-  date = (refl, (refl, (refl, (refl, (refl, (refl, (refl, (refl, (refl, (refl, (refl, (refl, tt))))))))))));
-  fast = (refl, (refl, (refl, (refl, tt))));
-  part = part_opens;
-  body = (refl, (refl, (refl, (refl, (refl, tt)))));
-  peek = (refl, (refl, (refl, (refl, (refl, (refl, (refl, (refl, (refl, (refl, tt))))))))));
-  header = (refl, (refl, (refl, (refl, (refl, (refl, tt))))));
-  text = (refl, (refl, (refl, (refl, tt))));
+keyword_front : (word w : List ℕ) → 0 < length word → Many (is_other 40) (map to_ascii_lowercase word) → Keyword word w → NoParenthesis w
+keyword_front word w some m h = record {
+  front = w;
+  back = [];
+  whole = sym (append-nil w);
+  some = (let n = word_length word w h in omega (arith, n, some));
+  clean = word_clean 40 refl w _ h m;
 }
 
-pub item_alone : (x : FetchItem) (w : List ℕ) → ItemIs x w → Many (is_other 40) w
-item_alone x w h = item_clean 40 (refl, refl, (refl, refl, refl, refl)) opens_out x w h
+body_first : (peek : Bool) → Many (is_other 40) (map to_ascii_lowercase (body_word peek))
+body_first true = (refl, (refl, (refl, (refl, (refl, (refl, (refl, (refl, (refl, (refl, tt))))))))))
+body_first false = (refl, (refl, (refl, (refl, (refl, tt)))))
+
+body_long : (peek : Bool) → 0 < length (body_word peek)
+body_long true = omega arith
+body_long false = omega arith
+
+body_front_kept : (peek : Bool) (part : BodyPart) (span : Option Span) (w : List ℕ) → BodyIs peek part span w → NoParenthesis w
+body_front_kept peek part span w q = record {
+  front = q.front;
+  back = q.back;
+  whole = q.parts;
+  some = (let n = word_length (body_word peek) q.front q.first in omega (arith, n, body_long peek));
+  clean = word_clean 40 refl q.front _ q.first (body_first peek);
+}
+
+pub item_front : (x : FetchItem) (w : List ℕ) → ItemIs x w → NoParenthesis w
+item_front fetch.Uid w h = keyword_front (codes "UID") w (omega arith) (word_40 fetch.Uid tt) h
+item_front fetch.Flags w h = keyword_front (codes "FLAGS") w (omega arith) (word_40 fetch.Flags tt) h
+item_front fetch.Size w h = keyword_front (codes "RFC822.SIZE") w (omega arith) (word_40 fetch.Size tt) h
+item_front fetch.InternalDate w h = keyword_front (codes "INTERNALDATE") w (omega arith) (word_40 fetch.InternalDate tt) h
+item_front (fetch.Rfc822 Whole) w h = keyword_front (codes "RFC822") w (omega arith) (word_40 (fetch.Rfc822 Whole) tt) h
+item_front (fetch.Rfc822 Header) w h = keyword_front (codes "RFC822.HEADER") w (omega arith) (word_40 (fetch.Rfc822 Header) tt) h
+item_front (fetch.Rfc822 Text) w h = keyword_front (codes "RFC822.TEXT") w (omega arith) (word_40 (fetch.Rfc822 Text) tt) h
+item_front (fetch.Body true part span) w h = body_front_kept true part span w h
+item_front (fetch.Body false part span) w h = body_front_kept false part span w h
 
 -- ---- FAST
 
@@ -568,10 +694,10 @@ item_length fetch.InternalDate w h e = let n = word_length (codes "INTERNALDATE"
 item_length (fetch.Rfc822 Whole) w h e = let n = word_length (codes "RFC822") w h in omega (arith, n, e)
 item_length (fetch.Rfc822 Header) w h e = let n = word_length (codes "RFC822.HEADER") w h in omega (arith, n, e)
 item_length (fetch.Rfc822 Text) w h e = let n = word_length (codes "RFC822.TEXT") w h in omega (arith, n, e)
-item_length (fetch.Body true section part) w h e =
+item_length (fetch.Body true part span) w h e =
     let n = word_length (codes "BODY.PEEK[") h.front h.first in
     omega (arith, n, e, ap length h.parts, length-append h.front h.back)
-item_length (fetch.Body false section part) w h e =
+item_length (fetch.Body false part span) w h e =
     let n = word_length (codes "BODY[") h.front h.first in
     omega (arith, n, e, ap length h.parts, length-append h.front h.back)
 
@@ -585,8 +711,10 @@ item_not_fast x w h = other_length (is_same w (codes "FAST")) w refl (item_lengt
 pub is_fast : (w : List ℕ) → Keyword (codes "FAST") w → is_same w (codes "FAST") ≡ true
 is_fast w h = ap (λ (l : List ℕ). bytes_eq l (map to_ascii_lowercase (codes "FAST"))) h
 
-pub fast_bare : (w : List ℕ) → Keyword (codes "FAST") w → Some1 is_not_space w
-fast_bare w h = (let n = word_length (codes "FAST") w h in omega (arith, n), word_clean 32 refl w _ h spaces_out.fast)
+pub fast_word : (w : List ℕ) → Keyword (codes "FAST") w → ItemWord w
+fast_word w h =
+    let k = outside_plain 32 w (word_clean 32 refl w _ h (refl, (refl, (refl, (refl, tt))))) (word_clean 91 refl w _ h (refl, (refl, (refl, (refl, tt))))) in
+    record { some = (let n = word_length (codes "FAST") w h in omega (arith, n)); whole = k.0; closed = k.1 }
 
-pub fast_alone : (w : List ℕ) → Keyword (codes "FAST") w → Many (is_other 40) w
-fast_alone w h = word_clean 40 refl w _ h opens_out.fast
+pub fast_front : (w : List ℕ) → Keyword (codes "FAST") w → NoParenthesis w
+fast_front w h = keyword_front (codes "FAST") w (omega arith) (refl, (refl, (refl, (refl, tt)))) h

@@ -14,7 +14,7 @@ use Rattle.imap_grammar.proofs.Cuts.{is_other}
 pub word_length : (word text : List ℕ) → Keyword word text → length text ≡ length word
 word_length word text h = sym (length-map text to_ascii_lowercase) ∙ ap length h ∙ length-map word to_ascii_lowercase
 
-other_case : (c x : ℕ) → to_ascii_lowercase c ≡ c → not (to_ascii_lowercase x == c) ≡ true → not (x == c) ≡ true
+pub other_case : (c x : ℕ) → to_ascii_lowercase c ≡ c → not (to_ascii_lowercase x == c) ≡ true → not (x == c) ≡ true
 other_case c x e h =
     ap not (decides_false (x == c) (Decides-eqb x c) (λ (k : x ≡ c).
     let low : to_ascii_lowercase x ≡ c = ap to_ascii_lowercase k ∙ e in

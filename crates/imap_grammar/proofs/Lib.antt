@@ -12,8 +12,11 @@ pub mod ItemSteps
 pub mod Tokens
 pub mod Separated
 pub mod Parens
+pub mod ItemWords
 pub mod SetLaw
 pub mod Keywords
+pub mod Outside
+pub mod Fields
 pub mod ItemLaw
 pub mod ListLaw
 pub mod Chains

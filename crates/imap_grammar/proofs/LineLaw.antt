@@ -19,7 +19,7 @@ use Rattle.imap_grammar.specs.declared.command.Command.TheVariants as say
 use Rattle.imap_grammar.specs.declared.command.ImapFault.{ImapFault}
 use Rattle.imap_grammar.specs.declared.command.ImapFault.TheVariants.{NoTag, Unknown, LeftOut, Arguments}
 use Rattle.imap_grammar.proofs.Tokens.{excludes, many_map, blank_first, spaces_over, some_gap, word_again, word_parts}
-use Rattle.imap_grammar.proofs.ListLaw.{word_of_again, word_of_sound}
+use Rattle.imap_grammar.proofs.Fields.{word_of_again, word_of_sound}
 use Rattle.imap_grammar.proofs.CommandLaw.{command_again, command_sound}
 use Rattle.imap_grammar.proofs.VerbLaw.{verb_begins, FoundVerb, verb_sound}
 

@@ -14,17 +14,22 @@ use Rattle.envelope.specs.Bytes.{is_space, is_not_space}
 use Rattle.envelope.specs.Grammar.{Keyword, Many, Some1, Spaces, Gap, Joined}
 use Rattle.envelope.specs.Reading.{◌>>=◌, first_is, words, past_byte}
 use Rattle.imap_grammar.specs.Bytes.{is_atom}
+use Rattle.imap_grammar.specs.Brackets.{item_word_at, item_words, outside_len}
 use Rattle.imap_grammar.specs.Items.{fast_items, fetch_item_of, fetch_items_of, is_word_of, is_flag_after, is_flag, flags_among}
 use Rattle.imap_grammar.specs.Grammar.{Others, Separated, Parenthesized, ItemIs, ItemsAre, Flag, FlagWord, FlagWords, FlagsAre}
-use Rattle.imap_grammar.specs.Reading.{word_at, is_blank, is_tight, in_parentheses, are_items, fetch_items_in, fetch_word_in, fetch_items_at, flags_in, flags_at}
+use Rattle.imap_grammar.specs.Reading.{word_at, is_blank, is_tight, in_parentheses, items_in_parentheses, are_items, fetch_items_in, fetch_word_in, fetch_items_at, flags_in, flags_at}
 use Rattle.imap_grammar.specs.declared.items.FetchItem.{FetchItem}
 use Rattle.imap_grammar.proofs.Cuts.{is_other}
 use Rattle.imap_grammar.proofs.Tokens.{starts, excludes, many_map, many_joined, blank_first, word_again, word_parts, not_true}
 use Rattle.imap_grammar.proofs.Separated.{AllRead, FoundWords, words_again, words_sound, said}
-use Rattle.imap_grammar.proofs.Parens.{separated_tight, separated_starts, tight_stops, tight_end, blank_again, blank_sound, paren_again, paren_sound}
+use Rattle.imap_grammar.proofs.Parens.{edges_tight, separated_tight, separated_starts, tight_stops, tight_end, blank_again, blank_sound, paren_again, paren_sound}
 use Rattle.imap_grammar.proofs.WordLaws.{word_alone}
 use Rattle.imap_grammar.proofs.Keywords.{same_sound}
-use Rattle.imap_grammar.proofs.ItemLaw.{item_again, item_sound, item_bare, item_open, item_alone, item_not_fast, is_fast, fast_bare, fast_alone}
+use Rattle.imap_grammar.proofs.Fields.{word_of_again, word_of_sound}
+use Rattle.std.proofs.lemmas.List.{take-append-drop}
+use Rattle.imap_grammar.proofs.ItemWords.{ItemWord, Outside, open_behind, front, item_alone, item_ends, item_list_again, item_list_sound, item_starts, item_word_back, items_paren_again, items_paren_sound}
+use Rattle.imap_grammar.proofs.Outside.{both_behind, both_outside, outside_plain}
+use Rattle.imap_grammar.proofs.ItemLaw.{NoParenthesis, item_again, item_sound, item_word, item_unclosed, item_front, item_not_fast, is_fast, fast_word, fast_front}
 
 -- ---- bytes of lists
 
@@ -120,84 +125,139 @@ first_other : (c : ℕ) (text rest : List ℕ) → 0 < length text → Many (is_
 first_other c [] rest h m = absurd (omega (arith, h))
 first_other c (x ∷ xs) rest h m = not_true (x == c) m.0
 
+no_parenthesis : (text rest : List ℕ) → NoParenthesis text → first_is 40 (text ++ rest) ≡ false
+no_parenthesis text rest n =
+    ap (λ l. first_is 40 (l ++ rest)) n.whole ∙ ap (first_is 40) (append_assoc n.front n.back rest) ∙ first_other 40 n.front (n.back ++ rest) n.some n.clean
+
+-- items that all words are
+read_items : (text : List ℕ) (x : FetchItem) (xs : List FetchItem) → AllRead fetch_item_of (item_words text) (x ∷ xs) → fetch_items_in text ≡ Some (x ∷ xs)
+read_items text x xs k =
+    let some = some_parts fetch_item_of (item_words text) x xs k.are in
+    ap (λ (t : Bool). cond t (Some (filter_map fetch_item_of (item_words text))) None) (is_both (list_all (λ w. is_some (fetch_item_of w)) (item_words text)) (not (length (item_words text) == 0)) k.all some)
+    ∙ ap (λ l. Some l) k.are
+
 abbrev items_bare : List ℕ → Option (List FetchItem)
-items_bare bytes = cond (is_blank (word_at bytes).1) (fetch_word_in (word_at bytes).0) None
+items_bare bytes = cond (is_blank (item_word_at bytes).1) (fetch_word_in (item_word_at bytes).0) None
 
 -- a word alone, and what it says
-alone_again : (items : List FetchItem) (text sp : List ℕ) → Some1 is_not_space text → Many (is_other 40) text → Spaces sp → fetch_word_in text ≡ Some items
+alone_again : (items : List FetchItem) (text sp : List ℕ) → ItemWord text → NoParenthesis text → Spaces sp → fetch_word_in text ≡ Some items
     → fetch_items_at (text ++ sp) ≡ Some items
-alone_again items text sp w out s e =
-    ap (λ (t : Bool). cond t (in_parentheses (text ++ sp) >>= fetch_items_in) (items_bare (text ++ sp))) (first_other 40 text sp w.0 out)
-    ∙ ap (λ (c : List ℕ × List ℕ). cond (is_blank c.1) (fetch_word_in c.0) None) (word_again text sp w.1 (blank_first sp s))
+alone_again items text sp w n s e =
+    ap (λ (t : Bool). cond t (items_in_parentheses (text ++ sp) >>= fetch_items_in) (items_bare (text ++ sp))) (no_parenthesis text sp n)
+    ∙ ap (λ (c : List ℕ × List ℕ). cond (is_blank c.1) (fetch_word_in c.0) None) (item_word_back text sp w s)
     ∙ ap (λ (t : Bool). cond t (fetch_word_in text) None) (blank_again sp s)
     ∙ e
 
+-- what stands outside of brackets in a list of items
+record Unclosed (text : List ℕ) : Type 0 where
+  outside : Outside 41 false text
+  closed : open_behind false text ≡ false
+
+item_is_unclosed : (x : FetchItem) (t : List ℕ) → ItemIs x t → Unclosed t
+item_is_unclosed x t h = record { outside = item_unclosed x t h; closed = (item_word x t h).closed }
+
+gap_unclosed : (gap : List ℕ) → Gap gap → Unclosed gap
+gap_unclosed gap g =
+    let k = outside_plain 41 gap (many_map is_space (is_other 41) (λ b e. excludes is_space 41 refl b e) gap g.1) (many_map is_space (is_other 91) (λ b e. excludes is_space 91 refl b e) gap g.1) in
+    record { outside = k.0; closed = k.1 }
+
+both_unclosed : (a b text : List ℕ) → text ≡ a ++ b → Unclosed a → Unclosed b → Unclosed text
+both_unclosed a b text e h k =
+    subst Unclosed (sym e) (record { outside = both_outside 41 false a b false h.outside h.closed k.outside; closed = both_behind false a b false h.closed ∙ k.closed })
+
+items_unclosed : (x : FetchItem) (xs : List FetchItem) (text : List ℕ) → Separated Gap ItemIs (x ∷ xs) text → Unclosed text
+items_unclosed x [] text q = both_unclosed q.front q.back text q.parts (item_is_unclosed x q.front q.first) (subst Unclosed (sym q.second) (record { outside = tt; closed = refl }))
+items_unclosed x (y ∷ ys) text q =
+    both_unclosed q.front q.back text q.parts (item_is_unclosed x q.front q.first)
+    (both_unclosed q.second.front q.second.back q.back q.second.parts (gap_unclosed q.second.front q.second.first) (items_unclosed y ys q.second.back q.second.second))
+
+items_tight : (x : FetchItem) (xs : List FetchItem) (text : List ℕ) → Separated Gap ItemIs (x ∷ xs) text → is_tight text ≡ true
+items_tight x xs text q = edges_tight ItemIs (λ y t rest h. item_starts t rest (item_word y t h)) (λ y t h. item_ends t (item_word y t h)) x xs text q
+
+parens_again : (items : List FetchItem) (text sp : List ℕ) → Parenthesized (Separated Gap ItemIs items) text → Spaces sp → fetch_items_at (text ++ sp) ≡ Some items
+parens_again [] text sp q s = absurd (paren_text (λ _. ⊥) text q).2
+parens_again (x ∷ xs) text sp q s =
+    let k = paren_text (Separated Gap ItemIs (x ∷ xs)) text q in
+    let u = items_unclosed x xs k.0 k.2 in
+    let found : items_in_parentheses (text ++ sp) ≡ Some k.0 =
+    ap (λ l. items_in_parentheses (l ++ sp)) k.1 ∙ items_paren_again k.0 sp u.outside u.closed (items_tight x xs k.0 k.2) s in
+    let r = item_list_again fetch_item_of ItemIs item_again item_word x xs k.0 [] k.2 tt in
+    let all : AllRead fetch_item_of (item_words k.0) (x ∷ xs) = subst (λ l. AllRead fetch_item_of (item_words l) (x ∷ xs)) (append_none k.0) r in
+    let opened : first_is 40 (text ++ sp) ≡ true = ap (λ l. first_is 40 (l ++ sp)) k.1 in
+    ap (λ (t : Bool). cond t (items_in_parentheses (text ++ sp) >>= fetch_items_in) (items_bare (text ++ sp))) opened
+    ∙ ap (λ o. o >>= fetch_items_in) found
+    ∙ read_items k.0 x xs all
+
 pub items_again : (items : List FetchItem) (text sp : List ℕ) → ItemsAre items text → Spaces sp → fetch_items_at (text ++ sp) ≡ Some items
 items_again items text sp (inl h) s =
-    let w = item_bare h.0 text h.2 in
-    let all : AllRead fetch_item_of (words text) (h.0 ∷ []) = subst (λ l. AllRead fetch_item_of l (h.0 ∷ [])) (sym (word_alone text w))
+    let w = item_word h.0 text h.2 in
+    let all : AllRead fetch_item_of (item_words text) (h.0 ∷ []) = subst (λ l. AllRead fetch_item_of l (h.0 ∷ [])) (sym (item_alone text w.some w.whole))
     (record { all = ap (λ o. is_some o && true) (item_again h.0 text h.2); are = ap (λ o. cons_option o []) (item_again h.0 text h.2) }) in
-    alone_again items text sp w (item_alone h.0 text h.2) s
+    alone_again items text sp w (item_front h.0 text h.2) s
     (ap (λ (t : Bool). cond t (Some fast_items) (fetch_items_in text)) (item_not_fast h.0 text h.2)
-    ∙ read_list fetch_item_of text h.0 [] all
+    ∙ read_items text h.0 [] all
     ∙ ap (λ l. Some l) (sym h.1))
 items_again items text sp (inr (inl h)) s =
-    alone_again items text sp (fast_bare text h.1) (fast_alone text h.1) s
+    alone_again items text sp (fast_word text h.1) (fast_front text h.1) s
     (ap (λ (t : Bool). cond t (Some fast_items) (fetch_items_in text)) (is_fast text h.1) ∙ ap (λ l. Some l) (sym h.0))
-items_again items text sp (inr (inr q)) s =
-    let k = listed_again fetch_item_of ItemIs item_again item_bare item_open items text sp q s in
-    let unclosed : first_is 40 (text ++ sp) ≡ true = ap (λ l. first_is 40 (l ++ sp)) (paren_text (Separated Gap ItemIs items) text q).1 in
-    ap (λ (t : Bool). cond t (in_parentheses (text ++ sp) >>= fetch_items_in) (items_bare (text ++ sp))) unclosed
-    ∙ ap (λ o. o >>= fetch_items_in) k.found
-    ∙ k.read
+items_again items text sp (inr (inr q)) s = parens_again items text sp q s
 
-one_sound : (w rest bytes : List ℕ) (items : List FetchItem) → bytes ≡ w ++ rest → Many is_not_space w → is_blank rest ≡ true → fetch_items_in w ≡ Some items → Joined (ItemsAre items) Spaces bytes
-one_sound w rest bytes items e m b h =
-    let k = guard_some (are_items fetch_item_of (words w)) (fetch_items_of w) items h in
-    let t = both_true (list_all (λ v. is_some (fetch_item_of v)) (words w)) (not (length (words w) == 0)) k.0 in
-    let one : words w ≡ w ∷ [] = word_alone w (none_empty w t.1, m) in
+no_items : (text : List ℕ) → not (length (item_words text) == 0) ≡ true → 0 < length text
+no_items [] e = absurd cc
+no_items (x ∷ xs) e = omega arith
+
+-- what is known of words that are items
+items_found : (text : List ℕ) (items : List FetchItem) → Stops is_space text → fetch_items_in text ≡ Some items
+    → (w : FoundWords item_words fetch_item_of ItemIs text) × (w.found.first ∷ w.found.others ≡ items)
+items_found text items s e =
+    let k = guard_some (are_items fetch_item_of (item_words text)) (fetch_items_of text) items e in
+    let b = both_true (list_all (λ w. is_some (fetch_item_of w)) (item_words text)) (not (length (item_words text) == 0)) k.0 in
+    let w = item_list_sound fetch_item_of ItemIs item_sound text s (no_items text b.1) b.0 in
+    (w, sym w.found.are ∙ k.1)
+
+parens_sound : (bytes inner : List ℕ) (items : List FetchItem) → items_in_parentheses bytes ≡ Some inner → fetch_items_in inner ≡ Some items → Joined (ItemsAre items) Spaces bytes
+parens_sound bytes inner items e h =
+    let p = items_paren_sound bytes inner e in
+    let k = items_found inner items (tight_stops inner p.tight) h in
+    let w = k.0 in
+    let same : inner ≡ w.text = tight_end inner w.text w.spaces w.parts w.blank p.tight in
+    let list : Separated Gap ItemIs items inner = subst (λ l. Separated Gap ItemIs l inner) k.1 (subst (Separated Gap ItemIs (w.found.first ∷ w.found.others)) (sym same) w.found.is) in
+    record { front = 40 ∷ (inner ++ 41 ∷ []); back = p.spaces; parts = p.parts; first = inr (inr (text_paren (Separated Gap ItemIs items) inner list)); second = p.blank }
+
+one_sound : (w rest bytes : List ℕ) (items : List FetchItem) → bytes ≡ w ++ rest → Outside 32 false w → is_blank rest ≡ true → fetch_items_in w ≡ Some items → Joined (ItemsAre items) Spaces bytes
+one_sound w rest bytes items e o b h =
+    let k = guard_some (are_items fetch_item_of (item_words w)) (fetch_items_of w) items h in
+    let t = both_true (list_all (λ v. is_some (fetch_item_of v)) (item_words w)) (not (length (item_words w) == 0)) k.0 in
+    let one : item_words w ≡ w ∷ [] = item_alone w (no_items w t.1) o in
     let all : (is_some (fetch_item_of w) && true) ≡ true = ap (list_all (λ v. is_some (fetch_item_of v))) (sym one) ∙ t.0 in
     let x = said (fetch_item_of w) (both_true (is_some (fetch_item_of w)) true all).0 in
     let are : items ≡ x.0 ∷ [] = sym k.1 ∙ ap (filter_map fetch_item_of) one ∙ ap (λ o. cons_option o []) x.1 in
     record { front = w; back = rest; parts = e; first = inl (x.0, are, item_sound x.0 w x.1); second = blank_sound rest b }
 
-alone_sound : (w rest bytes : List ℕ) (items : List FetchItem) → bytes ≡ w ++ rest → Many is_not_space w → is_blank rest ≡ true → fetch_word_in w ≡ Some items → Joined (ItemsAre items) Spaces bytes
-alone_sound w rest bytes items e m b h =
+alone_sound : (w rest bytes : List ℕ) (items : List FetchItem) → bytes ≡ w ++ rest → Outside 32 false w → is_blank rest ≡ true → fetch_word_in w ≡ Some items → Joined (ItemsAre items) Spaces bytes
+alone_sound w rest bytes items e o b h =
     elim (either (is_same w (codes "FAST")) (Some fast_items) (fetch_items_in w) (Some items) h) [
       | inl q ↦
           let are : fast_items ≡ items = cc in
           record { front = w; back = rest; parts = e; first = inr (inl (sym are, same_sound (codes "FAST") w q.0)); second = blank_sound rest b }
-      | inr q ↦ one_sound w rest bytes items e m b q.1
+      | inr q ↦ one_sound w rest bytes items e o b q.1
     ]
 
-pub items_sound : (items : List FetchItem) (bytes : List ℕ) → Many is_not_space (word_at bytes).0 → fetch_items_at bytes ≡ Some items → Joined (ItemsAre items) Spaces bytes
-items_sound items bytes m e =
-    elim (either (first_is 40 bytes) (in_parentheses bytes >>= fetch_items_in) (items_bare bytes) (Some items) e) [
+pub items_sound : (items : List FetchItem) (bytes : List ℕ) → fetch_items_at bytes ≡ Some items → Joined (ItemsAre items) Spaces bytes
+items_sound items bytes e =
+    elim (either (first_is 40 bytes) (items_in_parentheses bytes >>= fetch_items_in) (items_bare bytes) (Some items) e) [
       | inl q ↦
-          let k = bind_some (in_parentheses bytes) fetch_items_in items q.1 in
-          let j = listed_sound fetch_item_of ItemIs item_sound bytes k.0 items k.1 k.2 in
-          record { front = j.front; back = j.back; parts = j.parts; first = inr (inr j.first); second = j.second }
+          let k = bind_some (items_in_parentheses bytes) fetch_items_in items q.1 in
+          parens_sound bytes k.0 items k.1 k.2
       | inr q ↦
-          elim (either (is_blank (word_at bytes).1) (fetch_word_in (word_at bytes).0) None (Some items) q.1) [
-            | inl r ↦ alone_sound (word_at bytes).0 (word_at bytes).1 bytes items (word_parts bytes) m r.0 r.1
+          elim (either (is_blank (item_word_at bytes).1) (fetch_word_in (item_word_at bytes).0) None (Some items) q.1) [
+            | inl r ↦
+                alone_sound (item_word_at bytes).0 (item_word_at bytes).1 bytes items (sym (take-append-drop (outside_len 32 false bytes) bytes)) (front 32 false bytes).outside r.0 r.1
             | inr r ↦ absurd (let bad : None ≡ Some items = r.1 in cc)
           ]
     ]
 
 -- ---- flags
-
-has_some : (w : List ℕ) → 0 < length w → not (length w == 0) ≡ true
-has_some w h = ap not (decides_false (length w == 0) (Decides-eqb (length w) 0) (λ e. omega arith))
-
-some_of : (w : List ℕ) → not (length w == 0) ≡ true → 0 < length w
-some_of [] e = absurd cc
-some_of (x ∷ xs) e = omega arith
-
-pub word_of_again : (p : ℕ → Bool) (w : List ℕ) → Some1 p w → is_word_of p w ≡ true
-word_of_again p w h = is_both (list_all p w) (not (length w == 0)) (all_of p p w (λ b e. e) h.1) (has_some w h.0)
-
-pub word_of_sound : (p : ℕ → Bool) (w : List ℕ) → is_word_of p w ≡ true → Some1 p w
-word_of_sound p w e = let b = both_true (list_all p w) (not (length w == 0)) e in (some_of w b.1, each_of p w b.0)
 
 flag_again : (w : List ℕ) → Flag w → is_flag w ≡ true
 flag_again w (inl h) =
@@ -343,7 +403,7 @@ flags_again flags text sp (ws, e, inr q) s =
     ap (λ l. flags_at (l ++ sp)) k.1 ∙ inner_again ws k.0 sp flags k.2 s e
 
 flags_found : (bytes : List ℕ) (flags : Flags) → Stops is_space bytes → 0 < length bytes → flags_in bytes ≡ Some flags
-    → (w : FoundWords one_flag FlagWord bytes) × (flags_among (w.found.first ∷ w.found.others) ≡ flags)
+    → (w : FoundWords words one_flag FlagWord bytes) × (flags_among (w.found.first ∷ w.found.others) ≡ flags)
 flags_found bytes flags s some e =
     let k = guard_some (list_all is_flag (words bytes)) (flags_among (words bytes)) flags e in
     let all = flags_all (words bytes) k.0 in
@@ -389,8 +449,8 @@ paren_starts : (P : List ℕ → Type 0) (text rest : List ℕ) → Parenthesize
 paren_starts P text rest q = subst (λ l. Stops is_space (l ++ rest)) (sym (q.parts ∙ ap (λ l. l ++ q.back) q.first)) refl
 
 pub items_starts : (items : List FetchItem) (text rest : List ℕ) → ItemsAre items text → Stops is_space (text ++ rest)
-items_starts items text rest (inl h) = starts is_not_space (λ b e. not_true (is_space b) e) text rest (item_bare h.0 text h.2)
-items_starts items text rest (inr (inl h)) = starts is_not_space (λ b e. not_true (is_space b) e) text rest (fast_bare text h.1)
+items_starts items text rest (inl h) = item_starts text rest (item_word h.0 text h.2)
+items_starts items text rest (inr (inl h)) = item_starts text rest (fast_word text h.1)
 items_starts items text rest (inr (inr q)) = paren_starts (Separated Gap ItemIs items) text rest q
 
 pub flags_starts : (flags : Flags) (text rest : List ℕ) → FlagsAre flags text → Stops is_space (text ++ rest)

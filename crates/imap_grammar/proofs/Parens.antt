@@ -18,7 +18,7 @@ use Rattle.imap_grammar.proofs.Tokens.{not_true, starts}
 abbrev pub last : List ℕ → ℕ
 last text = get_or text (length text - 1) 0
 
-last_cons : (x : ℕ) (l : List ℕ) → 0 < length l → last (x ∷ l) ≡ last l
+pub last_cons : (x : ℕ) (l : List ℕ) → 0 < length l → last (x ∷ l) ≡ last l
 last_cons x l h =
     let e : suc (length l) - 1 ≡ suc (length l - 1) = omega arith in
     ap (λ (n : ℕ). get_or (x ∷ l) n 0) e
@@ -32,31 +32,33 @@ last_of_many p [] h = absurd (omega (arith, h.0))
 last_of_many p (x ∷ []) h = h.1.0
 last_of_many p (x ∷ y ∷ ws) h = ap p (last_cons x (y ∷ ws) (omega arith)) ∙ last_of_many p (y ∷ ws) (omega arith, h.1.1)
 
-separated_last : {A : Type 0} (P : A → List ℕ → Type 0) → ((x : A) (t : List ℕ) → P x t → Some1 is_not_space t) → (x : A) (xs : List A) (text : List ℕ)
+separated_last : {A : Type 0} (P : A → List ℕ → Type 0) → ((x : A) (t : List ℕ) → P x t → (0 < length t) × (is_not_space (last t) ≡ true)) → (x : A) (xs : List A) (text : List ℕ)
     → Separated Gap P (x ∷ xs) text → (0 < length text) × (is_not_space (last text) ≡ true)
-separated_last P bare x [] text q =
+separated_last P ends x [] text q =
     let whole : text ≡ q.front = q.parts ∙ ap (λ l. q.front ++ l) q.second ∙ append_none q.front in
-    let h = bare x q.front q.first in
-    (omega (arith, h.0, ap length whole), ap (λ l. is_not_space (last l)) whole ∙ last_of_many is_not_space q.front h)
-separated_last P bare x (y ∷ ys) text q =
-    let r = separated_last P bare y ys q.second.back q.second.second in
+    let h = ends x q.front q.first in
+    (omega (arith, h.0, ap length whole), ap (λ l. is_not_space (last l)) whole ∙ h.1)
+separated_last P ends x (y ∷ ys) text q =
+    let r = separated_last P ends y ys q.second.back q.second.second in
     let whole : text ≡ (q.front ++ q.second.front) ++ q.second.back = q.parts ∙ ap (λ l. q.front ++ l) q.second.parts ∙ sym (append_assoc q.front q.second.front q.second.back) in (
       omega (arith, r.0, ap length whole, length-append (q.front ++ q.second.front) q.second.back),
       ap (λ l. is_not_space (last l)) whole ∙ ap is_not_space (last_behind (q.front ++ q.second.front) q.second.back r.0) ∙ r.1,
     )
 
-separated_first : {A : Type 0} (P : A → List ℕ → Type 0) → ((x : A) (t : List ℕ) → P x t → Some1 is_not_space t) → (x : A) (xs : List A) (text : List ℕ)
-    → Separated Gap P (x ∷ xs) text → Stops is_space text
-separated_first P bare x xs text q = subst (Stops is_space) (sym q.parts) (starts is_not_space (λ b e. not_true (is_space b) e) q.front q.back (bare x q.front q.first))
-
 stops_first : (text : List ℕ) → Stops is_space text → first_is 32 text ≡ false
 stops_first [] s = refl
 stops_first (x ∷ xs) s = s
 
+-- by the edges of what stands between gaps
+pub edges_tight : {A : Type 0} (P : A → List ℕ → Type 0) → ((x : A) (t rest : List ℕ) → P x t → Stops is_space (t ++ rest)) → ((x : A) (t : List ℕ) → P x t → (0 < length t) × (is_not_space (last t) ≡ true))
+    → (x : A) (xs : List A) (text : List ℕ) → Separated Gap P (x ∷ xs) text → is_tight text ≡ true
+edges_tight P begins ends x xs text q =
+    is_both (not (first_is 32 text)) (not (last text == 32)) (ap not (stops_first text (subst (Stops is_space) (sym q.parts) (begins x q.front q.back q.first)))) (separated_last P ends x xs text q).1
+
 pub separated_tight : {A : Type 0} (P : A → List ℕ → Type 0) → ((x : A) (t : List ℕ) → P x t → Some1 is_not_space t) → (x : A) (xs : List A) (text : List ℕ)
     → Separated Gap P (x ∷ xs) text → is_tight text ≡ true
 separated_tight P bare x xs text q =
-    is_both (not (first_is 32 text)) (not (last text == 32)) (ap not (stops_first text (separated_first P bare x xs text q))) (separated_last P bare x xs text q).1
+    edges_tight P (λ x t rest h. starts is_not_space (λ b e. not_true (is_space b) e) t rest (bare x t h)) (λ x t h. ((bare x t h).0, last_of_many is_not_space t (bare x t h))) x xs text q
 
 pub separated_starts : {A : Type 0} (P : A → List ℕ → Type 0) → ((x : A) (t : List ℕ) → P x t → Some1 is_not_space t) → (x : A) (xs : List A) (text rest : List ℕ)
     → Separated Gap P (x ∷ xs) text → Stops is_space (text ++ rest)

@@ -1,6 +1,6 @@
 -- Lists of parts: between commas, and between gaps.
 use Rattle.std.proofs.Common.{◌≡◌, ℕ, zero, suc, ◌<◌, true, List, [], ◌∷◌, ◌++◌, length, refl, ap, sym, subst, ◌∙◌, arith, length-append, append_assoc}
-use Rattle.std.specs.Prelude.{Option, Some, None, is_some, ◌&&◌}
+use Rattle.std.specs.Prelude.{Option, Some, None, is_some, ◌==◌, ◌&&◌}
 use Rattle.std.specs.List.{list_all, slice_split, filter_map, cons_option}
 use Rattle.envelope.proofs.Begins.{not_not}
 use Rattle.envelope.proofs.Tokens.{Stops}
@@ -9,7 +9,6 @@ use Rattle.envelope.proofs.Words.{both_true, words_gap, words_spaces, append_non
 use Rattle.envelope.specs.Bytes.{is_space, is_not_space}
 use Rattle.envelope.specs.Grammar.{Many, Some1, Spaces, Gap, Exactly}
 use Rattle.envelope.specs.Reading.{words, after_spaces}
-use Rattle.imap_grammar.specs.Bytes.{is_comma}
 use Rattle.imap_grammar.specs.Cuts.{cut_at}
 use Rattle.imap_grammar.specs.Grammar.{Separated}
 use Rattle.imap_grammar.specs.Reading.{word_at}
@@ -32,21 +31,21 @@ pub said : {A : Type 0} (o : Option A) → is_some o ≡ true → (x : A) × (o 
 said (Some x) e = (x, refl)
 said None e = absurd cc
 
--- ---- between commas
+-- ---- between two of which one byte stands
 
-pub parts_again : {A : Type 0} (f : List ℕ → Option A) (P : A → List ℕ → Type 0) → ((x : A) (t : List ℕ) → P x t → f t ≡ Some x)
-    → ((x : A) (t : List ℕ) → P x t → Many (is_other 44) t) → (x : A) (xs : List A) (text : List ℕ)
-    → Separated (Exactly (44 ∷ [])) P (x ∷ xs) text → AllRead f (slice_split is_comma text) (x ∷ xs)
-parts_again f P again clean x [] text q =
+pub parts_again : {A : Type 0} (c : ℕ) (f : List ℕ → Option A) (P : A → List ℕ → Type 0) → ((x : A) (t : List ℕ) → P x t → f t ≡ Some x)
+    → ((x : A) (t : List ℕ) → P x t → Many (is_other c) t) → (x : A) (xs : List A) (text : List ℕ)
+    → Separated (Exactly (c ∷ [])) P (x ∷ xs) text → AllRead f (slice_split (λ b. b == c) text) (x ∷ xs)
+parts_again c f P again clean x [] text q =
     let whole : text ≡ q.front = q.parts ∙ ap (λ (l : List ℕ). q.front ++ l) q.second ∙ append_none q.front in
-    let split : slice_split is_comma text ≡ q.front ∷ [] = ap (slice_split is_comma) whole ∙ split_one 44 q.front (clean x q.front q.first) in
+    let split : slice_split (λ b. b == c) text ≡ q.front ∷ [] = ap (slice_split (λ b. b == c)) whole ∙ split_one c q.front (clean x q.front q.first) in
     subst (λ (ps : List (List ℕ)). AllRead f ps (x ∷ [])) (sym split) (one_read f q.front x [] [] (again x q.front q.first) (record { all = refl; are = refl }))
-parts_again f P again clean x (y ∷ ys) text q =
+parts_again c f P again clean x (y ∷ ys) text q =
     let rest = q.second.back in
-    let whole : text ≡ q.front ++ 44 ∷ rest = q.parts ∙ ap (λ (l : List ℕ). q.front ++ l) (q.second.parts ∙ ap (λ (l : List ℕ). l ++ rest) q.second.first) in
-    let split : slice_split is_comma text ≡ q.front ∷ slice_split is_comma rest = ap (slice_split is_comma) whole ∙ split_clean 44 q.front rest (clean x q.front q.first) in
+    let whole : text ≡ q.front ++ c ∷ rest = q.parts ∙ ap (λ (l : List ℕ). q.front ++ l) (q.second.parts ∙ ap (λ (l : List ℕ). l ++ rest) q.second.first) in
+    let split : slice_split (λ b. b == c) text ≡ q.front ∷ slice_split (λ b. b == c) rest = ap (slice_split (λ b. b == c)) whole ∙ split_clean c q.front rest (clean x q.front q.first) in
     subst (λ (ps : List (List ℕ)). AllRead f ps (x ∷ y ∷ ys)) (sym split)
-    (one_read f q.front x (slice_split is_comma rest) (y ∷ ys) (again x q.front q.first) (parts_again f P again clean y ys rest q.second.second))
+    (one_read f q.front x (slice_split (λ b. b == c) rest) (y ∷ ys) (again x q.front q.first) (parts_again c f P again clean y ys rest q.second.second))
 
 -- a text whose parts were all read
 pub record FoundParts {A : Type 0} (f : List ℕ → Option A) (P : A → List ℕ → Type 0) (between : List ℕ → Type 0) (parts : List (List ℕ)) (text : List ℕ) : Type 0 where
@@ -55,9 +54,9 @@ pub record FoundParts {A : Type 0} (f : List ℕ → Option A) (P : A → List �
   pub are : filter_map f parts ≡ first ∷ others
   pub is : Separated between P (first ∷ others) text
 
-one_part : {A : Type 0} (f : List ℕ → Option A) (P : A → List ℕ → Type 0) → ((x : A) (t : List ℕ) → f t ≡ Some x → P x t)
-    → (text : List ℕ) → (is_some (f text) && true) ≡ true → FoundParts f P (Exactly (44 ∷ [])) (text ∷ []) text
-one_part f P sound text h =
+one_part : {A : Type 0} (c : ℕ) (f : List ℕ → Option A) (P : A → List ℕ → Type 0) → ((x : A) (t : List ℕ) → f t ≡ Some x → P x t)
+    → (text : List ℕ) → (is_some (f text) && true) ≡ true → FoundParts f P (Exactly (c ∷ [])) (text ∷ []) text
+one_part c f P sound text h =
     let k = said (f text) (both_true (is_some (f text)) true h).0 in
     record {
       first = k.0;
@@ -66,10 +65,10 @@ one_part f P sound text h =
       is = record { front = text; back = []; parts = sym (append_none text); first = sound k.0 text k.1; second = refl };
     }
 
-more_parts : {A : Type 0} (f : List ℕ → Option A) (P : A → List ℕ → Type 0) → ((x : A) (t : List ℕ) → f t ≡ Some x → P x t)
-    → (part rest : List ℕ) (parts : List (List ℕ)) → is_some (f part) ≡ true → FoundParts f P (Exactly (44 ∷ [])) parts rest
-    → FoundParts f P (Exactly (44 ∷ [])) (part ∷ parts) (part ++ 44 ∷ rest)
-more_parts f P sound part rest parts h r =
+more_parts : {A : Type 0} (c : ℕ) (f : List ℕ → Option A) (P : A → List ℕ → Type 0) → ((x : A) (t : List ℕ) → f t ≡ Some x → P x t)
+    → (part rest : List ℕ) (parts : List (List ℕ)) → is_some (f part) ≡ true → FoundParts f P (Exactly (c ∷ [])) parts rest
+    → FoundParts f P (Exactly (c ∷ [])) (part ∷ parts) (part ++ c ∷ rest)
+more_parts c f P sound part rest parts h r =
     let k = said (f part) h in
     record {
       first = k.0;
@@ -77,39 +76,39 @@ more_parts f P sound part rest parts h r =
       are = ap (λ o. cons_option o (filter_map f parts)) k.1 ∙ ap (λ l. k.0 ∷ l) r.are;
       is = record {
         front = part;
-        back = 44 ∷ rest;
+        back = c ∷ rest;
         parts = refl;
         first = sound k.0 part k.1;
-        second = record { front = 44 ∷ []; back = rest; parts = refl; first = refl; second = r.is };
+        second = record { front = c ∷ []; back = rest; parts = refl; first = refl; second = r.is };
       };
     }
 
-cut_parts : {A : Type 0} (f : List ℕ → Option A) (P : A → List ℕ → Type 0) → ((x : A) (t : List ℕ) → f t ≡ Some x → P x t)
-    → (text : List ℕ) (o : Option (List ℕ × List ℕ)) → cut_at 44 text ≡ o → list_all (λ p. is_some (f p)) (slice_split is_comma text) ≡ true
-    → ((rest : List ℕ) → length rest < length text → list_all (λ p. is_some (f p)) (slice_split is_comma rest) ≡ true → FoundParts f P (Exactly (44 ∷ [])) (slice_split is_comma rest) rest)
-    → FoundParts f P (Exactly (44 ∷ [])) (slice_split is_comma text) text
-cut_parts f P sound text None e h again =
-    let s : slice_split is_comma text ≡ text ∷ [] = split_end 44 text e in
-    subst (λ ps. FoundParts f P (Exactly (44 ∷ [])) ps text) (sym s) (one_part f P sound text (ap (list_all (λ p. is_some (f p))) (sym s) ∙ h))
-cut_parts f P sound text (Some c) e h again =
-    let s : slice_split is_comma text ≡ c.0 ∷ slice_split is_comma c.1 = split_cut 44 text c.0 c.1 e in
-    let k = cut_sound 44 text c.0 c.1 e in
-    let b = both_true (is_some (f c.0)) (list_all (λ p. is_some (f p)) (slice_split is_comma c.1)) (ap (list_all (λ p. is_some (f p))) (sym s) ∙ h) in
-    let size : length c.1 < length text = omega (arith, ap length k.whole, length-append c.0 (44 ∷ c.1)) in
-    subst (λ ps. FoundParts f P (Exactly (44 ∷ [])) ps text) (sym s)
-    (subst (λ t. FoundParts f P (Exactly (44 ∷ [])) (c.0 ∷ slice_split is_comma c.1) t) (sym k.whole)
-    (more_parts f P sound c.0 c.1 (slice_split is_comma c.1) b.0 (again c.1 size b.1)))
+cut_parts : {A : Type 0} (c : ℕ) (f : List ℕ → Option A) (P : A → List ℕ → Type 0) → ((x : A) (t : List ℕ) → f t ≡ Some x → P x t)
+    → (text : List ℕ) (o : Option (List ℕ × List ℕ)) → cut_at c text ≡ o → list_all (λ p. is_some (f p)) (slice_split (λ b. b == c) text) ≡ true
+    → ((rest : List ℕ) → length rest < length text → list_all (λ p. is_some (f p)) (slice_split (λ b. b == c) rest) ≡ true → FoundParts f P (Exactly (c ∷ [])) (slice_split (λ b. b == c) rest) rest)
+    → FoundParts f P (Exactly (c ∷ [])) (slice_split (λ b. b == c) text) text
+cut_parts c f P sound text None e h again =
+    let s : slice_split (λ b. b == c) text ≡ text ∷ [] = split_end c text e in
+    subst (λ ps. FoundParts f P (Exactly (c ∷ [])) ps text) (sym s) (one_part c f P sound text (ap (list_all (λ p. is_some (f p))) (sym s) ∙ h))
+cut_parts c f P sound text (Some cut) e h again =
+    let s : slice_split (λ b. b == c) text ≡ cut.0 ∷ slice_split (λ b. b == c) cut.1 = split_cut c text cut.0 cut.1 e in
+    let k = cut_sound c text cut.0 cut.1 e in
+    let b = both_true (is_some (f cut.0)) (list_all (λ p. is_some (f p)) (slice_split (λ b. b == c) cut.1)) (ap (list_all (λ p. is_some (f p))) (sym s) ∙ h) in
+    let size : length cut.1 < length text = omega (arith, ap length k.whole, length-append cut.0 (c ∷ cut.1)) in
+    subst (λ ps. FoundParts f P (Exactly (c ∷ [])) ps text) (sym s)
+    (subst (λ t. FoundParts f P (Exactly (c ∷ [])) (cut.0 ∷ slice_split (λ b. b == c) cut.1) t) (sym k.whole)
+    (more_parts c f P sound cut.0 cut.1 (slice_split (λ b. b == c) cut.1) b.0 (again cut.1 size b.1)))
 
-parts_within : {A : Type 0} (f : List ℕ → Option A) (P : A → List ℕ → Type 0) → ((x : A) (t : List ℕ) → f t ≡ Some x → P x t)
-    → (n : ℕ) (text : List ℕ) → length text < n → list_all (λ p. is_some (f p)) (slice_split is_comma text) ≡ true
-    → FoundParts f P (Exactly (44 ∷ [])) (slice_split is_comma text) text
-parts_within f P sound zero text lt h = absurd (omega (arith, lt))
-parts_within f P sound (suc n) text lt h =
-    cut_parts f P sound text (cut_at 44 text) refl h (λ rest size all. parts_within f P sound n rest (omega (arith, lt, size)) all)
+parts_within : {A : Type 0} (c : ℕ) (f : List ℕ → Option A) (P : A → List ℕ → Type 0) → ((x : A) (t : List ℕ) → f t ≡ Some x → P x t)
+    → (n : ℕ) (text : List ℕ) → length text < n → list_all (λ p. is_some (f p)) (slice_split (λ b. b == c) text) ≡ true
+    → FoundParts f P (Exactly (c ∷ [])) (slice_split (λ b. b == c) text) text
+parts_within c f P sound zero text lt h = absurd (omega (arith, lt))
+parts_within c f P sound (suc n) text lt h =
+    cut_parts c f P sound text (cut_at c text) refl h (λ rest size all. parts_within c f P sound n rest (omega (arith, lt, size)) all)
 
-pub parts_sound : {A : Type 0} (f : List ℕ → Option A) (P : A → List ℕ → Type 0) → ((x : A) (t : List ℕ) → f t ≡ Some x → P x t)
-    → (text : List ℕ) → list_all (λ p. is_some (f p)) (slice_split is_comma text) ≡ true → FoundParts f P (Exactly (44 ∷ [])) (slice_split is_comma text) text
-parts_sound f P sound text h = parts_within f P sound (suc (length text)) text (omega arith) h
+pub parts_sound : {A : Type 0} (c : ℕ) (f : List ℕ → Option A) (P : A → List ℕ → Type 0) → ((x : A) (t : List ℕ) → f t ≡ Some x → P x t)
+    → (text : List ℕ) → list_all (λ p. is_some (f p)) (slice_split (λ b. b == c) text) ≡ true → FoundParts f P (Exactly (c ∷ [])) (slice_split (λ b. b == c) text) text
+parts_sound c f P sound text h = parts_within c f P sound (suc (length text)) text (omega arith) h
 
 -- ---- between gaps
 
@@ -133,16 +132,16 @@ words_again f P again bare x (y ∷ ys) text sp q s =
     (one_read f q.front x (words (rest ++ sp)) (y ∷ ys) (again x q.front q.first) (words_again f P again bare y ys rest sp q.second.second s))
 
 -- a text whose words were all read, and the spaces behind it
-pub record FoundWords {A : Type 0} (f : List ℕ → Option A) (P : A → List ℕ → Type 0) (bytes : List ℕ) : Type 0 where
+pub record FoundWords {A : Type 0} (W : List ℕ → List (List ℕ)) (f : List ℕ → Option A) (P : A → List ℕ → Type 0) (bytes : List ℕ) : Type 0 where
   pub text : List ℕ
   pub spaces : List ℕ
   pub parts : bytes ≡ text ++ spaces
   pub blank : Spaces spaces
-  pub found : FoundParts f P Gap (words bytes) text
+  pub found : FoundParts f P Gap (W bytes) text
 
-last_word : {A : Type 0} (f : List ℕ → Option A) (P : A → List ℕ → Type 0) → ((x : A) (t : List ℕ) → f t ≡ Some x → P x t)
-    → (bytes w sp : List ℕ) → bytes ≡ w ++ sp → Spaces sp → words bytes ≡ w ∷ [] → is_some (f w) ≡ true → FoundWords f P bytes
-last_word f P sound bytes w sp e s split h =
+pub last_word : {A : Type 0} (W : List ℕ → List (List ℕ)) (f : List ℕ → Option A) (P : A → List ℕ → Type 0) → ((x : A) (t : List ℕ) → f t ≡ Some x → P x t)
+    → (bytes w sp : List ℕ) → bytes ≡ w ++ sp → Spaces sp → W bytes ≡ w ∷ [] → is_some (f w) ≡ true → FoundWords W f P bytes
+last_word W f P sound bytes w sp e s split h =
     let k = said (f w) h in
     record {
       text = w;
@@ -157,9 +156,9 @@ last_word f P sound bytes w sp e s split h =
       };
     }
 
-next_words : {A : Type 0} (f : List ℕ → Option A) (P : A → List ℕ → Type 0) → ((x : A) (t : List ℕ) → f t ≡ Some x → P x t)
-    → (bytes w gap rest : List ℕ) → bytes ≡ w ++ (gap ++ rest) → Gap gap → words bytes ≡ w ∷ words rest → is_some (f w) ≡ true → FoundWords f P rest → FoundWords f P bytes
-next_words f P sound bytes w gap rest e g split h r =
+pub next_words : {A : Type 0} (W : List ℕ → List (List ℕ)) (f : List ℕ → Option A) (P : A → List ℕ → Type 0) → ((x : A) (t : List ℕ) → f t ≡ Some x → P x t)
+    → (bytes w gap rest : List ℕ) → bytes ≡ w ++ (gap ++ rest) → Gap gap → W bytes ≡ w ∷ W rest → is_some (f w) ≡ true → FoundWords W f P rest → FoundWords W f P bytes
+next_words W f P sound bytes w gap rest e g split h r =
     let k = said (f w) h in
     let q = r.found in
     record {
@@ -170,7 +169,7 @@ next_words f P sound bytes w gap rest e g split h r =
       found = record {
         first = k.0;
         others = q.first ∷ q.others;
-        are = ap (filter_map f) split ∙ ap (λ o. cons_option o (filter_map f (words rest))) k.1 ∙ ap (λ l. k.0 ∷ l) q.are;
+        are = ap (filter_map f) split ∙ ap (λ o. cons_option o (filter_map f (W rest))) k.1 ∙ ap (λ l. k.0 ∷ l) q.are;
         is = record {
           front = w;
           back = gap ++ r.text;
@@ -184,18 +183,18 @@ next_words f P sound bytes w gap rest e g split h r =
 after_word : {A : Type 0} (f : List ℕ → Option A) (P : A → List ℕ → Type 0) → ((x : A) (t : List ℕ) → f t ≡ Some x → P x t)
     → (bytes w gap y : List ℕ) → bytes ≡ w ++ (gap ++ y) → Gap gap → Stops is_space y → words bytes ≡ w ∷ words y → is_some (f w) ≡ true
     → list_all (λ p. is_some (f p)) (words y) ≡ true
-    → (0 < length y → FoundWords f P y) → FoundWords f P bytes
+    → (0 < length y → FoundWords words f P y) → FoundWords words f P bytes
 after_word f P sound bytes w gap [] e g s split h all again =
-    last_word f P sound bytes w gap (e ∙ ap (λ (l : List ℕ). w ++ l) (append_none gap)) g.1 split h
-after_word f P sound bytes w gap (c ∷ cs) e g s split h all again = next_words f P sound bytes w gap (c ∷ cs) e g split h (again (omega arith))
+    last_word words f P sound bytes w gap (e ∙ ap (λ (l : List ℕ). w ++ l) (append_none gap)) g.1 split h
+after_word f P sound bytes w gap (c ∷ cs) e g s split h all again = next_words words f P sound bytes w gap (c ∷ cs) e g split h (again (omega arith))
 
 past_word : {A : Type 0} (f : List ℕ → Option A) (P : A → List ℕ → Type 0) → ((x : A) (t : List ℕ) → f t ≡ Some x → P x t)
     → (bytes w rest : List ℕ) → bytes ≡ w ++ rest → Some1 is_not_space w → Stops is_not_space rest → list_all (λ p. is_some (f p)) (words bytes) ≡ true
-    → ((y : List ℕ) → length y < length bytes → Stops is_space y → 0 < length y → list_all (λ p. is_some (f p)) (words y) ≡ true → FoundWords f P y) → FoundWords f P bytes
+    → ((y : List ℕ) → length y < length bytes → Stops is_space y → 0 < length y → list_all (λ p. is_some (f p)) (words y) ≡ true → FoundWords words f P y) → FoundWords words f P bytes
 past_word f P sound bytes w [] e o s h again =
     let split : words bytes ≡ w ∷ [] = ap words e ∙ word_then w [] o tt in
     let b = both_true (is_some (f w)) true (ap (list_all (λ p. is_some (f p))) (sym split) ∙ h) in
-    last_word f P sound bytes w [] e tt split b.0
+    last_word words f P sound bytes w [] e tt split b.0
 past_word f P sound bytes w (r ∷ rs) e o s h again =
     let rest = r ∷ rs in
     let g = some_gap r rs (not_not (is_space r) s) in
@@ -207,12 +206,12 @@ past_word f P sound bytes w (r ∷ rs) e o s h again =
     after_word f P sound bytes w g.gap y (e ∙ ap (λ (l : List ℕ). w ++ l) g.parts) g.is g.stops split b.0 b.1 (λ some. again y size g.stops some b.1)
 
 words_within : {A : Type 0} (f : List ℕ → Option A) (P : A → List ℕ → Type 0) → ((x : A) (t : List ℕ) → f t ≡ Some x → P x t)
-    → (n : ℕ) (bytes : List ℕ) → length bytes < n → Stops is_space bytes → 0 < length bytes → list_all (λ p. is_some (f p)) (words bytes) ≡ true → FoundWords f P bytes
+    → (n : ℕ) (bytes : List ℕ) → length bytes < n → Stops is_space bytes → 0 < length bytes → list_all (λ p. is_some (f p)) (words bytes) ≡ true → FoundWords words f P bytes
 words_within f P sound zero bytes lt s some h = absurd (omega (arith, lt))
 words_within f P sound (suc n) bytes lt s some h =
     past_word f P sound bytes (word_at bytes).0 (word_at bytes).1 (word_parts bytes) (word_some bytes some s) (stops_after is_not_space bytes) h
     (λ y size t more all. words_within f P sound n y (omega (arith, lt, size)) t more all)
 
 pub words_sound : {A : Type 0} (f : List ℕ → Option A) (P : A → List ℕ → Type 0) → ((x : A) (t : List ℕ) → f t ≡ Some x → P x t)
-    → (bytes : List ℕ) → Stops is_space bytes → 0 < length bytes → list_all (λ p. is_some (f p)) (words bytes) ≡ true → FoundWords f P bytes
+    → (bytes : List ℕ) → Stops is_space bytes → 0 < length bytes → list_all (λ p. is_some (f p)) (words bytes) ≡ true → FoundWords words f P bytes
 words_sound f P sound bytes s some h = words_within f P sound (suc (length bytes)) bytes (omega arith) s some h

@@ -175,13 +175,13 @@ range_bytes r text (inr q) =
 pub set_again : (s : List SeqRange) (text : List ℕ) → SetIs s text → set_at text ≡ Some s
 set_again [] text h = absurd h
 set_again (r ∷ rs) text h =
-    let k = parts_again range_of RangeIs range_again (λ x t p. many_map is_range (is_other 44) (λ b e. excludes is_range 44 refl b e) t (range_bytes x t p).1) r rs text h in
+    let k = parts_again 44 range_of RangeIs range_again (λ x t p. many_map is_range (is_other 44) (λ b e. excludes is_range 44 refl b e) t (range_bytes x t p).1) r rs text h in
     ap (λ (t : Bool). cond t (Some (ranges_of text)) None) k.all ∙ ap (λ l. Some l) k.are
 
 pub set_sound : (s : List SeqRange) (text : List ℕ) → set_at text ≡ Some s → SetIs s text
 set_sound s text e =
     let k = guard_some (list_all (λ part. is_some (range_of part)) (slice_split is_comma text)) (ranges_of text) s e in
-    let f = parts_sound range_of RangeIs range_sound text k.0 in
+    let f = parts_sound 44 range_of RangeIs range_sound text k.0 in
     subst (λ l. SetIs l text) (sym f.are ∙ k.1) f.is
 
 -- a byte of a set

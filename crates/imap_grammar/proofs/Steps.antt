@@ -1,12 +1,13 @@
 -- One byte further.
 use Rattle.std.proofs.Common.{◌≡◌, ℕ, suc, ◌+◌, ◌<◌, Bool, true, false, cond, List, [], ◌∷◌, length, get_or, drop, ap, refl, sym}
-use Rattle.std.specs.Prelude.{Some, None, ◌==◌, ◌||◌, ◌&&◌}
+use Rattle.std.specs.Prelude.{Some, None, ◌==◌, ◌||◌, ◌&&◌, not}
 use Rattle.std.specs.Option.{option_map}
 use Rattle.std.proofs.lemmas.Bool.Decides.{Decides-eqb}
 use Rattle.std.specs.Bool.{Decides}
 use Rattle.envelope.specs.Directory.{unquoted}
 use Rattle.envelope.proofs.Steps.{drop_step}
 use Rattle.imap_grammar.specs.Bytes.{is_special, is_quotable}
+use Rattle.imap_grammar.specs.Brackets.{in_bracket, outside_len}
 use Rattle.imap_grammar.specs.Reading.{quoted_len}
 use Rattle.std.specs.Str.{bytes_eq}
 use Rattle.envelope.specs.Reading.{past_byte}
@@ -17,6 +18,10 @@ pub quoted_step : (e : Bool) (xs : List ℕ) (i : ℕ) → i < length xs
     (cond (get_or xs i 0 == 34) (Some 1)
     (cond ((get_or xs i 0 == 92) || is_quotable (get_or xs i 0)) (option_map suc (quoted_len (get_or xs i 0 == 92) (drop (i + 1) xs))) None))
 quoted_step e xs i h = ap (quoted_len e) (drop_step xs i h)
+
+pub outside_step : (c : ℕ) (within : Bool) (xs : List ℕ) (i : ℕ) → i < length xs
+    → outside_len c within (drop i xs) ≡ cond (not within && (get_or xs i 0 == c)) 0 (suc (outside_len c (in_bracket within (get_or xs i 0)) (drop (i + 1) xs)))
+outside_step c within xs i h = ap (outside_len c within) (drop_step xs i h)
 
 pub unquoted_step : (e : Bool) (xs : List ℕ) (i : ℕ) → i < length xs
     → unquoted e (drop i xs) ≡ cond e (get_or xs i 0 ∷ unquoted false (drop (i + 1) xs))

@@ -25,3 +25,7 @@ is_quotable b = nat_le 32 b && not (b == 127) && not (is_special b)
 
 abbrev pub is_comma : ℕ → Bool
 is_comma b = b == 44
+
+-- of the name of a header field that isn't quoted: the bracket ends what it stands in
+abbrev pub is_field_byte : ℕ → Bool
+is_field_byte b = is_atom b && not (b == 93)

@@ -6,7 +6,7 @@ use Rattle.change_ring.specs.declared.change.Flags.{Flags}
 use Rattle.change_ring.specs.declared.flag_op.FlagOp.{FlagOp}
 use Rattle.change_ring.specs.declared.flag_op.FlagOp.TheVariants.{Set, Insert, Remove}
 use Rattle.envelope.specs.Grammar.{Rule, ◌⨾◌, Exactly, Keyword, Some1, Spaces, Gap, AfterGap, Anything}
-use Rattle.imap_grammar.specs.Bytes.{is_tag, is_atom, is_pattern, is_digit, is_quotable, is_special}
+use Rattle.imap_grammar.specs.Bytes.{is_tag, is_atom, is_pattern, is_digit, is_quotable, is_special, is_field_byte}
 use Rattle.imap_grammar.specs.Numbers.{most_size, number_of}
 use Rattle.imap_grammar.specs.declared.command.Literal.{Literal}
 use Rattle.imap_grammar.specs.Items.{fast_items, flags_among}
@@ -16,6 +16,8 @@ use Rattle.imap_grammar.specs.declared.set.SeqNumber.TheVariants.{Number, Star}
 use Rattle.imap_grammar.specs.declared.set.SeqRange.{SeqRange}
 use Rattle.imap_grammar.specs.declared.items.Section.{Section}
 use Rattle.imap_grammar.specs.declared.items.Section.TheVariants.{Whole, Header, Text}
+use Rattle.imap_grammar.specs.declared.items.BodyPart.{BodyPart}
+use Rattle.imap_grammar.specs.declared.items.BodyPart.TheVariants as parts
 use Rattle.imap_grammar.specs.declared.items.Span.{Span}
 use Rattle.imap_grammar.specs.declared.items.FetchItem.{FetchItem}
 use Rattle.imap_grammar.specs.declared.items.FetchItem.TheVariants as fetch
@@ -86,6 +88,16 @@ section_word Whole = []
 section_word Header = codes "HEADER"
 section_word Text = codes "TEXT"
 
+-- the name of a header field
+abbrev pub FieldName : List ℕ → Rule
+FieldName name text = Exactly name text × Some1 is_field_byte text
+
+-- a section, or names of header fields in parentheses, with a space between two of them
+abbrev pub PartIs : BodyPart → Rule
+PartIs (parts.Section section) = Keyword (section_word section)
+PartIs (parts.Fields others names) =
+    Keyword (if others then codes "HEADER.FIELDS.NOT (" else codes "HEADER.FIELDS (") ⨾ Separated (Exactly (codes " ")) FieldName names ⨾ Exactly (codes ")")
+
 -- a number up to the greatest signed one of 64 bits
 abbrev pub Number63 : ℕ → Rule
 Number63 n text = Digits n text × (n ≤ 9223372036854775807)
@@ -106,8 +118,7 @@ ItemIs fetch.Flags = Keyword (codes "FLAGS")
 ItemIs fetch.Size = Keyword (codes "RFC822.SIZE")
 ItemIs fetch.InternalDate = Keyword (codes "INTERNALDATE")
 ItemIs (fetch.Rfc822 which) = Keyword (rfc822_word which)
-ItemIs (fetch.Body peek section part) =
-    Keyword (if peek then codes "BODY.PEEK[" else codes "BODY[") ⨾ Keyword (section_word section) ⨾ Exactly (codes "]") ⨾ PartialIs part
+ItemIs (fetch.Body peek part span) = Keyword (if peek then codes "BODY.PEEK[" else codes "BODY[") ⨾ PartIs part ⨾ Exactly (codes "]") ⨾ PartialIs span
 
 -- one item, or FAST, or one or more items in parentheses
 abbrev pub ItemsAre : List FetchItem → Rule

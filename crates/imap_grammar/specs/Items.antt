@@ -1,19 +1,27 @@
 -- Items of FETCH and STATUS, and flags: how their words are read.
 use Rattle.std.specs.Prelude.{ℕ, Bool, true, false, codes, List, [], ◌∷◌, length, Option, Some, None, ◌==◌, ◌&&◌, not, if◌then◌else◌}
-use Rattle.std.specs.List.{list_all, list_any, filter_map}
+use Rattle.std.specs.List.{list_all, list_any, filter_map, slice_split}
 use Rattle.std.specs.Str.{str_eq_ignore_ascii_case as is_same}
 use Rattle.change_ring.specs.declared.change.Flags.{Flags}
+use Rattle.envelope.specs.Bytes.{is_space}
 use Rattle.envelope.specs.Reading.{◌>>=◌, words, past_byte, past_keyword}
-use Rattle.imap_grammar.specs.Bytes.{is_atom}
+use Rattle.imap_grammar.specs.Bytes.{is_atom, is_field_byte}
+use Rattle.imap_grammar.specs.Brackets.{item_words}
 use Rattle.imap_grammar.specs.Cuts.{cut_at}
 use Rattle.imap_grammar.specs.Numbers.{number_up_to}
 use Rattle.imap_grammar.specs.declared.items.Section.{Section}
 use Rattle.imap_grammar.specs.declared.items.Section.TheVariants.{Whole, Header, Text}
+use Rattle.imap_grammar.specs.declared.items.BodyPart.{BodyPart}
+use Rattle.imap_grammar.specs.declared.items.BodyPart.TheVariants as parts
 use Rattle.imap_grammar.specs.declared.items.Span.{Span}
 use Rattle.imap_grammar.specs.declared.items.FetchItem.{FetchItem}
 use Rattle.imap_grammar.specs.declared.items.FetchItem.TheVariants as fetch
 use Rattle.imap_grammar.specs.declared.items.StatusItem.{StatusItem}
 use Rattle.imap_grammar.specs.declared.items.StatusItem.TheVariants as status
+
+-- one byte or more, all of the class
+abbrev pub is_word_of : (ℕ → Bool) → List ℕ → Bool
+is_word_of class word = list_all class word && not (length word == 0)
 
 -- ---- FETCH
 
@@ -23,6 +31,21 @@ section_of text =
     else if is_same text (codes "HEADER") then Some Header
     else if is_same text (codes "TEXT") then Some Text
     else None
+
+-- the names of header fields, from behind the parenthesis that opens; one space stands between two of them
+abbrev pub fields_of : Bool → List ℕ → Option BodyPart
+fields_of others text = do
+  cut ← cut_at 41 text
+  if (length cut.1 == 0) && list_all (is_word_of is_field_byte) (slice_split is_space cut.0) then Some (parts.Fields others (slice_split is_space cut.0)) else None
+
+abbrev pub fields_or : Option (List ℕ) → Option (List ℕ) → List ℕ → Option BodyPart
+fields_or (Some rest) other text = fields_of false rest
+fields_or None (Some rest) text = fields_of true rest
+fields_or None None text = section_of text >>= λ section. Some (parts.Section section)
+
+-- what stands between the brackets
+abbrev pub part_of : List ℕ → Option BodyPart
+part_of text = fields_or (past_keyword (codes "HEADER.FIELDS (") text) (past_keyword (codes "HEADER.FIELDS.NOT (") text) text
 
 -- the greatest signed number of 64 bits
 abbrev pub greatest_span : ℕ
@@ -49,9 +72,9 @@ partial_of text = if length text == 0 then Some None else (span_of text >>= λ s
 abbrev pub body_of : Bool → List ℕ → Option FetchItem
 body_of peek text = do
   cut ← cut_at 93 text
-  section ← section_of cut.0
-  part ← partial_of cut.1
-  Some (fetch.Body peek section part)
+  part ← part_of cut.0
+  span ← partial_of cut.1
+  Some (fetch.Body peek part span)
 
 abbrev pub body_or_peek : Option (List ℕ) → Option (List ℕ) → Option FetchItem
 body_or_peek (Some rest) other = body_of false rest
@@ -71,7 +94,7 @@ fetch_item_of word =
 
 -- the items that the words of a text say
 abbrev pub fetch_items_of : List ℕ → List FetchItem
-fetch_items_of text = filter_map fetch_item_of (words text)
+fetch_items_of text = filter_map fetch_item_of (item_words text)
 
 -- what FAST stands for (RFC 9051, 6.4.5)
 abbrev pub fast_items : List FetchItem
@@ -83,7 +106,7 @@ is_header _ = false
 
 -- the read of this item sets \Seen; of RFC822's items that of the header doesn't (RFC 3501, 6.4.5)
 abbrev pub marks_seen : FetchItem → Bool
-marks_seen (fetch.Body peek which span) = not peek
+marks_seen (fetch.Body peek part span) = not peek
 marks_seen (fetch.Rfc822 which) = not (is_header which)
 marks_seen _ = false
 
@@ -91,6 +114,7 @@ marks_seen _ = false
 abbrev pub is_compatible : FetchItem → Bool
 is_compatible fetch.InternalDate = true
 is_compatible (fetch.Rfc822 which) = true
+is_compatible (fetch.Body peek (parts.Fields others names) span) = true
 is_compatible _ = false
 
 -- ---- STATUS
@@ -114,9 +138,6 @@ is_recent status.Recent = true
 is_recent _ = false
 
 -- ---- flags
-
-abbrev pub is_word_of : (ℕ → Bool) → List ℕ → Bool
-is_word_of class word = list_all class word && not (length word == 0)
 
 abbrev pub is_flag_after : Option (List ℕ) → List ℕ → Bool
 is_flag_after (Some rest) word = is_word_of is_atom rest

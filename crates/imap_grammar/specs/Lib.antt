@@ -1,6 +1,7 @@
 pub mod Bytes
 pub mod Numbers
 pub mod Cuts
+pub mod Brackets
 pub mod Sets
 pub mod Items
 pub mod Verbs

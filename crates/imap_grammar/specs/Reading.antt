@@ -10,9 +10,10 @@ use Rattle.change_ring.specs.declared.flag_op.FlagOp.TheVariants.{Set, Insert, R
 use Rattle.envelope.specs.Bytes.{is_space, is_not_space}
 use Rattle.envelope.specs.Directory.{value_of}
 use Rattle.envelope.specs.Reading.{◌>>=◌, first_is, some_len, words, after_spaces, past_byte}
-use Rattle.imap_grammar.specs.Bytes.{is_tag, is_atom, is_pattern, is_comma, is_quotable, is_special, is_digit}
+use Rattle.imap_grammar.specs.Bytes.{is_tag, is_atom, is_pattern, is_comma, is_quotable, is_special, is_digit, is_field_byte}
 use Rattle.change_ring.specs.Log.{no_flags}
 use Rattle.imap_grammar.specs.Cuts.{cut_at}
+use Rattle.imap_grammar.specs.Brackets.{outside_len, item_word_at, item_words}
 use Rattle.imap_grammar.specs.Numbers.{most_size, number_of}
 use Rattle.imap_grammar.specs.declared.command.Literal.{Literal}
 use Rattle.imap_grammar.specs.Sets.{range_of, ranges_of}
@@ -39,6 +40,7 @@ is_of classes.Tag = is_tag
 is_of classes.Atom = is_atom
 is_of classes.Pattern = is_pattern
 is_of classes.Digit = is_digit
+is_of classes.Field = is_field_byte
 
 -- ---- parts at the front, and the bytes after them
 
@@ -84,6 +86,13 @@ in_parentheses bytes = do
   cut ← cut_at 41 start
   if is_blank cut.1 && is_tight cut.0 then Some cut.0 else None
 
+-- the same of items, in which there may be parentheses between brackets
+abbrev pub items_in_parentheses : List ℕ → Option (List ℕ)
+items_in_parentheses bytes = do
+  start ← past_byte 40 bytes
+  rest ← past_byte 41 (drop (outside_len 41 false start) start)
+  if is_blank rest && is_tight (take (outside_len 41 false start) start) then Some (take (outside_len 41 false start) start) else None
+
 -- ---- arguments
 
 abbrev pub set_at : List ℕ → Option (List SeqRange)
@@ -100,7 +109,7 @@ abbrev pub are_items : {A : Type 0} → (List ℕ → Option A) → List (List �
 are_items f words = list_all (λ word. is_some (f word)) words && not (length words == 0)
 
 abbrev pub fetch_items_in : List ℕ → Option (List FetchItem)
-fetch_items_in text = if are_items fetch_item_of (words text) then Some (fetch_items_of text) else None
+fetch_items_in text = if are_items fetch_item_of (item_words text) then Some (fetch_items_of text) else None
 
 -- one item, or FAST
 abbrev pub fetch_word_in : List ℕ → Option (List FetchItem)
@@ -109,8 +118,8 @@ fetch_word_in word = if is_same word (codes "FAST") then Some fast_items else fe
 abbrev pub fetch_items_at : List ℕ → Option (List FetchItem)
 fetch_items_at bytes =
     if first_is 40 bytes
-    then (in_parentheses bytes >>= fetch_items_in)
-    else (if is_blank (word_at bytes).1 then fetch_word_in (word_at bytes).0 else None)
+    then (items_in_parentheses bytes >>= fetch_items_in)
+    else (if is_blank (item_word_at bytes).1 then fetch_word_in (item_word_at bytes).0 else None)
 
 abbrev pub status_items_in : List ℕ → Option (List StatusItem)
 status_items_in text = if are_items status_item_of (words text) then Some (status_items_of text) else None

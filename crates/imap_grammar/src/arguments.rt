@@ -5,13 +5,14 @@ ghost use Rattle.std.specs.Prelude.{◌≡◌, ◌≤◌, length, take, false, t
 ghost use Rattle.std.specs.List.{list_all};
 ghost use Rattle.std.specs.Option.{option_copied, option_map};
 ghost use Rattle.envelope.specs.Reading.{first_is, some_len};
-ghost use Rattle.imap_grammar.specs.Reading.{is_of, quoted_len, string_len, string_at, in_parentheses, fetch_items_at, flags_at, operation_of, change_with, name_alone, pair_at, status_at, fetch_at, store_at, set_alone, if_end, parens_at, flag_list_at, given_flags_at, past_quoted, past_date, literal_end, literal_at, append_at};
+ghost use Rattle.imap_grammar.specs.Reading.{is_of, quoted_len, string_len, string_at, in_parentheses, items_in_parentheses, fetch_items_at, flags_at, operation_of, change_with, name_alone, pair_at, status_at, fetch_at, store_at, set_alone, if_end, parens_at, flag_list_at, given_flags_at, past_quoted, past_date, literal_end, literal_at, append_at};
 ghost use Rattle.imap_grammar.specs.Bytes.{is_atom, is_pattern, is_special, is_quotable, is_digit};
 ghost use Rattle.imap_grammar.specs.declared.command.Command.TheVariants as say;
 
 use crate::bytes::{Class, is_blank, is_tight, past_gap, run_len, word_at};
 use crate::command::{Append, Command, Fetch, Literal, Store};
 use crate::cut::cut_at;
+use crate::item_words::{item_word_at, outside_len};
 use crate::items::{FetchItems, StatusItems};
 use crate::name::Name;
 use crate::number::capped_number;
@@ -96,6 +97,20 @@ fn in_parentheses(bytes: &[u8]) -> Option<&[u8]>
     }
 }
 
+/// The same of items, in which there may be parentheses between brackets.
+fn items_in_parentheses(bytes: &[u8]) -> Option<&[u8]>
+    ensures { option_copied result ≡ items_in_parentheses bytes.now }
+{
+    let start = past_byte(b'(', bytes)?;
+    let (inner, end) = start.split_at(outside_len(b')', start));
+    let rest = past_byte(b')', end)?;
+    if is_blank(rest) && is_tight(inner) {
+        Some(inner)
+    } else {
+        None
+    }
+}
+
 fn begins_list(bytes: &[u8]) -> bool
     ensures { result ≡ first_is 40 bytes.now }
 {
@@ -107,10 +122,10 @@ fn fetch_items_at(bytes: &[u8]) -> Option<FetchItems<'_>>
     ensures { result ≡ fetch_items_at bytes.now }
 {
     if begins_list(bytes) {
-        let inner = in_parentheses(bytes)?;
+        let inner = items_in_parentheses(bytes)?;
         return FetchItems::of(inner);
     }
-    let (word, rest) = word_at(bytes);
+    let (word, rest) = item_word_at(bytes);
     if is_blank(rest) {
         FetchItems::of_word(word)
     } else {

@@ -16,6 +16,7 @@ pub enum Class {
     Atom,
     Pattern,
     Digit,
+    Field,
 }
 
 /// Whether a byte is of the class.
@@ -31,6 +32,9 @@ pub fn is_of(class: Class, b: u8) -> bool
         Class::Atom => graphic && !matches!(b, b'(' | b')' | b'{' | b'%' | b'*' | b'"' | b'\\'),
         Class::Pattern => graphic && !matches!(b, b'(' | b')' | b'{' | b'"' | b'\\'),
         Class::Digit => matches!(b, b'0'..=b'9'),
+        Class::Field => {
+            graphic && !matches!(b, b'(' | b')' | b'{' | b'%' | b'*' | b'"' | b'\\' | b']')
+        }
     }
 }
 

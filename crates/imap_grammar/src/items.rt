@@ -1,15 +1,20 @@
 //! What FETCH and STATUS ask for (RFC 9051, 6.4.5 and 6.3.11): the items, and how their words are read.
 //! How they are answered is told in `imap_answers`.
 
-ghost use Rattle.std.specs.Prelude.{◌≡◌, ◌++◌, ◌∷◌, [], IfOk, MatchOption, OnOk, is_some, option_to_list};
-ghost use Rattle.std.specs.List.{list_all, list_any};
-ghost use Rattle.envelope.specs.Reading.{words};
-ghost use Rattle.imap_grammar.specs.Items.{section_of, span_between, span_of, partial_of, body_of, fetch_item_of, fetch_items_of, is_header, is_compatible, marks_seen, is_recent, status_item_of, status_items_of};
+ghost use Rattle.std.specs.Prelude.{◌≡◌, ◌++◌, ◌∷◌, [], IfOk, MatchOption, OnOk, codes, is_some, not, option_to_list};
+ghost use Rattle.std.specs.List.{list_all, list_any, slice_split};
+ghost use Rattle.envelope.specs.Bytes.{is_space};
+ghost use Rattle.imap_grammar.specs.Brackets.{item_words};
+ghost use Rattle.imap_grammar.specs.Bytes.{is_field_byte};
+ghost use Rattle.envelope.specs.Reading.{past_keyword, words};
+ghost use Rattle.imap_grammar.specs.Items.{is_word_of, section_of, fields_of, part_of, span_between, span_of, partial_of, body_of, body_or_peek, fetch_item_of, fetch_items_of, is_header, is_compatible, marks_seen, is_recent, status_item_of, status_items_of};
 ghost use Rattle.imap_grammar.specs.declared.items.FetchItem.TheVariants as fetch;
 
+use crate::bytes::Class;
 use crate::cut::cut_at;
+use crate::item_words::next_item_word;
 use crate::number::number_up_to;
-use crate::words::{count_words, next_word};
+use crate::words::{count_words, is_word_of, next_word};
 use envelope::{past_byte, past_keyword};
 use std::alloc::{AllocError, Global};
 use std::marker::Model;
@@ -25,6 +30,36 @@ pub enum Section {
     Text,
 }
 
+/// The names of header fields, as they stand in a line: in contracts the list of them.
+#[derive(Drop)]
+pub struct FieldNames<'a> {
+    spelled: &'a [u8],
+}
+
+impl<'a> Model for FieldNames<'a> {
+    ghost use Rattle.std.specs.Prelude.{List, ℕ};
+    ghost use Rattle.std.specs.List.{slice_split};
+    ghost use Rattle.envelope.specs.Bytes.{is_space};
+
+    ghost Value = { List (List ℕ) };
+
+    ghost view = { λ s. slice_split is_space s.spelled.now };
+}
+
+/// What is asked of a message's text.
+#[derive(Drop)]
+pub enum BodyPart<'a> {
+    /// A section of it.
+    Section(Section),
+    /// Fields of its header (RFC 9051, 6.4.5: HEADER.FIELDS).
+    Fields {
+        /// Those of other names than these (HEADER.FIELDS.NOT).
+        others: bool,
+        /// The names, one at least.
+        names: FieldNames<'a>,
+    },
+}
+
 /// So many bytes from this one on: `origin` counts from 0, `count` is 1 at least, and both are below 2^63.
 #[derive(Clone, Copy, Debug, PartialEq, Eq)]
 pub struct Span {
@@ -35,8 +70,8 @@ pub struct Span {
 }
 
 /// What FETCH asks of a message.
-#[derive(Clone, Copy, Debug, PartialEq, Eq)]
-pub enum FetchItem {
+#[derive(Drop)]
+pub enum FetchItem<'a> {
     Uid,
     Flags,
     Size,
@@ -51,7 +86,7 @@ pub enum FetchItem {
         /// \Seen isn't set.
         peek: bool,
         /// Which part of the text.
-        section: Section,
+        part: BodyPart<'a>,
         /// Which bytes of that, or None for all of them.
         partial: Option<Span>,
     },
@@ -117,6 +152,45 @@ fn section_of(text: &[u8]) -> Option<Section>
     }
 }
 
+// Whether each of these is the name of a field, with a space between two of them.
+fn are_field_names(text: &[u8]) -> bool
+    ensures { result ≡ list_all (is_word_of is_field_byte) (slice_split is_space text.now) }
+{
+    text.split(|b| *b == b' ')
+        .all(|name| is_word_of(Class::Field, name))
+}
+
+/// The fields that names say, from behind the parenthesis that opens.
+fn fields_of(others: bool, text: &[u8]) -> Option<BodyPart<'_>>
+    ensures { result ≡ fields_of others text.now }
+{
+    let (spelled, rest) = cut_at(b')', text)?;
+    if rest.is_empty() && are_field_names(spelled) {
+        Some(BodyPart::Fields {
+            others,
+            names: FieldNames { spelled },
+        })
+    } else {
+        None
+    }
+}
+
+/// What stands between the brackets.
+fn part_of(text: &[u8]) -> Option<BodyPart<'_>>
+    ensures { result ≡ part_of text.now }
+{
+    match past_keyword(b"HEADER.FIELDS (", text) {
+        Some(rest) => fields_of(false, rest),
+        None => match past_keyword(b"HEADER.FIELDS.NOT (", text) {
+            Some(rest) => fields_of(true, rest),
+            None => {
+                let section = section_of(text)?;
+                Some(BodyPart::Section(section))
+            }
+        },
+    }
+}
+
 /// The greatest number that a span may have (RFC 9051, 9: number64).
 const GREATEST_NUMBER64: u64 = 9_223_372_036_854_775_807;
 
@@ -159,27 +233,41 @@ fn partial_of(text: &[u8]) -> Option<Option<Span>>
 }
 
 /// What stands behind `BODY[` or `BODY.PEEK[`.
-fn body_of(peek: bool, text: &[u8]) -> Option<FetchItem>
+fn body_of(peek: bool, text: &[u8]) -> Option<FetchItem<'_>>
     ensures { result ≡ body_of peek text.now }
 {
-    let (section, rest) = cut_at(b']', text)?;
-    let section = section_of(section)?;
+    let (part, rest) = cut_at(b']', text)?;
+    let part = part_of(part)?;
     let partial = partial_of(rest)?;
     Some(FetchItem::Body {
         peek,
-        section,
+        part,
         partial,
     })
 }
 
-fn rfc822(section: Section) -> FetchItem
+/// The item that begins with BODY or BODY.PEEK.
+fn body_or_peek(word: &[u8]) -> Option<FetchItem<'_>>
+    ensures { result ≡ body_or_peek (past_keyword (codes "BODY[") word.now)
+        (past_keyword (codes "BODY.PEEK[") word.now) }
+{
+    match past_keyword(b"BODY[", word) {
+        Some(rest) => body_of(false, rest),
+        None => match past_keyword(b"BODY.PEEK[", word) {
+            Some(rest) => body_of(true, rest),
+            None => None,
+        },
+    }
+}
+
+fn rfc822<'a>(section: Section) -> FetchItem<'a>
     ensures { result ≡ fetch.Rfc822 section }
 {
     FetchItem::Rfc822 { section }
 }
 
 /// The item of FETCH that a word is.
-fn fetch_item(word: &[u8]) -> Option<FetchItem>
+fn fetch_item(word: &[u8]) -> Option<FetchItem<'_>>
     ensures { result ≡ fetch_item_of word.now }
 {
     if word.eq_ignore_ascii_case(b"UID") {
@@ -203,13 +291,7 @@ fn fetch_item(word: &[u8]) -> Option<FetchItem>
     if word.eq_ignore_ascii_case(b"RFC822.TEXT") {
         return Some(rfc822(Section::Text));
     }
-    match past_keyword(b"BODY[", word) {
-        Some(rest) => body_of(false, rest),
-        None => match past_keyword(b"BODY.PEEK[", word) {
-            Some(rest) => body_of(true, rest),
-            None => None,
-        },
-    }
+    body_or_peek(word)
 }
 
 /// The item of STATUS that a word is.
@@ -235,12 +317,23 @@ fn status_item(word: &[u8]) -> Option<StatusItem>
     }
 }
 
-fn all_fetch_items(text: &[u8]) -> bool
-    ensures { result ≡ list_all (λ word. is_some (fetch_item_of word)) (words text.now) }
+fn is_no_item(word: &[u8]) -> bool
+    ensures { result ≡ not (is_some (fetch_item_of word.now)) }
 {
-    text.split(|b| *b == b' ')
-        .filter(|word| !word.is_empty())
-        .all(|word| fetch_item(word).is_some())
+    fetch_item(word).is_none()
+}
+
+fn all_fetch_items(text: &[u8]) -> bool
+    ensures { result ≡ list_all (λ word. is_some (fetch_item_of word)) (item_words text.now) }
+{
+    let mut rest = text;
+    while let Some((word, others)) = next_item_word(rest) {
+        if is_no_item(word) {
+            return false;
+        }
+        rest = others;
+    }
+    true
 }
 
 fn all_status_items(text: &[u8]) -> bool
@@ -252,7 +345,7 @@ fn all_status_items(text: &[u8]) -> bool
 }
 
 // Notes the item that a word is.
-fn push_item(word: &[u8], items: &mut Vec<FetchItem>) -> Result<(), AllocError>
+fn push_item<'a>(word: &'a [u8], items: &mut Vec<FetchItem<'a>>) -> Result<(), AllocError>
     ensures { OnOk result (items.new.items
         ≡ items.old.items ++ option_to_list (fetch_item_of word.now)) }
 {
@@ -264,12 +357,12 @@ fn push_item(word: &[u8], items: &mut Vec<FetchItem>) -> Result<(), AllocError>
 
 // The items that the words of a text are.
 #[tactic(auto, using(crate::proofs::ItemSteps::items_end))]
-fn items_in(alloc: Global, text: &[u8]) -> Result<Vec<FetchItem>, AllocError>
+fn items_in(alloc: Global, text: &[u8]) -> Result<Vec<FetchItem<'_>>, AllocError>
     ensures { IfOk result (λ items. items.items ≡ fetch_items_of text.now) }
 {
     let mut items = Vec::new(alloc);
     let mut rest = text;
-    while let Some((word, others)) = next_word(rest) {
+    while let Some((word, others)) = next_item_word(rest) {
         push_item(word, &mut items)?;
         rest = others;
     }
@@ -282,12 +375,12 @@ fn is_header(section: Section) -> bool
     matches!(section, Section::Header)
 }
 
-fn marks_seen(item: FetchItem) -> bool
-    ensures { result ≡ marks_seen item }
+fn marks_seen(item: &FetchItem<'_>) -> bool
+    ensures { result ≡ marks_seen item.now }
 {
     match item {
-        FetchItem::Body { peek, .. } => !peek,
-        FetchItem::Rfc822 { section } => !is_header(section),
+        FetchItem::Body { peek, .. } => !*peek,
+        FetchItem::Rfc822 { section } => !is_header(*section),
         _ => false,
     }
 }
@@ -296,7 +389,7 @@ fn word_marks_seen(word: &[u8]) -> bool
     ensures { result ≡ list_any marks_seen (option_to_list (fetch_item_of word.now)) }
 {
     match fetch_item(word) {
-        Some(item) => marks_seen(item),
+        Some(item) => marks_seen(&item),
         None => false,
     }
 }
@@ -305,7 +398,7 @@ fn items_mark_seen(text: &[u8]) -> bool
     ensures { result ≡ list_any marks_seen (fetch_items_of text.now) }
 {
     let mut rest = text;
-    while let Some((word, others)) = next_word(rest) {
+    while let Some((word, others)) = next_item_word(rest) {
         if word_marks_seen(word) {
             return true;
         }
@@ -314,17 +407,21 @@ fn items_mark_seen(text: &[u8]) -> bool
     false
 }
 
-fn is_compatible(item: FetchItem) -> bool
-    ensures { result ≡ is_compatible item }
+fn is_compatible(item: &FetchItem<'_>) -> bool
+    ensures { result ≡ is_compatible item.now }
 {
-    matches!(item, FetchItem::InternalDate | FetchItem::Rfc822 { .. })
+    match item {
+        FetchItem::InternalDate | FetchItem::Rfc822 { .. } => true,
+        FetchItem::Body { part, .. } => matches!(part, BodyPart::Fields { .. }),
+        _ => false,
+    }
 }
 
 fn word_is_compatible(word: &[u8]) -> bool
     ensures { result ≡ list_any is_compatible (option_to_list (fetch_item_of word.now)) }
 {
     match fetch_item(word) {
-        Some(item) => is_compatible(item),
+        Some(item) => is_compatible(&item),
         None => false,
     }
 }
@@ -333,7 +430,7 @@ fn items_have_compatible(text: &[u8]) -> bool
     ensures { result ≡ list_any is_compatible (fetch_items_of text.now) }
 {
     let mut rest = text;
-    while let Some((word, others)) = next_word(rest) {
+    while let Some((word, others)) = next_item_word(rest) {
         if word_is_compatible(word) {
             return true;
         }
@@ -401,7 +498,7 @@ impl<'a> FetchItems<'a> {
     }
 
     /// The items, in the order in which they were asked. An error where memory is refused.
-    pub fn list(&self, alloc: Global) -> Result<Vec<FetchItem>, AllocError>
+    pub fn list(&self, alloc: Global) -> Result<Vec<FetchItem<'a>>, AllocError>
         ensures { IfOk result (λ items. items.items ≡ self.now) }
     {
         items_in(alloc, self.spelled)
@@ -411,7 +508,7 @@ impl<'a> FetchItems<'a> {
     pub(crate) fn of(text: &'a [u8]) -> Option<FetchItems<'a>>
         ensures { result ≡ fetch_items_in text.now }
     {
-        if all_fetch_items(text) && count_words(text) != 0 {
+        if all_fetch_items(text) && next_item_word(text).is_some() {
             Some(FetchItems { spelled: text })
         } else {
             None

@@ -7,6 +7,7 @@ mod arguments;
 mod bytes;
 mod command;
 mod cut;
+mod item_words;
 mod items;
 mod name;
 mod number;
@@ -18,7 +19,9 @@ mod view;
 mod words;
 
 pub use command::{Append, Command, Fetch, ImapFault, Literal, Store, Tag, Verb};
-pub use items::{FetchItem, FetchItems, Section, Span, StatusItem, StatusItems};
+pub use items::{
+    BodyPart, FetchItem, FetchItems, FieldNames, Section, Span, StatusItem, StatusItems,
+};
 pub use name::Name;
 pub use reading::{is_done, read_line};
 pub use set::{SeqNumber, SeqRange, SeqSet, SetFault};

@@ -3,6 +3,7 @@ use Rattle.std.specs.Prelude.{◌≡◌, ℕ, List, Bool, Bool, codes, [], ◌�
 use Rattle.change_ring.specs.declared.change.Flags.{Flags}
 use Rattle.imap_grammar.specs.declared.items.Section.{Section}
 use Rattle.imap_grammar.specs.declared.items.Span.{Span}
+use Rattle.imap_grammar.specs.declared.items.BodyPart.TheVariants as parts
 use Rattle.imap_grammar.specs.declared.items.FetchItem.{FetchItem}
 use Rattle.change_ring.specs.declared.flag_op.FlagOp.TheVariants.{Set, Insert, Remove}
 use Rattle.imap_grammar.specs.Sets.{by_uid, by_position}
@@ -25,7 +26,7 @@ abbrev flags : Bool → Bool → Bool → Bool → Bool → Flags
 flags a b c d e = record { answered = a; flagged = b; deleted = c; seen = d; draft = e }
 
 abbrev body_item : Bool → Section → Option Span → FetchItem
-body_item peek section part = fetch.Body peek section part
+body_item peek section part = fetch.Body peek (parts.Section section) part
 
 abbrev appended : List ℕ → Flags → ℕ → Bool → Append
 appended name given size waits = record { name = name; flags = given; literal = record { size = size; waits = waits } }
@@ -314,6 +315,26 @@ fast_in_parentheses = refl
 part_of_rfc822 : read (codes "a1 FETCH 1 RFC822<0.4>") ≡ Err (Arguments (codes "a1") verbs.Fetch)
 unfolding read
 part_of_rfc822 = refl
+
+fields_by_name : read (codes "a1 FETCH 1 BODY.PEEK[Header.Fields (DATE from)]") ≡ Ok (codes "a1", say.Fetch (record { by_uid = false; set = range (Number 1) (Number 1) ∷ []; items = fetch.Body true (parts.Fields false (codes "DATE" ∷ codes "from" ∷ [])) None ∷ [] }))
+unfolding read
+fields_by_name = refl
+
+fields_among_items : read (codes "a1 FETCH 1 (UID BODY[HEADER.FIELDS.NOT (TO)]<0.9> FLAGS)") ≡ Ok (codes "a1", say.Fetch (record { by_uid = false; set = range (Number 1) (Number 1) ∷ []; items = fetch.Uid ∷ fetch.Body false (parts.Fields true (codes "TO" ∷ [])) (Some (record { origin = 0; count = 9 })) ∷ fetch.Flags ∷ [] }))
+unfolding read
+fields_among_items = refl
+
+no_fields : read (codes "a1 FETCH 1 BODY[HEADER.FIELDS ()]") ≡ Err (Arguments (codes "a1") verbs.Fetch)
+unfolding read
+no_fields = refl
+
+fields_without_a_space : read (codes "a1 FETCH 1 BODY[HEADER.FIELDS(TO)]") ≡ Err (Arguments (codes "a1") verbs.Fetch)
+unfolding read
+fields_without_a_space = refl
+
+an_open_bracket : read (codes "a1 FETCH 1 (BODY[HEADER.FIELDS (TO) UID)") ≡ Err (Arguments (codes "a1") verbs.Fetch)
+unfolding read
+an_open_bracket = refl
 
 full : read (codes "a1 FETCH 1 FULL") ≡ Err (Arguments (codes "a1") verbs.Fetch)
 unfolding read

@@ -1,19 +1,26 @@
-use Rattle.std.proofs.Common.{rules}
-use borrow.Author.Tests.{tests}
-use Rattle.std.proofs.lemmas.Iterator.Search.{all_from_yields_List}
-use Rattle.std.proofs.lemmas.Iterator.Consumers.{YieldsList-at, YieldsList-from_filter}
-use Rattle.std.proofs.lemmas.Iterator.Splits.{YieldsList-from_slice_split}
-use Rattle.envelope.specs.Bytes.{is_space}
-use Rattle.envelope.specs.Reading.{has_bytes}
-use Rattle.std.specs.Prelude.{is_some}
+use Rattle.std.proofs.Common.{◌≡◌, ℕ, Bool, true, false, List, ap, sym, refl, ◌∙◌}
+use Rattle.std.specs.Prelude.{◌&&◌, is_some, not}
+use Rattle.std.specs.List.{list_all}
+use Rattle.imap_grammar.specs.Brackets.{item_words}
 use Rattle.imap_grammar.specs.Items.{fetch_item_of}
+use Rattle.imap_grammar.proofs.Tokens.{not_true}
 use Rattle.imap_grammar.proofs.items.all_fetch_items.Goals as goal
 
-pub returns : goal.returns
-returns c =
-    all_from_yields_List (λ word. is_some (fetch_item_of word)) _ _ _ c.all.ensures.ran
-    (YieldsList-from_filter _ has_bytes
-    (YieldsList-at c.filter.ensures.source
-    (YieldsList-from_slice_split _ is_space c.args.text.now c.split.ensures.rest c.split.ensures.done c.split.ensures.closure (λ x r q k. search (rules, tests))))
-    c.filter.ensures.closure (λ x r q k. search (rules, tests)))
-    (λ x r q k. search (rules, tests))
+abbrev is_item : List ℕ → Bool
+is_item word = is_some (fetch_item_of word)
+
+not_false : (t : Bool) → not t ≡ false → t ≡ true
+not_false true e = refl
+not_false false e = absurd cc
+
+pub returns-then-is_no_item : goal.returns-then-is_no_item
+returns-then-is_no_item c =
+    sym (sym c.loop-word.invariant
+    ∙ ap (list_all is_item) c.in-Some.ensures.first
+    ∙ ap (λ (t : Bool). t && list_all is_item (item_words c.in-Some.others.now)) (not_true (is_item c.in-Some.word.now) (sym c.is_no_item.ensures ∙ c.if-is_no_item.true)))
+
+pub loop-word-preserved : goal.loop-word-preserved
+loop-word-preserved c =
+    sym (ap (list_all is_item) c.in-Some.ensures.first
+    ∙ ap (λ (t : Bool). t && list_all is_item (item_words c.in-Some.others.now)) (not_false (is_item c.in-Some.word.now) (sym c.is_no_item.ensures ∙ c.if-is_no_item.false)))
+    ∙ c.loop-word.invariant

@@ -1,3 +1,4 @@
+use Rattle.imap_grammar.specs.Brackets.{item_words}
 use Rattle.std.proofs.Common.{Bool, ap, sym, ◌∙◌}
 use Rattle.std.specs.Prelude.{◌||◌}
 use Rattle.std.specs.List.{list_any}
@@ -9,11 +10,11 @@ use Rattle.imap_grammar.proofs.items.items_mark_seen.Goals as goal
 pub returns-then-word_marks_seen : goal.returns-then-word_marks_seen
 returns-then-word_marks_seen c =
     sym (sym c.loop-word.invariant
-    ∙ any_step marks_seen fetch_item_of c.loop-word.rest.now c.in-Some.word.now c.in-Some.others.now c.in-Some.ensures.first
+    ∙ any_step item_words marks_seen fetch_item_of c.loop-word.rest.now c.in-Some.word.now c.in-Some.others.now c.in-Some.ensures.first
     ∙ ap (λ (t : Bool). t || list_any marks_seen (fetch_items_of c.in-Some.others.now)) (sym c.word_marks_seen.ensures ∙ c.if-word_marks_seen.true))
 
 pub loop-word-preserved : goal.loop-word-preserved
 loop-word-preserved c =
-    sym (any_step marks_seen fetch_item_of c.loop-word.rest.now c.in-Some.word.now c.in-Some.others.now c.in-Some.ensures.first
+    sym (any_step item_words marks_seen fetch_item_of c.loop-word.rest.now c.in-Some.word.now c.in-Some.others.now c.in-Some.ensures.first
     ∙ ap (λ (t : Bool). t || list_any marks_seen (fetch_items_of c.in-Some.others.now)) (sym c.word_marks_seen.ensures ∙ c.if-word_marks_seen.false))
     ∙ c.loop-word.invariant
