@@ -1,4 +1,5 @@
 pub mod Headers
+pub mod FieldSteps
 pub mod JoinedLaws
 pub mod GlobLaw
 pub mod OpeningParts

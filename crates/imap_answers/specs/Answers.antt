@@ -1,5 +1,5 @@
 -- The answers that tell of messages and mailboxes (RFC 9051, 7).
-use Rattle.std.specs.Prelude.{◌≡◌, ◌≢◌, ℕ, Bool, true, false, codes, decimal, List, [], ◌∷◌, ◌++◌, length, take, drop, map, flat_map, Option, Some, None, ◌==◌, ◌&&◌, ◌||◌, not, if◌then◌else◌}
+use Rattle.std.specs.Prelude.{◌≡◌, ◌≢◌, ℕ, Bool, true, false, codes, decimal, List, [], ◌∷◌, ◌++◌, length, take, drop, map, flat_map, Option, Some, None, is_some, ◌==◌, ◌&&◌, ◌||◌, not, if◌then◌else◌}
 use Rattle.std.specs.List.{list_any}
 use Rattle.std.specs.Str.{str_to_ascii_lowercase as lowercase, str_eq_ignore_ascii_case as is_same}
 use Rattle.change_ring.specs.declared.change.Flags.{Flags}
@@ -10,11 +10,14 @@ use Rattle.cursor_set.specs.Lines.{flag_words, spaced}
 use Rattle.envelope.specs.Bytes.{is_not_slash}
 use Rattle.envelope.specs.Grammar.{Many}
 use Rattle.envelope.specs.Reading.{first_is}
-use Rattle.mail_date.specs.Fields.{message_date}
+use Rattle.mail_date.specs.Bytes.{is_folded}
+use Rattle.mail_date.specs.Fields.{message_date, past_name}
 use Rattle.mail_date.specs.Internal.{internal_text}
 use Rattle.imap_grammar.specs.Grammar.{rfc822_word, section_word, status_word}
 use Rattle.imap_grammar.specs.declared.items.Section.{Section}
 use Rattle.imap_grammar.specs.declared.items.Section.TheVariants.{Whole, Header, Text}
+use Rattle.imap_grammar.specs.declared.items.BodyPart.{BodyPart}
+use Rattle.imap_grammar.specs.declared.items.BodyPart.TheVariants as parts
 use Rattle.imap_grammar.specs.declared.items.Span.{Span}
 use Rattle.imap_grammar.specs.declared.items.FetchItem.{FetchItem}
 use Rattle.imap_grammar.specs.declared.items.FetchItem.TheVariants as fetch
@@ -49,6 +52,34 @@ section Whole text = text
 section Header text = header text
 section Text text = drop (length (header text)) text
 
+-- a field of one of these names begins here
+abbrev pub is_named : List (List ℕ) → List ℕ → Bool
+is_named names text = list_any (λ name. is_some (past_name name text)) names
+
+-- Of what begins here all is answered up to the next field: of a field by its name, and of the empty line always.
+abbrev pub takes_field : Bool → List (List ℕ) → List ℕ → Bool
+takes_field others names text = is_crlf text || (if others then not (is_named names text) else is_named names text)
+
+-- The fields that are taken. `fresh` where one begins, else `taking` says whether the one that has begun is taken; `cr` behind a CR.
+abbrev pub fields_from : (List ℕ → Bool) → Bool → Bool → Bool → List ℕ → List ℕ
+fields_from takes fresh taking cr [] = []
+fields_from takes fresh taking cr (b ∷ bs) =
+    let now = if fresh then takes (b ∷ bs) else taking in
+    (if now then b ∷ [] else []) ++ fields_from takes (cr && (b == 10) && not (is_folded bs)) now (b == 13) bs
+
+-- the fields of a text's header that have these names, or others, with the header's empty line (RFC 9051, 6.4.5)
+abbrev pub header_fields : Bool → List (List ℕ) → List ℕ → List ℕ
+header_fields others names text = fields_from (takes_field others names) true false false (header text)
+
+abbrev pub part_bytes : BodyPart → List ℕ → List ℕ
+part_bytes (parts.Section which) text = section which text
+part_bytes (parts.Fields others names) text = header_fields others names text
+
+-- as it was asked
+abbrev pub part_word : BodyPart → List ℕ
+part_word (parts.Section which) = section_word which
+part_word (parts.Fields others names) = (if others then codes "HEADER.FIELDS.NOT (" else codes "HEADER.FIELDS (") ++ spaced names ++ codes ")"
+
 abbrev pub part : Option Span → List ℕ → List ℕ
 part None bytes = bytes
 part (Some span) bytes = take span.count (drop span.origin bytes)
@@ -66,9 +97,9 @@ literal bytes = codes "{" ++ decimal (length bytes) ++ codes "}\r\n" ++ bytes
 abbrev pub flags_text : Flags → List ℕ
 flags_text flags = codes "FLAGS (" ++ spaced (flag_words flags) ++ codes ")"
 
-abbrev pub body_text : Section → Option Span → List ℕ → List ℕ
+abbrev pub body_text : BodyPart → Option Span → List ℕ → List ℕ
 body_text which span text =
-    codes "BODY[" ++ section_word which ++ codes "]" ++ origin_text span ++ codes " " ++ literal (part span (section which text))
+    codes "BODY[" ++ part_word which ++ codes "]" ++ origin_text span ++ codes " " ++ literal (part span (part_bytes which text))
 
 -- as RFC 3501 has it, 7.4.2
 abbrev pub rfc822_text : Section → List ℕ → List ℕ

@@ -16,11 +16,16 @@ use imap_grammar::FetchItem;
 use itoa::Buffer;
 use line_io::append_parts;
 use mailbox::Row;
-use std::alloc::AllocError;
+use std::alloc::{AllocError, Global};
 
 /// Appends an item of FETCH, or nothing where memory is refused.
-fn write_item(row: &Row, item: FetchItem, out: &mut Vec<u8>) -> Result<(), AllocError>
-    ensures ok { OnOk result (out.new.items ≡ out.old.items ++ item_text row.now item) }
+fn write_item(
+    alloc: Global,
+    row: &Row,
+    item: &FetchItem<'_>,
+    out: &mut Vec<u8>,
+) -> Result<(), AllocError>
+    ensures ok { OnOk result (out.new.items ≡ out.old.items ++ item_text row.now item.now) }
     ensures err { OnErr result (out.new.items ≡ out.old.items) }
     ensures room { vec_capacity out.old ≤ vec_capacity out.new }
 {
@@ -29,32 +34,39 @@ fn write_item(row: &Row, item: FetchItem, out: &mut Vec<u8>) -> Result<(), Alloc
         FetchItem::Flags => write_flags(row.flags, out),
         FetchItem::Size => write_number(b"RFC822.SIZE ", row.text.as_slice().len() as u128, out),
         FetchItem::InternalDate => write_date(row.text.as_slice(), out),
-        FetchItem::Rfc822 { section } => write_rfc822(section, row.text.as_slice(), out),
+        FetchItem::Rfc822 { section } => write_rfc822(*section, row.text.as_slice(), out),
         FetchItem::Body {
             peek: _,
-            section,
+            part,
             partial,
-        } => write_body(section, partial, row.text.as_slice(), out),
+        } => write_body(alloc, part, *partial, row.text.as_slice(), out),
     }
 }
 
 /// Appends an item behind others, or a part of it.
-fn put_item(first: bool, row: &Row, item: FetchItem, out: &mut Vec<u8>) -> Result<(), AllocError>
+fn put_item(
+    alloc: Global,
+    first: bool,
+    row: &Row,
+    item: &FetchItem<'_>,
+    out: &mut Vec<u8>,
+) -> Result<(), AllocError>
     ensures ok { OnOk result (out.new.items
-        ≡ out.old.items ++ lead first (item_text row.now item)) }
+        ≡ out.old.items ++ lead first (item_text row.now item.now)) }
     ensures err { OnErr result (StartsWith out.new.items out.old.items) }
     ensures room { vec_capacity out.old ≤ vec_capacity out.new }
 {
     write_space(first, out)?;
-    write_item(row, item, out)?;
+    write_item(alloc, row, item, out)?;
     Ok(())
 }
 
 /// Appends items, or a part of them. Says whether nothing stands there still.
 fn put_items(
+    alloc: Global,
     first: bool,
     row: &Row,
-    items: &[FetchItem],
+    items: &[FetchItem<'_>],
     out: &mut Vec<u8>,
 ) -> Result<bool, AllocError>
     ensures ok { OnOk result (out.new.items
@@ -65,19 +77,19 @@ fn put_items(
 {
     let mut bare = first;
     for item in items {
-        put_item(bare, row, *item, out)?;
+        put_item(alloc, bare, row, item, out)?;
         bare = false;
     }
     Ok(bare)
 }
 
-fn has_uid(items: &[FetchItem]) -> bool
+fn has_uid(items: &[FetchItem<'_>]) -> bool
     ensures { result ≡ list_any is_uid items.now }
 {
     items.iter().any(|item| matches!(item, FetchItem::Uid))
 }
 
-fn has_flags(items: &[FetchItem]) -> bool
+fn has_flags(items: &[FetchItem<'_>]) -> bool
     ensures { result ≡ list_any is_flags items.now }
 {
     items.iter().any(|item| matches!(item, FetchItem::Flags))
@@ -85,9 +97,10 @@ fn has_flags(items: &[FetchItem]) -> bool
 
 /// Appends the UID where that is answered unasked. Says whether it isn't.
 fn put_uid(
+    alloc: Global,
     by_uid: bool,
     row: &Row,
-    items: &[FetchItem],
+    items: &[FetchItem<'_>],
     out: &mut Vec<u8>,
 ) -> Result<bool, AllocError>
     ensures ok { OnOk result (out.new.items
@@ -97,7 +110,7 @@ fn put_uid(
     ensures room { vec_capacity out.old ≤ vec_capacity out.new }
 {
     if by_uid && !has_uid(items) {
-        write_item(row, FetchItem::Uid, out)?;
+        write_item(alloc, row, &FetchItem::Uid, out)?;
         return Ok(false);
     }
     Ok(true)
@@ -105,9 +118,10 @@ fn put_uid(
 
 /// Appends the flags where they are answered unasked, or a part of them.
 fn put_flags(
+    alloc: Global,
     first: bool,
     row: &Row,
-    items: &[FetchItem],
+    items: &[FetchItem<'_>],
     out: &mut Vec<u8>,
 ) -> Result<(), AllocError>
     ensures ok { OnOk result (out.new.items ≡ out.old.items
@@ -117,16 +131,17 @@ fn put_flags(
 {
     if row.newly_seen && !has_flags(items) {
         write_space(first, out)?;
-        return write_item(row, FetchItem::Flags, out);
+        return write_item(alloc, row, &FetchItem::Flags, out);
     }
     Ok(())
 }
 
 /// Appends what stands between the parentheses of a FETCH, or a part of it.
 fn put_answered(
+    alloc: Global,
     by_uid: bool,
     row: &Row,
-    items: &[FetchItem],
+    items: &[FetchItem<'_>],
     out: &mut Vec<u8>,
 ) -> Result<(), AllocError>
     ensures ok { OnOk result (out.new.items ≡ out.old.items
@@ -134,17 +149,18 @@ fn put_answered(
     ensures err { OnErr result (StartsWith out.new.items out.old.items) }
     ensures room { vec_capacity out.old ≤ vec_capacity out.new }
 {
-    let bare = put_uid(by_uid, row, items, out)?;
-    let bare = put_items(bare, row, items, out)?;
-    put_flags(bare, row, items, out)?;
+    let bare = put_uid(alloc, by_uid, row, items, out)?;
+    let bare = put_items(alloc, bare, row, items, out)?;
+    put_flags(alloc, bare, row, items, out)?;
     Ok(())
 }
 
 /// Appends the answer to a FETCH, or a part of it.
 fn put_row(
+    alloc: Global,
     position: usize,
     by_uid: bool,
-    items: &[FetchItem],
+    items: &[FetchItem<'_>],
     row: &Row,
     out: &mut Vec<u8>,
 ) -> Result<(), AllocError>
@@ -156,7 +172,7 @@ fn put_row(
     let mut digits = Buffer::new();
     let number = digits.format(position).as_bytes();
     append_parts(&[b"* ".as_slice(), number, b" FETCH (".as_slice()], out)?;
-    put_answered(by_uid, row, items, out)?;
+    put_answered(alloc, by_uid, row, items, out)?;
     append_parts(&[b")\r\n".as_slice()], out)
 }
 
@@ -166,9 +182,10 @@ fn put_row(
 ///
 /// Errors: `AllocError` where memory is refused; then `out` is as it was.
 pub fn write_row(
+    alloc: Global,
     position: usize,
     by_uid: bool,
-    items: &[FetchItem],
+    items: &[FetchItem<'_>],
     row: &Row,
     out: &mut Vec<u8>,
 ) -> Result<(), AllocError>
@@ -179,7 +196,7 @@ pub fn write_row(
     ensures room { vec_capacity out.old ≤ vec_capacity out.new }
 {
     let before = out.len();
-    let Ok(()) = put_row(position, by_uid, items, row, out) else {
+    let Ok(()) = put_row(alloc, position, by_uid, items, row, out) else {
         out.truncate(before);
         return Err(AllocError);
     };

@@ -4,6 +4,7 @@
 
 mod date;
 mod fetch;
+mod fields;
 mod flags;
 mod laws;
 mod list;

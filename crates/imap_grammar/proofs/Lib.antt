@@ -1,4 +1,5 @@
 pub mod Steps
+pub mod Spelling
 pub mod Numbers
 pub mod Classes
 pub mod Cuts

@@ -476,6 +476,22 @@ fn first_status_item(text: &[u8]) -> Option<(StatusItem, &[u8])>
     None
 }
 
+impl<'a> FieldNames<'a> {
+    ghost use Rattle.std.specs.Prelude.{◌≡◌};
+    ghost use Rattle.std.specs.List.{slice_split};
+    ghost use Rattle.cursor_set.specs.Lines.{spaced};
+    ghost use Rattle.envelope.specs.Bytes.{is_space};
+
+    /// The names as they were spelled, with a space between two of them.
+    #[tactic(auto, using(crate::proofs::Spelling::spelled_again))]
+    pub fn spelled(&self) -> &[u8]
+        ensures text { result.now ≡ spaced self.now }
+        ensures parts { slice_split is_space result.now ≡ self.now }
+    {
+        self.spelled
+    }
+}
+
 impl<'a> FetchItems<'a> {
     ghost use Rattle.std.specs.Prelude.{◌≡◌, IfOk};
     ghost use Rattle.std.specs.List.{list_any};

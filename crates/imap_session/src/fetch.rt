@@ -19,8 +19,9 @@ use std::alloc::Global;
 
 // Writes the answer for the message at this position.
 fn write_fetched(
+    alloc: Global,
     by_uid: bool,
-    items: &[FetchItem],
+    items: &[FetchItem<'_>],
     position: usize,
     row: &Row,
     response: &mut Response<'_>,
@@ -31,14 +32,15 @@ fn write_fetched(
     ensures fault { IfErr result (λ f. f ≡ MailFault.NoMemory) }
 {
     let start = response.out.len();
-    write_row(position, by_uid, items, row, &mut response.out)?;
+    write_row(alloc, position, by_uid, items, row, &mut response.out)?;
     hold_room(start, response.held, &mut response.out)
 }
 
 // Answers for one message, and says whether it is there.
 fn fetch_one<S: Store>(
+    alloc: Global,
     fetch: &Fetch<'_>,
-    items: &[FetchItem],
+    items: &[FetchItem<'_>],
     mark_seen: bool,
     message: Named,
     store: &mut S,
@@ -53,14 +55,15 @@ fn fetch_one<S: Store>(
     let Some(row) = store.read(message.uid, mark_seen)? else {
         return Ok(false);
     };
-    write_fetched(fetch.by_uid, items, message.position, &row, response)?;
+    write_fetched(alloc, fetch.by_uid, items, message.position, &row, response)?;
     Ok(true)
 }
 
 // Answers for these messages, and says whether one of them is gone.
 fn fetch_all<S: Store>(
+    alloc: Global,
     fetch: &Fetch<'_>,
-    items: &[FetchItem],
+    items: &[FetchItem<'_>],
     mark_seen: bool,
     messages: &[Named],
     store: &mut S,
@@ -74,7 +77,7 @@ fn fetch_all<S: Store>(
 {
     let mut gone = false;
     for message in messages {
-        let here = fetch_one(fetch, items, mark_seen, *message, store, response)?;
+        let here = fetch_one(alloc, fetch, items, mark_seen, *message, store, response)?;
         if !here {
             gone = true;
         }
@@ -123,6 +126,7 @@ pub(crate) fn fetch_messages<S: Store>(
         return Ok(ResponseText::SequenceTooHigh);
     };
     let gone = fetch_all(
+        alloc,
         fetch,
         items,
         mark_seen,

@@ -1,7 +1,7 @@
 //! Where a message's date stands: behind the last semicolon of the first field named Received, which is the last
 //! that was written (RFC 5322, section 3.6.7). How a date is spelled is for `parts`; nothing is written here.
 
-ghost use Rattle.std.specs.Prelude.{◌≡◌, ◌≤◌, ◌<◌, ◌+◌, length, IfSome, true, None, codes};
+ghost use Rattle.std.specs.Prelude.{◌≡◌, ◌≤◌, ◌<◌, ◌+◌, length, IfSome, is_some, true, None, codes};
 ghost use Rattle.std.specs.Option.{option_copied};
 ghost use Rattle.mail_date.specs.Fields.{ends_field, field_len, is_empty_line, past_word, past_colon, past_name, received_body, last_semicolon, date_part, received_date, no_date, message_date};
 ghost use Rattle.mail_date.specs.Reading.{outside};
@@ -83,6 +83,13 @@ fn past_name<'a>(name: &[u8], bytes: &'a [u8]) -> Option<&'a [u8]>
 {
     let rest = past_word(name, bytes)?;
     past_colon(rest)
+}
+
+/// Whether a field of this name begins a text: the name in upper or lower case, spaces and tabs or none, and a colon (RFC 5322, section 4.5.3).
+pub fn begins_field(name: &[u8], text: &[u8]) -> bool
+    ensures { result ≡ is_some (past_name name.now text.now) }
+{
+    past_name(name, text).is_some()
 }
 
 /// The body of the first Received field.

@@ -13,7 +13,7 @@ mod stamp;
 #[cfg(test)]
 mod tests;
 
-pub use field::message_date;
+pub use field::{begins_field, message_date};
 pub use internal::{INTERNAL_LEN, write_internal_date};
 pub use laws::{
     a_message_has_the_date_that_it_says, the_first_received_is_taken, the_last_semicolon_is_taken,
