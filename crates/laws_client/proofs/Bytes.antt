@@ -7,7 +7,7 @@ use Rattle.std.proofs.lemmas.Fmt.{decimal_by_steps_wide}
 use Rattle.std.proofs.lemmas.Grind.{reverse_onto}
 use Rattle.std.proofs.lemmas.List.{reverse-reverse, append-nil}
 use Rattle.std.proofs.lemmas.List.Folds.{list_all-append}
-use Rattle.laws_client.specs.Client.{Client, Messages, knowing, within, reads, on_byte, in_line, line_ends, literal_of, told, words, into_first, is_digit, value, number}
+use Rattle.laws_client.specs.Client.{Client, Messages, knowing, within, reads, on_byte, in_line, line_ends, literal_of, told, words, words_from, into_first, is_digit, value, number}
 use Rattle.laws_client.specs.ListTurns.{is_inner}
 
 pub reads-append : (c : Client) (xs ys : List ℕ) → reads c (xs ++ ys) ≡ reads (reads c xs) ys
@@ -16,9 +16,9 @@ reads-append c (x ∷ xs) ys = reads-append (on_byte c.literal c.messages c.line
 
 -- ---- bytes within a line
 
--- neither a space nor an LF
+-- neither a space nor an LF, and no bracket that opens
 abbrev pub is_word : ℕ → Bool
-is_word b = if b == 32 then false else is_inner b
+is_word b = if b == 32 then false else (if b == 91 then false else is_inner b)
 
 pub inner_byte : (o : Messages) (line : List ℕ) (b : ℕ) → is_inner b ≡ true → in_line o line b ≡ within o (b ∷ line)
 inner_byte o [] b h = refl
@@ -60,19 +60,21 @@ whole_line o text inner none =
 
 pub words_cut : (w rest : List ℕ) → list_all is_word w ≡ true → words (w ++ 32 ∷ rest) ≡ w ∷ words rest
 words_cut [] rest h = refl
-words_cut (b ∷ bs) rest h = by (b == 32) (first_of is_word b bs h) (words_cut bs rest (rest_of is_word b bs h))
+words_cut (b ∷ bs) rest h = by (b == 32) (b == 91) (first_of is_word b bs h) (words_cut bs rest (rest_of is_word b bs h))
   where
-    by : (t : Bool) → (if t then false else is_inner b) ≡ true → words (bs ++ 32 ∷ rest) ≡ bs ∷ words rest
-        → (if t then [] ∷ words (bs ++ 32 ∷ rest) else into_first b (words (bs ++ 32 ∷ rest))) ≡ (b ∷ bs) ∷ words rest
-    by true e more = absurd (false≢true e)
-    by false e more = ap (into_first b) more
+    by : (t u : Bool) → (if t then false else (if u then false else is_inner b)) ≡ true → words (bs ++ 32 ∷ rest) ≡ bs ∷ words rest
+        → (if t then [] ∷ words_from false (bs ++ 32 ∷ rest) else into_first b (words_from u (bs ++ 32 ∷ rest))) ≡ (b ∷ bs) ∷ words rest
+    by true u e more = absurd (false≢true e)
+    by false true e more = absurd (false≢true e)
+    by false false e more = ap (into_first b) more
 
 word_is_inner : (b : ℕ) → is_word b ≡ true → is_inner b ≡ true
-word_is_inner b h = by (b == 32) h
+word_is_inner b h = by (b == 32) (b == 91) h
   where
-    by : (t : Bool) → (if t then false else is_inner b) ≡ true → is_inner b ≡ true
-    by true e = absurd (false≢true e)
-    by false e = e
+    by : (t u : Bool) → (if t then false else (if u then false else is_inner b)) ≡ true → is_inner b ≡ true
+    by true u e = absurd (false≢true e)
+    by false true e = absurd (false≢true e)
+    by false false e = e
 
 pub words_are_inner : (w : List ℕ) → list_all is_word w ≡ true → list_all is_inner w ≡ true
 words_are_inner [] h = refl
@@ -89,8 +91,8 @@ record IsNumber (n : ℕ) (ds : List ℕ) : Type 0 where
 digit_is : (b : ℕ) → 48 ≤ b → b ≤ 57 → is_digit b ≡ true
 digit_is b low high = rw (le-leb 48 b low, le-leb b 57 high) refl
 
-digit_is_word : (b : ℕ) → 48 ≤ b → is_word b ≡ true
-digit_is_word b low = rw (ne_eqb b 32 (λ e. omega (arith, e)), ne_eqb b 10 (λ e. omega (arith, e))) refl
+digit_is_word : (b : ℕ) → 48 ≤ b → b ≤ 57 → is_word b ≡ true
+digit_is_word b low high = rw (ne_eqb b 32 (λ e. omega (arith, e, low)), ne_eqb b 91 (λ e. omega (arith, e, high)), ne_eqb b 10 (λ e. omega (arith, e, low))) refl
 
 value-append : (n : ℕ) (xs : List ℕ) (d : ℕ) → value n (xs ++ d ∷ []) ≡ value n xs * 10 + (d - 48)
 value-append n [] d = refl
@@ -99,7 +101,7 @@ value-append n (x ∷ xs) d = value-append (n * 10 + (x - 48)) xs d
 one_digit : (n : ℕ) → n < 10 → IsNumber n ((48 + n) ∷ [])
 one_digit n h = record {
   digits = rw (digit_is (48 + n) (omega arith) (omega arith)) refl;
-  word = rw (digit_is_word (48 + n) (omega arith)) refl;
+  word = rw (digit_is_word (48 + n) (omega arith) (omega arith)) refl;
   says = omega arith;
   some = omega arith;
 }
@@ -107,7 +109,7 @@ one_digit n h = record {
 digit_more : (n : ℕ) (ds : List ℕ) → 10 ≤ n → IsNumber (n / 10) ds → IsNumber n (ds ++ ((48 + n % 10) ∷ []))
 digit_more n ds h d = record {
   digits = list_all-append is_digit ds ((48 + n % 10) ∷ []) ∙ rw (d.digits, digit_is (48 + n % 10) (omega arith) (omega arith)) refl;
-  word = list_all-append is_word ds ((48 + n % 10) ∷ []) ∙ rw (d.word, digit_is_word (48 + n % 10) (omega arith)) refl;
+  word = list_all-append is_word ds ((48 + n % 10) ∷ []) ∙ rw (d.word, digit_is_word (48 + n % 10) (omega arith) (omega arith)) refl;
   says = omega (arith, value-append 0 ds (48 + n % 10), d.says);
   some = omega (arith, length-append ds ((48 + n % 10) ∷ []));
 }

@@ -13,7 +13,7 @@ use Rattle.line_io.specs.Wire.{crlf}
 use Rattle.mailbox.specs.declared.clients.Opening.{Opening}
 use Rattle.mailbox.specs.declared.clients.Row.{Row}
 use Rattle.mailbox.specs.declared.mailbox.Status.{Status}
-use Rattle.imap_answers.specs.Answers.{all_flags, answered, asks_for_root, date_item, flags_answer, is_listed, item_text, list_answer, listed, literal, name_answer, opening_text, origin_text, part, root_answer, row_answer, section, status_answer, status_number, status_text}
+use Rattle.imap_answers.specs.Answers.{all_flags, answered, asks_for_root, date_item, flags_answer, is_listed, item_text, list_answer, listed, literal, name_answer, opening_text, origin_text, part, part_bytes, part_word, root_answer, row_answer, section, status_answer, status_number, status_text}
 use Rattle.imap_grammar.specs.Grammar.{rfc822_word, section_word, status_word}
 use Rattle.imap_grammar.specs.declared.items.FetchItem.{FetchItem}
 use Rattle.imap_grammar.specs.declared.items.FetchItem.TheVariants as fetch
@@ -25,7 +25,9 @@ use Rattle.imap_session.specs.Exchange.{Folder, bye, continuing, tagged, untagge
 use Rattle.laws_client.specs.Client.{count_of, literal_of}
 use Rattle.laws_client.specs.Commands.{AreNames}
 use Rattle.laws_client.specs.ListTurns.{IsPlain, is_inner}
-use Rattle.laws_client.proofs.Kept.{date_inner, part_small, rfc822_inner}
+use Rattle.laws_client.specs.Fetches.{AreToldParts, IsToldPart}
+use Rattle.laws_client.proofs.Fetched.{answered_told}
+use Rattle.laws_client.proofs.Kept.{date_inner, part_inner, part_small, rfc822_inner, section_small}
 use Rattle.laws_client.proofs.Opening.{flags_line, next_line, opening_shape, permanent_line, validity_line}
 use Rattle.laws_client.proofs.Untold.{inner_both, plain_inner, word_inner}
 use Rattle.laws_client.specs.Cuts.{Cutter, amid, between, cut_line, cuts, is_tagged}
@@ -197,34 +199,29 @@ span_inner : (span : Option Span) → list_all is_inner (origin_text span) ≡ t
 span_inner None = refl
 span_inner (Some span) = inner_both (codes "<" ++ decimal span.origin) (codes ">") (inner_both (codes "<") (decimal span.origin) refl (decimal_inner span.origin)) refl
 
-section_inner : (which : Section) → list_all is_inner (section_word which) ≡ true
-section_inner Whole = refl
-section_inner Header = refl
-section_inner Text = refl
-
-one_item : (row : Row) (item : FetchItem) → length row.text < 2 ^ 64 → IsItem (item_text row item)
-one_item row fetch.Uid h = item_inner (codes "UID " ++ decimal row.uid) (inner_both (codes "UID ") (decimal row.uid) refl (decimal_inner row.uid))
-one_item row fetch.Flags h =
+one_item : (row : Row) (item : FetchItem) → length row.text < 2 ^ 64 → IsToldPart item → IsItem (item_text row item)
+one_item row fetch.Uid h told = item_inner (codes "UID " ++ decimal row.uid) (inner_both (codes "UID ") (decimal row.uid) refl (decimal_inner row.uid))
+one_item row fetch.Flags h told =
     item_inner (codes "FLAGS (" ++ spaced (flag_words row.flags) ++ codes ")") (inner_both (codes "FLAGS (" ++ spaced (flag_words row.flags)) (codes ")") (inner_both (codes "FLAGS (") (spaced (flag_words row.flags)) refl (words_inner row.flags)) refl)
-one_item row fetch.Size h = item_inner (codes "RFC822.SIZE " ++ decimal (length row.text)) (inner_both (codes "RFC822.SIZE ") (decimal (length row.text)) refl (decimal_inner (length row.text)))
-one_item row fetch.InternalDate h = item_inner (date_item row.text) (date_inner row.text)
-one_item row (fetch.Rfc822 which) h =
+one_item row fetch.Size h told = item_inner (codes "RFC822.SIZE " ++ decimal (length row.text)) (inner_both (codes "RFC822.SIZE ") (decimal (length row.text)) refl (decimal_inner (length row.text)))
+one_item row fetch.InternalDate h told = item_inner (date_item row.text) (date_inner row.text)
+one_item row (fetch.Rfc822 which) h told =
     let front : List ℕ = rfc822_word which ++ codes " " in
     item_both front (literal (section which row.text)) (item_inner front (rfc822_inner which))
-    (item_literal (section which row.text) (part_small (record row { uid = 0 }) which None (record { uid = omega arith; text = h })))
-one_item row (fetch.Body peek which span) h =
-    let front : List ℕ = codes "BODY[" ++ section_word which ++ codes "]" ++ origin_text span ++ codes " " in
-    item_both front (literal (part span (section which row.text)))
-    (item_inner front (inner_both (codes "BODY[" ++ section_word which ++ codes "]" ++ origin_text span) (codes " ")
-    (inner_both (codes "BODY[" ++ section_word which ++ codes "]") (origin_text span) (inner_both (codes "BODY[" ++ section_word which) (codes "]") (inner_both (codes "BODY[") (section_word which) refl (section_inner which)) refl) (span_inner span)) refl))
-    (item_literal (part span (section which row.text)) (part_small (record row { uid = 0 }) which span (record { uid = omega arith; text = h })))
+    (item_literal (section which row.text) (section_small (record row { uid = 0 }) which (record { uid = omega arith; text = h })))
+one_item row (fetch.Body peek which span) h told =
+    let front : List ℕ = codes "BODY[" ++ part_word which ++ codes "]" ++ origin_text span ++ codes " " in
+    item_both front (literal (part span (part_bytes which row.text)))
+    (item_inner front (inner_both (codes "BODY[" ++ part_word which ++ codes "]" ++ origin_text span) (codes " ")
+    (inner_both (codes "BODY[" ++ part_word which ++ codes "]") (origin_text span) (inner_both (codes "BODY[" ++ part_word which) (codes "]") (inner_both (codes "BODY[") (part_word which) refl (part_inner which told.0)) refl) (span_inner span)) refl))
+    (item_literal (part span (part_bytes which row.text)) (part_small (record row { uid = 0 }) which span (record { uid = omega arith; text = h })))
 
-items_go : (row : Row) (items : List FetchItem) → length row.text < 2 ^ 64 → IsItem (spaced (map (item_text row) items))
-items_go row [] h = item_inner [] refl
-items_go row (item ∷ []) h = one_item row item h
-items_go row (item ∷ other ∷ items) h =
-    item_both (item_text row item) (32 ∷ spaced (map (item_text row) (other ∷ items))) (one_item row item h)
-    (item_both (32 ∷ []) (spaced (map (item_text row) (other ∷ items))) (item_inner (32 ∷ []) refl) (items_go row (other ∷ items) h))
+items_go : (row : Row) (items : List FetchItem) → length row.text < 2 ^ 64 → AreToldParts items → IsItem (spaced (map (item_text row) items))
+items_go row [] h told = item_inner [] refl
+items_go row (item ∷ []) h told = one_item row item h told.0
+items_go row (item ∷ other ∷ items) h told =
+    item_both (item_text row item) (32 ∷ spaced (map (item_text row) (other ∷ items))) (one_item row item h told.0)
+    (item_both (32 ∷ []) (spaced (map (item_text row) (other ∷ items))) (item_inner (32 ∷ []) refl) (items_go row (other ∷ items) h told.1))
 
 -- a FETCH line, whatever its items
 fetch_passes : (front text : List ℕ) → list_all is_inner front ≡ true → IsItem text → Passes ((42 ∷ 32 ∷ front) ++ text ++ codes ")\r\n")
@@ -249,9 +246,9 @@ fetch_passes front text h p begun answers =
     untagged new =
         ap is_tagged (reverse-append (41 ∷ new) (reverse (42 ∷ 32 ∷ front)) ∙ ap (λ (x : List ℕ). x ++ reverse (41 ∷ new)) (reverse-reverse (42 ∷ 32 ∷ front)))
 
-pub row_passes : (k : ℕ) (by_uid : Bool) (items : List FetchItem) (row : Row) → length row.text < 2 ^ 64 → Passes (row_answer k by_uid items row)
-row_passes k by_uid items row h =
-    fetch_passes (decimal k ++ codes " FETCH (") (spaced (map (item_text row) (answered by_uid row.newly_seen items))) (inner_both (decimal k) (codes " FETCH (") (decimal_inner k) refl) (items_go row (answered by_uid row.newly_seen items) h)
+pub row_passes : (k : ℕ) (by_uid : Bool) (items : List FetchItem) (row : Row) → length row.text < 2 ^ 64 → AreToldParts items → Passes (row_answer k by_uid items row)
+row_passes k by_uid items row h told =
+    fetch_passes (decimal k ++ codes " FETCH (") (spaced (map (item_text row) (answered by_uid row.newly_seen items))) (inner_both (decimal k) (codes " FETCH (") (decimal_inner k) refl) (items_go row (answered by_uid row.newly_seen items) h (answered_told by_uid row.newly_seen items told))
 
 pub flags_pass : (by_uid : Bool) (k uid : ℕ) (flags : Flags) → Passes (flags_answer by_uid k uid flags)
 flags_pass by_uid k uid flags =

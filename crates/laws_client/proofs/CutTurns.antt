@@ -33,7 +33,7 @@ use Rattle.imap_session.proofs.Unkept.{unkept_by}
 use Rattle.imap_session.specs.Exchange as ex
 use Rattle.imap_session.specs.Exchange.{Answer, Appending, Call, Entered, Looked, Found, Counted, Altered, Expunged, Fed, Left, Refused, Starved, Event as Happened, Exchange, Folder, ForVerdict, Mailing, Sent, Standing, Turn, bye, closed, having, is_idling, kept_behind, kept_tag, played, refusal_after, refusal_text, refused, saying, tagged, untagged}
 use Rattle.imap_session.specs.Commands.{appended_words, appending, closing, completed, counting, entering, expunge_set, fetch_messages, fetched, fetching, folder_of, idle_turn_in, if_writable, is_over, last_number, long_rest_text, long_text, messages_done, most_unasked, nowhere, number_named, on_chosen, on_command, on_found, on_idle_line, on_read, on_rest, on_text, on_verdict, over, refused_text, says, showing, store_messages, storing, turn_behind, turn_of, turn_while, turn_with, unlimited, wanting, wanting_for, without_begun, without_sent, wrong_state, arguments_text, entered_text, logged_in, login_completed, logs_in_as, on_line, subscribing, telling_recent}
-use Rattle.laws_client.specs.Commands.{AreNames}
+use Rattle.laws_client.specs.Commands.{AreNames, HasToldParts}
 use Rattle.laws_client.specs.Talks.{Happening, Line, LongLine, Turned, Literal, Heard, leads_to}
 use Rattle.laws_client.specs.ListTurns.{IsPlain, is_inner}
 use Rattle.laws_client.proofs.IdleTags.{AreTagsOf}
@@ -42,6 +42,8 @@ use Rattle.laws_client.proofs.Turns.{the_turn}
 use Rattle.laws_client.proofs.Untold.{folder_plain}
 use Rattle.laws_client.specs.Cuts.{EndsItself, IsOneAnswer, SaysBye, ends, leaves_open, opens}
 use Rattle.laws_client.proofs.CutBytes.{Ends, Passes, both_pass, passes_none, then_ends}
+use Rattle.laws_client.specs.Fetches.{AreToldParts}
+use Rattle.laws_client.proofs.Parts.{HasTold, read_told}
 use Rattle.laws_client.proofs.CutTexts.{bye_passes, continuing_passes, text_end, untagged_passes, flags_pass, lines_pass, list_passes, opening_passes, plain_end, row_passes, status_passes, tagged_ends, server_passes}
 use Rattle.laws_client.proofs.LastLines.{IsWord}
 use Rattle.laws_client.proofs.LastTurns.{appended_inner}
@@ -322,16 +324,16 @@ in_done o command true gone p = p
 in_done o command false true p = (refl, refl)
 in_done o command false false p = p
 
-in_fetching : (o : Bool) → (fetch : Fetch) (mark : Bool) (view : List ℕ) (done : Bool → Exchange) → ((gone : Bool) → SaysCut o (done gone))
+in_fetching : (o : Bool) → (fetch : Fetch) → AreToldParts fetch.items → (mark : Bool) (view : List ℕ) (done : Bool → Exchange) → ((gone : Bool) → SaysCut o (done gone))
     → (uids : List ℕ) (gone : Bool) → SaysCut o (fetching fetch mark view done uids gone)
-in_fetching o fetch mark view done p [] gone = p gone
-in_fetching o fetch mark view done p (uid ∷ uids) gone =
-    λ row short. by (in_fetching o fetch mark view done p uids true) (in_fetching o fetch mark view done p uids gone) row short
+in_fetching o fetch told mark view done p [] gone = p gone
+in_fetching o fetch told mark view done p (uid ∷ uids) gone =
+    λ row short. by (in_fetching o fetch told mark view done p uids true) (in_fetching o fetch told mark view done p uids gone) row short
   where
     by : SaysCut o (fetching fetch mark view done uids true) → SaysCut o (fetching fetch mark view done uids gone) → (row : Option Row) → IsShort row
         → SaysCut o (on_found (λ (r : Row). ex.Write (fetched fetch view uid r) (fetching fetch mark view done uids gone)) (fetching fetch mark view done uids true) row)
     by without with None short = without
-    by without with (Some row) short = (row_passes (position uid view) fetch.by_uid fetch.items row short, with)
+    by without with (Some row) short = (row_passes (position uid view) fetch.by_uid fetch.items row short told, with)
 
 in_silence : (o : Bool) → (silent : Bool) (text : List ℕ) (x : Exchange) → Passes text → SaysCut o x → SaysCut o (if silent then x else ex.Write text x)
 in_silence o true text x w p = p
@@ -371,42 +373,42 @@ append_cut most folders a =
     (passes_none, in_found true _ nowhere (λ (mailbox : ℕ). in_either true (is_over most a.literal.size) (over most) _ (in_over true most) (refl, continuing_passes texts.Ready)) (refl, refl) (number_named a.name folders))
     (in_either true (nat_lt most_unasked a.literal.size) _ _ (refl, bye_passes texts.LiteralTooBig) (refl, passes_none))
 
-command_cut : (now : Standing) (command : Command) → AreNames now.folders → SaysCut (leaves_open command) (on_command now command)
-command_cut now commands.Noop names = in_showing false now.selected (completed commands.Noop) (refl, refl)
-command_cut now commands.Logout names = (bye_passes texts.LoggingOut, (refl, refl))
-command_cut now commands.Idle names = (refl, continuing_passes texts.Idling)
-command_cut now (commands.Login user password) names = (refl, refl)
-command_cut now commands.Authenticate names = (refl, refl)
-command_cut now commands.StartTls names = (refl, refl)
-command_cut now commands.Capability names = (server_passes (server.Capabilities now.profile), (refl, refl))
-command_cut now commands.Namespace names = (server_passes server.Namespaces, (refl, refl))
-command_cut now (commands.Select name) names = in_selecting false now false name names
-command_cut now (commands.Examine name) names = in_selecting false now true name names
-command_cut now (commands.List reference pattern) names = (list_passes All reference pattern now.folders names, in_showing false now.selected (completed (commands.List reference pattern)) (refl, refl))
-command_cut now (commands.Lsub reference pattern) names = (list_passes Subscribed reference pattern now.folders names, in_showing false now.selected (completed (commands.Lsub reference pattern)) (refl, refl))
-command_cut now (commands.Subscribe name) names = in_subscribing false now.folders name (commands.Subscribe name)
-command_cut now (commands.Unsubscribe name) names = in_subscribing false now.folders name (commands.Unsubscribe name)
-command_cut now commands.Check names = in_showing false now.selected (completed commands.Check) (refl, refl)
-command_cut now (commands.Status name items) names =
+command_cut : (now : Standing) (command : Command) → HasToldParts command → AreNames now.folders → SaysCut (leaves_open command) (on_command now command)
+command_cut now commands.Noop told names = in_showing false now.selected (completed commands.Noop) (refl, refl)
+command_cut now commands.Logout told names = (bye_passes texts.LoggingOut, (refl, refl))
+command_cut now commands.Idle told names = (refl, continuing_passes texts.Idling)
+command_cut now (commands.Login user password) told names = (refl, refl)
+command_cut now commands.Authenticate told names = (refl, refl)
+command_cut now commands.StartTls told names = (refl, refl)
+command_cut now commands.Capability told names = (server_passes (server.Capabilities now.profile), (refl, refl))
+command_cut now commands.Namespace told names = (server_passes server.Namespaces, (refl, refl))
+command_cut now (commands.Select name) told names = in_selecting false now false name names
+command_cut now (commands.Examine name) told names = in_selecting false now true name names
+command_cut now (commands.List reference pattern) told names = (list_passes All reference pattern now.folders names, in_showing false now.selected (completed (commands.List reference pattern)) (refl, refl))
+command_cut now (commands.Lsub reference pattern) told names = (list_passes Subscribed reference pattern now.folders names, in_showing false now.selected (completed (commands.Lsub reference pattern)) (refl, refl))
+command_cut now (commands.Subscribe name) told names = in_subscribing false now.folders name (commands.Subscribe name)
+command_cut now (commands.Unsubscribe name) told names = in_subscribing false now.folders name (commands.Unsubscribe name)
+command_cut now commands.Check told names = in_showing false now.selected (completed commands.Check) (refl, refl)
+command_cut now (commands.Status name items) told names =
     (passes_none, in_folder false (counting now.selected name items) (λ folder plain status. (status_passes folder.name items status plain, in_showing false now.selected (completed (commands.Status name items)) (refl, refl))) (folder_of name now.folders) (folder_plain name now.folders names))
-command_cut now commands.Close names = in_found false _ wrong_state (λ (s : Selected). (refl, refl)) (refl, refl) now.selected
-command_cut now commands.Unselect names = in_found false _ wrong_state (λ (s : Selected). (refl, refl)) (refl, refl) now.selected
-command_cut now commands.Expunge names = in_writable false now.selected (ex.Expunge None (ex.Feed unlimited (completed commands.Expunge))) (refl, refl)
-command_cut now (commands.UidExpunge set) names =
+command_cut now commands.Close told names = in_found false _ wrong_state (λ (s : Selected). (refl, refl)) (refl, refl) now.selected
+command_cut now commands.Unselect told names = in_found false _ wrong_state (λ (s : Selected). (refl, refl)) (refl, refl) now.selected
+command_cut now commands.Expunge told names = in_writable false now.selected (ex.Expunge None (ex.Feed unlimited (completed commands.Expunge))) (refl, refl)
+command_cut now (commands.UidExpunge set) told names =
     in_writable false now.selected (expunge_set set)
     (λ view. in_chosen false (named_in true set view) (λ uids. wanting_for uids (ex.Expunge (Some uids) (ex.Feed unlimited (completed (commands.UidExpunge set))))) (elim [ [] ↦ (refl, refl) | uid ∷ uids ↦ (passes_none, (refl, refl)) ]))
-command_cut now (commands.Fetch fetch) names =
+command_cut now (commands.Fetch fetch) told names =
     in_found false (fetch_messages fetch) wrong_state
     (λ (s : Selected). (
       passes_none,
       λ view. in_chosen false (named_in fetch.by_uid fetch.set view) _
-          (λ uids. in_fetching false fetch _ view (messages_done (commands.Fetch fetch) fetch.by_uid) (λ gone. in_done false (commands.Fetch fetch) fetch.by_uid gone (says_cut false (texts.Completed (verb_of (commands.Fetch fetch))))) uids false),
+          (λ uids. in_fetching false fetch told _ view (messages_done (commands.Fetch fetch) fetch.by_uid) (λ gone. in_done false (commands.Fetch fetch) fetch.by_uid gone (says_cut false (texts.Completed (verb_of (commands.Fetch fetch))))) uids false),
     )) (refl, refl) now.selected
-command_cut now (commands.Store store) names =
+command_cut now (commands.Store store) told names =
     in_writable false now.selected (store_messages store)
     (λ view. in_chosen false (named_in store.by_uid store.set view) _
     (λ uids. in_storing false store view (messages_done (commands.Store store) store.by_uid) (λ gone. in_done false (commands.Store store) store.by_uid gone (says_cut false (texts.Completed (verb_of (commands.Store store))))) uids false))
-command_cut now (commands.Append append) names = append_cut now.mailing.most now.folders append
+command_cut now (commands.Append append) told names = append_cut now.mailing.most now.folders append
 
 -- a turn says one answer, whatever its tag
 abbrev pub TurnOne : Option Turn → Type 0
@@ -447,14 +449,14 @@ fault_cut (faults.Arguments tag verb) now [] t =
     λ short. subst IsOneAnswer (sym (append-nil (tagged tag (response_text text)))) (ends (tagged_ends tag (response_text text) t (row_inner text) (text_end text)))
 fault_cut fault now (answer ∷ more) t = tt
 
-read_cut : (now : Standing) (r : Result (List ℕ × Command) ImapFault) (answers : List Answer) → TaggedOf IsWord r → AreNames now.folders → TurnOne (on_read now r answers)
-read_cut now (Ok line) answers t names =
+read_cut : (now : Standing) (r : Result (List ℕ × Command) ImapFault) (answers : List Answer) → TaggedOf IsWord r → HasTold r → AreNames now.folders → TurnOne (on_read now r answers)
+read_cut now (Ok line) answers t told names =
     line_has TurnOne now line.0 line.1 answers (λ logs. plain_turn line.0 t false (logged_in now) login_completed answers (says_cut false (texts.Completed verbs.Login)))
-    (λ text is. plain_turn line.0 t false now (says (response_text text)) answers (says_cut false text)) (plain_turn line.0 t (leaves_open line.1) now (on_command now line.1) answers (command_cut now line.1 names))
-read_cut now (Err fault) answers t names = fault_cut fault now answers t
+    (λ text is. plain_turn line.0 t false now (says (response_text text)) answers (says_cut false text)) (plain_turn line.0 t (leaves_open line.1) now (on_command now line.1) answers (command_cut now line.1 told names))
+read_cut now (Err fault) answers t told names = fault_cut fault now answers t
 
 while_cut : (idling : Option (List ℕ)) (now : Standing) (line : List ℕ) (answers : List Answer) → IfSome idling IsWord → AreNames now.folders → TurnOne (turn_while idling now line answers)
-while_cut None now line answers t names = read_cut now (read line) answers (read_tagged_so IsWord (λ tag word. word) line) names
+while_cut None now line answers t names = read_cut now (read line) answers (read_tagged_so IsWord (λ tag word. word) line) (read_told line) names
 while_cut (Some tag) now line answers t names = plain_turn tag t true (record now { idling = None }) (on_idle_line now.selected line) answers (idling_cut now.selected line)
 
 behind_cut : (begun : Option Appending) (now : Standing) (line : List ℕ) (answers : List Answer) → IfSome begun (λ (a : Appending). IsWord a.tag) → IfSome now.idling IsWord → AreNames now.folders → TurnOne (turn_behind begun now line answers)
@@ -528,6 +530,9 @@ command_one now line tag command answers turn names kept reads e short = by now.
     word : IsWord tag
     word = subst (TaggedOf IsWord) reads (read_tagged_so IsWord (λ tag word. word) line)
 
+    told : HasToldParts command
+    told = subst HasTold reads (read_told line)
+
     by : (begun : Option Appending) (idling : Option (List ℕ)) → begun ≡ now.mailing.begun → idling ≡ now.idling → OneOf tag (leaves_open command) turn.bytes
     by (Some b) idling p q = absurd (none-some b.tag (sym kept ∙ sym (ap (λ (x : Option Appending). kept_behind x now.idling) p)))
     by None (Some i) p q = absurd (none-some i (sym kept ∙ sym (ap (λ (x : Option Appending). kept_behind x now.idling) p) ∙ sym q))
@@ -538,4 +543,4 @@ command_one now line tag command answers turn names kept reads e short = by now.
         line_case (OneOf tag (leaves_open command) turn.bytes) now tag command answers turn
         (λ logs d. some_own tag (leaves_open command) (played tag (logged_in now) login_completed answers) turn (played_cut tag word (leaves_open command) (logged_in now) login_completed answers (says_cut (leaves_open command) (texts.Completed verbs.Login))) d short)
         (λ text is d. some_own tag (leaves_open command) (played tag now (says (response_text text)) answers) turn (played_cut tag word (leaves_open command) now (says (response_text text)) answers (says_cut (leaves_open command) text)) d short)
-        (λ d. some_own tag (leaves_open command) (played tag now (on_command now command) answers) turn (played_cut tag word (leaves_open command) now (on_command now command) answers (command_cut now command names)) d short) third
+        (λ d. some_own tag (leaves_open command) (played tag now (on_command now command) answers) turn (played_cut tag word (leaves_open command) now (on_command now command) answers (command_cut now command told names)) d short) third

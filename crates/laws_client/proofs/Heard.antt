@@ -8,7 +8,8 @@ use Rattle.cursor_set.specs.Lines.{spaced}
 use Rattle.mailbox.specs.declared.clients.Row.{Row}
 use Rattle.mail_date.proofs.Plain.{message_dated}
 use Rattle.mail_date.specs.Fields.{message_date}
-use Rattle.imap_answers.specs.Answers.{answered, flags_last, is_uid, part, section, uid_first}
+use Rattle.imap_answers.specs.Answers.{answered, flags_last, is_uid, part, part_bytes, section, uid_first}
+use Rattle.imap_grammar.specs.declared.items.BodyPart.{BodyPart}
 use Rattle.imap_grammar.specs.declared.items.FetchItem.{FetchItem}
 use Rattle.imap_grammar.specs.declared.items.FetchItem.TheVariants as fetch
 use Rattle.imap_grammar.specs.declared.items.Section.{Section}
@@ -16,7 +17,7 @@ use Rattle.imap_grammar.specs.declared.items.Span.{Span}
 use Rattle.laws_client.specs.Client.{Known, closing, flag_names, into_first, items, number, unopened, with_flags, with_uid, words}
 use Rattle.laws_client.specs.Fetches.{AreToldParts, IsToldPart}
 use Rattle.laws_client.proofs.Bytes.{decimal_digits, decimal_says}
-use Rattle.laws_client.proofs.Items.{body_words, date_other, date_read, date_words, digits_closed, digits_other, flag_list, flag_list_other, is_other, number_words, other_passes, rfc822_other, rfc822_read, rfc822_words, tail, words_append}
+use Rattle.laws_client.proofs.Items.{item_closed, body_words, date_other, date_read, date_words, digits_closed, digits_other, flag_list, flag_list_other, is_other, number_words, other_passes, rfc822_other, rfc822_read, rfc822_words, tail, words_append}
 use Rattle.laws_client.proofs.Kept.{IsSmall, body_word, count_kept, item_kept, part_small}
 
 -- ---- words
@@ -63,10 +64,10 @@ size_item P Q row last small =
     subst (λ (ws : List (List ℕ)). LeadOn P P Q (codes "RFC822.SIZE" ∷ ws)) (sym (number_words n last small.text))
     (others_lead P Q (codes "RFC822.SIZE" ∷ (decimal n ++ tail last) ∷ []) (rw (digits_other (decimal n) last (decimal_digits n small.text)) refl))
 
-body_item : (P Q : Known → Type 0) (row : Row) (peek : Bool) (which : Section) (span : Option Span) (last : Bool) → IsSmall row → IsToldPart (fetch.Body peek which span) → LeadOn P P Q (words (item_kept row (fetch.Body peek which span) ++ tail last))
+body_item : (P Q : Known → Type 0) (row : Row) (peek : Bool) (which : BodyPart) (span : Option Span) (last : Bool) → IsSmall row → IsToldPart (fetch.Body peek which span) → LeadOn P P Q (words (item_kept row (fetch.Body peek which span) ++ tail last))
 body_item P Q row peek which span last small told =
-    let bytes : List ℕ = part span (section which row.text) in
-    subst (λ (ws : List (List ℕ)). LeadOn P P Q ws) (sym (body_words peek which span bytes last told (part_small row which span small)))
+    let bytes : List ℕ = part span (part_bytes which row.text) in
+    subst (λ (ws : List (List ℕ)). LeadOn P P Q ws) (sym (body_words which span bytes last told.0 told.1 (part_small row which span small)))
     (others_lead P Q (body_word which span ∷ (count_kept bytes ++ tail last) ∷ []) refl)
 
 date_leads : (P Q : Known → Type 0) (row : Row) (last : Bool) → LeadOn P P Q (words (item_kept row fetch.InternalDate ++ tail last))
@@ -90,15 +91,15 @@ item_leads P Q row (fetch.Rfc822 which) last u stays small told = rfc822_leads P
 item_leads P Q row (fetch.Body peek which span) last u stays small told = body_item P Q row peek which span last small told
 
 -- the words of the items, cut behind the first
-cut_first : (row : Row) (item other : FetchItem) (list : List FetchItem)
+cut_first : (row : Row) (item other : FetchItem) (list : List FetchItem) → IsSmall row → IsToldPart item
     → words (item_kept row item) ++ words (spaced (map (item_kept row) (other ∷ list)) ++ 41 ∷ []) ≡ words (spaced (map (item_kept row) (item ∷ other ∷ list)) ++ 41 ∷ [])
-cut_first row item other list =
-    sym (ap words (append_assoc (item_kept row item) (32 ∷ spaced (map (item_kept row) (other ∷ list))) (41 ∷ [])) ∙ words_append (item_kept row item) (spaced (map (item_kept row) (other ∷ list)) ++ 41 ∷ []))
+cut_first row item other list small told =
+    sym (ap words (append_assoc (item_kept row item) (32 ∷ spaced (map (item_kept row) (other ∷ list))) (41 ∷ [])) ∙ words_append (item_kept row item) (spaced (map (item_kept row) (other ∷ list)) ++ 41 ∷ []) (item_closed row item small told))
 
-then_others : (P R S Q : Known → Type 0) (row : Row) (item other : FetchItem) (list : List FetchItem) → LeadOn P R Q (words (item_kept row item ++ tail false))
+then_others : (P R S Q : Known → Type 0) (row : Row) (item other : FetchItem) (list : List FetchItem) → IsSmall row → IsToldPart item → LeadOn P R Q (words (item_kept row item ++ tail false))
     → LeadOn R S Q (words (spaced (map (item_kept row) (other ∷ list)) ++ 41 ∷ [])) → LeadOn P S Q (words (spaced (map (item_kept row) (item ∷ other ∷ list)) ++ 41 ∷ []))
-then_others P R S Q row item other list one more =
-    subst (LeadOn P S Q) (cut_first row item other list)
+then_others P R S Q row item other list small told one more =
+    subst (LeadOn P S Q) (cut_first row item other list small told)
     (lead_both P R S Q (words (item_kept row item)) (words (spaced (map (item_kept row) (other ∷ list)) ++ 41 ∷ []))
     (subst (λ (t : List ℕ). LeadOn P R Q (words t)) (append-nil (item_kept row item)) one) more)
 
@@ -107,7 +108,7 @@ pub items_lead : (P Q : Known → Type 0) (row : Row) (list : List FetchItem) �
 items_lead P Q row [] u stays small told = others_lead P Q ((41 ∷ []) ∷ []) refl
 items_lead P Q row (item ∷ []) u stays small told = item_leads P Q row item true u stays small told.0
 items_lead P Q row (item ∷ other ∷ list) u stays small told =
-    then_others P P P Q row item other list (item_leads P Q row item false u stays small told.0) (items_lead P Q row (other ∷ list) u stays small told.1)
+    then_others P P P Q row item other list small told.0 (item_leads P Q row item false u stays small told.0) (items_lead P Q row (other ∷ list) u stays small told.1)
 
 -- ---- UID is one of them
 
@@ -136,23 +137,23 @@ items_learn row (fetch.Rfc822 which ∷ []) asks small told = absurd asks
 items_learn row (fetch.Body peek which span ∷ []) asks small told = absurd asks
 items_learn row (fetch.Uid ∷ other ∷ list) asks small told =
     let H : Known → Type 0 = HasUid row.uid in
-    then_others Any H H H row fetch.Uid other list (uid_item Any H H row false (λ m any. refl) small)
+    then_others Any H H H row fetch.Uid other list small told.0 (uid_item Any H H row false (λ m any. refl) small)
     (items_lead H H row (other ∷ list) (λ m is. refl) (λ names m is. is) small told.1)
 items_learn row (fetch.Flags ∷ other ∷ list) asks small told =
     let H : Known → Type 0 = HasUid row.uid in
-    then_others Any Any H H row fetch.Flags other list (flags_lead Any H row.flags false (λ names m any. tt)) (items_learn row (other ∷ list) asks small told.1)
+    then_others Any Any H H row fetch.Flags other list small told.0 (flags_lead Any H row.flags false (λ names m any. tt)) (items_learn row (other ∷ list) asks small told.1)
 items_learn row (fetch.Size ∷ other ∷ list) asks small told =
     let H : Known → Type 0 = HasUid row.uid in
-    then_others Any Any H H row fetch.Size other list (size_item Any H row false small) (items_learn row (other ∷ list) asks small told.1)
+    then_others Any Any H H row fetch.Size other list small told.0 (size_item Any H row false small) (items_learn row (other ∷ list) asks small told.1)
 items_learn row (fetch.InternalDate ∷ other ∷ list) asks small told =
     let H : Known → Type 0 = HasUid row.uid in
-    then_others Any Any H H row fetch.InternalDate other list (date_leads Any H row false) (items_learn row (other ∷ list) asks small told.1)
+    then_others Any Any H H row fetch.InternalDate other list small told.0 (date_leads Any H row false) (items_learn row (other ∷ list) asks small told.1)
 items_learn row (fetch.Rfc822 which ∷ other ∷ list) asks small told =
     let H : Known → Type 0 = HasUid row.uid in
-    then_others Any Any H H row (fetch.Rfc822 which) other list (rfc822_leads Any H row which false small) (items_learn row (other ∷ list) asks small told.1)
+    then_others Any Any H H row (fetch.Rfc822 which) other list small told.0 (rfc822_leads Any H row which false small) (items_learn row (other ∷ list) asks small told.1)
 items_learn row (fetch.Body peek which span ∷ other ∷ list) asks small told =
     let H : Known → Type 0 = HasUid row.uid in
-    then_others Any Any H H row (fetch.Body peek which span) other list (body_item Any H row peek which span false small told.0) (items_learn row (other ∷ list) asks small told.1)
+    then_others Any Any H H row (fetch.Body peek which span) other list small told.0 (body_item Any H row peek which span false small told.0) (items_learn row (other ∷ list) asks small told.1)
 
 -- with the parenthesis that opens before the first
 pub opened_lead : (P Q : Known → Type 0) (ws : List (List ℕ)) → LeadOn P Q Q ws → (m : Known) → P m → Q (items (unopened (into_first 40 ws)) m)

@@ -12,12 +12,12 @@ use Rattle.imap_grammar.specs.declared.items.FetchItem.{FetchItem}
 use Rattle.imap_grammar.specs.declared.items.FetchItem.TheVariants as fetch
 use Rattle.laws_client.specs.Beliefs.{Each}
 use Rattle.laws_client.specs.Client.{Known, into_first, items, knowing, unopened, with_flags, words}
-use Rattle.laws_client.specs.Fetches.{AreToldParts}
+use Rattle.laws_client.specs.Fetches.{AreToldParts, IsToldPart}
 use Rattle.laws_client.proofs.Chosen.{small_in}
 use Rattle.laws_client.proofs.Each.{IsIn, is_in}
 use Rattle.laws_client.proofs.Fetched.{answer_read, answered_told, row_of, store_items, store_shape, store_told}
 use Rattle.laws_client.proofs.Follows.{position_most}
-use Rattle.laws_client.proofs.Items.{flag_list, flag_list_other, words_append}
+use Rattle.laws_client.proofs.Items.{item_closed, flag_list, flag_list_other, words_append}
 use Rattle.laws_client.proofs.Kept.{IsSmall, item_kept}
 use Rattle.laws_client.proofs.LinesRead.{reads_fetch, told_of}
 use Rattle.std.proofs.lemmas.List.{take-append-drop}
@@ -71,15 +71,15 @@ Asks (fetch.Rfc822 which ∷ list) = Asks list
 Asks (fetch.Body peek which span ∷ list) = Asks list
 
 -- the words of the items, cut behind the first
-cut_first : (row : Row) (item other : FetchItem) (list : List FetchItem)
+cut_first : (row : Row) (item other : FetchItem) (list : List FetchItem) → IsSmall row → IsToldPart item
     → words (item_kept row item) ++ words (spaced (map (item_kept row) (other ∷ list)) ++ 41 ∷ []) ≡ words (spaced (map (item_kept row) (item ∷ other ∷ list)) ++ 41 ∷ [])
-cut_first row item other list =
-    sym (ap words (append_assoc (item_kept row item) (32 ∷ spaced (map (item_kept row) (other ∷ list))) (41 ∷ [])) ∙ words_append (item_kept row item) (spaced (map (item_kept row) (other ∷ list)) ++ 41 ∷ []))
+cut_first row item other list small told =
+    sym (ap words (append_assoc (item_kept row item) (32 ∷ spaced (map (item_kept row) (other ∷ list))) (41 ∷ [])) ∙ words_append (item_kept row item) (spaced (map (item_kept row) (other ∷ list)) ++ 41 ∷ []) (item_closed row item small told))
 
 pass_first : (row : Row) (item other : FetchItem) (list : List FetchItem) → IsSmall row → AreToldParts (item ∷ other ∷ list)
     → Learns row (words (spaced (map (item_kept row) (other ∷ list)) ++ 41 ∷ [])) → Learns row (words (spaced (map (item_kept row) (item ∷ other ∷ list)) ++ 41 ∷ []))
 pass_first row item other list small told more =
-    subst (Learns row) (cut_first row item other list)
+    subst (Learns row) (cut_first row item other list small told.0)
     (learn_later row (words (item_kept row item)) (words (spaced (map (item_kept row) (other ∷ list)) ++ 41 ∷ []))
     (subst (λ (t : List ℕ). Keeps Any (Heard row) (words t)) (append-nil (item_kept row item)) (item_keeps Any (Heard row) row item false (any_allows row) small told.0)) more)
 
@@ -92,7 +92,7 @@ items_learn row (fetch.InternalDate ∷ []) asks small told = absurd asks
 items_learn row (fetch.Rfc822 which ∷ []) asks small told = absurd asks
 items_learn row (fetch.Body peek which span ∷ []) asks small told = absurd asks
 items_learn row (fetch.Flags ∷ other ∷ list) asks small told =
-    subst (Learns row) (cut_first row fetch.Flags other list)
+    subst (Learns row) (cut_first row fetch.Flags other list small told.0)
     (learn_first row (words (item_kept row fetch.Flags)) (words (spaced (map (item_kept row) (other ∷ list)) ++ 41 ∷ []))
     (subst (λ (t : List ℕ). Learns row (words t)) (append-nil (item_kept row fetch.Flags)) (flags_learn row false)) (items_keep (Heard row) (Heard row) row (other ∷ list) (heard_allows row) small told.1))
 items_learn row (fetch.Uid ∷ other ∷ list) asks small told = pass_first row fetch.Uid other list small told (items_learn row (other ∷ list) asks small told.1)

@@ -1,6 +1,6 @@
 -- What a client keeps of the line of a FETCH with literals in it.
 use Rattle.std.proofs.Common.{zero, suc, ◌≡◌, ℕ, ◌^◌, ◌<◌, ◌≤◌, Bool, true, false, ◌&&◌, List, [], ◌∷◌, ◌++◌, length, take, drop, map, ap, ◌∙◌, sym, refl, arith, append_assoc}
-use Rattle.std.specs.Prelude.{◌==◌, reverse, decimal, codes, Option, Some, None, if◌then◌else◌}
+use Rattle.std.specs.Prelude.{◌==◌, not, reverse, decimal, codes, Option, Some, None, if◌then◌else◌}
 use Rattle.std.specs.List.{list_all}
 use Rattle.std.proofs.lemmas.Bool.{false≢true}
 use Rattle.std.proofs.lemmas.List.{append-nil, length-drop, reverse-append, reverse-reverse}
@@ -13,8 +13,11 @@ use Rattle.mail_date.specs.Fields.{message_date}
 use Rattle.mail_date.specs.Internal.{date_text, internal_text, time_text, zone_text}
 use Rattle.mail_date.specs.declared.stamp.Stamp.{Stamp}
 use Rattle.imap_grammar.proofs.Tokens.{excludes, not_true}
-use Rattle.imap_answers.specs.Answers.{crlf, date_item, is_crlf, flags_text, header, header_from, item_text, literal, origin_text, part, section}
+use Rattle.imap_answers.specs.Answers.{crlf, date_item, is_crlf, flags_text, fields_from, header, header_fields, header_from, item_text, literal, origin_text, part, part_bytes, part_word, section, takes_field}
+use Rattle.imap_grammar.specs.Bytes.{is_field_byte}
 use Rattle.imap_grammar.specs.Grammar.{rfc822_word, section_word}
+use Rattle.imap_grammar.specs.declared.items.BodyPart.{BodyPart}
+use Rattle.imap_grammar.specs.declared.items.BodyPart.TheVariants as parts
 use Rattle.imap_grammar.specs.declared.items.FetchItem.{FetchItem}
 use Rattle.imap_grammar.specs.declared.items.FetchItem.TheVariants as fetch
 use Rattle.imap_grammar.specs.declared.items.Section.{Section}
@@ -22,8 +25,9 @@ use Rattle.imap_grammar.specs.declared.items.Section.TheVariants.{Whole, Header,
 use Rattle.imap_grammar.specs.declared.items.Span.{Span}
 use Rattle.laws_client.specs.Client.{Client, Messages, knowing, within, reads, line_ends, literal_of, told}
 use Rattle.laws_client.specs.ListTurns.{is_inner}
-use Rattle.laws_client.specs.Fetches.{IsToldPart, AreToldParts}
-use Rattle.laws_client.proofs.Bytes.{first_of, rest_of, reads-append, inner_byte, inner_text, words_are_inner, decimal_word}
+use Rattle.laws_client.specs.Fetches.{AreToldNames, IsToldPart, IsToldSpan, AreToldParts}
+use Rattle.mail_date.specs.Bytes.{is_folded}
+use Rattle.laws_client.proofs.Bytes.{both, first_of, rest_of, reads-append, inner_byte, inner_text, words_are_inner, decimal_word}
 use Rattle.laws_client.proofs.LinesRead.{flags_inner, flags_part}
 use Rattle.laws_client.proofs.Literals.{literal_leaves_its_count}
 
@@ -57,8 +61,8 @@ whole_kept o text kept h none =
 abbrev pub count_kept : List ℕ → List ℕ
 count_kept bytes = codes "{" ++ decimal (length bytes) ++ codes "}\r\n"
 
-abbrev pub body_word : Section → Option Span → List ℕ
-body_word which span = codes "BODY[" ++ section_word which ++ codes "]" ++ origin_text span
+abbrev pub body_word : BodyPart → Option Span → List ℕ
+body_word which span = codes "BODY[" ++ part_word which ++ codes "]" ++ origin_text span
 
 abbrev pub item_kept : Row → FetchItem → List ℕ
 item_kept row fetch.Uid = codes "UID " ++ decimal row.uid
@@ -66,7 +70,7 @@ item_kept row fetch.Flags = flags_text row.flags
 item_kept row fetch.Size = codes "RFC822.SIZE " ++ decimal (length row.text)
 item_kept row fetch.InternalDate = date_item row.text
 item_kept row (fetch.Rfc822 which) = rfc822_word which ++ codes " " ++ count_kept (section which row.text)
-item_kept row (fetch.Body peek which span) = body_word which span ++ codes " " ++ count_kept (part span (section which row.text))
+item_kept row (fetch.Body peek which span) = body_word which span ++ codes " " ++ count_kept (part span (part_bytes which row.text))
 
 -- the numbers of a row can be printed
 pub record IsSmall (row : Row) : Type 0 where
@@ -80,7 +84,7 @@ pub each_date_byte : (q : ℕ → Bool) → ((b : ℕ) → is_date_byte b ≡ tr
 each_date_byte q f [] h = refl
 each_date_byte q f (b ∷ bs) h = rw (f b (first_of is_date_byte b bs h), each_date_byte q f bs (rest_of is_date_byte b bs h)) refl
 
-both_all : (q : ℕ → Bool) (a b : List ℕ) → list_all q a ≡ true → list_all q b ≡ true → list_all q (a ++ b) ≡ true
+pub both_all : (q : ℕ → Bool) (a b : List ℕ) → list_all q a ≡ true → list_all q b ≡ true → list_all q (a ++ b) ≡ true
 both_all q a b h k = list_all-append q a b ∙ rw (h, k) refl
 
 date_byte_inner : (b : ℕ) → is_date_byte b ≡ true → is_inner b ≡ true
@@ -102,6 +106,42 @@ date_inner text =
     both_all is_inner (codes "INTERNALDATE \"" ++ date) (codes "\"")
     (both_all is_inner (codes "INTERNALDATE \"") date refl (stamp_inner (message_date text) (message_dated text))) refl
 
+-- ---- names of header fields
+
+-- what is so of a space and of each byte of a name is so of all names
+pub each_field_byte : (q : ℕ → Bool) → ((b : ℕ) → is_field_byte b ≡ true → q b ≡ true) → q 32 ≡ true → (names : List (List ℕ)) → list_all (list_all is_field_byte) names ≡ true → list_all q (spaced names) ≡ true
+each_field_byte q f s [] h = refl
+each_field_byte q f s (n ∷ []) h = name_bytes n (both (list_all is_field_byte n) true h).0
+  where
+    name_bytes : (text : List ℕ) → list_all is_field_byte text ≡ true → list_all q text ≡ true
+    name_bytes [] e = refl
+    name_bytes (b ∷ bs) e = rw (f b (first_of is_field_byte b bs e), name_bytes bs (rest_of is_field_byte b bs e)) refl
+each_field_byte q f s (n ∷ m ∷ names) h =
+    let k = both (list_all is_field_byte n) (list_all (list_all is_field_byte) (m ∷ names)) h in
+    both_all q n (32 ∷ spaced (m ∷ names)) (name_bytes n k.0) (rw (s, each_field_byte q f s (m ∷ names) k.1) refl)
+  where
+    name_bytes : (text : List ℕ) → list_all is_field_byte text ≡ true → list_all q text ≡ true
+    name_bytes [] e = refl
+    name_bytes (b ∷ bs) e = rw (f b (first_of is_field_byte b bs e), name_bytes bs (rest_of is_field_byte b bs e)) refl
+
+field_byte_inner : (b : ℕ) → is_field_byte b ≡ true → is_inner b ≡ true
+field_byte_inner b h = rw (not_true (b == 10) (excludes is_field_byte 10 refl b h)) refl
+
+pub part_inner : (which : BodyPart) → AreToldNames which → list_all is_inner (part_word which) ≡ true
+part_inner (parts.Section Whole) told = refl
+part_inner (parts.Section Header) told = refl
+part_inner (parts.Section Text) told = refl
+part_inner (parts.Fields true names) told =
+    both_all is_inner (codes "HEADER.FIELDS.NOT (" ++ spaced names) (codes ")")
+    (both_all is_inner (codes "HEADER.FIELDS.NOT (") (spaced names) refl (each_field_byte is_inner field_byte_inner refl names told)) refl
+part_inner (parts.Fields false names) told =
+    both_all is_inner (codes "HEADER.FIELDS (" ++ spaced names) (codes ")")
+    (both_all is_inner (codes "HEADER.FIELDS (") (spaced names) refl (each_field_byte is_inner field_byte_inner refl names told)) refl
+
+front_inner : (which : BodyPart) → AreToldNames which → list_all is_inner (codes "BODY[" ++ part_word which ++ codes "]") ≡ true
+front_inner which told =
+    both_all is_inner (codes "BODY[" ++ part_word which) (codes "]") (both_all is_inner (codes "BODY[") (part_word which) refl (part_inner which told)) refl
+
 -- ---- lengths
 
 header_most : (fresh : Bool) (text : List ℕ) → length (header_from fresh text) ≤ length text
@@ -115,14 +155,9 @@ header_most fresh (b ∷ c ∷ bs) = by (is_crlf (b ∷ c ∷ bs)) fresh (header
     by true false h k = omega (arith, h)
     by false f h k = omega (arith, k)
 
-front_inner : (which : Section) → list_all is_inner (codes "BODY[" ++ section_word which ++ codes "]") ≡ true
-front_inner Whole = refl
-front_inner Header = refl
-front_inner Text = refl
-
-origin_keeping : (peek : Bool) (which : Section) (span : Option Span) → IsToldPart (fetch.Body peek which span) → Keeping (origin_text span) (origin_text span)
-origin_keeping peek which None small = inner_keeping [] refl
-origin_keeping peek which (Some span) small =
+origin_keeping : (span : Option Span) → IsToldSpan span → Keeping (origin_text span) (origin_text span)
+origin_keeping None small = inner_keeping [] refl
+origin_keeping (Some span) small =
     both_keeping (codes "<" ++ decimal span.origin) (codes "<" ++ decimal span.origin) (codes ">") (codes ">")
     (both_keeping (codes "<") (codes "<") (decimal span.origin) (decimal span.origin) (inner_keeping (codes "<") refl) (number_keeping span.origin small)) (inner_keeping (codes ">") refl)
 
@@ -146,8 +181,25 @@ part_most : (span : Option Span) (bytes : List ℕ) → length (part span bytes)
 part_most None bytes = omega arith
 part_most (Some span) bytes = omega (arith, take_most span.count (drop span.origin bytes), drop_most span.origin bytes)
 
-pub part_small : (row : Row) (which : Section) (span : Option Span) → IsSmall row → length (part span (section which row.text)) < 2 ^ 64
-part_small row which span small = omega (arith, small.text, part_most span (section which row.text), section_most which row.text)
+fields_most : (takes : List ℕ → Bool) (fresh taking cr : Bool) (bytes : List ℕ) → length (fields_from takes fresh taking cr bytes) ≤ length bytes
+fields_most takes fresh taking cr [] = omega arith
+fields_most takes fresh taking cr (b ∷ bs) =
+    by (if fresh then takes (b ∷ bs) else taking) (λ next now. fields_most takes next now (b == 13) bs)
+  where
+    by : (now : Bool) → ((next taken : Bool) → length (fields_from takes next taken (b == 13) bs) ≤ length bs)
+        → length ((if now then b ∷ [] else []) ++ fields_from takes (cr && (b == 10) && not (is_folded bs)) now (b == 13) bs) ≤ length (b ∷ bs)
+    by true h = omega (arith, h (cr && (b == 10) && not (is_folded bs)) true)
+    by false h = omega (arith, h (cr && (b == 10) && not (is_folded bs)) false)
+
+bytes_most : (which : BodyPart) (text : List ℕ) → length (part_bytes which text) ≤ length text
+bytes_most (parts.Section which) text = section_most which text
+bytes_most (parts.Fields others names) text = omega (arith, fields_most (takes_field others names) true false false (header text), header_most true text)
+
+pub part_small : (row : Row) (which : BodyPart) (span : Option Span) → IsSmall row → length (part span (part_bytes which row.text)) < 2 ^ 64
+part_small row which span small = omega (arith, small.text, part_most span (part_bytes which row.text), bytes_most which row.text)
+
+pub section_small : (row : Row) (which : Section) → IsSmall row → length (section which row.text) < 2 ^ 64
+section_small row which small = omega (arith, small.text, section_most which row.text)
 
 flags_all : (text : List ℕ) → list_all is_inner (text ++ 41 ∷ []) ≡ true → list_all is_inner text ≡ true
 flags_all text h = by (list_all is_inner text) (sym (list_all-append is_inner text (41 ∷ [])) ∙ h)
@@ -171,13 +223,13 @@ item_keeping row fetch.InternalDate small told = inner_keeping (date_item row.te
 item_keeping row (fetch.Rfc822 which) small told =
     let front : List ℕ = rfc822_word which ++ codes " " in
     let bytes : List ℕ = section which row.text in
-    both_keeping front front (literal bytes) (count_kept bytes) (inner_keeping front (rfc822_inner which)) (literal_keeping bytes (part_small row which None small))
+    both_keeping front front (literal bytes) (count_kept bytes) (inner_keeping front (rfc822_inner which)) (literal_keeping bytes (section_small row which small))
 item_keeping row (fetch.Body peek which span) small told =
-    let front : List ℕ = codes "BODY[" ++ section_word which ++ codes "]" in
-    let bytes : List ℕ = part span (section which row.text) in
+    let front : List ℕ = codes "BODY[" ++ part_word which ++ codes "]" in
+    let bytes : List ℕ = part span (part_bytes which row.text) in
     both_keeping (body_word which span ++ codes " ") (body_word which span ++ codes " ") (literal bytes) (count_kept bytes)
     (both_keeping (body_word which span) (body_word which span) (codes " ") (codes " ")
-    (both_keeping front front (origin_text span) (origin_text span) (inner_keeping front (front_inner which)) (origin_keeping peek which span told)) (inner_keeping (codes " ") refl))
+    (both_keeping front front (origin_text span) (origin_text span) (inner_keeping front (front_inner which told.0)) (origin_keeping span told.1)) (inner_keeping (codes " ") refl))
     (literal_keeping bytes (part_small row which span small))
 
 pub items_keeping : (row : Row) (items : List FetchItem) → IsSmall row → AreToldParts items → Keeping (spaced (map (item_text row) items)) (spaced (map (item_kept row) items))

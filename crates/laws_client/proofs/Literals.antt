@@ -6,7 +6,8 @@ use Rattle.std.proofs.lemmas.Grind.{reverse_onto}
 use Rattle.std.proofs.lemmas.List.{reverse-reverse, reverse-append, append-nil}
 use Rattle.std.proofs.lemmas.List.Folds.{list_all-append}
 use Rattle.imap_answers.specs.Answers.{literal}
-use Rattle.laws_client.specs.Client.{Client, Messages, knowing, within, reads, literal_of, count_of, number, is_digit, told, words, in_words, into_first, line_ends}
+use Rattle.imap_grammar.specs.Brackets.{in_bracket}
+use Rattle.laws_client.specs.Client.{Client, Messages, knowing, within, reads, literal_of, count_of, number, is_digit, told, words, words_from, in_words, into_first, line_ends}
 use Rattle.laws_client.specs.ListTurns.{is_inner}
 use Rattle.laws_client.specs.ListLaws.{LiteralLeavesItsCount, LiteralsAreAlike}
 use Rattle.laws_client.proofs.Bytes.{reads-append, inner_text, inner_byte, words_are_inner, decimal_word, decimal_says, decimal_digits, first_of, rest_of, whole_line}
@@ -83,9 +84,9 @@ no_star_word b (w ∷ ws) o h = rw h refl
 pub no_star : (b : ℕ) (bs : List ℕ) (o : Messages) → (b == 42) ≡ false → told (b ∷ bs) o ≡ o
 no_star b bs o h = by (b == 32)
   where
-    by : (t : Bool) → in_words (if t then [] ∷ words bs else into_first b (words bs)) o ≡ o
+    by : (t : Bool) → in_words (if t then [] ∷ words bs else into_first b (words_from (in_bracket false b) bs)) o ≡ o
     by true = refl
-    by false = no_star_word b (words bs) o h
+    by false = no_star_word b (words_from (in_bracket false b) bs) o h
 
 pub reads_other : (o : Messages) (b : ℕ) (bs : List ℕ) → (b == 42) ≡ false → list_all is_inner (b ∷ bs) ≡ true → literal_of (reverse (b ∷ bs)) ≡ None
     → reads (knowing o) ((b ∷ bs) ++ 13 ∷ 10 ∷ []) ≡ knowing o

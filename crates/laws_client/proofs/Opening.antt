@@ -7,7 +7,7 @@ use Rattle.std.proofs.lemmas.Option.{none-some}
 use Rattle.cursor_set.specs.Lines.{exists_line}
 use Rattle.mailbox.specs.declared.clients.Opening.{Opening}
 use Rattle.imap_answers.specs.Answers.{name_answer, all_flags, opening_text}
-use Rattle.laws_client.specs.Client.{Client, exists, knowing, more, reads}
+use Rattle.laws_client.specs.Client.{Client, Messages, exists, into_first, knowing, more, reads, status, words_from}
 use Rattle.laws_client.specs.Beliefs.{Each, IsOf, TellsNothing}
 use Rattle.laws_client.specs.ListLaws.{OpeningIsFollowed}
 use Rattle.laws_client.specs.ListTurns.{is_inner, IsPlain}
@@ -54,17 +54,24 @@ numbered_inner a x n last h front back =
     ap (list_all is_inner) (append_assoc (a ++ decimal n) x (last ∷ []))
     ∙ inner_both (a ++ decimal n) (x ++ last ∷ []) (inner_both a (decimal n) front (words_are_inner (decimal n) (decimal_word n h))) back
 
+-- a word in brackets that begins otherwise than that of a list that is over
+other_status : (words : List (List ℕ)) (o : Messages) → status (into_first 91 (into_first 85 words)) o ≡ o
+other_status [] o = refl
+other_status (word ∷ words) o = refl
+
 validity_told : (n : ℕ) → n < 2 ^ 64 → TellsNothing (validity_line n)
 validity_told n h messages =
     ap (reads (knowing messages)) (line_shape (codes "* OK [UIDVALIDITY ") (decimal n) (codes "] UIDs vali") (100 ∷ []) (13 ∷ 10 ∷ []))
     ∙ line_tells_nothing (codes "* OK [UIDVALIDITY " ++ decimal n ++ codes "] UIDs vali") 100 refl
-    (numbered_inner (codes "* OK [UIDVALIDITY ") (codes "] UIDs vali") n 100 h refl refl) (λ o. refl) messages
+    (numbered_inner (codes "* OK [UIDVALIDITY ") (codes "] UIDs vali") n 100 h refl refl)
+    (other_status (words_from true ((codes "IDVALIDITY " ++ decimal n ++ codes "] UIDs vali") ++ 100 ∷ []))) messages
 
 next_told : (n : ℕ) → n < 2 ^ 64 → TellsNothing (next_line n)
 next_told n h messages =
     ap (reads (knowing messages)) (line_shape (codes "* OK [UIDNEXT ") (decimal n) (codes "] Predicted next UI") (68 ∷ []) (13 ∷ 10 ∷ []))
     ∙ line_tells_nothing (codes "* OK [UIDNEXT " ++ decimal n ++ codes "] Predicted next UI") 68 refl
-    (numbered_inner (codes "* OK [UIDNEXT ") (codes "] Predicted next UI") n 68 h refl refl) (λ o. refl) messages
+    (numbered_inner (codes "* OK [UIDNEXT ") (codes "] Predicted next UI") n 68 h refl refl)
+    (other_status (words_from true ((codes "IDNEXT " ++ decimal n ++ codes "] Predicted next UI") ++ 68 ∷ []))) messages
 
 -- the lines behind the number of messages
 abbrev pub behind : Bool → List ℕ → ℕ → ℕ → List ℕ

@@ -1,8 +1,15 @@
 -- The numbers of a FETCH that was read are such as can be printed.
-use Rattle.std.proofs.Common.{ℕ, inl, inr, List, [], ◌∷◌, arith, subst, sym}
-use Rattle.std.specs.Prelude.{Some, None, Result, Ok, Err}
+use Rattle.std.proofs.Common.{ℕ, inl, inr, List, [], ◌∷◌, arith, refl, subst, sym}
+use Rattle.std.specs.Prelude.{◌≡◌, true, codes, Option, Some, None, Result, Ok, Err}
 use Rattle.envelope.specs.Grammar.{Gap}
-use Rattle.imap_grammar.specs.Grammar.{ItemIs, ItemsAre, Line, Others, Reads, Separated}
+use Rattle.imap_grammar.specs.Bytes.{is_field_byte}
+use Rattle.imap_grammar.specs.Grammar.{FieldName, ItemIs, ItemsAre, Line, Others, PartIs, PartialIs, Reads, Separated}
+use Rattle.imap_grammar.specs.declared.items.BodyPart.{BodyPart}
+use Rattle.imap_grammar.specs.declared.items.BodyPart.TheVariants as parts
+use Rattle.imap_grammar.specs.declared.items.Span.{Span}
+use Rattle.envelope.proofs.Words.{all_of}
+use Rattle.envelope.specs.Grammar.{Exactly}
+use Rattle.std.specs.List.{list_all}
 use Rattle.imap_grammar.specs.Reading.{read}
 use Rattle.imap_grammar.specs.declared.command.Command.{Command}
 use Rattle.imap_grammar.specs.declared.command.Command.TheVariants as commands
@@ -10,8 +17,24 @@ use Rattle.imap_grammar.specs.declared.command.ImapFault.{ImapFault}
 use Rattle.imap_grammar.specs.declared.items.FetchItem.{FetchItem}
 use Rattle.imap_grammar.specs.declared.items.FetchItem.TheVariants as fetch
 use Rattle.imap_grammar.proofs.LineLaw.{reads}
-use Rattle.laws_client.specs.Fetches.{AreToldParts, IsToldPart}
+use Rattle.laws_client.specs.Fetches.{AreToldNames, AreToldParts, IsToldPart, IsToldSpan}
 use Rattle.laws_client.specs.Commands.{HasToldParts}
+
+name_told : (name text : List ℕ) → FieldName name text → list_all is_field_byte name ≡ true
+name_told name text is = subst (λ t. list_all is_field_byte t ≡ true) is.0 (all_of is_field_byte is_field_byte text (λ b e. e) is.1.1)
+
+names_told : (name : List ℕ) (names : List (List ℕ)) (text : List ℕ) → Separated (Exactly (codes " ")) FieldName (name ∷ names) text → list_all (list_all is_field_byte) (name ∷ names) ≡ true
+names_told name [] text is = rw (name_told name is.front is.first) refl
+names_told name (other ∷ names) text is = rw (name_told name is.front is.first) (names_told other names is.second.back is.second.second)
+
+part_told : (part : BodyPart) (text : List ℕ) → PartIs part text → AreToldNames part
+part_told (parts.Section section) text is = tt
+part_told (parts.Fields others []) text is = absurd is.second.first
+part_told (parts.Fields others (name ∷ names)) text is = names_told name names is.second.front is.second.first
+
+span_told : (span : Option Span) (text : List ℕ) → PartialIs span text → IsToldSpan span
+span_told None text is = tt
+span_told (Some span) text is = omega (arith, is.second.first.1)
 
 item_told : (item : FetchItem) (text : List ℕ) → ItemIs item text → IsToldPart item
 item_told fetch.Uid text is = tt
@@ -19,8 +42,7 @@ item_told fetch.Flags text is = tt
 item_told fetch.Size text is = tt
 item_told fetch.InternalDate text is = tt
 item_told (fetch.Rfc822 section) text is = tt
-item_told (fetch.Body peek section None) text is = tt
-item_told (fetch.Body peek section (Some span)) text is = omega (arith, is.second.second.second.second.first.1)
+item_told (fetch.Body peek part span) text is = (part_told part is.second.front is.second.first, span_told span is.second.second.back is.second.second.second)
 
 others_told : (items : List FetchItem) (text : List ℕ) → Others Gap ItemIs items text → AreToldParts items
 others_told [] text are = tt

@@ -8,7 +8,8 @@ use Rattle.cursor_set.specs.Lines.{flag_words, position, spaced}
 use Rattle.mailbox.specs.declared.clients.Row.{Row}
 use Rattle.mail_date.proofs.Plain.{message_dated}
 use Rattle.mail_date.specs.Fields.{message_date}
-use Rattle.imap_answers.specs.Answers.{answered, fetch_answer, item_text, part, row_answer, section, flags_answer}
+use Rattle.imap_answers.specs.Answers.{answered, fetch_answer, item_text, part, part_bytes, row_answer, section, flags_answer}
+use Rattle.imap_grammar.specs.declared.items.BodyPart.{BodyPart}
 use Rattle.imap_grammar.specs.declared.items.FetchItem.{FetchItem}
 use Rattle.imap_grammar.specs.declared.items.FetchItem.TheVariants as fetch
 use Rattle.laws_client.specs.Client.{Known, closing, flag_names, into_first, items, knowing, number, unopened, with_flags, with_uid, words}
@@ -18,7 +19,7 @@ use Rattle.laws_client.proofs.Each.{IsIn, is_in, is_told}
 use Rattle.laws_client.proofs.Fetched.{answer_read, answered_told, row_of, store_items, store_shape, store_told}
 use Rattle.laws_client.proofs.Chosen.{small_in}
 use Rattle.laws_client.proofs.Follows.{position_most}
-use Rattle.laws_client.proofs.Items.{body_words, date_other, date_read, date_words, digits_closed, digits_other, flag_list, flag_list_other, flags_of, is_other, number_words, other_passes, rfc822_other, rfc822_read, rfc822_words, tail, words_append}
+use Rattle.laws_client.proofs.Items.{item_closed, body_words, date_other, date_read, date_words, digits_closed, digits_other, flag_list, flag_list_other, flags_of, is_other, number_words, other_passes, rfc822_other, rfc822_read, rfc822_words, tail, words_append}
 use Rattle.laws_client.proofs.Kept.{body_word, count_kept, item_kept, IsSmall, part_small}
 use Rattle.laws_client.specs.Flags.{Believes, FlagsOf, Point, counted}
 use Rattle.laws_client.specs.FlagTurns.{LeavesFlags}
@@ -116,8 +117,8 @@ item_keeps P Q row (fetch.Rfc822 which) last a small told =
     subst (λ (ws : List (List ℕ)). Keeps P Q ws) (sym (rfc822_read row which last small))
     (others_keep P Q (rfc822_words which (section which row.text) last) (rfc822_other which (section which row.text) last))
 item_keeps P Q row (fetch.Body peek which span) last a small told =
-    let bytes : List ℕ = part span (section which row.text) in
-    subst (λ (ws : List (List ℕ)). Keeps P Q ws) (sym (body_words peek which span bytes last told (part_small row which span small)))
+    let bytes : List ℕ = part span (part_bytes which row.text) in
+    subst (λ (ws : List (List ℕ)). Keeps P Q ws) (sym (body_words which span bytes last told.0 told.1 (part_small row which span small)))
     (others_keep P Q (body_word which span ∷ (count_kept bytes ++ tail last) ∷ []) refl)
 
 pub items_keep : (P Q : Known → Type 0) (row : Row) (list : List FetchItem) → Allows P row → IsSmall row → AreToldParts list → Keeps P Q (words (spaced (map (item_kept row) list) ++ 41 ∷ []))
@@ -127,7 +128,7 @@ items_keep P Q row (item ∷ other ∷ list) a small told =
     let kept : List ℕ = spaced (map (item_kept row) (other ∷ list)) ++ 41 ∷ [] in
     let first : Keeps P Q (words (item_kept row item)) = subst (λ (t : List ℕ). Keeps P Q (words t)) (append-nil (item_kept row item)) (item_keeps P Q row item false a small told.0) in
     subst (λ (ws : List (List ℕ)). Keeps P Q ws)
-    (sym (ap words (append_assoc (item_kept row item) (32 ∷ spaced (map (item_kept row) (other ∷ list))) (41 ∷ [])) ∙ words_append (item_kept row item) kept))
+    (sym (ap words (append_assoc (item_kept row item) (32 ∷ spaced (map (item_kept row) (other ∷ list))) (41 ∷ [])) ∙ words_append (item_kept row item) kept (item_closed row item small told.0)))
     (keep_both P Q (words (item_kept row item)) (words kept) first (items_keep P Q row (other ∷ list) a small told.1))
 
 -- with the parenthesis that opens before the first

@@ -1,8 +1,9 @@
 -- What a mail client knows of the selected mailbox by the bytes that it reads (RFC 9051, 2.2.2, 4.3, 7.1, 7.4 and 7.5), and by nothing else. It knows how
 -- lines are spelled that any server sends; it knows nothing of how this one comes to write them.
-use Rattle.std.specs.Prelude.{ℕ, zero, suc, ◌+◌, ◌-◌, ◌*◌, Bool, false, List, [], ◌∷◌, ◌++◌, length, reverse, codes, Option, Some, None, nat_le, ◌==◌, ◌&&◌, if◌then◌else◌}
+use Rattle.std.specs.Prelude.{ℕ, zero, suc, ◌+◌, ◌-◌, ◌*◌, Bool, false, List, [], ◌∷◌, ◌++◌, length, reverse, codes, Option, Some, None, nat_le, ◌==◌, ◌&&◌, not, if◌then◌else◌}
 use Rattle.std.specs.List.{list_all}
 use Rattle.std.specs.Str.{bytes_eq}
+use Rattle.imap_grammar.specs.Brackets.{in_bracket}
 
 -- ---- what it keeps
 
@@ -73,10 +74,14 @@ abbrev pub into_first : ℕ → List (List ℕ) → List (List ℕ)
 into_first b [] = (b ∷ []) ∷ []
 into_first b (word ∷ rest) = (b ∷ word) ∷ rest
 
--- the words of a line: it is cut at each space
+-- The words of a line, of which a bracket is open or not: it is cut at each space outside of brackets. Within them may stand names of header fields (6.4.5), which may be
+-- named as items are.
+abbrev pub words_from : Bool → List ℕ → List (List ℕ)
+words_from inside [] = [] ∷ []
+words_from inside (b ∷ bytes) = if not inside && (b == 32) then [] ∷ words_from false bytes else into_first b (words_from (in_bracket inside b) bytes)
+
 abbrev pub words : List ℕ → List (List ℕ)
-words [] = [] ∷ []
-words (b ∷ bytes) = if b == 32 then [] ∷ words bytes else into_first b (words bytes)
+words bytes = words_from false bytes
 
 abbrev pub is_digit : ℕ → Bool
 is_digit b = nat_le 48 b && nat_le b 57

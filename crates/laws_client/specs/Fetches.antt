@@ -1,11 +1,25 @@
 -- What is asked of a view and of a FETCH, that the numbers in their answers can be printed.
-use Rattle.std.specs.Prelude.{ℕ, ◌+◌, ◌<◌, ◌^◌, List, [], ◌∷◌, length, Some}
+use Rattle.std.specs.Prelude.{◌≡◌, ℕ, ◌+◌, ◌<◌, ◌^◌, true, List, [], ◌∷◌, length, Option, Some, None}
+use Rattle.std.specs.List.{list_all}
+use Rattle.imap_grammar.specs.Bytes.{is_field_byte}
+use Rattle.imap_grammar.specs.declared.items.BodyPart.{BodyPart}
+use Rattle.imap_grammar.specs.declared.items.BodyPart.TheVariants as parts
+use Rattle.imap_grammar.specs.declared.items.Span.{Span}
 use Rattle.imap_grammar.specs.declared.items.FetchItem.{FetchItem}
 use Rattle.imap_grammar.specs.declared.items.FetchItem.TheVariants as fetch
 
 -- the position where a part of a text begins (RFC 9051, 7.5.2) is told with it
+abbrev pub IsToldSpan : Option Span → Type 0
+IsToldSpan None = Unit {0}
+IsToldSpan (Some span) = span.origin < 2 ^ 64
+
+-- and so are the names of header fields, of bytes that stand in such names
+abbrev pub AreToldNames : BodyPart → Type 0
+AreToldNames (parts.Section which) = Unit {0}
+AreToldNames (parts.Fields others names) = list_all (list_all is_field_byte) names ≡ true
+
 abbrev pub IsToldPart : FetchItem → Type 0
-IsToldPart (fetch.Body peek which (Some span)) = span.origin < 2 ^ 64
+IsToldPart (fetch.Body peek part span) = AreToldNames part × IsToldSpan span
 IsToldPart item = Unit {0}
 
 abbrev pub AreToldParts : List FetchItem → Type 0
