@@ -18,21 +18,21 @@ TOP = os.path.dirname(os.path.dirname(os.path.abspath(__file__)))
 
 # Each figure, in the order in which they are printed, and its limit.
 LIMITS = {
-    "crates": 45,
+    "crates": 46,
     "longest chain of crates": 11,
     "product crates under 150 lines of code": 5,
     "product functions with 8 arguments or more": 17,
     "most arguments of a product function": 9,
     "per mille of clauses that begin with a line over 100 columns": 0,
-    "lines of proofs": 87000,
+    "lines of proofs": 90000,
     "lines of docs/PROVING.md": 300,
-    "lines of code, definitions and proofs": 170000,
+    "lines of code, definitions and proofs": 175000,
     "files that name an option (ring_max)": 50,
-    "files that name a setting of serve (lmtp_port)": 33,
+    "files that name a setting of serve (lmtp_port)": 35,
     "files that name a refusal of a copy (MailboxFull)": 39,
     "files that name a field of the house (visitors)": 54,
     "files that name a verb with an answer (STATUS)": 43,
-    "files that name an item of FETCH (RFC822.SIZE)": 35,
+    "files that name an item of FETCH (RFC822.SIZE)": 40,
     "files that have a text of IMAP (No such mailbox)": 13,
 }
 

@@ -122,7 +122,9 @@ def is_taken_again(house, stood):
     gone = reader.ask(b"EXPUNGE")
     told("all of alice's mail is removed", gone[-1].endswith(b"OK EXPUNGE completed") and messages(house, 0) == 0)
     reader.close()
-    told("mail is taken again", [send(relay(house), "alice") for _ in range(stood[0] // 2)] == [DELIVERED] * (stood[0] // 2))
+    talk, wanted = relay(house), stood[0] // 2
+    came = [send(talk, "alice") for _ in range(wanted)]
+    told(f"mail is taken again: {came.count(DELIVERED)} messages of {wanted}", came == [DELIVERED] * wanted)
 
 
 def main():
@@ -135,7 +137,7 @@ def main():
             one.start()
         for one in relays:
             one.join()
-        print(f"{sum(stood)} MB of mail stood under a limit of {megabytes} MB; refused by {sorted(refusals)}")
+        print(f"{sum(stood)} messages of 1 MB stood under a limit of {megabytes} MB; refused by {sorted(refusals)}")
         told("it refuses by want of memory alone", refusals <= {OUT_OF_MEMORY} and bool(refusals))
         told("each copy that was answered 250 stands", [messages(house, number) for number in range(RELAYS)] == stood)
         reads_while_full(house)

@@ -299,12 +299,16 @@ pub fn serve_house<
         uidvalidity,
         report,
     } = beginning;
-    let layout = lay_out(alloc, config)?;
+    let Layout {
+        directory,
+        guests,
+        limits,
+    } = lay_out(alloc, config)?;
     let Listeners { sockets, lines } = listen(
         rt,
         alloc,
         config,
-        &layout.directory,
+        &directory,
         report.status,
         uidvalidity,
     )?;
@@ -315,7 +319,11 @@ pub fn serve_house<
         history,
         config,
         Ready {
-            layout,
+            layout: Layout {
+                directory,
+                guests,
+                limits,
+            },
             mail,
             listeners: Listeners { sockets, lines },
             log,
