@@ -662,7 +662,7 @@ def mutt(place, program="mutt"):
     steps = ((b"multipart", "T~A\n"), (b"", f";C{place.room}/saved/box\n"), (b"", "1\nF"), (b"", "2\nd$"), (b"", "x"))
     place.on_terminal(program, "-F", config, "-n", "-f", f"imap://alice@127.0.0.1:{place.port}/INBOX", steps=steps)
     saved = place.room / "saved" / "box"
-    if maildir(saved) == unix(BROUGHT):
+    if maildir(saved, rb"Content-Length: |Lines: ") == unix(BROUGHT):
         yield "reads"
     yield from place.changes()
 
@@ -879,7 +879,9 @@ def thunderbird(place):
         beside("xdotool", "search", "--sync", "--onlyvisible", "--name", "Enter your password", "windowfocus", "sleep", "0.5", "type", "secret")
         beside("xdotool", "key", "Return")
         place.soon(lambda: place.wire.has(r"^\S+ UID fetch ") and time.monotonic() - place.wire.latest > 2)
-    if in_mbox(place.room / "profile/ImapMail/127.0.0.1/INBOX", rb"X-Mozilla-\w+: ") == unix(BROUGHT):
+    # What it keeps has CRLF, and an empty line behind each message.
+    kept = in_mbox(place.room / "profile/ImapMail/127.0.0.1/INBOX", rb"X-Mozilla-\w+: ")
+    if [text.replace(b"\r\n", b"\n") for text in kept] == [text + b"\n" for text in unix(BROUGHT)]:
         yield "reads"
 
 
@@ -972,11 +974,9 @@ KNOWN = {
     "fetchmail's idle": Known(fetchmail_idle, programs("fetchmail"), "reads idles", (f"SEARCH UNSEEN {NOT_HERE}",)),
     "getmail6": Known(getmail, programs("getmail"), "reads removes"),
     "offlineimap3": Known(offlineimap, programs("offlineimap"), "reads flags removes uploads"),
-    "mutt": Known(mutt, programs("mutt"), "", (f"FETCH 1:3 (UID FLAGS INTERNALDATE RFC822.SIZE BODY.PEEK[HEADER.FIELDS (..)]) {INVALID}",)),
+    "mutt": Known(mutt, programs("mutt"), "reads flags removes"),
     # It goes on to LOGIN.
-    "neomutt": Known(
-        neomutt, programs("neomutt"), "", (f"AUTHENTICATE PLAIN {NOT_HERE}", f"FETCH 1:3 (UID FLAGS INTERNALDATE RFC822.SIZE BODY.PEEK[HEADER.FIELDS (..)]) {INVALID}")
-    ),
+    "neomutt": Known(neomutt, programs("neomutt"), "reads flags removes", (f"AUTHENTICATE PLAIN {NOT_HERE}",)),
     "mbsync": Known(mbsync, programs("mbsync"), "reads flags removes uploads"),
     "interimap": Known(interimap, programs("interimap"), "", ("Server did not advertise ENABLE (RFC 5161) capability.",)),
     "aerc": Known(aerc, programs("aerc"), "", (f"UID SEARCH CHARSET UTF-8 ALL {NOT_HERE}",)),
@@ -996,13 +996,8 @@ KNOWN = {
     "PHP imap's search": Known(php_search, PHP_HAS, "", (f"SEARCH UNSEEN {NOT_HERE}",)),
     "PHP imap's structure": Known(php_structure, PHP_HAS, "", (f"FETCH .. (UID ENVELOPE BODY.PEEK[HEADER.FIELDS (..)] BODYSTRUCTURE INTERNALDATE RFC822.SIZE FLAGS) {INVALID}",)),
     "Sylpheed": Known(sylpheed, programs("sylpheed", "Xvfb"), "reads"),
-    # It says so in a window, and shows no message.
-    "Thunderbird": Known(
-        thunderbird,
-        programs("thunderbird", "Xvfb", "xdotool"),
-        "",
-        (f'create "Trash" {NOT_HERE}', f"UID fetch 1:3 (UID RFC822.SIZE FLAGS BODY.PEEK[HEADER.FIELDS (..)]) {INVALID}"),
-    ),
+    # It says so in a window, at its start and whenever it looks for its folder of what was removed.
+    "Thunderbird": Known(thunderbird, programs("thunderbird", "Xvfb", "xdotool"), "reads", (f'create "Trash" {NOT_HERE}',)),
 }
 
 
