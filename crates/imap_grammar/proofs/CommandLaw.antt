@@ -528,6 +528,7 @@ command_again (say.Fetch f) rest q =
     (behind Gap _ _ (λ l p. behind (SetIs f.set) _ _ (λ l p. regroup Gap (ItemsAre f.items) Spaces l p) l (regroup _ _ Spaces l p)) rest (regroup _ _ Spaces rest q))
 command_again (say.Store s) rest q = store_verb s.by_uid rest ∙ store_again s.by_uid s.set s.silent s.change rest (store_regroup s.set s.silent s.change rest q)
 command_again (say.Append a) rest q = append_again a rest (append_regroup a rest q)
+command_again (say.Search s) rest q = absurd q.first
 command_again (say.Lsub reference pattern) rest q = pair_again is_pattern refl refl say.Lsub reference pattern rest (pair_regroup is_pattern reference pattern rest q)
 command_again (say.Subscribe name) rest q = name_again say.Subscribe name rest (regroup Gap (Name name) Spaces rest q)
 command_again (say.Unsubscribe name) rest q = name_again say.Unsubscribe name rest (regroup Gap (Name name) Spaces rest q)
@@ -632,4 +633,6 @@ command_sound verbs.UidStore c rest s e = let k = store_sound true c rest e in l
 command_sound verbs.Append c rest s e =
     let k = append_sound c rest e in
     subst (λ y. Fits verbs.Append y rest) k.1 (record { verb = refl; is = append_ungroup k.0 rest k.2 })
+command_sound verbs.Search c rest s e = absurd cc
+command_sound verbs.UidSearch c rest s e = absurd cc
 command_sound v c rest s e = alone_sound v (alone v) c rest (alone_fits v) e

@@ -1,3 +1,4 @@
+pub mod AloneLaw
 pub mod Steps
 pub mod Spelling
 pub mod Numbers

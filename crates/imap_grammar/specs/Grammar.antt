@@ -223,6 +223,7 @@ ArgumentsOf (say.UidExpunge set) = Gap ⨾ SetIs set
 ArgumentsOf (say.Fetch fetch) = Gap ⨾ SetIs fetch.set ⨾ Gap ⨾ ItemsAre fetch.items
 ArgumentsOf (say.Store store) = Gap ⨾ SetIs store.set ⨾ Gap ⨾ ChangeIs store.silent store.change
 ArgumentsOf (say.Append append) = Gap ⨾ Name append.name ⨾ Gap ⨾ GivenFlags append.flags ⨾ GivenDate ⨾ LiteralIs append.literal
+ArgumentsOf (say.Search search) = λ _. ⊥
 ArgumentsOf (say.Lsub reference pattern) = Gap ⨾ Name reference ⨾ Gap ⨾ Pattern pattern
 ArgumentsOf (say.Subscribe name) = Gap ⨾ Name name
 ArgumentsOf (say.Unsubscribe name) = Gap ⨾ Name name

@@ -3,6 +3,7 @@ pub mod Numbers
 pub mod Cuts
 pub mod Brackets
 pub mod Sets
+pub mod Keys
 pub mod Items
 pub mod Verbs
 pub mod Grammar

@@ -245,6 +245,9 @@ append_at bytes = do
   literal ← literal_at rest
   if_end (say.Append (record { name = name.0; flags = flags.0; literal = literal.0 })) literal.1
 
+abbrev pub search_at : Bool → List ℕ → Option Command
+search_at by_uid bytes = None
+
 -- what a verb says with what comes after it. What is left out says nothing
 abbrev pub command_at : Verb → List ℕ → Option Command
 command_at verbs.Login rest = pair_at is_atom say.Login rest
@@ -260,6 +263,8 @@ command_at verbs.UidFetch rest = fetch_at true rest
 command_at verbs.UidStore rest = store_at true rest
 command_at verbs.UidExpunge rest = set_alone rest
 command_at verbs.Append rest = append_at rest
+command_at verbs.Search rest = search_at false rest
+command_at verbs.UidSearch rest = search_at true rest
 command_at verbs.Lsub rest = pair_at is_pattern say.Lsub rest
 command_at verbs.Subscribe rest = name_alone say.Subscribe rest
 command_at verbs.Unsubscribe rest = name_alone say.Unsubscribe rest

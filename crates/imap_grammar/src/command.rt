@@ -7,6 +7,7 @@ ghost use Rattle.imap_grammar.specs.Verbs.{alone, behind_uid, is_left_out, left_
 
 use crate::items::{FetchItems, StatusItems};
 use crate::name::Name;
+use crate::search::Search;
 use crate::set::SeqSet;
 use change_ring::{FlagOp, Flags};
 use std::marker::Model;
@@ -187,6 +188,7 @@ pub enum Command<'a> {
     Fetch(Fetch<'a>),
     Store(Store<'a>),
     Append(Append<'a>),
+    Search(Search<'a>),
     /// RFC 3501, 6.4.1.
     Check,
     /// RFC 3501, 6.3.9: LIST of the mailboxes that are subscribed to.
@@ -226,6 +228,7 @@ impl<'a> Command<'a> {
             Command::Fetch(fetch) => fetch.verb(),
             Command::Store(store) => store.verb(),
             Command::Append(_) => Verb::Append,
+            Command::Search(search) => search.verb(),
             Command::Check => Verb::Check,
             Command::Lsub { .. } => Verb::Lsub,
             Command::Subscribe(_) => Verb::Subscribe,
@@ -295,6 +298,8 @@ pub(crate) fn offered(word: &[u8]) -> Option<Verb>
         Some(Verb::Subscribe)
     } else if word.eq_ignore_ascii_case(b"UNSUBSCRIBE") {
         Some(Verb::Unsubscribe)
+    } else if word.eq_ignore_ascii_case(b"SEARCH") {
+        Some(Verb::Search)
     } else {
         None
     }
@@ -314,8 +319,6 @@ pub(crate) fn left_out(word: &[u8]) -> Option<Verb>
         Some(Verb::Copy)
     } else if word.eq_ignore_ascii_case(b"MOVE") {
         Some(Verb::Move)
-    } else if word.eq_ignore_ascii_case(b"SEARCH") {
-        Some(Verb::Search)
     } else if word.eq_ignore_ascii_case(b"ENABLE") {
         Some(Verb::Enable)
     } else {
@@ -355,11 +358,9 @@ pub(crate) fn is_left_out(verb: Verb) -> bool
             | Verb::Rename
             | Verb::Copy
             | Verb::Move
-            | Verb::Search
             | Verb::Enable
             | Verb::UidCopy
             | Verb::UidMove
-            | Verb::UidSearch
     )
 }
 

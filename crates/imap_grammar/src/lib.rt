@@ -14,6 +14,7 @@ mod number;
 mod positions;
 mod ranges;
 mod reading;
+mod search;
 mod set;
 mod view;
 mod words;
@@ -24,5 +25,6 @@ pub use items::{
 };
 pub use name::Name;
 pub use reading::{is_done, read_line};
+pub use search::{Search, SearchKeys, SystemFlag};
 pub use set::{SeqNumber, SeqRange, SeqSet, SetFault};
 pub use view::Named;

@@ -16,6 +16,7 @@ use crate::bytes::{Class, is_blank, word_at};
 use crate::command::{
     Command, ImapFault, Tag, Verb, alone, behind_uid, is_left_out, left_out, offered,
 };
+use crate::search::search_at;
 use crate::words::is_word_of;
 use envelope::after_spaces;
 
@@ -59,6 +60,7 @@ fn verb_at(bytes: &[u8]) -> Option<(Verb, &[u8])>
 }
 
 /// The command of a verb and what stands behind it.
+#[tactic(auto, using(crate::proofs::AloneLaw::said_alone))]
 fn command_at(verb: Verb, rest: &[u8]) -> Option<Command<'_>>
     ensures { result ≡ command_at verb rest.now }
 {
@@ -76,6 +78,8 @@ fn command_at(verb: Verb, rest: &[u8]) -> Option<Command<'_>>
         Verb::UidStore => store(true, rest),
         Verb::UidExpunge => uid_expunge(rest),
         Verb::Append => append(rest),
+        Verb::Search => search_at(false, rest),
+        Verb::UidSearch => search_at(true, rest),
         Verb::Lsub => lsub(rest),
         Verb::Subscribe => subscribe(rest),
         Verb::Unsubscribe => unsubscribe(rest),

@@ -116,6 +116,14 @@ impl<'a> SeqSet<'a> {
     ghost use Rattle.imap_grammar.specs.Sets.{messages_in, named_in, names_one};
     ghost use Rattle.imap_grammar.specs.declared.set.SetFault.{SetFault};
     ghost use Rattle.imap_grammar.specs.Reading.{set_at};
+    ghost use Rattle.imap_grammar.specs.Keys.{all_messages};
+
+    /// All messages: `1:*`.
+    pub fn all() -> SeqSet<'static>
+        ensures { result ≡ all_messages }
+    {
+        SeqSet { spelled: b"1:*" }
+    }
 
     /// The set that a word says.
     pub(crate) fn of(word: &'a [u8]) -> Option<SeqSet<'a>>

@@ -209,7 +209,7 @@ uid_noop : read (codes "a1 UID NOOP") ≡ Err (Unknown (codes "a1"))
 unfolding read
 uid_noop = refl
 
-search : read (codes "a1 UID search (") ≡ Err (LeftOut (codes "a1"))
+search : read (codes "a1 UID search (") ≡ Err (Arguments (codes "a1") verbs.UidSearch)
 unfolding read
 search = refl
 
