@@ -76,28 +76,28 @@ arguments_first (say.UidExpunge set) l q = gap_first _ l q
 arguments_first (say.Fetch f) l q = gap_first _ l q
 arguments_first (say.Store s) l q = gap_first _ l q
 arguments_first (say.Append a) l q = gap_first _ l q
-arguments_first (say.Search s) l q = absurd q.first
 arguments_first (say.Lsub reference pattern) l q = gap_first _ l q
 arguments_first (say.Subscribe name) l q = gap_first _ l q
 arguments_first (say.Unsubscribe name) l q = gap_first _ l q
+arguments_first (say.Search s) l q = gap_first _ l q
 arguments_first _ l q = none_first l q
 
 kept_fetch : (by_uid : Bool) → is_left_out (cond by_uid verbs.UidFetch verbs.Fetch) ≡ false
 kept_fetch true = refl
 kept_fetch false = refl
 
-kept_search : (by_uid : Bool) → is_left_out (cond by_uid verbs.UidSearch verbs.Search) ≡ false
-kept_search true = refl
-kept_search false = refl
-
 kept_store : (by_uid : Bool) → is_left_out (cond by_uid verbs.UidStore verbs.Store) ≡ false
 kept_store true = refl
 kept_store false = refl
 
+kept_search : (by_uid : Bool) → is_left_out (cond by_uid verbs.UidSearch verbs.Search) ≡ false
+kept_search true = refl
+kept_search false = refl
+
 kept : (c : Command) → is_left_out (verb_of c) ≡ false
-kept (say.Search s) = kept_search s.by_uid
 kept (say.Fetch f) = kept_fetch f.by_uid
 kept (say.Store s) = kept_store s.by_uid
+kept (say.Search s) = kept_search s.by_uid
 kept _ = refl
 
 -- what is read behind a verb

@@ -69,8 +69,7 @@ is_left_out _ = false
 abbrev pub offered : List Verb
 offered =
     Capability ∷ Noop ∷ Logout ∷ Namespace ∷ Idle ∷ Login ∷ Authenticate ∷ StartTls ∷ Select ∷ Examine
-    ∷ ListNames ∷ Status ∷ Close ∷ Unselect ∷ Expunge ∷ Fetch ∷ Store ∷ Append ∷ Check ∷ Lsub ∷ Subscribe ∷ Unsubscribe
-    ∷ Search ∷ []
+    ∷ ListNames ∷ Status ∷ Close ∷ Unselect ∷ Expunge ∷ Fetch ∷ Store ∷ Append ∷ Check ∷ Lsub ∷ Subscribe ∷ Unsubscribe ∷ Search ∷ []
 
 -- those of one word that aren't
 abbrev pub left_out : List Verb
@@ -115,8 +114,8 @@ verb_of (say.UidExpunge set) = UidExpunge
 verb_of (say.Fetch fetch) = if fetch.by_uid then UidFetch else Fetch
 verb_of (say.Store store) = if store.by_uid then UidStore else Store
 verb_of (say.Append append) = Append
-verb_of (say.Search search) = if search.by_uid then UidSearch else Search
 verb_of say.Check = Check
 verb_of (say.Lsub reference pattern) = Lsub
 verb_of (say.Subscribe name) = Subscribe
 verb_of (say.Unsubscribe name) = Unsubscribe
+verb_of (say.Search search) = if search.by_uid then UidSearch else Search

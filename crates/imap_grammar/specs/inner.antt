@@ -1,3 +1,5 @@
 pub mod Choosing
-pub mod KeysSaid
 pub mod KeyCode
+pub mod KeysSaid
+pub mod Asking
+pub mod Letters

@@ -6,8 +6,8 @@ ghost use Rattle.imap_grammar.specs.Reading.{verb_among};
 ghost use Rattle.imap_grammar.specs.Verbs.{alone, behind_uid, is_left_out, left_out, offered};
 
 use crate::items::{FetchItems, StatusItems};
+use crate::keys::SearchKeys;
 use crate::name::Name;
-use crate::search::Search;
 use crate::set::SeqSet;
 use change_ring::{FlagOp, Flags};
 use std::marker::Model;
@@ -155,6 +155,31 @@ pub struct Append<'a> {
     pub literal: Literal,
 }
 
+/// SEARCH and UID SEARCH (RFC 9051, 6.4.4).
+#[derive(Drop)]
+pub struct Search<'a> {
+    /// The UIDs of the messages are asked for, and not their positions.
+    pub by_uid: bool,
+    /// The line names no charset, or US-ASCII or UTF-8.
+    pub known_charset: bool,
+    /// Which messages.
+    pub keys: SearchKeys<'a>,
+}
+
+impl<'a> Search<'a> {
+    ghost use Rattle.std.specs.Prelude.{◌≡◌, if◌then◌else◌};
+
+    fn verb(&self) -> Verb
+        ensures { result ≡ (if self.now.by_uid then Verb.UidSearch else Verb.Search) }
+    {
+        if self.by_uid {
+            Verb::UidSearch
+        } else {
+            Verb::Search
+        }
+    }
+}
+
 /// A command (RFC 9051, 6). What follows AUTHENTICATE and STARTTLS is dropped.
 #[derive(Drop)]
 pub enum Command<'a> {
@@ -188,7 +213,6 @@ pub enum Command<'a> {
     Fetch(Fetch<'a>),
     Store(Store<'a>),
     Append(Append<'a>),
-    Search(Search<'a>),
     /// RFC 3501, 6.4.1.
     Check,
     /// RFC 3501, 6.3.9: LIST of the mailboxes that are subscribed to.
@@ -198,6 +222,7 @@ pub enum Command<'a> {
     },
     Subscribe(Name<'a>),
     Unsubscribe(Name<'a>),
+    Search(Search<'a>),
 }
 
 impl<'a> Command<'a> {
@@ -228,11 +253,11 @@ impl<'a> Command<'a> {
             Command::Fetch(fetch) => fetch.verb(),
             Command::Store(store) => store.verb(),
             Command::Append(_) => Verb::Append,
-            Command::Search(search) => search.verb(),
             Command::Check => Verb::Check,
             Command::Lsub { .. } => Verb::Lsub,
             Command::Subscribe(_) => Verb::Subscribe,
             Command::Unsubscribe(_) => Verb::Unsubscribe,
+            Command::Search(search) => search.verb(),
         }
     }
 }

@@ -9,22 +9,24 @@ mod command;
 mod cut;
 mod item_words;
 mod items;
+mod key_words;
+mod keys;
 mod name;
 mod number;
 mod positions;
 mod ranges;
 mod reading;
-mod search;
 mod set;
 mod view;
 mod words;
 
-pub use command::{Append, Command, Fetch, ImapFault, Literal, Store, Tag, Verb};
+pub use command::{Append, Command, Fetch, ImapFault, Literal, Search, Store, Tag, Verb};
 pub use items::{
     BodyPart, FetchItem, FetchItems, FieldNames, Section, Span, StatusItem, StatusItems,
 };
+pub use key_words::SystemFlag;
+pub use keys::SearchKeys;
 pub use name::Name;
 pub use reading::{is_done, read_line};
-pub use search::{Search, SearchKeys, SystemFlag};
 pub use set::{SeqNumber, SeqRange, SeqSet, SetFault};
 pub use view::Named;

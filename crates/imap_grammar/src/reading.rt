@@ -9,14 +9,13 @@ ghost use Rattle.imap_grammar.specs.declared.command.ImapFault.{ImapFault};
 ghost use Rattle.imap_grammar.specs.Reading.{verb_alone, alone_at, second_at, verb_at, command_at, read, is_done};
 
 use crate::arguments::{
-    append, examine, fetch, if_end, list, login, lsub, select, status, store, subscribe,
+    append, examine, fetch, if_end, list, login, lsub, search, select, status, store, subscribe,
     uid_expunge, unsubscribe,
 };
 use crate::bytes::{Class, is_blank, word_at};
 use crate::command::{
     Command, ImapFault, Tag, Verb, alone, behind_uid, is_left_out, left_out, offered,
 };
-use crate::search::search_at;
 use crate::words::is_word_of;
 use envelope::after_spaces;
 
@@ -78,11 +77,11 @@ fn command_at(verb: Verb, rest: &[u8]) -> Option<Command<'_>>
         Verb::UidStore => store(true, rest),
         Verb::UidExpunge => uid_expunge(rest),
         Verb::Append => append(rest),
-        Verb::Search => search_at(false, rest),
-        Verb::UidSearch => search_at(true, rest),
         Verb::Lsub => lsub(rest),
         Verb::Subscribe => subscribe(rest),
         Verb::Unsubscribe => unsubscribe(rest),
+        Verb::Search => search(false, rest),
+        Verb::UidSearch => search(true, rest),
         _ => if_end(alone(verb)?, rest),
     }
 }

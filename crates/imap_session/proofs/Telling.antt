@@ -21,7 +21,7 @@ use Rattle.imap_grammar.specs.declared.command.Fetch.{Fetch}
 use Rattle.imap_grammar.specs.declared.command.ImapFault.{ImapFault}
 use Rattle.imap_grammar.specs.declared.command.ImapFault.TheVariants as faults
 use Rattle.imap_grammar.specs.declared.command.Store.{Store}
-use Rattle.imap_grammar.specs.declared.search.Search.{Search}
+use Rattle.imap_grammar.specs.declared.command.Search.{Search}
 use Rattle.imap_grammar.specs.declared.view.Named.{Named}
 use Rattle.imap_grammar.specs.declared.command.Verb.TheVariants as verbs
 use Rattle.imap_grammar.specs.Verbs.{verb_of}

@@ -1,10 +1,11 @@
--- How a key of a SEARCH is stored, which proofs want of what a type's values are: as a list of its parts, each behind those that it stands over. No public clause speaks of it.
+-- How a key of a SEARCH is stored, which proofs want of what a type's values are: as a list of its parts, each behind
+-- those that it stands over. No public clause speaks of it.
 use Rattle.std.specs.Prelude.{◌≡◌, ℕ, zero, suc, List, [], ◌∷◌, ◌++◌, map, ◌==◌, if◌then◌else◌}
 use Rattle.std.proofs.Common.{refl, ap, ◌∙◌, append_assoc, append-nil, sym}
 use Rattle.std.specs.Coded.{Coded, code_by, coded×, coded_list, coded_ℕ}
 use Rattle.imap_grammar.specs.Keys.{Key, Always, Never, Has, Lacks, Larger, Smaller, Positions, Uids, Not, Or, And}
-use Rattle.imap_grammar.specs.declared.search.SystemFlag.{SystemFlag}
-use Rattle.imap_grammar.specs.declared.search.SystemFlag.TheVariants.{Answered, Deleted, Draft, Flagged, Seen}
+use Rattle.imap_grammar.specs.declared.key_words.SystemFlag.{SystemFlag}
+use Rattle.imap_grammar.specs.declared.key_words.SystemFlag.TheVariants.{Answered, Deleted, Draft, Flagged, Seen}
 use Rattle.imap_grammar.specs.declared.set.SeqNumber.{SeqNumber}
 use Rattle.imap_grammar.specs.declared.set.SeqNumber.TheVariants.{Number, Star}
 use Rattle.imap_grammar.specs.declared.set.SeqRange.{SeqRange}
@@ -101,7 +102,8 @@ abbrev range_between : SeqNumber → SeqNumber → SeqRange
 range_between a b = record { from = a; to = b }
 
 range_again : (range : SeqRange) → range_between (number_back (number_code range.from)) (number_back (number_code range.to)) ≡ range
-range_again range = ap (λ x. range_between x (number_back (number_code range.to))) (number_again range.from) ∙ ap (range_between range.from) (number_again range.to)
+range_again range =
+    ap (λ x. range_between x (number_back (number_code range.to))) (number_again range.from) ∙ ap (range_between range.from) (number_again range.to)
 
 set_again : (set : List SeqRange) → map range_back (map range_code set) ≡ set
 set_again [] = refl
@@ -125,11 +127,13 @@ again (Positions set) rest keys = ap (λ x. keys_back rest (Positions x ∷ keys
 again (Uids set) rest keys = ap (λ x. keys_back rest (Uids x ∷ keys)) (set_again set)
 again (Not key) rest keys = ap (λ x. keys_back x keys) (append_assoc (parts_of key) (part 8 0 []) rest) ∙ again key (part 8 0 [] ++ rest) keys
 again (Or one other) rest keys =
-    ap (λ x. keys_back x keys) (append_assoc (parts_of one) (parts_of other ++ part 9 0 []) rest ∙ ap (λ x. parts_of one ++ x) (append_assoc (parts_of other) (part 9 0 []) rest))
+    ap (λ x. keys_back x keys) (append_assoc (parts_of one) (parts_of other ++ part 9 0 []) rest
+    ∙ ap (λ x. parts_of one ++ x) (append_assoc (parts_of other) (part 9 0 []) rest))
     ∙ again one (parts_of other ++ (part 9 0 [] ++ rest)) keys
     ∙ again other (part 9 0 [] ++ rest) (one ∷ keys)
 again (And one other) rest keys =
-    ap (λ x. keys_back x keys) (append_assoc (parts_of one) (parts_of other ++ part 10 0 []) rest ∙ ap (λ x. parts_of one ++ x) (append_assoc (parts_of other) (part 10 0 []) rest))
+    ap (λ x. keys_back x keys) (append_assoc (parts_of one) (parts_of other ++ part 10 0 []) rest
+    ∙ ap (λ x. parts_of one ++ x) (append_assoc (parts_of other) (part 10 0 []) rest))
     ∙ again one (parts_of other ++ (part 10 0 [] ++ rest)) keys
     ∙ again other (part 10 0 [] ++ rest) (one ∷ keys)
 
