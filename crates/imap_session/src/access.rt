@@ -17,9 +17,8 @@ fn standard_lacks(verb: Verb) -> Option<ResponseText>
     match verb {
         Verb::Login => Some(ResponseText::WrongState),
         Verb::Check | Verb::Lsub => Some(ResponseText::UnknownCommand),
-        Verb::Subscribe | Verb::Unsubscribe | Verb::Search | Verb::UidSearch => Some(
-            ResponseText::NotOffered,
-        ),
+        Verb::Subscribe | Verb::Unsubscribe => Some(ResponseText::NotOffered),
+        Verb::Search | Verb::UidSearch => Some(ResponseText::NotOffered),
         _ => None,
     }
 }

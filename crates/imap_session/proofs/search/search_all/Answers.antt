@@ -51,9 +51,9 @@ loop-message-preserved g c = record {
       let within : i < length uids = subst (λ (n : ℕ). i < n) (as_many view uids c.args.messages.now are) c.loop-message-test.true in
       let next : List ℕ → Exchange = λ more. searching search c.args.last view done (drop (i + 1) uids) (found ++ more) in
       searches_more g.S.Store.step tag now search c.args.last view done uids i found (option_to_list c.in_ok-number.number) c.keep.new.found.items _ _ _ _ response within c.keep.ensures.items
-          (c.loop-message.invariant.runs response view uids are done tag now)
-          (c.in_ok-number.ensures response view (get_or uids i 0) (message_at view uids c.args.messages.now i _ are c.loop-message-test.true) next
-          (searching search c.args.last view done (drop (i + 1) uids) found) (gone_adds_nothing search c.args.last view done (drop (i + 1) uids) found) tag now);
+      (c.loop-message.invariant.runs response view uids are done tag now)
+      (c.in_ok-number.ensures response view (get_or uids i 0) (message_at view uids c.args.messages.now i _ are c.loop-message-test.true) next
+      (searching search c.args.last view done (drop (i + 1) uids) found) (gone_adds_nothing search c.args.last view done (drop (i + 1) uids) found) tag now);
 }
 
 pub returns : goal.returns
