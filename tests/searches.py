@@ -10,6 +10,7 @@ search that was answered otherwise with the seed by which it comes again, and la
 
 import imaplib
 import random
+import re
 import sys
 
 from serving_house import House
@@ -45,10 +46,10 @@ def messages_of(client, chance):
     client.uid("EXPUNGE", "1,4:5,11")
     client.noop()
     found = []
-    for line in client.fetch("1:*", "(UID FLAGS RFC822.SIZE)")[1]:
-        words = line.decode().replace("(", " ").replace(")", " ").split()
-        size, uid = int(words[words.index("RFC822.SIZE") + 1]), int(words[words.index("UID") + 1])
-        found.append(Message(int(words[0]), uid, size, {flag for flag in FLAGS if f"\\{flag}" in words}))
+    for line in client.uid("FETCH", "1:*", "FAST")[1]:
+        told = line.decode()
+        position, uid, size = (int(re.search(pattern, told)[1]) for pattern in (r"^(\d+) ", r"UID (\d+)", r"SIZE (\d+)"))
+        found.append(Message(position, uid, size, {flag for flag in FLAGS if f"\\{flag}" in told}))
     return found
 
 
