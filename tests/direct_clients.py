@@ -380,7 +380,7 @@ if ($way eq 'plain') {
     my $idle = $imap->idle or die;
     my $told = $imap->idle_data(8); print "told: $_" for @$told;
     $imap->done($idle);
-} else { print 'messages ', scalar($imap->messages), "\n"; }
+} else { my @all = $imap->messages; my @unseen = $imap->search('UNSEEN'); print 'messages ', scalar(@all), ' unseen ', scalar(@unseen), "\n"; }
 $imap->logout;
 """
 
@@ -399,7 +399,7 @@ def perl_plain(place):
 
 def perl_messages(place):
     place.run("perl", "-e", PERL, place.port, "messages")
-    if b"messages 3" in place.output:
+    if b"messages 3 unseen 3" in place.output:
         yield "searches"
 
 
@@ -433,8 +433,9 @@ boxes, folders = account:list_all()
 print('lists', boxes[1])
 print('status', account.INBOX:check_status())
 messages = account.INBOX:select_all()
-messages:mark_flagged()
-messages:delete_messages()
+print('found', #messages, #(account.INBOX:is_unseen() * account.INBOX:is_larger(300)))
+Set { messages[1] }:mark_flagged()
+Set { messages[2] }:delete_messages()
 """
 
 
@@ -442,6 +443,8 @@ def imapfilter(place):
     place.run("imapfilter", "-c", place.write("config.lua", IMAPFILTER % place.port))
     if b"lists\tINBOX\n" in place.output and b"status\t3\t" in place.output:
         yield "lists"
+    if b"found\t3\t2\n" in place.output:
+        yield "searches"
     yield from place.changes()
 
 
@@ -958,20 +961,17 @@ PHP_HAS = prints_nothing_wrong("php", "-r", "exit(extension_loaded('imap') ? 0 :
 
 KNOWN = {
     "imaplib": Known(imaplib_job, lambda: True, f"{ALL} idles"),
-    "imaplib's search": Known(imaplib_tutorial, lambda: True, "", (f"SEARCH ALL {NOT_HERE}",)),
+    "imaplib's search": Known(imaplib_tutorial, lambda: True, "searches"),
     # Its list of folders names INBOX twice behind SELECT, which tells LIST too.
-    "imap_tools": Known(
-        imap_tools, prints_nothing_wrong("/usr/bin/python3", "-B", "-c", "import imap_tools"), "flags removes uploads idles", (f"SEARCH CHARSET US-ASCII ALL {NOT_HERE}",)
-    ),
+    "imap_tools": Known(imap_tools, prints_nothing_wrong("/usr/bin/python3", "-B", "-c", "import imap_tools"), "reads flags removes uploads idles"),
     "Mail::IMAPClient": Known(perl_plain, prints_nothing_wrong("perl", "-MMail::IMAPClient", "-e", "1"), f"{ALL} idles"),
-    "Mail::IMAPClient's messages": Known(perl_messages, prints_nothing_wrong("perl", "-MMail::IMAPClient", "-e", "1"), "", (f"UID SEARCH ALL {NOT_HERE}",)),
+    "Mail::IMAPClient's messages": Known(perl_messages, prints_nothing_wrong("perl", "-MMail::IMAPClient", "-e", "1"), "searches"),
     "Net::IMAP::Simple": Known(net_imap_simple, prints_nothing_wrong("perl", "-MNet::IMAP::Simple", "-e", "1"), ALL),
-    "imapfilter": Known(imapfilter, programs("imapfilter"), "lists", (f"UID SEARCH ALL {NOT_HERE}",)),
+    "imapfilter": Known(imapfilter, programs("imapfilter"), "lists searches flags removes"),
     "imapfilter, UIDs by hand": Known(imapfilter_sets, programs("imapfilter"), "reads flags removes"),
     "imapfilter's enter_idle": Known(imapfilter_idle, programs("imapfilter"), "idles"),
-    # Behind the refusal it asks for the flags of all.
-    "fetchmail": Known(fetchmail, programs("fetchmail"), "reads removes", (f"SEARCH UNSEEN {NOT_HERE}",)),
-    "fetchmail's idle": Known(fetchmail_idle, programs("fetchmail"), "reads idles", (f"SEARCH UNSEEN {NOT_HERE}",)),
+    "fetchmail": Known(fetchmail, programs("fetchmail"), "reads removes"),
+    "fetchmail's idle": Known(fetchmail_idle, programs("fetchmail"), "reads idles"),
     "getmail6": Known(getmail, programs("getmail"), "reads removes"),
     "offlineimap3": Known(offlineimap, programs("offlineimap"), "reads flags removes uploads"),
     "mutt": Known(mutt, programs("mutt"), "reads flags removes"),
@@ -979,12 +979,12 @@ KNOWN = {
     "neomutt": Known(neomutt, programs("neomutt"), "reads flags removes", (f"AUTHENTICATE PLAIN {NOT_HERE}",)),
     "mbsync": Known(mbsync, programs("mbsync"), "reads flags removes uploads"),
     "interimap": Known(interimap, programs("interimap"), "", ("Server did not advertise ENABLE (RFC 5161) capability.",)),
-    "aerc": Known(aerc, programs("aerc"), "", (f"UID SEARCH CHARSET UTF-8 ALL {NOT_HERE}",)),
+    "aerc": Known(aerc, programs("aerc"), "", (f"UID FETCH 1:3 (BODYSTRUCTURE ENVELOPE INTERNALDATE FLAGS UID BODY.PEEK[HEADER]) {INVALID}",)),
     "alpine": Known(
         alpine,
         programs("alpine"),
         "",
-        (f"SEARCH UNANSWERED UNDELETED UNSEEN {NOT_HERE}", f"FETCH .. (UID ENVELOPE BODY.PEEK[HEADER.FIELDS (..)] INTERNALDATE RFC822.SIZE FLAGS) {INVALID}"),
+        (f"FETCH .. (UID ENVELOPE BODY.PEEK[HEADER.FIELDS (..)] INTERNALDATE RFC822.SIZE FLAGS) {INVALID}",),
     ),
     "curl": Known(curl, programs("curl"), ALL),
     "s-nail": Known(s_nail, programs("s-nail"), ALL),
@@ -993,7 +993,8 @@ KNOWN = {
     "fdm": Known(fdm, programs("fdm"), "", (f"LOGIN {{5}} {INVALID}",)),
     "PHP imap": Known(php, PHP_HAS, ALL),
     "PHP imap's overview": Known(php_overview, PHP_HAS, "", (f"FETCH .. (UID ENVELOPE BODY.PEEK[HEADER.FIELDS (..)] INTERNALDATE RFC822.SIZE FLAGS) {INVALID}",)),
-    "PHP imap's search": Known(php_search, PHP_HAS, "", (f"SEARCH UNSEEN {NOT_HERE}",)),
+    # It asks for an overview of what was found.
+    "PHP imap's search": Known(php_search, PHP_HAS, "searches", (f"FETCH .. (UID ENVELOPE BODY.PEEK[HEADER.FIELDS (..)] INTERNALDATE RFC822.SIZE FLAGS) {INVALID}",)),
     "PHP imap's structure": Known(php_structure, PHP_HAS, "", (f"FETCH .. (UID ENVELOPE BODY.PEEK[HEADER.FIELDS (..)] BODYSTRUCTURE INTERNALDATE RFC822.SIZE FLAGS) {INVALID}",)),
     "Sylpheed": Known(sylpheed, programs("sylpheed", "Xvfb"), "reads"),
     # It says so in a window, at its start and whenever it looks for its folder of what was removed.

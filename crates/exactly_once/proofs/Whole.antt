@@ -15,7 +15,7 @@ use Rattle.mailbox.specs.declared.clients.MailFault.TheVariants.{Stranger, Lappe
 use Rattle.mailbox.specs.declared.clients.Opening.{Opening}
 use Rattle.mailbox.specs.declared.clients.Row.{Row}
 use Rattle.mailbox.specs.declared.mailbox.Status.{Status}
-use Rattle.imap_answers.specs.Answers.{answered, asks_for_root, item_text, is_listed, list_answer, list_front, listed, name_answer, root_answer, status_text, all_flags, flags_answer, opening_text}
+use Rattle.imap_answers.specs.Answers.{answered, asks_for_root, item_text, is_listed, list_answer, list_front, listed, name_answer, root_answer, status_text, all_flags, flags_answer, opening_text, search_answer, spaced_numbers}
 use Rattle.imap_grammar.specs.Reading.{is_done, read}
 use Rattle.imap_grammar.specs.declared.command.Append.{Append}
 use Rattle.imap_grammar.specs.declared.command.Command.{Command}
@@ -23,15 +23,18 @@ use Rattle.imap_grammar.specs.declared.command.Command.TheVariants as commands
 use Rattle.imap_grammar.specs.declared.command.Fetch.{Fetch}
 use Rattle.imap_grammar.specs.declared.command.ImapFault.{ImapFault}
 use Rattle.imap_grammar.specs.declared.command.ImapFault.TheVariants as faults
+use Rattle.imap_grammar.specs.declared.command.Search.{Search}
 use Rattle.imap_grammar.specs.declared.command.Store.{Store}
-use Rattle.imap_grammar.specs.Sets.{named_in}
+use Rattle.imap_grammar.specs.declared.view.Named.{Named}
+use Rattle.imap_grammar.specs.Keys.{all_messages}
+use Rattle.imap_grammar.specs.Sets.{last_uid, named_at, named_in}
 use Rattle.imap_session.specs.declared.standing.After.{After}
 use Rattle.imap_session.specs.declared.standing.After.TheVariants.{Go, Bye}
 use Rattle.imap_session.specs.declared.standing.After.TheVariants as afters
 use Rattle.imap_session.specs.declared.standing.Selected.{Selected}
 use Rattle.imap_session.specs.Exchange as ex
 use Rattle.imap_session.specs.Exchange.{Answer, Appending, ForVerdict, Mailing, Call, Entered, Looked, Found, Counted, Altered, Expunged, Fed, Left, Refused, Starved, Exchange, Folder, Standing, Turn, played, refused, refusal_text, refusal_after, saying, having, closed, tagged, bye, is_idling}
-use Rattle.imap_session.specs.Commands.{appending, is_over, last_number, most_unasked, nowhere, number_named, on_rest, on_text, over, wanting, wanting_for, closing, completed, counting, entering, expunge_set, fetch_messages, fetched, fetching, folder_of, greeting, idle_turn_in, messages_done, on_chosen, on_command, on_found, on_idle_line, says, showing, store_messages, storing, telling_recent, unlimited, wrong_state, notice, noticing}
+use Rattle.imap_session.specs.Commands.{appending, is_over, last_number, most_unasked, nowhere, number_named, on_rest, on_text, over, found_in, search_done, search_known, search_messages, searching, wanting, wanting_for, closing, completed, counting, entering, expunge_set, fetch_messages, fetched, fetching, folder_of, greeting, idle_turn_in, messages_done, on_chosen, on_command, on_found, on_idle_line, says, showing, store_messages, storing, telling_recent, unlimited, wrong_state, notice, noticing}
 use Rattle.imap_session.specs.Commands as commands_of
 use Rattle.imap_session.proofs.Unkept.{unkept_by}
 use Rattle.imap_session.specs.Store.{AnswersVerdict, IdleTurns}
@@ -312,6 +315,14 @@ pub flags_whole : (by_uid : Bool) (k uid : ℕ) (flags : Flags) → IsWhole (fla
 flags_whole by_uid k uid flags =
     ends (codes "* " ++ decimal k ++ codes " FETCH (" ++ (if by_uid then codes "UID " ++ decimal uid ++ codes " " else []) ++ codes "FLAGS (" ++ spaced (flag_words flags)) (codes "))")
 
+pub found_whole : (found : List ℕ) → IsWhole (search_answer found)
+found_whole found = ends (codes "* SEARCH") (spaced_numbers found)
+
+in_searching : (search : Search) (last : Named) (view : List ℕ) (uids found : List ℕ) → SaysWhole (searching search last view (search_done search) uids found)
+in_searching search last view [] found = (found_whole found, in_done (commands.Search search) search.by_uid false)
+in_searching search last view (uid ∷ uids) found =
+    elim [ None ↦ in_searching search last view uids found | Some row ↦ in_searching search last view uids (found ++ found_in search last (named_at view uid) row) ]
+
 in_silence : (silent : Bool) (text : List ℕ) (x : Exchange) → IsWhole text → SaysWhole x → SaysWhole (if silent then x else ex.Write text x)
 in_silence true text x p q = q
 in_silence false text x p q = (p, q)
@@ -416,6 +427,11 @@ command_whole now (commands.Store store) =
     in_found _ wrong_state
     (λ (s : Selected). in_either s.read_only _ (store_messages store) tt
     (λ view. in_chosen (named_in store.by_uid store.set view) _ (λ uids. in_storing store view (messages_done (commands.Store store) store.by_uid) (in_done (commands.Store store) store.by_uid) uids false))) tt now.selected
+command_whole now (commands.Search search) =
+    in_found (search_known search) wrong_state
+    (λ s. in_either search.known_charset (search_messages search) (says (response_text texts.BadCharset))
+    (λ view. in_chosen (named_in true all_messages view) (λ uids. wanting (searching search (named_at view (last_uid uids)) view (search_done search) uids []))
+    (λ uids. (inl refl, in_searching search (named_at view (last_uid uids)) view uids []))) tt) tt now.selected
 command_whole now (commands.Append append) = in_append now.mailing.most now.folders append
 command_whole now command = in_notice (notice now.profile command) (completed command) tt
 

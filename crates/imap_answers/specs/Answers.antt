@@ -142,6 +142,16 @@ fetch_answer k texts = codes "* " ++ decimal k ++ codes " FETCH (" ++ spaced tex
 abbrev pub row_answer : ℕ → Bool → List FetchItem → Row → List ℕ
 row_answer k by_uid items row = fetch_answer k (map (item_text row) (answered by_uid row.newly_seen items))
 
+-- ---- SEARCH
+
+-- each behind a space
+abbrev pub spaced_numbers : List ℕ → List ℕ
+spaced_numbers numbers = flat_map (λ n. codes " " ++ decimal n) numbers
+
+-- the numbers of the messages that were found (RFC 3501, 7.2.5)
+abbrev pub search_answer : List ℕ → List ℕ
+search_answer numbers = codes "* SEARCH" ++ spaced_numbers numbers ++ codes "\r\n"
+
 -- ---- STORE
 
 -- the flags of a message after a STORE, with its UID under UID STORE

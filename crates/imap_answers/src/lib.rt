@@ -1,4 +1,4 @@
-//! The answers of IMAP that tell of messages and mailboxes (RFC 9051, 7), byte by byte: to FETCH, STORE, SELECT and STATUS, and to LIST with the
+//! The answers of IMAP that tell of messages and mailboxes (RFC 9051, 7), byte by byte: to FETCH, SEARCH, STORE, SELECT and STATUS, and to LIST with the
 //! names that a pattern stands for. How commands are spelled is told in `imap_grammar`; who is answered what and when, in the crates above.
 #![tactic(auto)]
 
@@ -6,6 +6,7 @@ mod date;
 mod fetch;
 mod fields;
 mod flags;
+mod found;
 mod laws;
 mod list;
 mod opening;
@@ -15,6 +16,7 @@ mod store;
 mod words;
 
 pub use fetch::write_row;
+pub use found::write_found;
 pub use laws::patterns_match_what_they_stand_for;
 pub use list::{Listing, write_list};
 pub use opening::{OPENING_ROOM, put_opening};

@@ -15,7 +15,8 @@ use Rattle.imap_grammar.specs.Bytes.{is_atom, is_digit}
 use Rattle.imap_grammar.specs.Cuts.{cut_at}
 use Rattle.imap_grammar.specs.Grammar.{AnyQuoted, FlagList, FlagWords, GivenDate, GivenFlags, LiteralIs, Name, StringOf}
 use Rattle.imap_grammar.specs.Numbers.{most_size, number_of}
-use Rattle.imap_grammar.specs.Reading.{append_at, flag_list_at, flags_in, given_flags_at, if_end, is_tight, literal_at, literal_end, parens_at, past_date, past_gap, past_quoted, string_at}
+use Rattle.imap_grammar.specs.Reading.{append_at, flag_list_at, flags_in, given_flags_at, if_end, is_tight, literal_at, literal_end, parens_at, past_date, past_quoted, string_at}
+use Rattle.imap_grammar.specs.Front.{past_gap}
 use Rattle.imap_grammar.specs.declared.command.Append.{Append}
 use Rattle.imap_grammar.specs.declared.command.Command.{Command}
 use Rattle.imap_grammar.specs.declared.command.Command.TheVariants as say

@@ -8,7 +8,8 @@ use Rattle.envelope.specs.Bytes.{is_space, is_not_space}
 use Rattle.envelope.specs.Grammar.{Spaces, Gap, Exactly, Joined}
 use Rattle.imap_grammar.specs.Bytes.{is_atom}
 use Rattle.imap_grammar.specs.Grammar.{Name, StringOf}
-use Rattle.imap_grammar.specs.Reading.{past_gap, string_at, is_blank, if_end}
+use Rattle.imap_grammar.specs.Reading.{string_at, if_end}
+use Rattle.imap_grammar.specs.Front.{past_gap, is_blank}
 use Rattle.imap_grammar.proofs.Tokens.{excludes, not_true, stops_class, gap_again, string_again, string_starts}
 use Rattle.imap_grammar.proofs.Parens.{blank_again, blank_sound}
 

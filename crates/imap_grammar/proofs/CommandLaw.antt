@@ -4,7 +4,6 @@ use Rattle.std.specs.Prelude.{Option, Some, None, IfSome, codes, map}
 use Rattle.std.specs.Char.{to_ascii_lowercase}
 use Rattle.std.specs.Str.{bytes_eq, str_eq_ignore_ascii_case as is_same}
 use Rattle.std.proofs.lemmas.List.{length-map, map-append, take_at, drop_at, take-append-drop}
-use Rattle.envelope.proofs.Sound.{many_taken}
 use Rattle.change_ring.specs.declared.change.Flags.{Flags}
 use Rattle.change_ring.specs.declared.flag_op.FlagOp.{FlagOp}
 use Rattle.change_ring.specs.declared.flag_op.FlagOp.TheVariants.{Set, Insert, Remove}
@@ -18,7 +17,9 @@ use Rattle.envelope.specs.Reading.{◌>>=◌}
 use Rattle.imap_grammar.specs.Bytes.{is_atom, is_pattern}
 use Rattle.imap_grammar.specs.Grammar.{GivenDate, GivenFlags, LiteralIs, Name, StringOf, SetIs, ItemsAre, StatusItemIs, Separated, Parenthesized, FlagsAre, operation_word, flags_of, ChangeIs, ArgumentsOf}
 use Rattle.imap_grammar.specs.Items.{status_item_of}
-use Rattle.imap_grammar.specs.Reading.{past_gap, word_at, string_at, if_end, in_parentheses, set_at, name_alone, fetch_items_at, status_items_in, flags_at, operation_of, change_with, fetch_at, store_at, set_alone, pair_at, status_at, command_at}
+use Rattle.imap_grammar.specs.Reading.{word_at, string_at, if_end, in_parentheses, name_alone, fetch_items_at, status_items_in, flags_at, operation_of, change_with, fetch_at, store_at, set_alone, pair_at, status_at, search_at, command_at}
+use Rattle.imap_grammar.specs.Front.{past_gap}
+use Rattle.imap_grammar.specs.Sets.{set_at}
 use Rattle.imap_grammar.specs.Verbs.{alone, verb_of}
 use Rattle.imap_grammar.specs.declared.arguments.Operation.{Operation}
 use Rattle.imap_grammar.specs.declared.arguments.Operation.TheVariants as operations
@@ -32,6 +33,8 @@ use Rattle.imap_grammar.specs.declared.command.Store.{Store}
 use Rattle.imap_grammar.specs.declared.command.Command.{Command}
 use Rattle.imap_grammar.specs.declared.command.Command.TheVariants as say
 use Rattle.imap_grammar.proofs.AppendLaw.{AppendIs, append_again, append_sound}
+use Rattle.imap_grammar.proofs.ChosenLaw.{SearchIs, search_again, search_sound, search_regroup, search_ungroup}
+use Rattle.imap_grammar.specs.declared.command.Search.{Search}
 use Rattle.imap_grammar.specs.declared.command.Append.{Append}
 use Rattle.imap_grammar.proofs.Chains.{regroup, ungroup, behind, inside, past, gap_first, end_again, end_sound, nothing_again, name_read, string_read}
 use Rattle.imap_grammar.proofs.Keywords.{word_length, word_clean, map_take, same_sound}
@@ -480,6 +483,10 @@ store_sound by_uid c rest e =
 
 -- ---- all commands
 
+search_verb : (by_uid : Bool) (rest : List ℕ) → command_at (cond by_uid verbs.UidSearch verbs.Search) rest ≡ search_at by_uid rest
+search_verb true rest = refl
+search_verb false rest = refl
+
 fetch_verb : (by_uid : Bool) (rest : List ℕ) → command_at (cond by_uid verbs.UidFetch verbs.Fetch) rest ≡ fetch_at by_uid rest
 fetch_verb true rest = refl
 fetch_verb false rest = refl
@@ -528,6 +535,7 @@ command_again (say.Fetch f) rest q =
     (behind Gap _ _ (λ l p. behind (SetIs f.set) _ _ (λ l p. regroup Gap (ItemsAre f.items) Spaces l p) l (regroup _ _ Spaces l p)) rest (regroup _ _ Spaces rest q))
 command_again (say.Store s) rest q = store_verb s.by_uid rest ∙ store_again s.by_uid s.set s.silent s.change rest (store_regroup s.set s.silent s.change rest q)
 command_again (say.Append a) rest q = append_again a rest (append_regroup a rest q)
+command_again (say.Search s) rest q = search_verb s.by_uid rest ∙ search_again s rest (search_regroup s rest q)
 command_again (say.Lsub reference pattern) rest q = pair_again is_pattern refl refl say.Lsub reference pattern rest (pair_regroup is_pattern reference pattern rest q)
 command_again (say.Subscribe name) rest q = name_again say.Subscribe name rest (regroup Gap (Name name) Spaces rest q)
 command_again (say.Unsubscribe name) rest q = name_again say.Unsubscribe name rest (regroup Gap (Name name) Spaces rest q)
@@ -559,6 +567,9 @@ fetch_fits v f x rest e h q =
 store_fits : (v : Verb) (s : Store) (x : Command) (rest : List ℕ) → verb_of (say.Store s) ≡ v → Some (say.Store s) ≡ Some x → StoreIs s.set s.silent s.change rest → Fits v x rest
 store_fits v s x rest e h q = subst (λ y. Fits v y rest) (inside (say.Store s) x h) (record { verb = e; is = store_ungroup s.set s.silent s.change rest q })
 
+search_fits : (v : Verb) (s : Search) (x : Command) (rest : List ℕ) → verb_of (say.Search s) ≡ v → say.Search s ≡ x → SearchIs s rest → Fits v x rest
+search_fits v s x rest e h q = subst (λ y. Fits v y rest) h (record { verb = e; is = search_ungroup s rest q })
+
 ended : (v : Verb) (x c : Command) (rest : List ℕ) → (Spaces rest → Fits v x rest) → if_end x rest ≡ Some c → Fits v c rest
 ended v x c rest f e = let k = end_sound x c rest e in subst (λ y. Fits v y rest) k.0 (f k.1)
 
@@ -580,6 +591,8 @@ alone_fits verbs.UidFetch = tt
 alone_fits verbs.UidStore = tt
 alone_fits verbs.UidExpunge = tt
 alone_fits verbs.Append = tt
+alone_fits verbs.Search = tt
+alone_fits verbs.UidSearch = tt
 alone_fits verbs.Create = tt
 alone_fits verbs.Delete = tt
 alone_fits verbs.Rename = tt
@@ -587,11 +600,9 @@ alone_fits verbs.Subscribe = tt
 alone_fits verbs.Unsubscribe = tt
 alone_fits verbs.Copy = tt
 alone_fits verbs.Move = tt
-alone_fits verbs.Search = tt
 alone_fits verbs.Enable = tt
 alone_fits verbs.UidCopy = tt
 alone_fits verbs.UidMove = tt
-alone_fits verbs.UidSearch = tt
 alone_fits verbs.Lsub = tt
 alone_fits _ = (refl, nothing)
 
@@ -632,4 +643,10 @@ command_sound verbs.UidStore c rest s e = let k = store_sound true c rest e in l
 command_sound verbs.Append c rest s e =
     let k = append_sound c rest e in
     subst (λ y. Fits verbs.Append y rest) k.1 (record { verb = refl; is = append_ungroup k.0 rest k.2 })
+command_sound verbs.Search c rest s e =
+    let k = search_sound false c rest e in
+    search_fits verbs.Search k.0 c rest (ap (λ t. cond t verbs.UidSearch verbs.Search) k.1) k.2 k.3
+command_sound verbs.UidSearch c rest s e =
+    let k = search_sound true c rest e in
+    search_fits verbs.UidSearch k.0 c rest (ap (λ t. cond t verbs.UidSearch verbs.Search) k.1) k.2 k.3
 command_sound v c rest s e = alone_sound v (alone v) c rest (alone_fits v) e

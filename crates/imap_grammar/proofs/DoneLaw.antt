@@ -5,7 +5,8 @@ use Rattle.std.specs.Str.{str_eq_ignore_ascii_case as is_same}
 use Rattle.envelope.proofs.Case.{is_same_decides}
 use Rattle.envelope.proofs.Words.{both_true}
 use Rattle.imap_grammar.specs.Grammar.{DoneLine}
-use Rattle.imap_grammar.specs.Reading.{is_blank, is_done, word_at}
+use Rattle.imap_grammar.specs.Reading.{is_done, word_at}
+use Rattle.imap_grammar.specs.Front.{is_blank}
 use Rattle.imap_grammar.proofs.Keywords.{same_sound, word_clean}
 use Rattle.imap_grammar.proofs.Parens.{blank_again, blank_sound}
 use Rattle.imap_grammar.proofs.Tokens.{blank_first, word_again, word_parts}

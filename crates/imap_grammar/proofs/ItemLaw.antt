@@ -10,11 +10,11 @@ use Rattle.envelope.proofs.Sound.{bind_some, guard_some, either, byte_sound}
 use Rattle.envelope.specs.Bytes.{is_not_space}
 use Rattle.envelope.specs.Grammar.{Keyword, Many, Some1, Exactly, ◌⨾◌}
 use Rattle.envelope.specs.Reading.{◌>>=◌, past_byte, past_keyword}
-use Rattle.imap_grammar.specs.Bytes.{is_digit, is_field_byte}
+use Rattle.imap_grammar.specs.Bytes.{is_digit}
 use Rattle.imap_grammar.specs.Cuts.{cut_at}
 use Rattle.imap_grammar.specs.Numbers.{number_up_to}
-use Rattle.imap_grammar.specs.Items.{is_word_of, section_of, fields_of, fields_or, part_of, greatest_span, span_between, span_of, partial_of, body_of, body_or_peek, fetch_item_of, status_item_of}
-use Rattle.imap_grammar.specs.Grammar.{FieldName, PartIs, Separated, Others, rfc822_word, section_word, Number63, PartialIs, ItemIs, status_word, StatusItemIs}
+use Rattle.imap_grammar.specs.Items.{section_of, fields_or, part_of, greatest_span, span_between, span_of, partial_of, body_of, body_or_peek, fetch_item_of, status_item_of}
+use Rattle.imap_grammar.specs.Grammar.{PartIs, rfc822_word, section_word, Number63, PartialIs, ItemIs, status_word, StatusItemIs}
 use Rattle.imap_grammar.specs.declared.items.Section.{Section}
 use Rattle.imap_grammar.specs.declared.items.Section.TheVariants.{Whole, Header, Text}
 use Rattle.imap_grammar.specs.declared.items.BodyPart.{BodyPart}
@@ -27,7 +27,6 @@ use Rattle.imap_grammar.specs.declared.items.StatusItem.TheVariants as status
 use Rattle.imap_grammar.proofs.Cuts.{is_other, cut_sound, cut_again}
 use Rattle.imap_grammar.proofs.Keywords.{word_length, word_clean, past_again, FoundKeyword, past_sound, same_sound, lowered, map_take}
 use Rattle.imap_grammar.proofs.SetLaw.{number_again, number_sound}
-use Rattle.imap_grammar.proofs.Separated.{AllRead, parts_again, parts_sound}
 use Rattle.imap_grammar.proofs.Tokens.{excludes, many_map, many_joined}
 use Rattle.imap_grammar.proofs.ItemWords.{ItemWord, Outside, open_behind}
 use Rattle.imap_grammar.proofs.Outside.{outside_plain, outside_within, both_outside, both_behind, opened_word}

@@ -4,7 +4,6 @@ use Rattle.std.specs.Prelude.{Option, ◌||◌}
 use Rattle.std.specs.List.{filter_map, list_any}
 use Rattle.std.specs.Option.{option_to_list}
 use Rattle.std.proofs.lemmas.List.Folds.{list_any-append}
-use Rattle.envelope.specs.Reading.{words}
 use Rattle.imap_grammar.specs.Brackets.{item_words}
 use Rattle.imap_grammar.proofs.SetParts.{option_joined}
 

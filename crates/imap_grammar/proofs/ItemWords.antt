@@ -12,10 +12,10 @@ use Rattle.envelope.proofs.Words.{append_none, both_true, is_both, space_is}
 use Rattle.envelope.specs.Bytes.{is_space, is_not_space}
 use Rattle.envelope.specs.Grammar.{Many, Spaces, Gap}
 use Rattle.envelope.specs.Reading.{◌>>=◌, after_spaces, has_bytes, past_byte}
-use Rattle.imap_grammar.specs.Reading.{is_blank, is_tight, items_in_parentheses}
+use Rattle.imap_grammar.specs.Reading.{is_tight, items_in_parentheses}
+use Rattle.imap_grammar.specs.Front.{is_blank}
 use Rattle.imap_grammar.specs.Brackets.{in_bracket, outside_len, item_word_at, cut_outside, item_words}
 use Rattle.imap_grammar.specs.Grammar.{Separated}
-use Rattle.imap_grammar.proofs.Cuts.{is_other}
 use Rattle.imap_grammar.proofs.Parens.{FoundParens, blank_again, blank_sound, last, last_cons}
 use Rattle.imap_grammar.proofs.Separated.{AllRead, FoundWords, last_word, next_words, one_read}
 use Rattle.imap_grammar.proofs.Tokens.{not_true, some_gap}

@@ -24,5 +24,10 @@ pub mod Chains
 pub mod AppendLaw
 pub mod CommandLaw
 pub mod VerbLaw
+pub mod SearchWords
+pub mod SearchLaw
+pub mod KeySteps
+pub mod ChosenLaw
+pub mod AloneLaw
 pub mod LineLaw
 pub mod DoneLaw

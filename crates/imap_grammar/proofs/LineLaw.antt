@@ -79,6 +79,7 @@ arguments_first (say.Append a) l q = gap_first _ l q
 arguments_first (say.Lsub reference pattern) l q = gap_first _ l q
 arguments_first (say.Subscribe name) l q = gap_first _ l q
 arguments_first (say.Unsubscribe name) l q = gap_first _ l q
+arguments_first (say.Search s) l q = gap_first _ l q
 arguments_first _ l q = none_first l q
 
 kept_fetch : (by_uid : Bool) → is_left_out (cond by_uid verbs.UidFetch verbs.Fetch) ≡ false
@@ -89,9 +90,14 @@ kept_store : (by_uid : Bool) → is_left_out (cond by_uid verbs.UidStore verbs.S
 kept_store true = refl
 kept_store false = refl
 
+kept_search : (by_uid : Bool) → is_left_out (cond by_uid verbs.UidSearch verbs.Search) ≡ false
+kept_search true = refl
+kept_search false = refl
+
 kept : (c : Command) → is_left_out (verb_of c) ≡ false
 kept (say.Fetch f) = kept_fetch f.by_uid
 kept (say.Store s) = kept_store s.by_uid
+kept (say.Search s) = kept_search s.by_uid
 kept _ = refl
 
 -- what is read behind a verb

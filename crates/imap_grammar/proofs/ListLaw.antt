@@ -7,23 +7,22 @@ use Rattle.std.proofs.lemmas.Bool.Decides.{Decides-eqb}
 use Rattle.change_ring.specs.declared.change.Flags.{Flags}
 use Rattle.envelope.proofs.Case.{decides_false}
 use Rattle.envelope.proofs.Sound.{bind_some, guard_some, either, byte_sound}
-use Rattle.envelope.proofs.Tails.{each_of}
 use Rattle.envelope.proofs.Tokens.{Stops}
-use Rattle.envelope.proofs.Words.{both_true, all_of, append_none, is_both}
+use Rattle.envelope.proofs.Words.{both_true, append_none, is_both}
 use Rattle.envelope.specs.Bytes.{is_space, is_not_space}
-use Rattle.envelope.specs.Grammar.{Keyword, Many, Some1, Spaces, Gap, Joined}
+use Rattle.envelope.specs.Grammar.{Many, Some1, Spaces, Gap, Joined}
 use Rattle.envelope.specs.Reading.{◌>>=◌, first_is, words, past_byte}
 use Rattle.imap_grammar.specs.Bytes.{is_atom}
 use Rattle.imap_grammar.specs.Brackets.{item_word_at, item_words, outside_len}
-use Rattle.imap_grammar.specs.Items.{fast_items, fetch_item_of, fetch_items_of, is_word_of, is_flag_after, is_flag, flags_among}
+use Rattle.imap_grammar.specs.Items.{fast_items, fetch_item_of, fetch_items_of, is_flag_after, is_flag, flags_among}
 use Rattle.imap_grammar.specs.Grammar.{Others, Separated, Parenthesized, ItemIs, ItemsAre, Flag, FlagWord, FlagWords, FlagsAre}
-use Rattle.imap_grammar.specs.Reading.{word_at, is_blank, is_tight, in_parentheses, items_in_parentheses, are_items, fetch_items_in, fetch_word_in, fetch_items_at, flags_in, flags_at}
+use Rattle.imap_grammar.specs.Reading.{is_tight, in_parentheses, items_in_parentheses, are_items, fetch_items_in, fetch_word_in, fetch_items_at, flags_in, flags_at}
+use Rattle.imap_grammar.specs.Front.{is_blank}
 use Rattle.imap_grammar.specs.declared.items.FetchItem.{FetchItem}
 use Rattle.imap_grammar.proofs.Cuts.{is_other}
-use Rattle.imap_grammar.proofs.Tokens.{starts, excludes, many_map, many_joined, blank_first, word_again, word_parts, not_true}
+use Rattle.imap_grammar.proofs.Tokens.{excludes, many_map, many_joined, not_true}
 use Rattle.imap_grammar.proofs.Separated.{AllRead, FoundWords, words_again, words_sound, said}
 use Rattle.imap_grammar.proofs.Parens.{edges_tight, separated_tight, separated_starts, tight_stops, tight_end, blank_again, blank_sound, paren_again, paren_sound}
-use Rattle.imap_grammar.proofs.WordLaws.{word_alone}
 use Rattle.imap_grammar.proofs.Keywords.{same_sound}
 use Rattle.imap_grammar.proofs.Fields.{word_of_again, word_of_sound}
 use Rattle.std.proofs.lemmas.List.{take-append-drop}

@@ -1,8 +1,8 @@
 -- Bytes outside of brackets, text by text.
-use Rattle.std.proofs.Common.{◌≡◌, ℕ, suc, Bool, true, false, List, [], ◌∷◌, ◌++◌, length, refl, ap, sym, subst, ◌∙◌, arith}
+use Rattle.std.proofs.Common.{◌≡◌, ℕ, Bool, true, false, List, [], ◌∷◌, ◌++◌, refl, ap, sym, subst, ◌∙◌, arith}
 use Rattle.std.specs.Prelude.{◌==◌, not, map}
 use Rattle.std.specs.Char.{to_ascii_lowercase}
-use Rattle.std.proofs.lemmas.Bool.Decides.{Decides-eqb, nat_tests}
+use Rattle.std.proofs.lemmas.Bool.Decides.{nat_tests}
 use Rattle.envelope.specs.Grammar.{Keyword, Many}
 use Rattle.imap_grammar.specs.Brackets.{in_bracket}
 use Rattle.imap_grammar.proofs.Cuts.{is_other}

@@ -10,7 +10,8 @@ use Rattle.envelope.specs.Grammar.{Many, Some1, Spaces, Gap}
 use Rattle.envelope.specs.Reading.{◌>>=◌, first_is, past_byte}
 use Rattle.imap_grammar.specs.Cuts.{cut_at}
 use Rattle.imap_grammar.specs.Grammar.{Separated}
-use Rattle.imap_grammar.specs.Reading.{is_tight, is_blank, in_parentheses}
+use Rattle.imap_grammar.specs.Reading.{is_tight, in_parentheses}
+use Rattle.imap_grammar.specs.Front.{is_blank}
 use Rattle.imap_grammar.proofs.Cuts.{is_other, cut_sound, cut_again}
 use Rattle.imap_grammar.proofs.Tokens.{not_true, starts}
 

@@ -16,7 +16,7 @@ use Rattle.imap_grammar.specs.Cuts.{cut_at}
 use Rattle.imap_grammar.specs.Numbers.{number_of, are_digits, number_up_to}
 use Rattle.imap_grammar.specs.Sets.{is_star, seq_number_of, range_of_cut, range_of, ranges_of}
 use Rattle.imap_grammar.specs.Grammar.{Digits, SeqNumberIs, RangeIs, SetIs, Others}
-use Rattle.imap_grammar.specs.Reading.{set_at}
+use Rattle.imap_grammar.specs.Sets.{set_at}
 use Rattle.imap_grammar.specs.declared.set.SeqNumber.{SeqNumber}
 use Rattle.imap_grammar.specs.declared.set.SeqNumber.TheVariants.{Number, Star}
 use Rattle.imap_grammar.specs.declared.set.SeqRange.{SeqRange}
@@ -185,7 +185,7 @@ set_sound s text e =
     subst (λ l. SetIs l text) (sym f.are ∙ k.1) f.is
 
 -- a byte of a set
-abbrev is_set : ℕ → Bool
+abbrev pub is_set : ℕ → Bool
 is_set b = is_range b || (b == 44)
 
 range_set : (text : List ℕ) → Many is_range text → Many is_set text
@@ -199,13 +199,18 @@ others_bytes (r ∷ rs) text q =
     (subst (Many is_set) (sym q.second.parts)
     (many_joined is_set q.second.front q.second.back (range_set q.second.front (range_bytes r q.second.front q.second.first).1) (others_bytes rs q.second.back q.second.second))))
 
-pub set_bytes : (s : List SeqRange) (text : List ℕ) → SetIs s text → Some1 is_not_space text
-set_bytes [] text h = absurd h
-set_bytes (r ∷ rs) text q =
+pub set_all : (s : List SeqRange) (text : List ℕ) → SetIs s text → Some1 is_set text
+set_all [] text h = absurd h
+set_all (r ∷ rs) text q =
     let a = range_bytes r q.front q.first in
     let all : Many is_set text = subst (Many is_set) (sym q.parts) (many_joined is_set q.front q.back (range_set q.front a.1) (others_bytes rs q.back q.second)) in
-    (subst (λ l. 0 < length l) (sym q.parts) (first_some q.front q.back a.0), many_map is_set is_not_space (λ b e. excludes is_set 32 refl b e) text all)
+    (subst (λ l. 0 < length l) (sym q.parts) (first_some q.front q.back a.0), all)
   where
     first_some : (x y : List ℕ) → 0 < length x → 0 < length (x ++ y)
     first_some [] y h = absurd (omega (arith, h))
     first_some (z ∷ x) y h = omega arith
+
+pub set_bytes : (s : List SeqRange) (text : List ℕ) → SetIs s text → Some1 is_not_space text
+set_bytes s text h =
+    let k = set_all s text h in
+    (k.0, many_map is_set is_not_space (λ b e. excludes is_set 32 refl b e) text k.1)

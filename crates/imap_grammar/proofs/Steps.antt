@@ -9,7 +9,9 @@ use Rattle.envelope.proofs.Steps.{drop_step}
 use Rattle.imap_grammar.specs.Bytes.{is_special, is_quotable}
 use Rattle.imap_grammar.specs.Brackets.{in_bracket, outside_len}
 use Rattle.imap_grammar.specs.Reading.{quoted_len}
-use Rattle.std.specs.Str.{bytes_eq}
+use Rattle.std.specs.Char.{to_ascii_lowercase}
+use Rattle.imap_grammar.specs.inner.Letters.{past_letter}
+use Rattle.std.specs.Str.{bytes_eq, str_eq_ignore_ascii_case as is_same}
 use Rattle.envelope.specs.Reading.{past_byte}
 use Rattle.std.specs.Prelude.{Option}
 
@@ -43,3 +45,16 @@ same_step b xs (y ∷ ys) = by (b == y) (y == b) (Decides-eqb b y) (Decides-eqb 
     by false false d e = refl
     by true false d e = absurd (let bad : false ≡ true = e.1 (sym (d.0 refl)) in cc)
     by false true d e = absurd (let bad : false ≡ true = d.1 (sym (e.0 refl)) in cc)
+
+-- the same in upper or lower case
+abbrev pub same_letters : Option (List ℕ) → List ℕ → Bool
+same_letters None xs = false
+same_letters (Some rest) xs = is_same xs rest
+
+pub letter_step : (b : ℕ) (xs ys : List ℕ) → is_same (b ∷ xs) ys ≡ same_letters (past_letter b ys) xs
+letter_step b xs [] = refl
+letter_step b xs (y ∷ ys) = by (to_ascii_lowercase b == to_ascii_lowercase y)
+  where
+    by : (t : Bool) → t && is_same xs ys ≡ same_letters (cond t (Some ys) None) xs
+    by true = refl
+    by false = refl

@@ -17,7 +17,8 @@ use Rattle.envelope.specs.Grammar.{Many, Some1, Gap}
 use Rattle.envelope.specs.Reading.{◌>>=◌, first_is, some_len, after_spaces}
 use Rattle.imap_grammar.specs.Bytes.{is_special, is_quotable}
 use Rattle.imap_grammar.specs.Grammar.{Quoted, end, plain, escaped, StringOf}
-use Rattle.imap_grammar.specs.Reading.{past_gap, word_at, quoted_len, string_len, string_at}
+use Rattle.imap_grammar.specs.Reading.{word_at, quoted_len, string_len, string_at}
+use Rattle.imap_grammar.specs.Front.{past_gap}
 
 -- ---- classes
 

@@ -29,3 +29,7 @@ is_comma b = b == 44
 -- of the name of a header field that isn't quoted: the bracket ends what it stands in
 abbrev pub is_field_byte : ℕ → Bool
 is_field_byte b = is_atom b && not (b == 93)
+
+-- of a word among the keys of a search: a space ends it, and so does a parenthesis
+abbrev pub is_key_byte : ℕ → Bool
+is_key_byte b = not (is_in (codes " ()") b)

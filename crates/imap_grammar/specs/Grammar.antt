@@ -1,6 +1,8 @@
 -- The command lines of IMAP, as ABNF (RFC 5234) would write them: a rule is the set of the texts that it
 -- spells, and P ⨾ Q is P followed by Q. The words that any such grammar needs are those of LMTP's.
-use Rattle.std.specs.Prelude.{◌≡◌, ℕ, ◌≤◌, Bool, true, false, codes, List, [], ◌∷◌, ◌⊎◌, Result, Ok, Err, Option, Some, None, if◌then◌else◌, min}
+use Rattle.std.specs.Prelude.{◌≡◌, ℕ, zero, suc, ◌≤◌, Bool, true, false, ◌||◌, codes, List, [], ◌∷◌, ◌++◌, ◌⊎◌, Result, Ok}
+use Rattle.std.specs.Prelude.{Err, Option, Some, None, if◌then◌else◌, min}
+use Rattle.std.specs.Str.{str_eq_ignore_ascii_case as is_same}
 use Rattle.change_ring.specs.Log.{no_flags}
 use Rattle.change_ring.specs.declared.change.Flags.{Flags}
 use Rattle.change_ring.specs.declared.flag_op.FlagOp.{FlagOp}
@@ -10,6 +12,7 @@ use Rattle.imap_grammar.specs.Bytes.{is_tag, is_atom, is_pattern, is_digit, is_q
 use Rattle.imap_grammar.specs.Numbers.{most_size, number_of}
 use Rattle.imap_grammar.specs.declared.command.Literal.{Literal}
 use Rattle.imap_grammar.specs.Items.{fast_items, flags_among}
+use Rattle.imap_grammar.specs.Keys.{Key, Always, Never, Has, Lacks, Larger, Smaller, Positions, Uids, Not, Or, all_of, flag_word}
 use Rattle.imap_grammar.specs.Verbs.{word_of, stands_behind_uid, is_left_out, verb_of}
 use Rattle.imap_grammar.specs.declared.set.SeqNumber.{SeqNumber}
 use Rattle.imap_grammar.specs.declared.set.SeqNumber.TheVariants.{Number, Star}
@@ -197,6 +200,50 @@ SizeIs size text = Some1 is_digit text × (size ≡ min (number_of text) most_si
 abbrev pub LiteralIs : Literal → Rule
 LiteralIs literal = Exactly (codes "{") ⨾ SizeIs literal.size ⨾ Exactly (if literal.waits then codes "}" else codes "+}")
 
+-- ---- searches
+
+-- a key with no other key in it
+abbrev pub SingleIs : Key → Rule
+SingleIs Always text = Keyword (codes "ALL") text ⊎ Keyword (codes "OLD") text ⊎ (Keyword (codes "UNKEYWORD") ⨾ Gap ⨾ Some1 is_atom) text
+SingleIs Never text = Keyword (codes "NEW") text ⊎ Keyword (codes "RECENT") text ⊎ (Keyword (codes "KEYWORD") ⨾ Gap ⨾ Some1 is_atom) text
+SingleIs (Has flag) text = Keyword (flag_word flag) text
+SingleIs (Lacks flag) text = Keyword (codes "UN" ++ flag_word flag) text
+SingleIs (Larger n) text = (Keyword (codes "LARGER") ⨾ Gap ⨾ Number63 n) text
+SingleIs (Smaller n) text = (Keyword (codes "SMALLER") ⨾ Gap ⨾ Number63 n) text
+SingleIs (Positions set) text = SetIs set text
+SingleIs (Uids set) text = (Keyword (codes "UID") ⨾ Gap ⨾ SetIs set) text
+SingleIs _ text = ⊥
+
+-- keys one after the other, each of them spelled as `each` says
+abbrev pub KeysOf : (Key → Rule) → Key → Rule
+KeysOf each key text = (first : Key) × (others : List Key) × (all_of first others ≡ key) × Separated Gap each (first ∷ others) text
+
+-- NOT, OR or parentheses, around keys that are spelled as `each` says
+abbrev pub AroundIs : (Key → Rule) → Key → Rule
+AroundIs each key text =
+    ((inner : Key) × (Not inner ≡ key) × (Keyword (codes "NOT") ⨾ Gap ⨾ each inner) text)
+    ⊎ ((one : Key) × (other : Key) × (Or one other ≡ key) × (Keyword (codes "OR") ⨾ Gap ⨾ each one ⨾ Gap ⨾ each other) text)
+    ⊎ Parenthesized (KeysOf each key) text
+
+-- a key, with NOT, OR and parentheses around one another at most so many levels deep
+unfoldable pub KeyIs : ℕ → Key → Rule
+KeyIs zero key text = SingleIs key text
+KeyIs (suc levels) key text = SingleIs key text ⊎ AroundIs (KeyIs levels) key text
+
+-- how deep they may stand around one another: no deeper than the server's stack has room for
+abbrev pub most_levels : ℕ
+most_levels = 32
+
+-- a charset in which keys are read here. There is no key whose text depends on it
+abbrev pub is_known_charset : List ℕ → Bool
+is_known_charset name = is_same name (codes "US-ASCII") || is_same name (codes "UTF-8")
+
+-- a charset and a gap; or nothing, which is as good as one that is known
+abbrev pub CharsetIs : Bool → Rule
+CharsetIs known text =
+    ((known ≡ true) × Exactly [] text)
+    ⊎ ((name : List ℕ) × (is_known_charset name ≡ known) × (Keyword (codes "CHARSET") ⨾ Gap ⨾ Name name ⨾ Gap) text)
+
 -- ---- lines
 
 abbrev pub TagIs : List ℕ → Rule
@@ -223,6 +270,7 @@ ArgumentsOf (say.UidExpunge set) = Gap ⨾ SetIs set
 ArgumentsOf (say.Fetch fetch) = Gap ⨾ SetIs fetch.set ⨾ Gap ⨾ ItemsAre fetch.items
 ArgumentsOf (say.Store store) = Gap ⨾ SetIs store.set ⨾ Gap ⨾ ChangeIs store.silent store.change
 ArgumentsOf (say.Append append) = Gap ⨾ Name append.name ⨾ Gap ⨾ GivenFlags append.flags ⨾ GivenDate ⨾ LiteralIs append.literal
+ArgumentsOf (say.Search search) = Gap ⨾ CharsetIs search.known_charset ⨾ KeysOf (KeyIs most_levels) search.keys
 ArgumentsOf (say.Lsub reference pattern) = Gap ⨾ Name reference ⨾ Gap ⨾ Pattern pattern
 ArgumentsOf (say.Subscribe name) = Gap ⨾ Name name
 ArgumentsOf (say.Unsubscribe name) = Gap ⨾ Name name

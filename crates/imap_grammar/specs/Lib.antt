@@ -1,11 +1,14 @@
 pub mod Bytes
 pub mod Numbers
 pub mod Cuts
+pub mod Front
 pub mod Brackets
 pub mod Sets
+pub mod Keys
 pub mod Items
 pub mod Verbs
 pub mod Grammar
+pub mod SearchReading
 pub mod Reading
 pub mod inner
 pub mod rows

@@ -1,25 +1,29 @@
 -- Reading a line from left to right. The contract of `read_line` says that this is the one reading that the
 -- grammar allows; nobody has to believe this file.
 use Rattle.std.specs.Prelude.{ℕ, suc, Bool, true, false, codes, List, [], ◌∷◌, length, take, drop, Option, Some, None, is_some, Result, Ok, Err, ◌==◌, ◌&&◌, ◌||◌, not, if◌then◌else◌, ◌-◌, slice_index, min}
-use Rattle.std.specs.List.{list_all, prefix_len, slice_split}
+use Rattle.std.specs.List.{list_all, prefix_len}
 use Rattle.std.specs.Option.{option_map}
 use Rattle.std.specs.Str.{str_eq_ignore_ascii_case as is_same}
 use Rattle.change_ring.specs.declared.change.Flags.{Flags}
 use Rattle.change_ring.specs.declared.flag_op.FlagOp.{FlagOp}
 use Rattle.change_ring.specs.declared.flag_op.FlagOp.TheVariants.{Set, Insert, Remove}
-use Rattle.envelope.specs.Bytes.{is_space, is_not_space}
+use Rattle.envelope.specs.Bytes.{is_not_space}
 use Rattle.envelope.specs.Directory.{value_of}
 use Rattle.envelope.specs.Reading.{◌>>=◌, first_is, some_len, words, after_spaces, past_byte}
-use Rattle.imap_grammar.specs.Bytes.{is_tag, is_atom, is_pattern, is_comma, is_quotable, is_special, is_digit, is_field_byte}
+use Rattle.imap_grammar.specs.Bytes.{is_tag, is_atom, is_pattern, is_quotable, is_special, is_digit, is_field_byte, is_key_byte}
 use Rattle.change_ring.specs.Log.{no_flags}
 use Rattle.imap_grammar.specs.Cuts.{cut_at}
 use Rattle.imap_grammar.specs.Brackets.{outside_len, item_word_at, item_words}
 use Rattle.imap_grammar.specs.Numbers.{most_size, number_of}
 use Rattle.imap_grammar.specs.declared.command.Literal.{Literal}
-use Rattle.imap_grammar.specs.Sets.{range_of, ranges_of}
+use Rattle.imap_grammar.specs.Front.{past_gap, is_blank}
+use Rattle.imap_grammar.specs.Grammar.{is_known_charset}
+use Rattle.imap_grammar.specs.SearchReading.{key_word_at, key_word_of, keys_in}
+use Rattle.imap_grammar.specs.declared.key_words.KeyWord.{KeyWord}
+use Rattle.imap_grammar.specs.declared.key_words.KeyWord.TheVariants.{Charset}
+use Rattle.imap_grammar.specs.Sets.{set_at}
 use Rattle.imap_grammar.specs.Items.{fetch_item_of, fetch_items_of, fast_items, status_item_of, status_items_of, is_flag, is_word_of, flags_among}
 use Rattle.imap_grammar.specs.Verbs.{word_of, is_left_out, offered, left_out, behind_uid, alone}
-use Rattle.imap_grammar.specs.declared.set.SeqRange.{SeqRange}
 use Rattle.imap_grammar.specs.declared.items.FetchItem.{FetchItem}
 use Rattle.imap_grammar.specs.declared.items.StatusItem.{StatusItem}
 use Rattle.imap_grammar.specs.declared.command.Verb.{Verb}
@@ -41,11 +45,9 @@ is_of classes.Atom = is_atom
 is_of classes.Pattern = is_pattern
 is_of classes.Digit = is_digit
 is_of classes.Field = is_field_byte
+is_of classes.Key = is_key_byte
 
 -- ---- parts at the front, and the bytes after them
-
-abbrev pub past_gap : List ℕ → Option (List ℕ)
-past_gap bytes = if first_is 32 bytes then Some (after_spaces bytes) else None
 
 abbrev pub word_at : List ℕ → List ℕ × List ℕ
 word_at bytes = (take (prefix_len is_not_space bytes) bytes, drop (prefix_len is_not_space bytes) bytes)
@@ -67,10 +69,6 @@ abbrev pub string_at : (ℕ → Bool) → List ℕ → Option (List ℕ × List 
 string_at class bytes = do
   n ← string_len class bytes
   Some (value_of (take n bytes), drop n bytes)
-
--- nothing, or spaces
-abbrev pub is_blank : List ℕ → Bool
-is_blank bytes = list_all is_space bytes
 
 abbrev pub if_end : {A : Type 0} → A → List ℕ → Option A
 if_end x bytes = if is_blank bytes then Some x else None
@@ -94,9 +92,6 @@ items_in_parentheses bytes = do
   if is_blank rest && is_tight (take (outside_len 41 false start) start) then Some (take (outside_len 41 false start) start) else None
 
 -- ---- arguments
-
-abbrev pub set_at : List ℕ → Option (List SeqRange)
-set_at word = if list_all (λ part. is_some (range_of part)) (slice_split is_comma word) then Some (ranges_of word) else None
 
 abbrev pub name_alone : (List ℕ → Command) → List ℕ → Option Command
 name_alone make bytes = do
@@ -245,6 +240,29 @@ append_at bytes = do
   literal ← literal_at rest
   if_end (say.Append (record { name = name.0; flags = flags.0; literal = literal.0 })) literal.1
 
+-- from behind CHARSET: whether it is known, and what comes after it and a gap
+abbrev pub charset_named : List ℕ → Option (Bool × List ℕ)
+charset_named bytes = do
+  start ← past_gap bytes
+  name ← string_at is_atom start
+  rest ← past_gap name.1
+  Some (is_known_charset name.0, rest)
+
+abbrev pub charset_or : Option KeyWord → List ℕ → List ℕ → Option (Bool × List ℕ)
+charset_or (Some Charset) rest bytes = charset_named rest
+charset_or _ rest bytes = Some (true, bytes)
+
+-- the charset of a search, which may be left out, and what comes after it
+abbrev pub charset_at : List ℕ → Option (Bool × List ℕ)
+charset_at bytes = charset_or (key_word_of (key_word_at bytes).0) (key_word_at bytes).1 bytes
+
+abbrev pub search_at : Bool → List ℕ → Option Command
+search_at by_uid bytes = do
+  start ← past_gap bytes
+  charset ← charset_at start
+  keys ← keys_in charset.1
+  Some (say.Search (record { by_uid = by_uid; known_charset = charset.0; keys = keys }))
+
 -- what a verb says with what comes after it. What is left out says nothing
 abbrev pub command_at : Verb → List ℕ → Option Command
 command_at verbs.Login rest = pair_at is_atom say.Login rest
@@ -263,6 +281,8 @@ command_at verbs.Append rest = append_at rest
 command_at verbs.Lsub rest = pair_at is_pattern say.Lsub rest
 command_at verbs.Subscribe rest = name_alone say.Subscribe rest
 command_at verbs.Unsubscribe rest = name_alone say.Unsubscribe rest
+command_at verbs.Search rest = search_at false rest
+command_at verbs.UidSearch rest = search_at true rest
 command_at verb rest = alone verb >>= λ command. if_end command rest
 
 -- ---- the line

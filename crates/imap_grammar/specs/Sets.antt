@@ -1,6 +1,6 @@
 -- Sets of messages: how they are spelled, and which messages they name (RFC 9051, 9: sequence-set).
-use Rattle.std.specs.Prelude.{ℕ, ◌+◌, ◌-◌, Bool, true, false, List, [], ◌∷◌, length, filter, Option, Some, None, map, option_map, min, max, nat_le, nat_lt, ◌==◌, ◌&&◌, ◌||◌, if◌then◌else◌, slice_index}
-use Rattle.std.specs.List.{list_any, slice_split, filter_map}
+use Rattle.std.specs.Prelude.{ℕ, ◌+◌, ◌-◌, Bool, true, false, List, [], ◌∷◌, length, filter, Option, Some, None, map, option_map, min, max, nat_le, nat_lt, is_some, ◌==◌, ◌&&◌, ◌||◌, if◌then◌else◌, slice_index}
+use Rattle.std.specs.List.{list_all, list_any, slice_split, filter_map}
 use Rattle.cursor_set.specs.Lines.{position}
 use Rattle.envelope.specs.Reading.{◌>>=◌, first_is}
 use Rattle.imap_grammar.specs.Bytes.{is_comma}
@@ -38,6 +38,10 @@ range_of text = range_of_cut text (cut_at 58 text)
 -- the ranges between the commas
 abbrev pub ranges_of : List ℕ → List SeqRange
 ranges_of text = filter_map range_of (slice_split is_comma text)
+
+-- the ranges of a word that is a set
+abbrev pub set_at : List ℕ → Option (List SeqRange)
+set_at word = if list_all (λ part. is_some (range_of part)) (slice_split is_comma word) then Some (ranges_of word) else None
 
 -- ---- meaning
 

@@ -60,23 +60,21 @@ is_left_out Delete = true
 is_left_out Rename = true
 is_left_out Copy = true
 is_left_out Move = true
-is_left_out Search = true
 is_left_out Enable = true
 is_left_out UidCopy = true
 is_left_out UidMove = true
-is_left_out UidSearch = true
 is_left_out _ = false
 
 -- the verbs of one word that are offered
 abbrev pub offered : List Verb
 offered =
     Capability ∷ Noop ∷ Logout ∷ Namespace ∷ Idle ∷ Login ∷ Authenticate ∷ StartTls ∷ Select ∷ Examine
-    ∷ ListNames ∷ Status ∷ Close ∷ Unselect ∷ Expunge ∷ Fetch ∷ Store ∷ Append ∷ Check ∷ Lsub ∷ Subscribe ∷ Unsubscribe ∷ []
+    ∷ ListNames ∷ Status ∷ Close ∷ Unselect ∷ Expunge ∷ Fetch ∷ Store ∷ Append ∷ Check ∷ Lsub ∷ Subscribe ∷ Unsubscribe ∷ Search ∷ []
 
 -- those of one word that aren't
 abbrev pub left_out : List Verb
 left_out =
-    Create ∷ Delete ∷ Rename ∷ Copy ∷ Move ∷ Search ∷ Enable ∷ []
+    Create ∷ Delete ∷ Rename ∷ Copy ∷ Move ∷ Enable ∷ []
 
 -- those of UID and a second word
 abbrev pub behind_uid : List Verb
@@ -120,3 +118,4 @@ verb_of say.Check = Check
 verb_of (say.Lsub reference pattern) = Lsub
 verb_of (say.Subscribe name) = Subscribe
 verb_of (say.Unsubscribe name) = Unsubscribe
+verb_of (say.Search search) = if search.by_uid then UidSearch else Search

@@ -1,1 +1,5 @@
 pub mod Choosing
+pub mod KeyCode
+pub mod KeysSaid
+pub mod Asking
+pub mod Letters

@@ -5,15 +5,18 @@ ghost use Rattle.std.specs.Prelude.{◌≡◌, ◌≤◌, length, take, false, t
 ghost use Rattle.std.specs.List.{list_all};
 ghost use Rattle.std.specs.Option.{option_copied, option_map};
 ghost use Rattle.envelope.specs.Reading.{first_is, some_len};
-ghost use Rattle.imap_grammar.specs.Reading.{is_of, quoted_len, string_len, string_at, in_parentheses, items_in_parentheses, fetch_items_at, flags_at, operation_of, change_with, name_alone, pair_at, status_at, fetch_at, store_at, set_alone, if_end, parens_at, flag_list_at, given_flags_at, past_quoted, past_date, literal_end, literal_at, append_at};
+ghost use Rattle.imap_grammar.specs.Grammar.{is_known_charset};
+ghost use Rattle.imap_grammar.specs.Reading.{is_of, quoted_len, string_len, string_at, in_parentheses, items_in_parentheses, fetch_items_at, flags_at, operation_of, change_with, name_alone, pair_at, status_at, fetch_at, store_at, set_alone, if_end, parens_at, flag_list_at, given_flags_at, past_quoted, past_date, literal_end, literal_at, append_at, charset_named, charset_at, search_at};
 ghost use Rattle.imap_grammar.specs.Bytes.{is_atom, is_pattern, is_special, is_quotable, is_digit};
 ghost use Rattle.imap_grammar.specs.declared.command.Command.TheVariants as say;
 
 use crate::bytes::{Class, is_blank, is_tight, past_gap, run_len, word_at};
-use crate::command::{Append, Command, Fetch, Literal, Store};
+use crate::command::{Append, Command, Fetch, Literal, Search, Store};
 use crate::cut::cut_at;
 use crate::item_words::{item_word_at, outside_len};
 use crate::items::{FetchItems, StatusItems};
+use crate::key_words::{KeyWord, key_word, key_word_at};
+use crate::keys::SearchKeys;
 use crate::name::Name;
 use crate::number::capped_number;
 use crate::set::SeqSet;
@@ -441,4 +444,46 @@ pub fn append(bytes: &[u8]) -> Option<Command<'_>>
         }),
         rest,
     )
+}
+
+/// Whether keys are read here in the charset of this name.
+fn is_known_charset(name: &Name<'_>) -> bool
+    ensures { result ≡ is_known_charset name.now }
+{
+    name.is_word(b"US-ASCII") || name.is_word(b"UTF-8")
+}
+
+/// Whether the charset behind CHARSET is known, and what follows it and a gap.
+fn charset_named(bytes: &[u8]) -> Option<(bool, &[u8])>
+    ensures { option_map (λ x. (x.0, x.1.now)) result ≡ charset_named bytes.now }
+{
+    let start = past_gap(bytes)?;
+    let (name, rest) = string_at(Class::Atom, start)?;
+    let rest = past_gap(rest)?;
+    Some((is_known_charset(&name), rest))
+}
+
+/// Whether the charset of a search is known, which may be left out, and what follows it.
+fn charset_at(bytes: &[u8]) -> Option<(bool, &[u8])>
+    ensures { option_map (λ x. (x.0, x.1.now)) result ≡ charset_at bytes.now }
+{
+    let (word, rest) = key_word_at(bytes);
+    match key_word(word) {
+        Some(KeyWord::Charset) => charset_named(rest),
+        _ => Some((true, bytes)),
+    }
+}
+
+/// What follows SEARCH or UID SEARCH.
+pub fn search(by_uid: bool, bytes: &[u8]) -> Option<Command<'_>>
+    ensures { result ≡ search_at by_uid bytes.now }
+{
+    let start = past_gap(bytes)?;
+    let (known_charset, rest) = charset_at(start)?;
+    let keys = SearchKeys::of(rest)?;
+    Some(Command::Search(Search {
+        by_uid,
+        known_charset,
+        keys,
+    }))
 }

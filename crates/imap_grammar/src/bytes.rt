@@ -4,7 +4,8 @@
 ghost use Rattle.std.specs.Prelude.{◌≡◌, ◌≤◌, length};
 ghost use Rattle.std.specs.List.{prefix_len};
 ghost use Rattle.std.specs.Option.{option_copied};
-ghost use Rattle.imap_grammar.specs.Reading.{is_of, past_gap, word_at, is_blank, is_tight};
+ghost use Rattle.imap_grammar.specs.Reading.{is_of, word_at, is_tight};
+ghost use Rattle.imap_grammar.specs.Front.{past_gap, is_blank};
 
 use envelope::after_spaces;
 
@@ -17,6 +18,7 @@ pub enum Class {
     Pattern,
     Digit,
     Field,
+    Key,
 }
 
 /// Whether a byte is of the class.
@@ -35,6 +37,7 @@ pub fn is_of(class: Class, b: u8) -> bool
         Class::Field => {
             graphic && !matches!(b, b'(' | b')' | b'{' | b'%' | b'*' | b'"' | b'\\' | b']')
         }
+        Class::Key => !matches!(b, b' ' | b'(' | b')'),
     }
 }
 

@@ -6,6 +6,7 @@ ghost use Rattle.imap_grammar.specs.Reading.{verb_among};
 ghost use Rattle.imap_grammar.specs.Verbs.{alone, behind_uid, is_left_out, left_out, offered};
 
 use crate::items::{FetchItems, StatusItems};
+use crate::keys::SearchKeys;
 use crate::name::Name;
 use crate::set::SeqSet;
 use change_ring::{FlagOp, Flags};
@@ -154,6 +155,31 @@ pub struct Append<'a> {
     pub literal: Literal,
 }
 
+/// SEARCH and UID SEARCH (RFC 9051, 6.4.4).
+#[derive(Drop)]
+pub struct Search<'a> {
+    /// The UIDs of the messages are asked for, and not their positions.
+    pub by_uid: bool,
+    /// The line names no charset, or US-ASCII or UTF-8.
+    pub known_charset: bool,
+    /// Which messages.
+    pub keys: SearchKeys<'a>,
+}
+
+impl<'a> Search<'a> {
+    ghost use Rattle.std.specs.Prelude.{◌≡◌, if◌then◌else◌};
+
+    fn verb(&self) -> Verb
+        ensures { result ≡ (if self.now.by_uid then Verb.UidSearch else Verb.Search) }
+    {
+        if self.by_uid {
+            Verb::UidSearch
+        } else {
+            Verb::Search
+        }
+    }
+}
+
 /// A command (RFC 9051, 6). What follows AUTHENTICATE and STARTTLS is dropped.
 #[derive(Drop)]
 pub enum Command<'a> {
@@ -196,6 +222,7 @@ pub enum Command<'a> {
     },
     Subscribe(Name<'a>),
     Unsubscribe(Name<'a>),
+    Search(Search<'a>),
 }
 
 impl<'a> Command<'a> {
@@ -230,6 +257,7 @@ impl<'a> Command<'a> {
             Command::Lsub { .. } => Verb::Lsub,
             Command::Subscribe(_) => Verb::Subscribe,
             Command::Unsubscribe(_) => Verb::Unsubscribe,
+            Command::Search(search) => search.verb(),
         }
     }
 }
@@ -295,6 +323,8 @@ pub(crate) fn offered(word: &[u8]) -> Option<Verb>
         Some(Verb::Subscribe)
     } else if word.eq_ignore_ascii_case(b"UNSUBSCRIBE") {
         Some(Verb::Unsubscribe)
+    } else if word.eq_ignore_ascii_case(b"SEARCH") {
+        Some(Verb::Search)
     } else {
         None
     }
@@ -314,8 +344,6 @@ pub(crate) fn left_out(word: &[u8]) -> Option<Verb>
         Some(Verb::Copy)
     } else if word.eq_ignore_ascii_case(b"MOVE") {
         Some(Verb::Move)
-    } else if word.eq_ignore_ascii_case(b"SEARCH") {
-        Some(Verb::Search)
     } else if word.eq_ignore_ascii_case(b"ENABLE") {
         Some(Verb::Enable)
     } else {
@@ -355,11 +383,9 @@ pub(crate) fn is_left_out(verb: Verb) -> bool
             | Verb::Rename
             | Verb::Copy
             | Verb::Move
-            | Verb::Search
             | Verb::Enable
             | Verb::UidCopy
             | Verb::UidMove
-            | Verb::UidSearch
     )
 }
 

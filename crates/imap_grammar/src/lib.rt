@@ -9,6 +9,8 @@ mod command;
 mod cut;
 mod item_words;
 mod items;
+mod key_words;
+mod keys;
 mod name;
 mod number;
 mod positions;
@@ -18,10 +20,12 @@ mod set;
 mod view;
 mod words;
 
-pub use command::{Append, Command, Fetch, ImapFault, Literal, Store, Tag, Verb};
+pub use command::{Append, Command, Fetch, ImapFault, Literal, Search, Store, Tag, Verb};
 pub use items::{
     BodyPart, FetchItem, FetchItems, FieldNames, Section, Span, StatusItem, StatusItems,
 };
+pub use key_words::SystemFlag;
+pub use keys::SearchKeys;
 pub use name::Name;
 pub use reading::{is_done, read_line};
 pub use set::{SeqNumber, SeqRange, SeqSet, SetFault};

@@ -2,7 +2,9 @@
 //! Whether a mailbox has that name is told above.
 
 ghost use Rattle.std.specs.Prelude.{◌≡◌, IfOk, false};
-ghost use Rattle.std.specs.Str.{bytes_eq};
+ghost use Rattle.std.specs.Option.{option_copied};
+ghost use Rattle.std.specs.Str.{bytes_eq, str_eq_ignore_ascii_case as is_same};
+ghost use Rattle.imap_grammar.specs.inner.Letters.{past_letter};
 ghost use Rattle.envelope.specs.Directory.{value_of, unquoted};
 
 use envelope::past_byte;
@@ -54,6 +56,40 @@ fn is_unquoted(text: &[u8], bytes: &[u8]) -> bool
     rest.is_empty()
 }
 
+// What follows a byte, which may be of the other case.
+fn past_letter(b: u8, text: &[u8]) -> Option<&[u8]>
+    ensures { option_copied result ≡ past_letter b text.now }
+{
+    match text {
+        [first, rest @ ..] if b.to_ascii_lowercase() == first.to_ascii_lowercase() => Some(rest),
+        _ => None,
+    }
+}
+
+// Whether what stands in a quoted string, from behind its first quote, says these bytes in upper or lower case.
+#[tactic(auto, using(crate::proofs::Steps::unquoted_step, crate::proofs::Steps::letter_step))]
+fn is_unquoted_word(text: &[u8], word: &[u8]) -> bool
+    ensures { result ≡ is_same (unquoted false text.now) word.now }
+{
+    let mut rest = word;
+    let mut escaped = false;
+    for b in text {
+        if !escaped && *b == b'"' {
+            return rest.is_empty();
+        }
+        if !escaped && *b == b'\\' {
+            escaped = true;
+        } else {
+            let Some(others) = past_letter(*b, rest) else {
+                return false;
+            };
+            rest = others;
+            escaped = false;
+        }
+    }
+    rest.is_empty()
+}
+
 /// A name or a pattern, as it stands in a line, plain or within quotes: in contracts the bytes that it says.
 #[derive(Drop)]
 pub struct Name<'a> {
@@ -71,7 +107,7 @@ impl<'a> Model for Name<'a> {
 
 impl<'a> Name<'a> {
     ghost use Rattle.std.specs.Prelude.{◌≡◌, IfOk};
-    ghost use Rattle.std.specs.Str.{bytes_eq};
+    ghost use Rattle.std.specs.Str.{bytes_eq, str_eq_ignore_ascii_case as is_same};
 
     /// The name that is spelled so.
     pub(crate) fn of(spelled: &'a [u8]) -> Name<'a>
@@ -87,6 +123,16 @@ impl<'a> Name<'a> {
         match self.spelled {
             [b'"', rest @ ..] => is_unquoted(rest, bytes),
             _ => self.spelled == bytes,
+        }
+    }
+
+    /// Whether the name says these bytes in upper or lower case. It takes no memory.
+    pub(crate) fn is_word(&self, word: &[u8]) -> bool
+        ensures { result ≡ is_same self.now word.now }
+    {
+        match self.spelled {
+            [b'"', rest @ ..] => is_unquoted_word(rest, word),
+            _ => self.spelled.eq_ignore_ascii_case(word),
         }
     }
 

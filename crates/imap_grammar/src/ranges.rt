@@ -56,6 +56,33 @@ pub(crate) fn is_one_too_high(text: &[u8], count: usize) -> bool
     names_one_above(rest, count)
 }
 
+fn part_names(part: &[u8], greatest: usize, n: usize) -> bool
+    ensures { result ≡ is_named (option_to_list (range_of part.now)) greatest n }
+{
+    match range_in(part) {
+        Some(range) => {
+            let a = numeric_of(greatest, range.from);
+            let b = numeric_of(greatest, range.to);
+            a.min(b) <= n && n <= a.max(b)
+        }
+        None => false,
+    }
+}
+
+/// Whether a range of a set names a number, where `*` is the greatest. Takes no memory.
+pub(crate) fn is_number_named(text: &[u8], greatest: usize, n: usize) -> bool
+    ensures { result ≡ is_named (ranges_of text.now) greatest n }
+{
+    let mut rest = text;
+    while let Some((part, others)) = cut_at(b',', rest) {
+        if part_names(part, greatest, n) {
+            return true;
+        }
+        rest = others;
+    }
+    part_names(rest, greatest, n)
+}
+
 // The greatest UID of a view, which is the last; 0 where there is none.
 fn last_uid(view: &[u32]) -> usize
     ensures { result ≡ last_uid view.now }

@@ -9,7 +9,7 @@ ghost use Rattle.imap_grammar.specs.declared.command.ImapFault.{ImapFault};
 ghost use Rattle.imap_grammar.specs.Reading.{verb_alone, alone_at, second_at, verb_at, command_at, read, is_done};
 
 use crate::arguments::{
-    append, examine, fetch, if_end, list, login, lsub, select, status, store, subscribe,
+    append, examine, fetch, if_end, list, login, lsub, search, select, status, store, subscribe,
     uid_expunge, unsubscribe,
 };
 use crate::bytes::{Class, is_blank, word_at};
@@ -59,6 +59,7 @@ fn verb_at(bytes: &[u8]) -> Option<(Verb, &[u8])>
 }
 
 /// The command of a verb and what stands behind it.
+#[tactic(auto, using(crate::proofs::AloneLaw::said_alone))]
 fn command_at(verb: Verb, rest: &[u8]) -> Option<Command<'_>>
     ensures { result ≡ command_at verb rest.now }
 {
@@ -79,6 +80,8 @@ fn command_at(verb: Verb, rest: &[u8]) -> Option<Command<'_>>
         Verb::Lsub => lsub(rest),
         Verb::Subscribe => subscribe(rest),
         Verb::Unsubscribe => unsubscribe(rest),
+        Verb::Search => search(false, rest),
+        Verb::UidSearch => search(true, rest),
         _ => if_end(alone(verb)?, rest),
     }
 }

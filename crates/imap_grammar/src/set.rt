@@ -9,7 +9,9 @@ ghost use Rattle.imap_grammar.specs.Sets.{seq_number_of, range_of, ranges_of};
 
 use crate::cut::cut_at;
 use crate::number::number_up_to;
-use crate::ranges::{is_one_named, is_one_too_high, positions_in, ranges_in, uids_in};
+use crate::ranges::{
+    is_number_named, is_one_named, is_one_too_high, positions_in, ranges_in, uids_in,
+};
 use crate::view::{Named, with_positions};
 use mailbox::View;
 use std::alloc::{AllocError, Global};
@@ -113,9 +115,10 @@ fn are_ranges(text: &[u8]) -> bool
 impl<'a> SeqSet<'a> {
     ghost use Rattle.std.specs.Prelude.{Some, None, IfOk, IfErr, OnErr, Err, [], true, map, ◌≢◌, ◌↔◌};
     ghost use Rattle.std.specs.List.Sorted.{IsStrictlyIncreasing};
-    ghost use Rattle.imap_grammar.specs.Sets.{messages_in, named_in, names_one};
+    ghost use Rattle.imap_grammar.specs.Sets.{is_named, messages_in, named_in, names_one};
+    ghost use Rattle.imap_grammar.specs.Keys.{all_messages};
     ghost use Rattle.imap_grammar.specs.declared.set.SetFault.{SetFault};
-    ghost use Rattle.imap_grammar.specs.Reading.{set_at};
+    ghost use Rattle.imap_grammar.specs.Sets.{set_at};
 
     /// The set that a word says.
     pub(crate) fn of(word: &'a [u8]) -> Option<SeqSet<'a>>
@@ -126,6 +129,21 @@ impl<'a> SeqSet<'a> {
         } else {
             None
         }
+    }
+
+    /// The set of all messages, `1:*`.
+    #[tactic(auto, using(crate::proofs::SetParts::all_said))]
+    pub fn all() -> SeqSet<'static>
+        ensures { result ≡ all_messages }
+    {
+        SeqSet { spelled: b"1:*" }
+    }
+
+    // Whether the set names a number, where `*` is the greatest.
+    pub(crate) fn names(&self, greatest: usize, n: usize) -> bool
+        ensures { result ≡ is_named self.now greatest n }
+    {
+        is_number_named(self.spelled, greatest, n)
     }
 
     // The UIDs of the messages of a view that the set names, as `resolve` says.

@@ -32,6 +32,8 @@ lacking_refuses verbs.Check = refl
 lacking_refuses verbs.Lsub = refl
 lacking_refuses verbs.Subscribe = refl
 lacking_refuses verbs.Unsubscribe = refl
+lacking_refuses verbs.Search = refl
+lacking_refuses verbs.UidSearch = refl
 lacking_refuses _ = tt
 
 unoffered_refuses : (profile : Profile) (command : Command) → Refuses (unoffered profile command)

@@ -3,6 +3,7 @@ pub mod Runs
 pub mod Shown
 pub mod Showing
 pub mod Fetching
+pub mod Searching
 pub mod Choosing
 pub mod Saying
 pub mod Storing

@@ -7,11 +7,14 @@ use Rattle.cursor_set.specs.Lines.{position, flag_words, spaced}
 use Rattle.std.specs.Prelude.{decimal, map}
 use Rattle.imap_answers.specs.Answers.{answered, fetch_answer, item_text, status_text, flags_answer}
 use Rattle.imap_grammar.specs.Reading.{is_done}
-use Rattle.imap_grammar.specs.Sets.{named_in}
+use Rattle.imap_grammar.specs.Keys.{all_messages}
+use Rattle.imap_grammar.specs.Sets.{last_uid, named_at, named_in}
 use Rattle.imap_grammar.specs.declared.command.Command.{Command}
 use Rattle.imap_grammar.specs.declared.command.Command.TheVariants as commands
 use Rattle.imap_grammar.specs.declared.command.Fetch.{Fetch}
 use Rattle.imap_grammar.specs.declared.command.Store.{Store}
+use Rattle.imap_grammar.specs.declared.command.Search.{Search}
+use Rattle.imap_grammar.specs.declared.view.Named.{Named}
 use Rattle.imap_session.specs.declared.standing.Selected.{Selected}
 use Rattle.imap_session.specs.declared.standing.Profile.{Profile}
 use Rattle.imap_session.specs.declared.standing.Profile.TheVariants.{Standard, Compatible}
@@ -20,7 +23,7 @@ use Rattle.imap_session.proofs.Barring.{answering_has, refuses}
 use Rattle.std.specs.Prelude.{nat_lt}
 use Rattle.imap_grammar.specs.declared.command.Append.{Append}
 use Rattle.imap_session.specs.Exchange.{Exchange, Expunge, Feed, Folder, ForNothing, Standing, Wait, Write, bye, untagged}
-use Rattle.imap_session.specs.Commands.{answering, telling_recent, asking, coming, most_unasked, nowhere, is_over, number_named, over, wanting, wanting_for, on_command, on_idle_line, counting, folder_of, showing, completed, closing, entering, on_folder, on_chosen, messages_done, on_found, fetching, storing, fetched, if_writable, expunge_set, store_messages, fetch_messages, unlimited, wrong_state, says, notice, noticing}
+use Rattle.imap_session.specs.Commands.{answering, telling_recent, asking, coming, most_unasked, nowhere, is_over, number_named, over, wanting, wanting_for, on_command, on_idle_line, counting, folder_of, showing, completed, closing, entering, on_folder, on_chosen, messages_done, on_found, fetching, storing, fetched, if_writable, expunge_set, found_in, search_done, search_known, search_messages, searching, store_messages, fetch_messages, unlimited, wrong_state, says, notice, noticing}
 use Rattle.imap_session.proofs.Appends.{asked_at, sent_at}
 use Rattle.imap_session.specs.Shows.{DoneShowsInOrder, IsFetchLine, IsNoOk, IsNotice, MaySay, ShowsBefore, ShowsInOrder, may_show}
 use Rattle.imap_session.specs.declared.texts.ResponseText.TheVariants as texts
@@ -74,6 +77,12 @@ in_fetching : (now : Standing) (command : Command) (fetch : Fetch) (mark : Bool)
 in_fetching now command fetch mark view done p s [] gone = p gone
 in_fetching now command fetch mark view done p s (uid ∷ uids) gone =
     elim [ None ↦ in_fetching now command fetch mark view done p s uids true | Some row ↦ (s uid row, in_fetching now command fetch mark view done p s uids gone) ]
+
+in_searching : (now : Standing) (command : Command) (search : Search) (last : Named) (view : List ℕ) (done : List ℕ → Exchange) → ((found : List ℕ) → ShowsInOrder now command (done found))
+    → (uids found : List ℕ) → ShowsInOrder now command (searching search last view done uids found)
+in_searching now command search last view done p [] found = p found
+in_searching now command search last view done p (uid ∷ uids) found =
+    elim [ None ↦ in_searching now command search last view done p uids found | Some row ↦ in_searching now command search last view done p uids (found ++ found_in search last (named_at view uid) row) ]
 
 in_silence : (now : Standing) (command : Command) (silent : Bool) (text : List ℕ) (x : Exchange) → MaySay now command text → ShowsInOrder now command x
     → ShowsInOrder now command (if silent then x else Write text x)
@@ -182,6 +191,15 @@ shown_in_order now (commands.Store store) =
     (λ view. in_chosen now (commands.Store store) (named_in store.by_uid store.set view) _
     (λ uids. in_storing now (commands.Store store) store view _ (λ gone. in_done now (commands.Store store) store.by_uid gone refl)
     (λ uid flags. flags_form store.by_uid (position uid view) uid flags) uids false))
+shown_in_order now (commands.Search search) =
+    in_found now (commands.Search search) now.selected (search_known search)
+    (λ s. in_either now (commands.Search search) search.known_charset (search_messages search) (says (response_text texts.BadCharset))
+    (λ view. in_chosen now (commands.Search search) (named_in true all_messages view) (λ uids. wanting (searching search (named_at view (last_uid uids)) view (search_done search) uids [])) (λ uids. (
+      inl refl,
+      in_searching now (commands.Search search) search (named_at view (last_uid uids)) view (search_done search)
+          (λ found. (inr (found, refl), in_done now (commands.Search search) search.by_uid false refl)) uids [],
+    )))
+    (λ must. refl))
 shown_in_order now (commands.Append append) = in_append now now.mailing.most append (number_named append.name now.folders)
 shown_in_order now command = notice_shown now command (notice now.profile command) (λ bytes is. is) refl
 

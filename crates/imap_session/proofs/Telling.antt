@@ -12,7 +12,8 @@ use Rattle.std.proofs.lemmas.List.Splits.{slice_split_at, slice_split_none}
 use Rattle.mailbox.specs.declared.clients.MailFault.{MailFault}
 use Rattle.mailbox.specs.declared.clients.MailFault.TheVariants as mail_faults
 use Rattle.imap_grammar.specs.Reading.{is_done}
-use Rattle.imap_grammar.specs.Sets.{named_in}
+use Rattle.imap_grammar.specs.Keys.{all_messages}
+use Rattle.imap_grammar.specs.Sets.{last_uid, named_at, named_in}
 use Rattle.imap_grammar.specs.declared.command.Append.{Append}
 use Rattle.imap_grammar.specs.declared.command.Command.{Command}
 use Rattle.imap_grammar.specs.declared.command.Command.TheVariants as commands
@@ -20,6 +21,8 @@ use Rattle.imap_grammar.specs.declared.command.Fetch.{Fetch}
 use Rattle.imap_grammar.specs.declared.command.ImapFault.{ImapFault}
 use Rattle.imap_grammar.specs.declared.command.ImapFault.TheVariants as faults
 use Rattle.imap_grammar.specs.declared.command.Store.{Store}
+use Rattle.imap_grammar.specs.declared.command.Search.{Search}
+use Rattle.imap_grammar.specs.declared.view.Named.{Named}
 use Rattle.imap_grammar.specs.declared.command.Verb.TheVariants as verbs
 use Rattle.imap_grammar.specs.Verbs.{verb_of}
 use Rattle.delivery_token.specs.declared.Verdict.{Verdict}
@@ -29,7 +32,7 @@ use Rattle.imap_session.specs.declared.standing.Profile.{Profile}
 use Rattle.imap_session.specs.declared.standing.Profile.TheVariants.{Standard, Compatible}
 use Rattle.imap_session.proofs.Barring.{answering_has}
 use Rattle.imap_session.specs.Exchange.{Appending, Exchange, Expunge, Feed, Folder, ForNothing, ForVerdict, Mailing, Standing, Wait, Write, bye, kept_behind, kept_tag, refusal_text}
-use Rattle.imap_session.specs.Commands.{answering, arguments_text, subscribing, telling_recent, appended_words, asking, coming, closing, completed, counting, entering, expunge_set, fault_text, fetch_messages, fetching, folder_of, if_writable, is_over, last_number, long_rest_text, long_text, most_unasked, messages_done, nowhere, number_named, on_chosen, on_command, on_folder, on_found, on_idle_line, on_rest, on_text, on_verdict, over, refused_text, says, showing, store_messages, storing, turn_of_long_line, unlimited, wanting, wanting_for, wrong_state, entered_text}
+use Rattle.imap_session.specs.Commands.{answering, arguments_text, subscribing, telling_recent, appended_words, asking, coming, closing, completed, counting, entering, expunge_set, fault_text, fetch_messages, fetching, folder_of, found_in, if_writable, is_over, last_number, long_rest_text, long_text, most_unasked, messages_done, nowhere, number_named, on_chosen, on_command, on_folder, on_found, on_idle_line, on_rest, on_text, on_verdict, over, refused_text, says, search_done, search_known, search_messages, searching, showing, store_messages, storing, turn_of_long_line, unlimited, wanting, wanting_for, wrong_state, entered_text}
 use Rattle.imap_session.specs.Telling.{LineTellsNoUid, RefusalTellsNoUid, TellsNoUid, VerdictTellsUid, WordsTellWhich, fault_tag, tells_uid}
 use Rattle.imap_session.proofs.Appends.{asked_at, sent_at}
 use Rattle.imap_session.specs.declared.texts.ResponseText.TheVariants as texts
@@ -75,6 +78,12 @@ in_fetching : (fetch : Fetch) (mark : Bool) (view : List ℕ) (done : Bool → E
 in_fetching fetch mark view done p [] gone = p gone
 in_fetching fetch mark view done p (uid ∷ uids) gone =
     elim [ None ↦ in_fetching fetch mark view done p uids true | Some row ↦ in_fetching fetch mark view done p uids gone ]
+
+in_searching : (search : Search) (last : Named) (view : List ℕ) (done : List ℕ → Exchange) → ((found : List ℕ) → TellsNoUid (done found))
+    → (uids found : List ℕ) → TellsNoUid (searching search last view done uids found)
+in_searching search last view done p [] found = p found
+in_searching search last view done p (uid ∷ uids) found =
+    elim [ None ↦ in_searching search last view done p uids found | Some row ↦ in_searching search last view done p uids (found ++ found_in search last (named_at view uid) row) ]
 
 in_silence : (silent : Bool) (text : List ℕ) (x : Exchange) → TellsNoUid x → TellsNoUid (if silent then x else Write text x)
 in_silence true text x p = p
@@ -146,6 +155,11 @@ command_tells_none now (commands.Store store) =
     in_writable now.selected (store_messages store)
     (λ view. in_chosen (named_in store.by_uid store.set view) _
     (λ uids. in_storing store view _ (λ gone. in_done (commands.Store store) store.by_uid gone (row_tells_none (texts.Completed (verb_of (commands.Store store))))) uids false))
+command_tells_none now (commands.Search search) =
+    in_found (search_known search) wrong_state
+    (λ s. in_either search.known_charset (search_messages search) (says (response_text texts.BadCharset))
+    (λ view. in_chosen (named_in true all_messages view) (λ uids. wanting (searching search (named_at view (last_uid uids)) view (search_done search) uids []))
+    (λ uids. in_searching search (named_at view (last_uid uids)) view (search_done search) (λ found. in_done (commands.Search search) search.by_uid false (row_tells_none (texts.Completed (verb_of (commands.Search search))))) uids [])) refl) refl now.selected
 command_tells_none now (commands.Append append) = append_tells_none now.mailing.most append (number_named append.name now.folders)
 command_tells_none now _ = refl
 

@@ -15,17 +15,20 @@ use Rattle.imap_grammar.specs.declared.command.Command.TheVariants as commands
 use Rattle.imap_grammar.specs.declared.command.Fetch.{Fetch}
 use Rattle.imap_grammar.specs.declared.command.Append.{Append}
 use Rattle.imap_grammar.specs.declared.command.Store.{Store}
+use Rattle.imap_grammar.specs.declared.command.Search.{Search}
+use Rattle.imap_grammar.specs.declared.view.Named.{Named}
 use Rattle.delivery_token.specs.declared.Refusal.{Refusal}
 use Rattle.delivery_token.specs.declared.Refusal.TheVariants as refusals
 use Rattle.delivery_token.specs.declared.Verdict.{Verdict}
 use Rattle.delivery_token.specs.declared.Verdict.TheVariants as verdicts
 use Rattle.imap_grammar.specs.declared.command.ImapFault.{ImapFault}
 use Rattle.imap_grammar.specs.declared.command.ImapFault.TheVariants as faults
-use Rattle.imap_grammar.specs.Sets.{named_in}
+use Rattle.imap_grammar.specs.Keys.{all_messages, matches}
+use Rattle.imap_grammar.specs.Sets.{last_uid, named_at, named_in}
 use Rattle.imap_grammar.specs.Verbs.{verb_of}
 use Rattle.imap_grammar.specs.Reading.{is_done, read}
 use Rattle.imap_grammar.specs.Items.{is_compatible, is_recent, marks_seen}
-use Rattle.imap_answers.specs.Answers.{flags_answer, is_inbox, list_answer, opening_text, row_answer, status_answer}
+use Rattle.imap_answers.specs.Answers.{flags_answer, is_inbox, list_answer, opening_text, row_answer, search_answer, status_answer}
 use Rattle.imap_session.specs.declared.standing.After.TheVariants.{Go, Bye}
 use Rattle.imap_session.specs.declared.standing.After.TheVariants as afters
 use Rattle.imap_session.specs.declared.standing.Selected.{Selected}
@@ -159,6 +162,24 @@ storing store view done (uid ∷ uids) gone =
     Alter uid store.change (on_found (λ flags. stored store view uid flags (storing store view done uids gone))
     (storing store view done uids true))
 
+-- the number of a message that was read, where the keys are so of it; `last` is the last message of the view
+abbrev pub found_in : Search → (last message : Named) → Row → List ℕ
+found_in search last message row =
+    if matches search.keys last message row.flags (length row.text)
+    then (if search.by_uid then message.uid else message.position) ∷ []
+    else []
+
+-- reads each message, and keeps the numbers of those that are found; none is kept of one that is gone
+abbrev pub searching : Search → (last : Named) (view : List ℕ) → (List ℕ → Exchange) → (uids found : List ℕ) → Exchange
+searching search last view done [] found = done found
+searching search last view done (uid ∷ uids) found =
+    Read uid false (on_found (λ row. searching search last view done uids (found ++ found_in search last (named_at view uid) row))
+    (searching search last view done uids found))
+
+-- tells which were found, on one line
+abbrev pub search_done : Search → List ℕ → Exchange
+search_done search found = Write (search_answer found) (messages_done (commands.Search search) search.by_uid false)
+
 -- ---- commands
 
 abbrev pub wrong_state : Exchange
@@ -185,6 +206,14 @@ abbrev pub store_messages : Store → Exchange
 store_messages store =
     on_set store.by_uid store.set (λ view uids.
     storing store view (messages_done (commands.Store store) store.by_uid) uids false)
+
+-- Each message of the view is looked at. Memory is wanted, for the numbers of those that are found.
+abbrev pub search_messages : Search → Exchange
+search_messages search =
+    on_set true all_messages (λ view uids. wanting (searching search (named_at view (last_uid uids)) view (search_done search) uids []))
+
+abbrev pub search_known : Search → Selected → Exchange
+search_known search selected = if search.known_charset then search_messages search else says (response_text texts.BadCharset)
 
 -- The set is resolved on the view before the changes are shown, and what they showed can't come into it. Then memory is wanted, for the UIDs that it names, where it names one.
 abbrev pub expunge_set : List SeqRange → Exchange
@@ -309,6 +338,7 @@ on_command now commands.Unselect = in_selected now (λ selected. Leave false (co
 on_command now commands.Expunge = in_writable now (Expunge None (Feed unlimited (completed commands.Expunge)))
 on_command now (commands.UidExpunge set) = in_writable now (expunge_set set)
 on_command now (commands.Fetch fetch) = in_selected now (fetch_messages fetch)
+on_command now (commands.Search search) = in_selected now (search_known search)
 on_command now (commands.Store store) = in_writable now (store_messages store)
 on_command now (commands.Append append) = appending now.mailing.most now.folders append
 on_command now command = noticing (notice now.profile command) (completed command)
@@ -322,6 +352,8 @@ standard_lacks verbs.Check = Some texts.UnknownCommand
 standard_lacks verbs.Lsub = Some texts.UnknownCommand
 standard_lacks verbs.Subscribe = Some texts.NotOffered
 standard_lacks verbs.Unsubscribe = Some texts.NotOffered
+standard_lacks verbs.Search = Some texts.NotOffered
+standard_lacks verbs.UidSearch = Some texts.NotOffered
 standard_lacks _ = None
 
 abbrev pub unoffered_verb : Profile → Verb → Option ResponseText

@@ -10,7 +10,7 @@ use Rattle.imap_grammar.specs.declared.command.Command.TheVariants as commands
 use Rattle.imap_grammar.specs.Reading.{is_done}
 use Rattle.delivery_token.specs.declared.Verdict.{Verdict}
 use Rattle.delivery_token.specs.declared.Verdict.TheVariants.{Stored, Refused}
-use Rattle.imap_answers.specs.Answers.{list_answer, opening_text}
+use Rattle.imap_answers.specs.Answers.{list_answer, opening_text, search_answer}
 use Rattle.imap_answers.specs.declared.list.Listing.TheVariants.{All, Subscribed}
 use Rattle.imap_session.specs.declared.standing.After.TheVariants.{Submit}
 use Rattle.imap_session.specs.declared.standing.Selected.{Selected}
@@ -30,6 +30,7 @@ may_show (commands.Status name items) = true
 may_show (commands.UidExpunge set) = true
 may_show (commands.Fetch fetch) = fetch.by_uid
 may_show (commands.Store store) = store.by_uid
+may_show (commands.Search search) = search.by_uid
 may_show _ = false
 
 -- the command shows changes before it removes messages, too
@@ -69,6 +70,7 @@ MaySay now (commands.Unsubscribe name) bytes = bytes ≡ []
 MaySay now (commands.Status name items) bytes = (bytes ≡ []) ⊎ ((rest : List ℕ) × (bytes ≡ codes "* STATUS " ++ rest))
 MaySay now (commands.Fetch fetch) bytes = (bytes ≡ []) ⊎ IsFetchLine bytes
 MaySay now (commands.Store store) bytes = IsFetchLine bytes
+MaySay now (commands.Search search) bytes = (bytes ≡ []) ⊎ ((found : List ℕ) × (bytes ≡ search_answer found))
 MaySay now (commands.UidExpunge set) bytes = bytes ≡ []
 MaySay now commands.Idle bytes = bytes ≡ continuing (response_text texts.Idling)
 MaySay now (commands.Append append) bytes = (bytes ≡ []) ⊎ (bytes ≡ continuing (response_text texts.Ready)) ⊎ (bytes ≡ bye (response_text texts.LiteralTooBig))

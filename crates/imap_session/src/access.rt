@@ -18,6 +18,7 @@ fn standard_lacks(verb: Verb) -> Option<ResponseText>
         Verb::Login => Some(ResponseText::WrongState),
         Verb::Check | Verb::Lsub => Some(ResponseText::UnknownCommand),
         Verb::Subscribe | Verb::Unsubscribe => Some(ResponseText::NotOffered),
+        Verb::Search | Verb::UidSearch => Some(ResponseText::NotOffered),
         _ => None,
     }
 }

@@ -15,6 +15,7 @@ mod laws;
 mod mailing;
 mod response;
 mod say;
+mod search;
 mod select;
 mod selected;
 mod session;

@@ -6,7 +6,7 @@ ghost use Rattle.std.specs.List.{list_any};
 ghost use Rattle.imap_grammar.specs.Items.{marks_seen};
 ghost use Rattle.imap_grammar.specs.declared.command.Command.TheVariants as commands;
 ghost use Rattle.imap_session.specs.Exchange.{Exchange, Expunge, Feed, Leave};
-ghost use Rattle.imap_session.specs.Commands.{completed, expunge_set, fetch_messages, if_writable, on_found, says, store_messages, unlimited, wrong_state};
+ghost use Rattle.imap_session.specs.Commands.{completed, expunge_set, fetch_messages, if_writable, on_found, says, search_known, store_messages, unlimited, wrong_state};
 ghost use Rattle.imap_session.specs.Response.{Response as ResponseSpec};
 ghost use Rattle.imap_session.specs.Texts.{response_text};
 ghost use Rattle.imap_session.specs.inner.Store.{Does, Moves, last};
@@ -14,12 +14,13 @@ ghost use Rattle.imap_session.specs.inner.Store.{Does, Moves, last};
 use crate::expunge::{expunge_all, expunge_set};
 use crate::fetch::fetch_messages;
 use crate::response::Response;
+use crate::search::search_messages;
 use crate::select::leave_mailbox;
 use crate::set_flags::store_messages;
 use crate::standing::Selected;
 use crate::store::Store;
 use crate::texts::ResponseText;
-use imap_grammar::{Fetch, SeqSet, Store as StoreCommand, Verb};
+use imap_grammar::{Fetch, Search, SeqSet, Store as StoreCommand, Verb};
 use mailbox::MailFault;
 use std::alloc::Global;
 
@@ -66,6 +67,30 @@ pub(crate) fn fetch<S: Store>(
         Some(mailbox) => {
             let mark_seen = sets_seen(command, mailbox);
             fetch_messages(alloc, command, mark_seen, store, response)
+        }
+    }
+}
+
+// SEARCH and UID SEARCH.
+pub(crate) fn search_selected<S: Store>(
+    alloc: Global,
+    command: &Search<'_>,
+    selected: Option<Selected>,
+    store: &mut S,
+    response: &mut Response<'_>,
+) -> Result<ResponseText, MailFault>
+    ensures { Does S.step
+        (on_found (search_known command.now) wrong_state selected) last store.old store.new
+        response.old response.new result }
+{
+    match selected {
+        None => Ok(ResponseText::WrongState),
+        Some(_) => {
+            if command.known_charset {
+                search_messages(alloc, command, store, response)
+            } else {
+                Ok(ResponseText::BadCharset)
+            }
         }
     }
 }

@@ -30,6 +30,8 @@ pub enum ResponseText {
     ReadOnly,
     MailboxSpent,
     MessageTooBig,
+    /// A SEARCH in a charset that isn't here (RFC 9051, 6.4.4).
+    BadCharset,
     NulByte,
     OutOfMemory,
     ShardFull,
@@ -160,6 +162,7 @@ impl ResponseText {
             ResponseText::ReadOnly => b"NO Mailbox is read-only",
             ResponseText::MailboxSpent => b"NO Mailbox is spent",
             ResponseText::MessageTooBig => b"NO Message too big",
+            ResponseText::BadCharset => b"NO [BADCHARSET (US-ASCII UTF-8)] Bad charset",
             ResponseText::NulByte => b"NO NUL byte",
             ResponseText::OutOfMemory => b"NO Out of memory",
             ResponseText::ShardFull => b"NO Shard full",

@@ -14,7 +14,7 @@ use crate::expunge::show_pending;
 use crate::response::{LAST, Response};
 use crate::say::{put_bye, put_of_server, put_tagged, put_untagged};
 use crate::select::select_mailbox;
-use crate::selected::{close, expunge, fetch, store_flags, uid_expunge, unselect};
+use crate::selected::{close, expunge, fetch, search_selected, store_flags, uid_expunge, unselect};
 use crate::standing::{After, Folder, Profile, Selected};
 use crate::store::Store;
 use crate::texts::{ResponseText, ServerText};
@@ -189,6 +189,7 @@ pub(crate) fn carry_out<S: Store>(
         Command::Expunge => expunge(*selected, store, response),
         Command::UidExpunge(set) => uid_expunge(alloc, set, *selected, store, response),
         Command::Fetch(command) => fetch(alloc, command, *selected, store, response),
+        Command::Search(command) => search_selected(alloc, command, *selected, store, response),
         Command::Store(command) => store_flags(alloc, command, *selected, store, response),
     }
 }

@@ -9,7 +9,7 @@ use Rattle.cursor_set.specs.Lines.{position}
 use Rattle.mailbox.specs.declared.clients.Row.{Row}
 use Rattle.imap_grammar.specs.Items.{marks_seen}
 use Rattle.imap_grammar.specs.Reading.{read, is_done}
-use Rattle.imap_grammar.specs.Sets.{named_in}
+use Rattle.imap_grammar.specs.Sets.{named_in, last_uid, named_at}
 use Rattle.imap_grammar.specs.Verbs.{verb_of}
 use Rattle.imap_grammar.specs.declared.set.SeqRange.{SeqRange}
 use Rattle.imap_grammar.specs.declared.command.Command.{Command}
@@ -25,7 +25,7 @@ use Rattle.imap_grammar.specs.declared.command.ImapFault.TheVariants.{NoTag, Unk
 use Rattle.imap_session.specs.declared.standing.After.TheVariants.{Go}
 use Rattle.imap_session.specs.declared.standing.Selected.{Selected}
 use Rattle.imap_session.specs.Exchange.{Answer, Appending, Exchange, Expunge, Feed, Folder, ForNothing, ForVerdict, Mailing, Sent, Standing, Turn, Wait, Write, bye, kept_behind, tagged, untagged}
-use Rattle.imap_session.specs.Commands.{appended_words, appending, last_number, long_idle_text, long_rest_text, long_text, most_unasked, nowhere, number_named, on_rest, on_text, on_verdict, is_over, over, turn_behind, turn_with, wanting, wanting_for, without_begun, without_sent, completed, counting, expunge_set, fault_text, fetch_messages, fetched, fetching, folder_of, in_selected, in_writable, messages_done, on_chosen, on_command, on_found, on_idle_line, on_read, on_set, only_says, says, showing, store_messages, stored, storing, subscribing, turn_while, unlimited, wrong_state, arguments_text, asking, coming, logged_in, login_completed, refused_text}
+use Rattle.imap_session.specs.Commands.{appended_words, appending, last_number, long_idle_text, long_rest_text, long_text, most_unasked, nowhere, number_named, on_rest, on_text, on_verdict, is_over, over, turn_behind, turn_with, wanting, wanting_for, without_begun, without_sent, completed, counting, expunge_set, fault_text, fetch_messages, fetched, fetching, folder_of, in_selected, in_writable, messages_done, on_chosen, on_command, on_found, on_idle_line, on_read, on_set, only_says, says, showing, store_messages, stored, storing, subscribing, turn_while, unlimited, wrong_state, arguments_text, asking, coming, logged_in, login_completed, refused_text, found_in, search_done, search_known, search_messages, searching}
 use Rattle.imap_answers.specs.Answers.{flags_answer, list_answer}
 use Rattle.imap_answers.specs.declared.list.Listing.{Listing}
 use Rattle.imap_answers.specs.declared.list.Listing.TheVariants.{All, Subscribed}
@@ -51,6 +51,10 @@ use Rattle.imap_session.specs.declared.texts.ServerText.TheVariants as server
 use Rattle.imap_session.specs.declared.standing.Profile.{Profile}
 use Rattle.imap_session.specs.declared.standing.Profile.TheVariants.{Standard, Compatible}
 use Rattle.laws_client.proofs.Barred.{line_case}
+use Rattle.imap_grammar.specs.declared.command.Search.{Search}
+use Rattle.imap_grammar.specs.declared.view.Named.{Named}
+use Rattle.imap_grammar.specs.Keys.{all_messages}
+use Rattle.laws_client.proofs.Sought.{found_tells_nothing}
 
 -- a last line with a text of the table
 last : (tag view : List ℕ) (text : ResponseText) → IsTag tag → Says tag view (says (response_text text))
@@ -132,6 +136,23 @@ storing_says tag view store done ends numbered (uid ∷ uids) gone there = by (s
     by more None = more true there.1
     by more (Some flags) = silent_or store.silent flags (storing store view done uids gone) (more gone there.1)
 
+-- what stands behind the answer to a SEARCH, under its UID form or not
+search_ends : (tag view : List ℕ) (search : Search) → IsTag tag → Says tag view (messages_done (commands.Search search) search.by_uid false)
+search_ends tag view search t = by search.by_uid
+  where
+    by : (b : Bool) → Says tag view (messages_done (commands.Search (record { by_uid = b; known_charset = search.known_charset; keys = search.keys })) b false)
+    by true = λ new. last tag new (texts.Completed verbs.UidSearch) t
+    by false = last tag view (texts.Completed verbs.Search) t
+
+searching_says : (tag view : List ℕ) (search : Search) (at : Named) → IsTag tag → (uids found : List ℕ) → Says tag view (searching search at view (search_done search) uids found)
+searching_says tag view search at t [] found = (leaves view _ (found_tells_nothing found), search_ends tag view search t)
+searching_says tag view search at t (uid ∷ uids) found = by (searching_says tag view search at t uids)
+  where
+    by : ((more : List ℕ) → Says tag view (searching search at view (search_done search) uids more)) → (row : Option Row) → IsRowOf uid row
+        → Says tag view (on_found (λ row. searching search at view (search_done search) uids (found ++ found_in search at (named_at view uid) row)) (searching search at view (search_done search) uids found) row)
+    by more None is = more found
+    by more (Some row) is = more (found ++ found_in search at (named_at view uid) row)
+
 -- the messages that a set names, or one that isn't there
 chosen_says : (tag view : List ℕ) (by_uid : Bool) (set : List SeqRange) (next : List ℕ → List ℕ → Exchange) → IsTag tag → ((uids : List ℕ) → AreIn uids view → Says tag view (next view uids))
     → Says tag view (on_set by_uid set next)
@@ -154,6 +175,14 @@ store_says : (tag view : List ℕ) (store : Store) → IsTag tag → IsNumbered 
 store_says tag view store t numbered =
     chosen_says tag view store.by_uid store.set (λ view uids. storing store view (messages_done (commands.Store store) store.by_uid) uids false) t
     (λ uids there. storing_says tag view store (messages_done (commands.Store store) store.by_uid) (λ gone. store_done tag view store gone t) numbered uids false there)
+
+search_says : (tag view : List ℕ) (search : Search) (selected : Selected) → IsTag tag → Says tag view (search_known search selected)
+search_says tag view search selected t = by search.known_charset
+  where
+    by : (b : Bool) → Says tag view (if b then search_messages search else says (response_text texts.BadCharset))
+    by true = chosen_says tag view true all_messages (λ view uids. wanting (searching search (named_at view (last_uid uids)) view (search_done search) uids [])) t
+        (λ uids there. (nothing_leaves view, searching_says tag view search (named_at view (last_uid uids)) t uids []))
+    by false = last tag view texts.BadCharset t
 
 selected_says : (tag view : List ℕ) (selected : Option Selected) (now : Standing) (next : Selected → Exchange) → now.selected ≡ selected → IsTag tag → ((s : Selected) → Says tag view (next s))
     → Says tag view (in_selected now next)
@@ -291,6 +320,7 @@ command_says tag view now commands.Expunge t may = writable tag view now.selecte
 command_says tag view now (commands.UidExpunge set) t may = writable tag view now.selected now (expunge_set set) refl t (set_expunged tag view set t)
 command_says tag view now (commands.Fetch fetch) t may = selected_says tag view now.selected now (fetch_messages fetch) refl t (λ selected. fetch_says tag view fetch selected t may.parts may.numbered)
 command_says tag view now (commands.Store store) t may = writable tag view now.selected now (store_messages store) refl t (store_says tag view store t may.numbered)
+command_says tag view now (commands.Search search) t may = selected_says tag view now.selected now (search_known search) refl t (λ selected. search_says tag view search selected t)
 command_says tag view now (commands.Append append) t may = append_says tag view now.mailing.most now.folders append t
 command_says tag view now commands.Capability t may = (leaves view _ (capable_tells_nothing now.profile), last tag view (texts.Completed verbs.Capability) t)
 command_says tag view now commands.Namespace t may = (leaves view _ (λ messages. refl), last tag view (texts.Completed verbs.Namespace) t)

@@ -13,7 +13,7 @@ use Rattle.line_io.specs.Wire.{crlf}
 use Rattle.mailbox.specs.declared.clients.Opening.{Opening}
 use Rattle.mailbox.specs.declared.clients.Row.{Row}
 use Rattle.mailbox.specs.declared.mailbox.Status.{Status}
-use Rattle.imap_answers.specs.Answers.{all_flags, answered, asks_for_root, date_item, flags_answer, is_listed, item_text, list_answer, listed, literal, name_answer, opening_text, origin_text, part, part_bytes, part_word, root_answer, row_answer, section, status_answer, status_number, status_text}
+use Rattle.imap_answers.specs.Answers.{all_flags, answered, asks_for_root, date_item, flags_answer, is_listed, item_text, list_answer, listed, literal, name_answer, opening_text, origin_text, part, part_bytes, part_word, root_answer, row_answer, section, status_answer, status_number, status_text, search_answer, spaced_numbers}
 use Rattle.imap_grammar.specs.Grammar.{rfc822_word, section_word, status_word}
 use Rattle.imap_grammar.specs.declared.items.FetchItem.{FetchItem}
 use Rattle.imap_grammar.specs.declared.items.FetchItem.TheVariants as fetch
@@ -41,6 +41,7 @@ use Rattle.laws_client.proofs.TextRows.{row_inner, text_plain, server_inner, ser
 use Rattle.imap_answers.specs.declared.list.Listing.{Listing}
 use Rattle.imap_answers.specs.declared.list.Listing.TheVariants.{All, Subscribed}
 use Rattle.imap_session.specs.declared.texts.ServerText.{ServerText}
+use Rattle.laws_client.proofs.Sought.{found_plain}
 
 -- ---- lines
 
@@ -153,6 +154,13 @@ pub status_passes : (name : List ℕ) (items : List StatusItem) (s : Status) →
 status_passes name items s plain =
     star_passes (codes "STATUS " ++ name ++ codes " (" ++ spaced (map (status_text s) items)) (codes ")")
     (inner_both (codes "STATUS " ++ name ++ codes " (") (spaced (map (status_text s) items)) (inner_both (codes "STATUS " ++ name) (codes " (") (plain_inner name plain) refl) (texts_inner s items)) refl refl
+
+-- ---- SEARCH
+
+pub found_passes : (numbers : List ℕ) → Passes (search_answer numbers)
+found_passes numbers =
+    let p = found_plain numbers in
+    star_passes (codes "SEARC") (72 ∷ spaced_numbers numbers) refl (plain_inner (72 ∷ spaced_numbers numbers) p) (plain_name (72 ∷ spaced_numbers numbers) p)
 
 -- ---- SELECT
 

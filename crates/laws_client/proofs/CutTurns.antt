@@ -16,7 +16,7 @@ use Rattle.mailbox.specs.declared.clients.Opening.{Opening}
 use Rattle.mailbox.specs.declared.clients.Row.{Row}
 use Rattle.mailbox.specs.declared.mailbox.Status.{Status}
 use Rattle.imap_grammar.specs.Reading.{is_done, read}
-use Rattle.imap_grammar.specs.Sets.{named_in}
+use Rattle.imap_grammar.specs.Sets.{named_in, last_uid, named_at}
 use Rattle.imap_grammar.specs.declared.command.Append.{Append}
 use Rattle.imap_grammar.specs.declared.command.Command.{Command}
 use Rattle.imap_grammar.specs.declared.command.Command.TheVariants as commands
@@ -32,7 +32,7 @@ use Rattle.imap_session.specs.declared.standing.Selected.{Selected}
 use Rattle.imap_session.proofs.Unkept.{unkept_by}
 use Rattle.imap_session.specs.Exchange as ex
 use Rattle.imap_session.specs.Exchange.{Answer, Appending, Call, Entered, Looked, Found, Counted, Altered, Expunged, Fed, Left, Refused, Starved, Event as Happened, Exchange, Folder, ForVerdict, Mailing, Sent, Standing, Turn, bye, closed, having, is_idling, kept_behind, kept_tag, played, refusal_after, refusal_text, refused, saying, tagged, untagged}
-use Rattle.imap_session.specs.Commands.{appended_words, appending, closing, completed, counting, entering, expunge_set, fetch_messages, fetched, fetching, folder_of, idle_turn_in, if_writable, is_over, last_number, long_rest_text, long_text, messages_done, most_unasked, nowhere, number_named, on_chosen, on_command, on_found, on_idle_line, on_read, on_rest, on_text, on_verdict, over, refused_text, says, showing, store_messages, storing, turn_behind, turn_of, turn_while, turn_with, unlimited, wanting, wanting_for, without_begun, without_sent, wrong_state, arguments_text, entered_text, logged_in, login_completed, logs_in_as, on_line, subscribing, telling_recent}
+use Rattle.imap_session.specs.Commands.{appended_words, appending, closing, completed, counting, entering, expunge_set, fetch_messages, fetched, fetching, folder_of, idle_turn_in, if_writable, is_over, last_number, long_rest_text, long_text, messages_done, most_unasked, nowhere, number_named, on_chosen, on_command, on_found, on_idle_line, on_read, on_rest, on_text, on_verdict, over, refused_text, says, showing, store_messages, storing, turn_behind, turn_of, turn_while, turn_with, unlimited, wanting, wanting_for, without_begun, without_sent, wrong_state, arguments_text, entered_text, logged_in, login_completed, logs_in_as, on_line, subscribing, telling_recent, found_in, search_done, search_known, search_messages, searching}
 use Rattle.laws_client.specs.Commands.{AreNames, HasToldParts}
 use Rattle.laws_client.specs.Talks.{Happening, Line, LongLine, Turned, Literal, Heard, leads_to}
 use Rattle.laws_client.specs.ListTurns.{IsPlain, is_inner}
@@ -44,7 +44,7 @@ use Rattle.laws_client.specs.Cuts.{EndsItself, IsOneAnswer, SaysBye, ends, leave
 use Rattle.laws_client.proofs.CutBytes.{Ends, Passes, both_pass, passes_none, then_ends}
 use Rattle.laws_client.specs.Fetches.{AreToldParts}
 use Rattle.laws_client.proofs.Parts.{HasTold, read_told}
-use Rattle.laws_client.proofs.CutTexts.{bye_passes, continuing_passes, text_end, untagged_passes, flags_pass, lines_pass, list_passes, opening_passes, plain_end, row_passes, status_passes, tagged_ends, server_passes}
+use Rattle.laws_client.proofs.CutTexts.{bye_passes, continuing_passes, text_end, untagged_passes, flags_pass, lines_pass, list_passes, opening_passes, plain_end, row_passes, status_passes, tagged_ends, server_passes, found_passes}
 use Rattle.laws_client.proofs.LastLines.{IsWord}
 use Rattle.laws_client.proofs.LastTurns.{appended_inner}
 use Rattle.imap_session.specs.declared.texts.ResponseText.TheVariants as texts
@@ -58,6 +58,9 @@ use Rattle.imap_answers.specs.declared.list.Listing.TheVariants.{All, Subscribed
 use Rattle.imap_grammar.specs.declared.command.Verb.TheVariants as verbs
 use Rattle.imap_session.specs.declared.texts.ServerText.TheVariants as server
 use Rattle.laws_client.proofs.Barred.{line_case}
+use Rattle.imap_grammar.specs.declared.command.Search.{Search}
+use Rattle.imap_grammar.specs.declared.view.Named.{Named}
+use Rattle.imap_grammar.specs.Keys.{all_messages}
 
 -- ---- what is read
 
@@ -335,6 +338,16 @@ in_fetching o fetch told mark view done p (uid ∷ uids) gone =
     by without with None short = without
     by without with (Some row) short = (row_passes (position uid view) fetch.by_uid fetch.items row short told, with)
 
+in_searching : (o : Bool) → (search : Search) (last : Named) (view uids found : List ℕ) → SaysCut o (completed (commands.Search search)) → SaysCut o (searching search last view (search_done search) uids found)
+in_searching o search last view [] found p = (found_passes found, in_done o (commands.Search search) search.by_uid false p)
+in_searching o search last view (uid ∷ uids) found p =
+    λ row short. by (in_searching o search last view uids) row
+  where
+    by : ((more : List ℕ) → SaysCut o (completed (commands.Search search)) → SaysCut o (searching search last view (search_done search) uids more)) → (row : Option Row)
+        → SaysCut o (on_found (λ (r : Row). searching search last view (search_done search) uids (found ++ found_in search last (named_at view uid) r)) (searching search last view (search_done search) uids found) row)
+    by more None = more found p
+    by more (Some row) = more (found ++ found_in search last (named_at view uid) row) p
+
 in_silence : (o : Bool) → (silent : Bool) (text : List ℕ) (x : Exchange) → Passes text → SaysCut o x → SaysCut o (if silent then x else ex.Write text x)
 in_silence o true text x w p = p
 in_silence o false text x w p = (w, p)
@@ -404,6 +417,11 @@ command_cut now (commands.Fetch fetch) told names =
       λ view. in_chosen false (named_in fetch.by_uid fetch.set view) _
           (λ uids. in_fetching false fetch told _ view (messages_done (commands.Fetch fetch) fetch.by_uid) (λ gone. in_done false (commands.Fetch fetch) fetch.by_uid gone (says_cut false (texts.Completed (verb_of (commands.Fetch fetch))))) uids false),
     )) (refl, refl) now.selected
+command_cut now (commands.Search search) told names =
+    in_found false (search_known search) wrong_state
+    (λ (s : Selected). in_either false search.known_charset (search_messages search) (says (response_text texts.BadCharset))
+    (λ view. in_chosen false (named_in true all_messages view) (λ uids. wanting (searching search (named_at view (last_uid uids)) view (search_done search) uids []))
+    (λ uids. (passes_none, in_searching false search (named_at view (last_uid uids)) view uids [] (says_cut false (texts.Completed (verb_of (commands.Search search))))))) (refl, refl)) (refl, refl) now.selected
 command_cut now (commands.Store store) told names =
     in_writable false now.selected (store_messages store)
     (λ view. in_chosen false (named_in store.by_uid store.set view) _

@@ -3,7 +3,7 @@ use Rattle.std.proofs.Common.{inl, inr, ℕ, Bool, true, false, List, [], ◌∷
 use Rattle.std.specs.Prelude.{codes, IfSome, nat_lt, ◌==◌, if◌then◌else◌}
 use Rattle.cursor_set.specs.Lines.{position, spaced}
 use Rattle.imap_grammar.specs.Reading.{is_done, read}
-use Rattle.imap_grammar.specs.Sets.{named_in}
+use Rattle.imap_grammar.specs.Sets.{named_in, last_uid, named_at}
 use Rattle.imap_grammar.specs.declared.command.Append.{Append}
 use Rattle.imap_grammar.specs.declared.command.Command.{Command}
 use Rattle.imap_grammar.specs.declared.command.Command.TheVariants as commands
@@ -15,9 +15,9 @@ use Rattle.imap_grammar.specs.Verbs.{verb_of}
 use Rattle.imap_session.specs.declared.standing.Selected.{Selected}
 use Rattle.imap_session.specs.Exchange as ex
 use Rattle.imap_session.specs.Exchange.{Answer, Appending, Exchange, Folder, ForVerdict, Mailing, Standing, Turn, bye, played, untagged}
-use Rattle.imap_session.specs.Commands.{appending, asking, closing, completed, counting, entering, expunge_set, fetch_messages, fetching, folder_of, if_writable, is_over, messages_done, most_unasked, notice, noticing, nowhere, number_named, on_chosen, on_command, on_found, on_idle_line, on_read, over, says, showing, store_messages, storing, subscribing, telling_recent, turn_behind, turn_of, turn_while, unlimited, wanting, wanting_for, without_begun, wrong_state, arguments_text, entered_text, logged_in, login_completed}
+use Rattle.imap_session.specs.Commands.{appending, asking, closing, completed, counting, entering, expunge_set, fetch_messages, fetching, folder_of, if_writable, is_over, messages_done, most_unasked, notice, noticing, nowhere, number_named, on_chosen, on_command, on_found, on_idle_line, on_read, over, says, showing, store_messages, storing, subscribing, telling_recent, turn_behind, turn_of, turn_while, unlimited, wanting, wanting_for, without_begun, wrong_state, arguments_text, entered_text, logged_in, login_completed, found_in, search_done, search_known, search_messages, searching}
 use Rattle.imap_session.specs.Telling.{tells_uid}
-use Rattle.exactly_once.proofs.Whole.{IsWhole, bye_whole, ends, fetched_whole, flags_whole, list_whole, opening_whole}
+use Rattle.exactly_once.proofs.Whole.{IsWhole, bye_whole, ends, fetched_whole, flags_whole, list_whole, opening_whole, found_whole}
 use Rattle.laws_client.proofs.IdleTags.{AreTagsOf}
 use Rattle.laws_client.proofs.Tags.{TaggedOf, read_tagged_so}
 use Rattle.laws_client.proofs.LastRests.{EndsFine, either_fine, rest_fine, says_fine}
@@ -32,6 +32,9 @@ use Rattle.imap_session.specs.declared.standing.Profile.TheVariants.{Standard, C
 use Rattle.imap_session.proofs.Barring.{line_has}
 use Rattle.imap_answers.specs.declared.list.Listing.TheVariants.{All, Subscribed}
 use Rattle.imap_grammar.specs.declared.command.Verb.TheVariants as verbs
+use Rattle.imap_grammar.specs.declared.command.Search.{Search}
+use Rattle.imap_grammar.specs.declared.view.Named.{Named}
+use Rattle.imap_grammar.specs.Keys.{all_messages}
 
 pub uid_spares : Spares tells_uid
 uid_spares = record { no = λ rest. refl; bad = λ rest. refl }
@@ -69,11 +72,19 @@ in_done command true gone p = p
 in_done command false true p = (refl, refl)
 in_done command false false p = p
 
+says_apart : (text : ResponseText) → SaysApart tells_uid (says (response_text text))
+says_apart text = (row_inner text, row_tells_none text)
+
 in_fetching : (fetch : Fetch) (mark : Bool) (view : List ℕ) (done : Bool → Exchange) → ((gone : Bool) → SaysApart tells_uid (done gone))
     → (uids : List ℕ) (gone : Bool) → SaysApart tells_uid (fetching fetch mark view done uids gone)
 in_fetching fetch mark view done p [] gone = p gone
 in_fetching fetch mark view done p (uid ∷ uids) gone =
     elim [ None ↦ in_fetching fetch mark view done p uids true | Some row ↦ (fetched_whole fetch view uid row, in_fetching fetch mark view done p uids gone) ]
+
+in_searching : (search : Search) (last : Named) (view uids found : List ℕ) → SaysApart tells_uid (searching search last view (search_done search) uids found)
+in_searching search last view [] found = (found_whole found, in_done (commands.Search search) search.by_uid false (says_apart (texts.Completed (verb_of (commands.Search search)))))
+in_searching search last view (uid ∷ uids) found =
+    elim [ None ↦ in_searching search last view uids found | Some row ↦ in_searching search last view uids (found ++ found_in search last (named_at view uid) row) ]
 
 in_silence : (silent : Bool) (text : List ℕ) (x : Exchange) → IsWhole text → SaysApart tells_uid x → SaysApart tells_uid (if silent then x else ex.Write text x)
 in_silence true text x w p = p
@@ -84,9 +95,6 @@ in_storing : (store : Store) (view : List ℕ) (done : Bool → Exchange) → ((
 in_storing store view done p [] gone = p gone
 in_storing store view done p (uid ∷ uids) gone =
     elim [ None ↦ in_storing store view done p uids true | Some flags ↦ in_silence store.silent _ _ (flags_whole store.by_uid (position uid view) uid flags) (in_storing store view done p uids gone) ]
-
-says_apart : (text : ResponseText) → SaysApart tells_uid (says (response_text text))
-says_apart text = (row_inner text, row_tells_none text)
 
 in_recent : (profile : Profile) (x : Exchange) → SaysApart tells_uid x → SaysApart tells_uid (telling_recent profile x)
 in_recent Standard x p = p
@@ -157,6 +165,11 @@ command_apart now (commands.Store store) =
     says_fine tells_uid uid_spares (on_command now (commands.Store store)) (in_writable now.selected (store_messages store)
     (λ view. in_chosen (named_in store.by_uid store.set view) _
     (λ uids. in_storing store view (messages_done (commands.Store store) store.by_uid) (λ gone. in_done (commands.Store store) store.by_uid gone (says_apart (texts.Completed (verb_of (commands.Store store))))) uids false)))
+command_apart now (commands.Search search) =
+    says_fine tells_uid uid_spares (on_command now (commands.Search search)) (in_found (search_known search) wrong_state
+    (λ (s : Selected). in_either search.known_charset (search_messages search) (says (response_text texts.BadCharset))
+    (λ view. in_chosen (named_in true all_messages view) (λ uids. wanting (searching search (named_at view (last_uid uids)) view (search_done search) uids []))
+    (λ uids. (inl refl, in_searching search (named_at view (last_uid uids)) view uids []))) (refl, refl)) (refl, refl) now.selected)
 command_apart now (commands.Append append) = append_fine now.mailing.most now.folders append
 command_apart now command = says_fine tells_uid uid_spares (on_command now command) (notice_apart (notice now.profile command) (completed command) (refl, refl))
 

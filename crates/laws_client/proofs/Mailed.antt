@@ -1,5 +1,5 @@
 -- No text that a session submits is longer than the most that it takes: by induction over the exchange, a clause for each answer that there is.
-use Rattle.std.proofs.Common.{zero, suc, ◌≡◌, ℕ, ◌+◌, ◌-◌, ◌≤◌, Bool, true, false, List, [], ◌∷◌, length, ap, refl, subst, sym, ◌∙◌, arith, length-append}
+use Rattle.std.proofs.Common.{zero, suc, ◌≡◌, ℕ, ◌+◌, ◌-◌, ◌≤◌, Bool, true, false, List, [], ◌∷◌, length, ap, refl, subst, sym, ◌∙◌, arith, length-append, ◌++◌}
 use Rattle.std.specs.Prelude.{Option, Some, None, IfSome, Result, Ok, Err, nat_le, nat_lt, ◌==◌, ◌&&◌, not, if◌then◌else◌}
 use Rattle.std.specs.List.{list_any}
 use Rattle.std.specs.Option.{option_map}
@@ -13,7 +13,7 @@ use Rattle.mailbox.specs.declared.clients.Row.{Row}
 use Rattle.mailbox.specs.declared.mailbox.Status.{Status}
 use Rattle.imap_grammar.specs.Items.{marks_seen}
 use Rattle.imap_grammar.specs.Reading.{is_done, read}
-use Rattle.imap_grammar.specs.Sets.{named_in}
+use Rattle.imap_grammar.specs.Sets.{named_in, last_uid, named_at}
 use Rattle.imap_grammar.specs.declared.set.SeqRange.{SeqRange}
 use Rattle.imap_grammar.specs.declared.command.Append.{Append}
 use Rattle.imap_grammar.specs.declared.command.Command.{Command}
@@ -27,7 +27,7 @@ use Rattle.imap_session.specs.declared.standing.After.TheVariants as afters
 use Rattle.imap_session.specs.declared.standing.Selected.{Selected}
 use Rattle.imap_session.specs.Exchange.{Answer, Entered, Looked, Found, Counted, Altered, Expunged, Fed, Left, Refused, Starved, Exchange, ForDone, ForLiteral, ForVerdict, ForNothing, Done, Wait, Write, Put, Enter, Look, Read, Count, Alter, Expunge, Feed, Leave, Folder, Mailing, Standing, Turn, Appending, Sent, Waiting, closed, having, played, refusal_after, refusal_text, refused, saying, tagged, waiting, unkept, Asked, Dropped, Unasked, bye}
 use Rattle.imap_session.proofs.Unkept.{unkept_by}
-use Rattle.imap_session.specs.Commands.{appending, closing, completed, counting, entering, expunge_set, fault_text, fetch_messages, fetched, fetching, folder_of, idle_turn_in, if_writable, in_writable, is_over, kept_text, last_number, messages_done, most_unasked, nowhere, number_named, on_chosen, on_command, on_folder, on_found, on_idle_line, on_read, on_rest, on_set, on_text, on_verdict, only_says, over, says, selecting, showing, store_messages, stored, storing, taking, turn_behind, turn_of, turn_of_long_line, turn_of_verdict, turn_while, turn_with, unlimited, wanting, wanting_for, with_bytes, without_begun, without_sent, wrong_state, asking, coming, entered_text, logged_in, login_completed, subscribing, telling_recent}
+use Rattle.imap_session.specs.Commands.{appending, closing, completed, counting, entering, expunge_set, fault_text, fetch_messages, fetched, fetching, folder_of, idle_turn_in, if_writable, in_writable, is_over, kept_text, last_number, messages_done, most_unasked, nowhere, number_named, on_chosen, on_command, on_folder, on_found, on_idle_line, on_read, on_rest, on_set, on_text, on_verdict, only_says, over, says, selecting, showing, store_messages, stored, storing, taking, turn_behind, turn_of, turn_of_long_line, turn_of_verdict, turn_while, turn_with, unlimited, wanting, wanting_for, with_bytes, without_begun, without_sent, wrong_state, asking, coming, entered_text, logged_in, login_completed, subscribing, telling_recent, found_in, search_done, search_known, search_messages, searching}
 use Rattle.delivery_token.specs.declared.Verdict.{Verdict}
 use Rattle.delivery_token.specs.declared.Verdict.TheVariants as verdicts
 use Rattle.laws_client.proofs.Turns.{the_turn}
@@ -37,6 +37,9 @@ use Rattle.imap_session.specs.Texts.{response_text}
 use Rattle.imap_session.specs.declared.standing.Profile.{Profile}
 use Rattle.imap_session.specs.declared.standing.Profile.TheVariants.{Standard, Compatible}
 use Rattle.laws_client.proofs.Barred.{line_case}
+use Rattle.imap_grammar.specs.declared.command.Search.{Search}
+use Rattle.imap_grammar.specs.declared.view.Named.{Named}
+use Rattle.imap_grammar.specs.Keys.{all_messages}
 
 -- what it has of messages: of one that is announced no more than was, and of one that was submitted no more than it takes
 pub record IsMailShort (most : ℕ) (m : Mailing) : Type 0 where
@@ -186,6 +189,12 @@ fit_fetching most fetch mark view done [] gone h = h gone
 fit_fetching most fetch mark view done (uid ∷ uids) gone h = λ row.
     fit_found most (λ r. Write (fetched fetch view uid r) (fetching fetch mark view done uids gone)) (fetching fetch mark view done uids true) row (λ r. fit_fetching most fetch mark view done uids gone h) (fit_fetching most fetch mark view done uids true h)
 
+fit_searching : (most : ℕ) (search : Search) (last : Named) (view uids found : List ℕ) → TextsFit most (searching search last view (search_done search) uids found)
+fit_searching most search last view [] found = fit_messages most (commands.Search search) search.by_uid false
+fit_searching most search last view (uid ∷ uids) found = λ row.
+    fit_found most (λ r. searching search last view (search_done search) uids (found ++ found_in search last (named_at view uid) r)) (searching search last view (search_done search) uids found) row
+    (λ r. fit_searching most search last view uids (found ++ found_in search last (named_at view uid) r)) (fit_searching most search last view uids found)
+
 fit_storing : (most : ℕ) (store : Store) (view : List ℕ) (done : Bool → Exchange) (uids : List ℕ) (gone : Bool) → ((b : Bool) → TextsFit most (done b)) → TextsFit most (storing store view done uids gone)
 fit_storing most store view done [] gone h = h gone
 fit_storing most store view done (uid ∷ uids) gone h = λ flags.
@@ -235,6 +244,11 @@ fit_command most now (commands.Fetch fetch) = fit_found most (fetch_messages fet
     (λ (selected : Selected). fit_chosen most fetch.by_uid fetch.set
     (λ view uids. fetching fetch (list_any marks_seen fetch.items && not selected.read_only) view (messages_done (commands.Fetch fetch) fetch.by_uid) uids false)
     (λ view uids. fit_fetching most fetch (list_any marks_seen fetch.items && not selected.read_only) view (messages_done (commands.Fetch fetch) fetch.by_uid) uids false (λ b. fit_messages most (commands.Fetch fetch) fetch.by_uid b))) tt
+fit_command most now (commands.Search search) =
+    fit_found most (search_known search) wrong_state now.selected
+    (λ s. fit_if most search.known_charset (search_messages search) (says (response_text texts.BadCharset))
+    (fit_chosen most true all_messages (λ view uids. wanting (searching search (named_at view (last_uid uids)) view (search_done search) uids []))
+    (λ view uids. fit_searching most search (named_at view (last_uid uids)) view uids [])) tt) tt
 fit_command most now (commands.Store store) = fit_writable most now (store_messages store)
     (fit_chosen most store.by_uid store.set (λ view uids. storing store view (messages_done (commands.Store store) store.by_uid) uids false)
     (λ view uids. fit_storing most store view (messages_done (commands.Store store) store.by_uid) uids false (λ b. fit_messages most (commands.Store store) store.by_uid b)))

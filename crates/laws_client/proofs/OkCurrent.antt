@@ -19,7 +19,7 @@ use Rattle.imap_grammar.specs.Items.{marks_seen}
 use Rattle.imap_grammar.specs.Verbs.{verb_of}
 use Rattle.imap_grammar.specs.Reading.{read}
 use Rattle.imap_grammar.specs.declared.command.ImapFault.{ImapFault}
-use Rattle.imap_grammar.specs.Sets.{named_in}
+use Rattle.imap_grammar.specs.Sets.{named_in, last_uid, named_at}
 use Rattle.imap_grammar.specs.declared.set.SeqRange.{SeqRange}
 use Rattle.imap_grammar.specs.declared.command.Command.{Command}
 use Rattle.imap_grammar.specs.declared.command.Command.TheVariants as commands
@@ -28,7 +28,7 @@ use Rattle.imap_grammar.specs.declared.command.Store.{Store}
 use Rattle.imap_session.specs.declared.standing.After.{After}
 use Rattle.imap_session.specs.declared.standing.Selected.{Selected}
 use Rattle.imap_session.specs.Exchange.{Appending, kept_behind, kept_tag, Call, Answer, Event, Looked, Found, Counted, Altered, Expunged, Fed, Refused, Starved, Exchange, Done, Wait, Write, Put, Enter, Look, Read, Count, Alter, Expunge, Feed, Leave, Standing, Turn, having, played, refusal_text, refused, saying, tagged}
-use Rattle.imap_session.specs.Commands.{completed, counting, expunge_set, fetch_messages, fetched, fetching, folder_of, if_writable, in_writable, messages_done, on_chosen, on_command, on_found, on_read, on_set, turn_behind, turn_of, turn_while, says, showing, store_messages, stored, storing, unlimited, wrong_state, wanting_for}
+use Rattle.imap_session.specs.Commands.{completed, counting, expunge_set, fetch_messages, fetched, fetching, folder_of, if_writable, in_writable, messages_done, on_chosen, on_command, on_found, on_read, on_set, turn_behind, turn_of, turn_while, says, showing, store_messages, stored, storing, unlimited, wrong_state, wanting_for, found_in, search_done, search_known, search_messages, searching, wanting}
 use Rattle.laws_client.specs.ListTurns.{IsTag}
 use Rattle.line_io.specs.Wire.{crlf}
 use Rattle.laws_client.specs.Talks.{Line}
@@ -55,6 +55,9 @@ use Rattle.imap_grammar.specs.declared.command.Verb.TheVariants as verbs
 use Rattle.std.specs.Str.{bytes_eq}
 use Rattle.imap_session.proofs.Barring.{refuses}
 use Rattle.laws_client.proofs.Barred.{line_case, login_shows_none}
+use Rattle.imap_grammar.specs.declared.command.Search.{Search}
+use Rattle.imap_grammar.specs.declared.view.Named.{Named}
+use Rattle.imap_grammar.specs.Keys.{all_messages}
 
 -- ---- how bytes end
 
@@ -208,6 +211,9 @@ wrong = not_done texts.WrongState refl
 only_read : NotDone (response_text texts.ReadOnly)
 only_read = not_done texts.ReadOnly refl
 
+bad_charset : NotDone (response_text texts.BadCharset)
+bad_charset = not_done texts.BadCharset refl
+
 too_high : NotDone (response_text texts.SequenceTooHigh)
 too_high = not_done texts.SequenceTooHigh refl
 
@@ -221,6 +227,10 @@ writable_last now x h = found_last (if_writable x) wrong_state now.selected (λ 
     by : (b : Bool) → ShowsLast false (if b then says (response_text texts.ReadOnly) else x)
     by true = inr only_read
     by false = h
+
+if_last : (b : Bool) (x y : Exchange) → ShowsLast false x → ShowsLast false y → ShowsLast false (if b then x else y)
+if_last true x y h g = h
+if_last false x y h g = g
 
 chosen_last : (by_uid : Bool) (set : List SeqRange) (next : List ℕ → List ℕ → Exchange) → ((view uids : List ℕ) → ShowsLast false (next view uids)) → ShowsLast false (on_set by_uid set next)
 chosen_last by_uid set next h = λ view. by view (named_in by_uid set view)
@@ -247,6 +257,12 @@ messages_last : (command : Command) (by_uid gone : Bool) → by_uid ≡ true →
 messages_last command true gone e = (refl, inl refl)
 messages_last command false gone e = never e
 
+searching_last : (search : Search) (last : Named) (view uids found : List ℕ) → search.by_uid ≡ true → ShowsLast false (searching search last view (search_done search) uids found)
+searching_last search last view [] found e = messages_last (commands.Search search) search.by_uid false e
+searching_last search last view (uid ∷ uids) found e = λ row.
+    found_last (λ r. searching search last view (search_done search) uids (found ++ found_in search last (named_at view uid) r)) (searching search last view (search_done search) uids found) row
+    (λ r. searching_last search last view uids (found ++ found_in search last (named_at view uid) r) e) (searching_last search last view uids found e)
+
 pub command_last : (now : Standing) (selected : Selected) (command : Command) → now.selected ≡ Some selected → shows_all command ≡ true → ShowsLast false (on_command now command)
 command_last now selected commands.Noop is e = subst (λ (o : Option Selected). ShowsLast false (showing o (completed commands.Noop))) (sym is) (refl, inl refl)
 command_last now selected (commands.List reference pattern) is e = subst (λ (o : Option Selected). ShowsLast false (showing o (completed (commands.List reference pattern)))) (sym is) (refl, inl refl)
@@ -262,6 +278,10 @@ command_last now selected (commands.Fetch fetch) is e = found_last (fetch_messag
     (λ (s : Selected). chosen_last fetch.by_uid fetch.set
     (λ view uids. fetching fetch (list_any marks_seen fetch.items && not s.read_only) view (messages_done (commands.Fetch fetch) fetch.by_uid) uids false)
     (λ view uids. fetching_last fetch (list_any marks_seen fetch.items && not s.read_only) view (messages_done (commands.Fetch fetch) fetch.by_uid) uids false (λ b. messages_last (commands.Fetch fetch) fetch.by_uid b e))) (inr wrong)
+command_last now selected (commands.Search search) is e =
+    found_last (search_known search) wrong_state now.selected (λ s. if_last search.known_charset (search_messages search) (says (response_text texts.BadCharset))
+    (chosen_last true all_messages (λ view uids. wanting (searching search (named_at view (last_uid uids)) view (search_done search) uids []))
+    (λ view uids. searching_last search (named_at view (last_uid uids)) view uids [] e)) (inr bad_charset)) (inr wrong)
 command_last now selected (commands.Store store) is e = writable_last now (store_messages store)
     (chosen_last store.by_uid store.set (λ view uids. storing store view (messages_done (commands.Store store) store.by_uid) uids false)
     (λ view uids. storing_last store view (messages_done (commands.Store store) store.by_uid) uids false (λ b. messages_last (commands.Store store) store.by_uid b e)))

@@ -1,5 +1,5 @@
 -- The answers to lines that a client sends, and what they tell of flags.
-use Rattle.std.proofs.Common.{◌≡◌, ℕ, ◌+◌, ◌<◌, ◌^◌, ◌==◌, length, map, sym, subst, ◌∙◌, Bool, true, false, List, [], ◌∷◌, refl}
+use Rattle.std.proofs.Common.{◌≡◌, ℕ, ◌+◌, ◌<◌, ◌^◌, ◌==◌, length, map, sym, subst, ◌∙◌, Bool, true, false, List, [], ◌∷◌, refl, ◌++◌}
 use Rattle.std.specs.Prelude.{Option, Some, None, Result, Ok, Err, IfSome, nat_le, nat_lt, ◌&&◌, not, if◌then◌else◌}
 use Rattle.std.specs.List.{list_any}
 use Rattle.std.proofs.lemmas.Bool.{false≢true}
@@ -12,7 +12,7 @@ use Rattle.imap_answers.specs.Answers.{row_answer, flags_answer, list_answer}
 use Rattle.imap_answers.specs.declared.list.Listing.{Listing}
 use Rattle.imap_answers.specs.declared.list.Listing.TheVariants.{All, Subscribed}
 use Rattle.imap_grammar.specs.Reading.{read, is_done}
-use Rattle.imap_grammar.specs.Sets.{named_in}
+use Rattle.imap_grammar.specs.Sets.{named_in, last_uid, named_at}
 use Rattle.imap_grammar.specs.Verbs.{verb_of}
 use Rattle.imap_grammar.specs.declared.set.SeqRange.{SeqRange}
 use Rattle.imap_grammar.specs.declared.command.Command.{Command}
@@ -27,7 +27,7 @@ use Rattle.imap_grammar.specs.declared.command.ImapFault.{ImapFault}
 use Rattle.imap_session.specs.declared.standing.After.TheVariants.{Go}
 use Rattle.imap_session.specs.declared.standing.Selected.{Selected}
 use Rattle.imap_session.specs.Exchange.{Alter, Altered, Answer, Appending, Exchange, Expunge, Feed, Folder, ForNothing, ForVerdict, Found, Mailing, Read, Sent, Standing, Turn, Wait, Write, bye, kept_behind, kept_tag}
-use Rattle.imap_session.specs.Commands.{turn_of, turn_of_verdict, appended_words, appending, last_number, most_unasked, nowhere, number_named, on_rest, on_text, on_verdict, is_over, over, turn_behind, turn_with, wanting, wanting_for, without_begun, without_sent, completed, counting, expunge_set, fault_text, fetch_messages, fetched, fetching, folder_of, in_selected, in_writable, messages_done, on_chosen, on_command, on_found, on_idle_line, on_read, on_set, only_says, says, showing, store_messages, stored, storing, subscribing, turn_while, unlimited, wrong_state, asking, coming, logged_in, login_completed, refused_text}
+use Rattle.imap_session.specs.Commands.{turn_of, turn_of_verdict, appended_words, appending, last_number, most_unasked, nowhere, number_named, on_rest, on_text, on_verdict, is_over, over, turn_behind, turn_with, wanting, wanting_for, without_begun, without_sent, completed, counting, expunge_set, fault_text, fetch_messages, fetched, fetching, folder_of, in_selected, in_writable, messages_done, on_chosen, on_command, on_found, on_idle_line, on_read, on_set, only_says, says, showing, store_messages, stored, storing, subscribing, turn_while, unlimited, wrong_state, asking, coming, logged_in, login_completed, refused_text, found_in, search_done, search_known, search_messages, searching}
 use Rattle.laws_client.specs.ListTurns.{IsPlain, IsTag}
 use Rattle.laws_client.specs.Fetches.{AreToldParts, IsNumbered}
 use Rattle.laws_client.specs.Commands.{AreNames, IsFollowed, IsPrinted, MayAnswer, MayAsk}
@@ -50,6 +50,10 @@ use Rattle.imap_grammar.specs.declared.command.Verb.TheVariants as verbs
 use Rattle.imap_session.specs.declared.texts.ResponseText.{ResponseText}
 use Rattle.laws_client.proofs.TextRows.{text_plain}
 use Rattle.laws_client.proofs.Barred.{line_case}
+use Rattle.imap_grammar.specs.declared.command.Search.{Search}
+use Rattle.imap_grammar.specs.declared.view.Named.{Named}
+use Rattle.imap_grammar.specs.Keys.{all_messages}
+use Rattle.laws_client.proofs.Sought.{found_tells_nothing}
 
 pub refusals : (tag : List ℕ) → IsTag tag → Refusals tag
 refusals tag t p fault = leaves p _ (refusal_tells_nothing tag fault t)
@@ -147,6 +151,24 @@ storing_says tag view store done ends numbered (uid ∷ uids) p gone same there 
         let is : counted q ≡ view = s.sees.leads ∙ same in
         silent_or q store.silent flags (storing store view done uids gone) is s.tells (more q gone is there.1)
 
+-- what stands behind the answer to a SEARCH, under its UID form or not
+search_ends : (tag : List ℕ) (p : Point) (search : Search) → IsTag tag → SaysFlags tag p (messages_done (commands.Search search) search.by_uid false)
+search_ends tag p search t = by search.by_uid
+  where
+    by : (b : Bool) → SaysFlags tag p (messages_done (commands.Search (record { by_uid = b; known_charset = search.known_charset; keys = search.keys })) b false)
+    by true = λ q. last tag q (texts.Completed verbs.UidSearch) t
+    by false = last tag p (texts.Completed verbs.Search) t
+
+searching_says : (tag view : List ℕ) (search : Search) (at : Named) → IsTag tag → (uids found : List ℕ) (p : Point) → SaysFlags tag p (searching search at view (search_done search) uids found)
+searching_says tag view search at t [] found p = (leaves p _ (found_tells_nothing found), search_ends tag p search t)
+searching_says tag view search at t (uid ∷ uids) found p = by (searching_says tag view search at t uids)
+  where
+    by : ((more : List ℕ) (q : Point) → SaysFlags tag q (searching search at view (search_done search) uids more)) → (row : Option Row) (q : Point)
+        → SeesMoments p (record { call = Read uid false; answer = Found row }) q
+        → SaysFlags tag q (on_found (λ row. searching search at view (search_done search) uids (found ++ found_in search at (named_at view uid) row)) (searching search at view (search_done search) uids found) row)
+    by more None q s = more found q
+    by more (Some row) q s = more (found ++ found_in search at (named_at view uid) row) q
+
 -- the messages that a set names, or one that isn't there
 chosen_says : (tag : List ℕ) (p : Point) (by_uid : Bool) (set : List SeqRange) (next : List ℕ → List ℕ → Exchange) → IsTag tag
     → ((q : Point) (uids : List ℕ) → counted q ≡ counted p → AreIn uids (counted p) → SaysFlags tag q (next (counted p) uids)) → SaysFlags tag p (on_set by_uid set next)
@@ -171,6 +193,14 @@ store_says : (tag : List ℕ) (p : Point) (store : Store) → IsTag tag → IsNu
 store_says tag p store t numbered =
     chosen_says tag p store.by_uid store.set (λ view uids. storing store view (messages_done (commands.Store store) store.by_uid) uids false) t
     (λ q uids same there. storing_says tag (counted p) store (messages_done (commands.Store store) store.by_uid) (λ r gone. store_done tag r store gone t) numbered uids q false same there)
+
+search_says : (tag : List ℕ) (p : Point) (search : Search) (selected : Selected) → IsTag tag → SaysFlags tag p (search_known search selected)
+search_says tag p search selected t = by search.known_charset
+  where
+    by : (b : Bool) → SaysFlags tag p (if b then search_messages search else says (response_text texts.BadCharset))
+    by true = chosen_says tag p true all_messages (λ view uids. wanting (searching search (named_at view (last_uid uids)) view (search_done search) uids [])) t
+        (λ q uids same there. (leaves q [] (λ messages. refl), searching_says tag (counted p) search (named_at (counted p) (last_uid uids)) t uids [] q))
+    by false = last tag p texts.BadCharset t
 
 selected_says : (tag : List ℕ) (p : Point) (selected : Option Selected) (now : Standing) (next : Selected → Exchange) → now.selected ≡ selected → IsTag tag → ((s : Selected) → SaysFlags tag p (next s))
     → SaysFlags tag p (in_selected now next)
@@ -289,6 +319,7 @@ command_says tag p now commands.Expunge t may = writable tag p now.selected now 
 command_says tag p now (commands.UidExpunge set) t may = writable tag p now.selected now (expunge_set set) refl t (set_expunged tag p set t)
 command_says tag p now (commands.Fetch fetch) t may = selected_says tag p now.selected now (fetch_messages fetch) refl t (λ selected. fetch_says tag p fetch selected t may.parts may.numbered)
 command_says tag p now (commands.Store store) t may = writable tag p now.selected now (store_messages store) refl t (store_says tag p store t may.numbered)
+command_says tag p now (commands.Search search) t may = selected_says tag p now.selected now (search_known search) refl t (λ selected. search_says tag p search selected t)
 command_says tag p now (commands.Append append) t may = append_says tag p now.mailing.most now.folders append t
 command_says tag p now commands.Capability t may = (leaves p _ (capable_tells_nothing now.profile), last tag p (texts.Completed verbs.Capability) t)
 command_says tag p now commands.Namespace t may = (leaves p _ (λ messages. refl), last tag p (texts.Completed verbs.Namespace) t)

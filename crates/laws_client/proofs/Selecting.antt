@@ -1,5 +1,5 @@
 -- A client that knows that it is in a mailbox has a session that has selected one.
-use Rattle.std.proofs.Common.{zero, suc, ◌≡◌, ℕ, Bool, true, false, List, [], ◌∷◌, length, ap, refl, sym, ◌∙◌, subst}
+use Rattle.std.proofs.Common.{zero, suc, ◌≡◌, ℕ, Bool, true, false, List, [], ◌∷◌, length, ap, refl, sym, ◌∙◌, subst, ◌++◌}
 use Rattle.std.specs.Prelude.{Option, Some, None, Result, Ok, Err, nat_lt, ◌==◌, ◌&&◌, if◌then◌else◌, nat_le, not}
 use Rattle.std.specs.Option.{option_map}
 use Rattle.std.proofs.lemmas.Option.{none-some}
@@ -15,14 +15,14 @@ use Rattle.imap_session.specs.declared.standing.After.TheVariants as afters
 use Rattle.imap_session.specs.declared.standing.Selected.{Selected}
 use Rattle.imap_session.specs.Exchange.{Answer, Entered, Looked, Found, Counted, Altered, Expunged, Fed, Left, Refused, Starved, Exchange, ForDone, ForLiteral, ForVerdict, ForNothing, Done, Wait, Write, Put, Enter, Look, Read, Count, Alter, Expunge, Feed, Leave, Standing, Turn, Appending, Sent, Waiting, closed, having, played, refusal_after, refusal_text, refused, saying, tagged, waiting, Folder, Mailing, kept_behind, kept_tag, is_idling, unkept, bye}
 use Rattle.imap_session.proofs.Unkept.{unkept_by}
-use Rattle.imap_session.specs.Commands.{idle_turn_in, turn_of, fault_text, on_command, on_idle_line, on_read, on_rest, on_verdict, only_says, turn_behind, turn_while, turn_with, without_begun, without_sent, appending, closing, completed, counting, entering, expunge_set, fetch_messages, fetched, fetching, folder_of, if_writable, in_writable, is_over, last_number, messages_done, most_unasked, nowhere, number_named, on_chosen, on_folder, on_found, on_set, on_text, over, says, selecting, showing, store_messages, stored, storing, unlimited, wanting, wanting_for, wrong_state, opened, asking, coming, logged_in, login_completed, subscribing, telling_recent, entered_text}
+use Rattle.imap_session.specs.Commands.{idle_turn_in, turn_of, fault_text, on_command, on_idle_line, on_read, on_rest, on_verdict, only_says, turn_behind, turn_while, turn_with, without_begun, without_sent, appending, closing, completed, counting, entering, expunge_set, fetch_messages, fetched, fetching, folder_of, if_writable, in_writable, is_over, last_number, messages_done, most_unasked, nowhere, number_named, on_chosen, on_folder, on_found, on_set, on_text, over, says, selecting, showing, store_messages, stored, storing, unlimited, wanting, wanting_for, wrong_state, opened, asking, coming, logged_in, login_completed, subscribing, telling_recent, entered_text, found_in, search_done, search_known, search_messages, searching}
 use Rattle.delivery_token.specs.declared.Verdict.{Verdict}
 use Rattle.std.specs.List.{list_any}
 use Rattle.change_ring.specs.declared.change.Flags.{Flags}
 use Rattle.mailbox.specs.declared.clients.Row.{Row}
 use Rattle.mailbox.specs.declared.mailbox.Status.{Status}
 use Rattle.imap_grammar.specs.Items.{marks_seen}
-use Rattle.imap_grammar.specs.Sets.{named_in}
+use Rattle.imap_grammar.specs.Sets.{named_in, last_uid, named_at}
 use Rattle.imap_grammar.specs.declared.set.SeqRange.{SeqRange}
 use Rattle.imap_grammar.specs.declared.command.Append.{Append}
 use Rattle.imap_grammar.specs.declared.command.Command.TheVariants as commands
@@ -50,6 +50,9 @@ use Rattle.imap_session.specs.declared.standing.Profile.TheVariants.{Standard, C
 use Rattle.imap_session.proofs.Barring.{refuses}
 use Rattle.imap_session.specs.declared.texts.ResponseText.{ResponseText}
 use Rattle.laws_client.proofs.Barred.{asked_has, line_case, login_asks, refused_turn}
+use Rattle.imap_grammar.specs.declared.command.Search.{Search}
+use Rattle.imap_grammar.specs.declared.view.Named.{Named}
+use Rattle.imap_grammar.specs.Keys.{all_messages}
 
 -- no mailbox is entered or left
 abbrev pub StaysIn : Exchange → Type 0
@@ -169,6 +172,12 @@ in_fetching fetch mark view done [] gone h = h gone
 in_fetching fetch mark view done (uid ∷ uids) gone h = λ row.
     in_found (λ r. Write (fetched fetch view uid r) (fetching fetch mark view done uids gone)) (fetching fetch mark view done uids true) row (λ r. in_fetching fetch mark view done uids gone h) (in_fetching fetch mark view done uids true h)
 
+in_searching : (search : Search) (last : Named) (view uids found : List ℕ) → StaysIn (searching search last view (search_done search) uids found)
+in_searching search last view [] found = in_messages (commands.Search search) search.by_uid false
+in_searching search last view (uid ∷ uids) found = λ row.
+    in_found (λ r. searching search last view (search_done search) uids (found ++ found_in search last (named_at view uid) r)) (searching search last view (search_done search) uids found) row
+    (λ r. in_searching search last view uids (found ++ found_in search last (named_at view uid) r)) (in_searching search last view uids found)
+
 in_storing : (store : Store) (view : List ℕ) (done : Bool → Exchange) (uids : List ℕ) (gone : Bool) → ((b : Bool) → StaysIn (done b)) → StaysIn (storing store view done uids gone)
 in_storing store view done [] gone h = h gone
 in_storing store view done (uid ∷ uids) gone h = λ flags.
@@ -221,6 +230,11 @@ in_command now (commands.Fetch fetch) e = in_found (fetch_messages fetch) wrong_
     (λ (selected : Selected). in_chosen fetch.by_uid fetch.set
     (λ view uids. fetching fetch (list_any marks_seen fetch.items && not selected.read_only) view (messages_done (commands.Fetch fetch) fetch.by_uid) uids false)
     (λ view uids. in_fetching fetch (list_any marks_seen fetch.items && not selected.read_only) view (messages_done (commands.Fetch fetch) fetch.by_uid) uids false (λ b. in_messages (commands.Fetch fetch) fetch.by_uid b))) tt
+in_command now (commands.Search search) e =
+    in_found (search_known search) wrong_state now.selected
+    (λ s. in_if search.known_charset (search_messages search) (says (response_text texts.BadCharset))
+    (in_chosen true all_messages (λ view uids. wanting (searching search (named_at view (last_uid uids)) view (search_done search) uids []))
+    (λ view uids. in_searching search (named_at view (last_uid uids)) view uids [])) tt) tt
 in_command now (commands.Store store) e = stay_writable now (store_messages store)
     (in_chosen store.by_uid store.set (λ view uids. storing store view (messages_done (commands.Store store) store.by_uid) uids false)
     (λ view uids. in_storing store view (messages_done (commands.Store store) store.by_uid) uids false (λ b. in_messages (commands.Store store) store.by_uid b)))

@@ -1,5 +1,5 @@
 -- What a session knows of the messages that its client appends: it changes where an exchange waits, and by what it waits for.
-use Rattle.std.proofs.Common.{◌≡◌, ◌⊎◌, inl, inr, ℕ, zero, suc, ◌+◌, Bool, true, false, List, [], ◌∷◌, length, refl, subst, Option, Some, None}
+use Rattle.std.proofs.Common.{◌≡◌, ◌⊎◌, inl, inr, ℕ, zero, suc, ◌+◌, Bool, true, false, List, [], ◌∷◌, length, refl, subst, Option, Some, None, ◌++◌}
 use Rattle.std.specs.Prelude.{nat_le, nat_lt, ◌==◌, if◌then◌else◌}
 use Rattle.std.specs.List.{list_any}
 use Rattle.std.specs.Option.{option_map}
@@ -13,7 +13,7 @@ use Rattle.mailbox.specs.declared.clients.Opening.{Opening}
 use Rattle.mailbox.specs.declared.clients.Row.{Row}
 use Rattle.mailbox.specs.declared.mailbox.Status.{Status}
 use Rattle.imap_grammar.specs.Reading.{is_done}
-use Rattle.imap_grammar.specs.Sets.{named_in}
+use Rattle.imap_grammar.specs.Sets.{named_in, last_uid, named_at}
 use Rattle.imap_grammar.specs.declared.command.Append.{Append}
 use Rattle.imap_grammar.specs.declared.command.Command.{Command}
 use Rattle.imap_grammar.specs.declared.command.Command.TheVariants as commands
@@ -25,12 +25,15 @@ use Rattle.imap_session.specs.declared.standing.After.TheVariants as afters
 use Rattle.imap_session.specs.declared.standing.Selected.{Selected}
 use Rattle.imap_session.specs.Exchange as ex
 use Rattle.imap_session.specs.Exchange.{Answer, Appending, Asked, Call, Dropped, Entered, Looked, Found, Counted, Altered, Expunged, Fed, Left, Refused, Starved, Exchange, Folder, ForDone, ForLiteral, ForNothing, ForVerdict, Mailing, Standing, Turn, Unasked, Waiting, bye, closed, having, played, refusal_after, saying, text_before, unkept, waiting, where_long, refused}
-use Rattle.imap_session.specs.Commands.{appending, asking, closing, coming, completed, counting, entering, expunge_set, fetch_messages, fetching, folder_of, if_writable, is_over, last_number, messages_done, most_unasked, notice, noticing, nowhere, number_named, on_chosen, on_command, on_found, on_idle_line, on_rest, on_text, on_verdict, over, says, showing, store_messages, storing, telling_recent, unlimited, wanting, wanting_for, wrong_state, entered_text, logged_in, login_completed, logs_in_as, on_line}
+use Rattle.imap_session.specs.Commands.{appending, asking, closing, coming, completed, counting, entering, expunge_set, fetch_messages, fetching, folder_of, if_writable, is_over, last_number, messages_done, most_unasked, notice, noticing, nowhere, number_named, on_chosen, on_command, on_found, on_idle_line, on_rest, on_text, on_verdict, over, says, showing, store_messages, storing, telling_recent, unlimited, wanting, wanting_for, wrong_state, entered_text, logged_in, login_completed, logs_in_as, on_line, found_in, search_done, search_known, search_messages, searching}
 use Rattle.imap_session.specs.declared.texts.ResponseText.TheVariants as texts
 use Rattle.imap_session.specs.Texts.{response_text}
 use Rattle.imap_session.specs.declared.standing.Profile.{Profile}
 use Rattle.imap_session.specs.declared.standing.Profile.TheVariants.{Standard, Compatible}
 use Rattle.laws_client.proofs.Barred.{line_case}
+use Rattle.imap_grammar.specs.declared.command.Search.{Search}
+use Rattle.imap_grammar.specs.declared.view.Named.{Named}
+use Rattle.imap_grammar.specs.Keys.{all_messages}
 
 -- ---- an exchange
 
@@ -290,6 +293,11 @@ in_fetching A fetch mark view done p [] gone = p gone
 in_fetching A fetch mark view done p (uid ∷ uids) gone =
     elim [ None ↦ in_fetching A fetch mark view done p uids true | Some row ↦ in_fetching A fetch mark view done p uids gone ]
 
+in_searching : (A : Waiting → Type 0) → (search : Search) (last : Named) (view uids found : List ℕ) → WaitsAs A (completed (commands.Search search)) → WaitsAs A (searching search last view (search_done search) uids found)
+in_searching A search last view [] found p = in_done A (commands.Search search) search.by_uid false p
+in_searching A search last view (uid ∷ uids) found p =
+    elim [ None ↦ in_searching A search last view uids found p | Some row ↦ in_searching A search last view uids (found ++ found_in search last (named_at view uid) row) p ]
+
 in_silence : (A : Waiting → Type 0) → (silent : Bool) (text : List ℕ) (x : Exchange) → WaitsAs A x → WaitsAs A (if silent then x else ex.Write text x)
 in_silence A true text x p = p
 in_silence A false text x p = p
@@ -371,6 +379,11 @@ command_waits now (commands.Store store) other =
     in_writable ForItsDone now.selected (store_messages store)
     (λ view. in_chosen ForItsDone (named_in store.by_uid store.set view) _
     (λ uids. in_storing ForItsDone store view (messages_done (commands.Store store) store.by_uid) (λ gone. in_done ForItsDone (commands.Store store) store.by_uid gone tt) uids false))
+command_waits now (commands.Search search) other =
+    in_found ForItsDone (search_known search) wrong_state
+    (λ (s : Selected). in_either ForItsDone search.known_charset (search_messages search) (says (response_text texts.BadCharset))
+    (λ view. in_chosen ForItsDone (named_in true all_messages view) (λ uids. wanting (searching search (named_at view (last_uid uids)) view (search_done search) uids []))
+    (λ uids. in_searching ForItsDone search (named_at view (last_uid uids)) view uids [] tt)) tt) tt now.selected
 command_waits now (commands.Append append) other = absurd other
 command_waits now command other = notice_waits ForItsDone (notice now.profile command) (completed command) tt
 

@@ -45,12 +45,12 @@ abbrev pub DoneMakesCurrent : Type 0
 DoneMakesCurrent = (k : Config) (events : List Event) (n : ℕ) (now : Standing) (line tag : List ℕ) (w : World) (turn : Turn) (v : World) → IsWorld k events w → IsAnswered k n now line w turn v
     → now.mailing.begun ≡ None → now.idling ≡ Some tag → is_done line ≡ true → has_ok true tag turn.bytes ≡ true → IsCurrent v n
 
--- Whatever the command: where the last call of a turn was for all that is pending, and was answered. So it is at the end of NOOP, CHECK, LIST, LSUB, STATUS, EXPUNGE, UID EXPUNGE, UID FETCH and UID STORE.
+-- Whatever the command: where the last call of a turn was for all that is pending, and was answered. So it is at the end of NOOP, CHECK, LIST, LSUB, STATUS, EXPUNGE, UID EXPUNGE, UID FETCH, UID STORE and UID SEARCH.
 abbrev pub FeedsMakeCurrent : Type 0
 FeedsMakeCurrent = (k : Config) (events : List Event) (n : ℕ) (w : World) (calls : List Happened) (met : List ℕ) (changes : List Change) (v : World) → IsWorld k events w
     → Met (λ (w : World) (call : Call) (answer : Answer) (v : World). Meets k n w call answer v) w (calls ++ record { call = Feed unlimited; answer = Fed met changes } ∷ []) v → IsCurrent v n
 
--- These commands show all that is pending, last of all (RFC 9051, 5.2 and 7.4.1): of FETCH and STORE only the forms by UID.
+-- These commands show all that is pending, last of all (RFC 9051, 5.2 and 7.4.1): of FETCH, STORE and SEARCH only the forms by UID.
 abbrev pub shows_all : Command → Bool
 shows_all Noop = true
 shows_all commands.Check = true
@@ -61,6 +61,7 @@ shows_all commands.Expunge = true
 shows_all (commands.UidExpunge set) = true
 shows_all (commands.Fetch fetch) = fetch.by_uid
 shows_all (commands.Store store) = store.by_uid
+shows_all (commands.Search search) = search.by_uid
 shows_all command = false
 
 -- Such a command whose answer's last line says that it is done

@@ -209,10 +209,6 @@ uid_noop : read (codes "a1 UID NOOP") ≡ Err (Unknown (codes "a1"))
 unfolding read
 uid_noop = refl
 
-search : read (codes "a1 UID search (") ≡ Err (LeftOut (codes "a1"))
-unfolding read
-search = refl
-
 append : read (codes "a1 APPEND INBOX {5+}") ≡ Ok (codes "a1", say.Append (appended (codes "INBOX") (flags false false false false false) 5 false))
 unfolding read
 append = refl

@@ -63,6 +63,9 @@ returns-in-UidExpunge g c login mailing = rw c.in-UidExpunge.is (moves_still g.S
 pub returns-in-Fetch : goal.returns-in-Fetch
 returns-in-Fetch g c login mailing = rw c.in-Fetch.is (moves_still g.S.Store.step c.args.selected.now _ _ _ _ _ _ c.fetch.result c.fetch.ensures)
 
+pub returns-in-Search : goal.returns-in-Search
+returns-in-Search g c login mailing = rw c.in-Search.is (moves_still g.S.Store.step c.args.selected.now _ _ _ _ _ _ c.search_selected.result c.search_selected.ensures)
+
 pub returns-in-Store : goal.returns-in-Store
 returns-in-Store g c login mailing = rw c.in-Store.is (moves_still g.S.Store.step c.args.selected.now _ _ _ _ _ _ c.store_flags.result c.store_flags.ensures)
 

@@ -1,0 +1,178 @@
+-- Reading the keys of a search from left to right, as Reading does with a line. Nobody has to believe this file.
+use Rattle.std.specs.Prelude.{ℕ, zero, suc, codes, List, [], ◌∷◌, ◌++◌, length, take, drop, Option, Some, None, if◌then◌else◌}
+use Rattle.std.specs.List.{prefix_len}
+use Rattle.std.specs.Option.{option_map}
+use Rattle.std.specs.Str.{str_eq_ignore_ascii_case as is_same}
+use Rattle.envelope.specs.Reading.{◌>>=◌, past_byte}
+use Rattle.imap_grammar.specs.Bytes.{is_atom, is_key_byte}
+use Rattle.imap_grammar.specs.Front.{past_gap, is_blank}
+use Rattle.imap_grammar.specs.Items.{greatest_span, is_word_of}
+use Rattle.imap_grammar.specs.Keys.{Key, all_of, flag_word}
+use Rattle.imap_grammar.specs.Keys as keys
+use Rattle.imap_grammar.specs.Numbers.{number_up_to}
+use Rattle.imap_grammar.specs.Sets.{set_at}
+use Rattle.imap_grammar.specs.declared.key_words.SystemFlag.TheVariants.{Answered, Deleted, Draft, Flagged, Seen}
+use Rattle.imap_grammar.specs.declared.key_words.KeyWord.{KeyWord}
+use Rattle.imap_grammar.specs.declared.key_words.KeyWord.TheVariants.{All, Old, New, Recent, Has, Lacks, Keyword, Unkeyword, Larger, Smaller, Uid}
+use Rattle.imap_grammar.specs.declared.key_words.KeyWord.TheVariants.{Not, Or, Charset}
+use Rattle.imap_grammar.specs.declared.key_words.SingleKey.{SingleKey}
+use Rattle.imap_grammar.specs.declared.key_words.SingleKey.TheVariants as single
+
+-- ---- words
+
+abbrev pub spelling : KeyWord → List ℕ
+spelling All = codes "ALL"
+spelling Old = codes "OLD"
+spelling New = codes "NEW"
+spelling Recent = codes "RECENT"
+spelling (Has flag) = flag_word flag
+spelling (Lacks flag) = codes "UN" ++ flag_word flag
+spelling Keyword = codes "KEYWORD"
+spelling Unkeyword = codes "UNKEYWORD"
+spelling Larger = codes "LARGER"
+spelling Smaller = codes "SMALLER"
+spelling Uid = codes "UID"
+spelling Not = codes "NOT"
+spelling Or = codes "OR"
+spelling Charset = codes "CHARSET"
+
+abbrev pub flag_words : List KeyWord
+flag_words =
+    Has Answered ∷ Has Deleted ∷ Has Draft ∷ Has Flagged ∷ Has Seen
+    ∷ Lacks Answered ∷ Lacks Deleted ∷ Lacks Draft ∷ Lacks Flagged ∷ Lacks Seen ∷ []
+
+abbrev pub other_words : List KeyWord
+other_words = All ∷ Old ∷ New ∷ Recent ∷ Keyword ∷ Unkeyword ∷ Larger ∷ Smaller ∷ Uid ∷ Not ∷ Or ∷ Charset ∷ []
+
+abbrev pub word_among : List KeyWord → List ℕ → Option KeyWord
+word_among [] word = None
+word_among (w ∷ ws) word = if is_same word (spelling w) then Some w else word_among ws word
+
+abbrev pub or_word : Option KeyWord → Option KeyWord → Option KeyWord
+or_word (Some w) other = Some w
+or_word None other = other
+
+abbrev pub key_word_of : List ℕ → Option KeyWord
+key_word_of word = or_word (word_among flag_words word) (word_among other_words word)
+
+-- what stands before the first space or parenthesis, and the rest
+abbrev pub key_word_at : List ℕ → List ℕ × List ℕ
+key_word_at bytes = (take (prefix_len is_key_byte bytes) bytes, drop (prefix_len is_key_byte bytes) bytes)
+
+-- ---- keys with no other key in them
+
+-- those of one word
+abbrev pub word_key : KeyWord → Option SingleKey
+word_key All = Some single.Always
+word_key Old = Some single.Always
+word_key New = Some single.Never
+word_key Recent = Some single.Never
+word_key (Has flag) = Some (single.Has flag)
+word_key (Lacks flag) = Some (single.Lacks flag)
+word_key _ = None
+
+-- those of a word, and of another behind a gap
+abbrev pub argument_key : KeyWord → List ℕ → Option SingleKey
+argument_key Keyword text = if is_word_of is_atom text then Some single.Never else None
+argument_key Unkeyword text = if is_word_of is_atom text then Some single.Always else None
+argument_key Larger text = number_up_to greatest_span text >>= λ n. Some (single.Larger n)
+argument_key Smaller text = number_up_to greatest_span text >>= λ n. Some (single.Smaller n)
+argument_key Uid text = set_at text >>= λ set. Some (single.Uids set)
+argument_key _ text = None
+
+abbrev pub argument_at : KeyWord → List ℕ → Option (SingleKey × List ℕ)
+argument_at word bytes = do
+  start ← past_gap bytes
+  key ← argument_key word (key_word_at start).0
+  Some (key, (key_word_at start).1)
+
+abbrev pub single_or : Option SingleKey → KeyWord → List ℕ → Option (SingleKey × List ℕ)
+single_or (Some key) word rest = Some (key, rest)
+single_or None word rest = argument_at word rest
+
+-- a key that begins with this word, and what comes after it: where it is no word of a key it is a set
+abbrev pub single_at : Option KeyWord → List ℕ × List ℕ → Option (SingleKey × List ℕ)
+single_at (Some word) cut = single_or (word_key word) word cut.1
+single_at None cut = set_at cut.0 >>= λ set. Some (single.Positions set, cut.1)
+
+abbrev pub key_of : SingleKey → Key
+key_of single.Always = keys.Always
+key_of single.Never = keys.Never
+key_of (single.Has flag) = keys.Has flag
+key_of (single.Lacks flag) = keys.Lacks flag
+key_of (single.Larger n) = keys.Larger n
+key_of (single.Smaller n) = keys.Smaller n
+key_of (single.Positions set) = keys.Positions set
+key_of (single.Uids set) = keys.Uids set
+
+abbrev pub with_key : SingleKey × List ℕ → Key × List ℕ
+with_key read = (key_of read.0, read.1)
+
+-- ---- keys around others, which `each` reads
+
+abbrev pub Reader : Type 0
+Reader = List ℕ → Option (Key × List ℕ)
+
+abbrev pub not_at : Reader → List ℕ → Option (Key × List ℕ)
+not_at each bytes = do
+  start ← past_gap bytes
+  inner ← each start
+  Some (keys.Not inner.0, inner.1)
+
+abbrev pub or_at : Reader → List ℕ → Option (Key × List ℕ)
+or_at each bytes = do
+  start ← past_gap bytes
+  one ← each start
+  next ← past_gap one.1
+  other ← each next
+  Some (keys.Or one.0 other.0, other.1)
+
+-- where one key more begins: behind a gap, unless nothing stands there
+abbrev pub next_start : List ℕ → Option (List ℕ)
+next_start bytes = if is_blank bytes then None else past_gap bytes
+
+abbrev pub others_from : Reader → (List ℕ → Option (List Key × List ℕ)) → Option (List ℕ) → List ℕ → Option (List Key × List ℕ)
+others_from each others None bytes = Some ([], bytes)
+others_from each others (Some start) bytes = do
+  read ← each start
+  more ← others read.1
+  Some (read.0 ∷ more.0, more.1)
+
+-- further keys, each behind a gap: fewer than so many
+abbrev pub others_at : Reader → ℕ → List ℕ → Option (List Key × List ℕ)
+others_at each zero bytes = None
+others_at each (suc n) bytes = others_from each (others_at each n) (next_start bytes) bytes
+
+-- keys one after the other
+abbrev pub keys_at : Reader → List ℕ → Option (Key × List ℕ)
+keys_at each bytes = do
+  first ← each bytes
+  others ← others_at each (suc (length first.1)) first.1
+  Some (all_of first.0 others.0, others.1)
+
+-- from behind the parenthesis that opens
+abbrev pub group_at : Reader → List ℕ → Option (Key × List ℕ)
+group_at each bytes = do
+  read ← keys_at each bytes
+  rest ← past_byte 41 read.1
+  Some (read.0, rest)
+
+abbrev pub worded_at : Reader → Option KeyWord → List ℕ × List ℕ → Option (Key × List ℕ)
+worded_at each (Some Not) cut = not_at each cut.1
+worded_at each (Some Or) cut = or_at each cut.1
+worded_at each word cut = option_map with_key (single_at word cut)
+
+abbrev pub either_at : Reader → Option (List ℕ) → List ℕ → Option (Key × List ℕ)
+either_at each (Some start) bytes = group_at each start
+either_at each None bytes = worded_at each (key_word_of (key_word_at bytes).0) (key_word_at bytes)
+
+-- a key at the front, and what comes after it: fewer than so many levels deep
+unfoldable pub key_at : ℕ → List ℕ → Option (Key × List ℕ)
+key_at zero bytes = None
+key_at (suc levels) bytes = either_at (key_at levels) (past_byte 40 bytes) bytes
+
+-- keys and nothing more
+unfoldable pub keys_in : List ℕ → Option Key
+keys_in text = do
+  read ← keys_at (key_at 33) text
+  if is_blank read.1 then Some read.0 else None
