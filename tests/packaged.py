@@ -66,6 +66,8 @@ class Relay(threading.Thread):
                 answers = self.peer.deliver(["alice"], data_of(name))
                 if answers == [DELIVERED]:
                     self.brought.append(name)
+                    # However long a busy machine takes until the stop, the mailbox isn't full by then.
+                    time.sleep(0.005)
                 else:
                     self.end = f"{answers!r} was said of a message"
         except Over:
