@@ -433,7 +433,7 @@ boxes, folders = account:list_all()
 print('lists', boxes[1])
 print('status', account.INBOX:check_status())
 messages = account.INBOX:select_all()
-print('found', #messages, #(account.INBOX:is_unseen() * account.INBOX:is_larger(300)))
+print('found', #messages, #(account.INBOX:is_unseen() * account.INBOX:is_larger(300)), #account.INBOX:arrived_since('27-Nov-2026'), #account.INBOX:arrived_before('27-Nov-2026'))
 Set { messages[1] }:mark_flagged()
 Set { messages[2] }:delete_messages()
 """
@@ -443,7 +443,7 @@ def imapfilter(place):
     place.run("imapfilter", "-c", place.write("config.lua", IMAPFILTER % place.port))
     if b"lists\tINBOX\n" in place.output and b"status\t3\t" in place.output:
         yield "lists"
-    if b"found\t3\t2\n" in place.output:
+    if b"found\t3\t2\t3\t0\n" in place.output:
         yield "searches"
     yield from place.changes()
 

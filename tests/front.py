@@ -256,7 +256,7 @@ def flags(client, message):
 
 
 def numbers(client):
-    """The numbers of all messages. The server has no SEARCH, so FETCH says them."""
+    """The numbers of all messages, as a FETCH tells them, in the form of a SEARCH's answer."""
     return [b" ".join(line.split()[0] for line in client.fetch("1:*", "(UID)")[1])]
 
 

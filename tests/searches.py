@@ -3,7 +3,7 @@
 
     tests/searches.py PROGRAM [SEARCHES] [SEED]
 
-A mailbox has messages of several sizes and flags, and gaps between their UIDs. Keys are made at random, nested as deep as five, and sent as SEARCH and as
+A mailbox has messages of several sizes, dates and flags, and gaps between their UIDs. Keys are made at random, nested as deep as five, and sent as SEARCH and as
 UID SEARCH, in upper and lower case. What each of them means of each message is what RFC 9051, 6.4.4 says, worked out here over plain values. It prints each
 search that was answered otherwise with the seed by which it comes again, and last how many there were.
 """
@@ -20,17 +20,31 @@ MESSAGES = 24
 PATIENCE = 20
 
 
+MONTHS = "Jan Feb Mar Apr May Jun Jul Aug Sep Oct Nov Dec".split()
+
+
 class Message:
-    def __init__(self, position, uid, size, flags):
-        self.position, self.uid, self.size, self.flags = position, uid, size, flags
+    def __init__(self, position, uid, size, date, flags):
+        self.position, self.uid, self.size, self.date, self.flags = position, uid, size, date, flags
 
 
-def deliver(house, sizes):
-    """A message of about each size, over LMTP."""
+def a_date(chance):
+    """A year, a month and a day, few enough to be met again."""
+    return chance.randint(2024, 2026), chance.randint(1, 12), chance.choice((1, 2, 14, 28))
+
+
+def received(date, chance):
+    """The line of a relay that took a message then, in a zone in which the day may be another elsewhere."""
+    year, month, day = date
+    return f"Received: by a.example; {day} {MONTHS[month - 1]} {year} {chance.choice(('00:10:00 +1400', '23:50:59 -1200', '12:00:00 +0000'))}"
+
+
+def deliver(house, sizes, chance):
+    """A message of about each size, over LMTP, with a date or without."""
     with house.connect_lmtp() as relay:
         lines = ["LHLO c.example"]
         for size in sizes:
-            lines += ["MAIL FROM:<s@a.example>", "RCPT TO:<alice@example.org>", "DATA", "Subject: sized", "", "x" * size, "."]
+            lines += ["MAIL FROM:<s@a.example>", "RCPT TO:<alice@example.org>", "DATA", *([received(a_date(chance), chance)] if chance.random() < 0.9 else []), "Subject: sized", "", "x" * size, "."]
         relay.sendall("".join(f"{line}\r\n" for line in [*lines, "QUIT"]).encode())
         replies = b"".join(iter(lambda: relay.recv(65536), b""))
     if replies.count(b"250 2.1.5 Delivered") != len(sizes):
@@ -49,7 +63,8 @@ def messages_of(client, chance):
     for line in client.uid("FETCH", "1:*", "FAST")[1]:
         told = line.decode()
         position, uid, size = (int(re.search(pattern, told)[1]) for pattern in (r"^(\d+) ", r"UID (\d+)", r"SIZE (\d+)"))
-        found.append(Message(position, uid, size, {flag for flag in FLAGS if f"\\{flag}" in told}))
+        day, month, year = re.search(r'INTERNALDATE "(\d+)-(\w+)-(\d+) ', told).groups()
+        found.append(Message(position, uid, size, (int(year), MONTHS.index(month) + 1, int(day)), {flag for flag in FLAGS if f"\\{flag}" in told}))
     return found
 
 
@@ -73,7 +88,7 @@ def a_set(chance, greatest):
 
 def a_plain_key(chance, messages):
     """A key without others in it: its words, and what it means of a message."""
-    kind = chance.randrange(7)
+    kind = chance.randrange(8)
     if kind < 2:
         flag = chance.choice(FLAGS)
         has = kind == 0
@@ -88,6 +103,11 @@ def a_plain_key(chance, messages):
         size = chance.choice(messages).size + chance.randint(-1, 1)
         return f"SMALLER {size}", lambda m: m.size < size
     if kind == 5:
+        year, month, day = wanted = chance.choice((a_date(chance), chance.choice(messages).date))
+        word, means = chance.choice((("BEFORE", lambda m: m.date < wanted), ("ON", lambda m: m.date == wanted), ("SINCE", lambda m: m.date >= wanted)))
+        quote, zero = chance.choice(("", '"')), chance.choice(("", "0")) if day < 10 else ""
+        return f"{word} {quote}{zero}{day}-{MONTHS[month - 1]}-{year}{quote}", means
+    if kind == 6:
         spelled, names = a_set(chance, messages[-1].position)
         return spelled, lambda m: names(m.position)
     spelled, names = a_set(chance, messages[-1].uid)
@@ -128,7 +148,7 @@ def main():
     house = House(program, ["alice"], ["--compatible"])
     wrong = 0
     try:
-        deliver(house, [chance.randint(0, 60) for _ in range(MESSAGES)])
+        deliver(house, [chance.randint(0, 60) for _ in range(MESSAGES)], chance)
         with imaplib.IMAP4("127.0.0.1", house.imap_ports[0], timeout=PATIENCE) as client:
             client.login("alice", "secret")
             client.select()

@@ -24,6 +24,7 @@ pub mod Chains
 pub mod AppendLaw
 pub mod CommandLaw
 pub mod VerbLaw
+pub mod DateLaw
 pub mod SearchWords
 pub mod SearchLaw
 pub mod KeySteps

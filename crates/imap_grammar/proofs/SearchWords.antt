@@ -18,20 +18,22 @@ use Rattle.envelope.specs.Grammar.{Many, Some1, Gap, Keyword, Joined}
 use Rattle.envelope.specs.Reading.{◌>>=◌, past_byte}
 use Rattle.imap_grammar.specs.Bytes.{is_atom, is_digit, is_key_byte}
 use Rattle.imap_grammar.specs.Front.{past_gap}
-use Rattle.imap_grammar.specs.Grammar.{Number63, SetIs, SingleIs}
+use Rattle.imap_grammar.specs.Grammar.{DateIs, Number63, SetIs, SingleIs}
 use Rattle.imap_grammar.specs.Items.{greatest_span, is_word_of}
 use Rattle.imap_grammar.specs.Keys.{Key}
 use Rattle.imap_grammar.specs.Keys as keys
 use Rattle.imap_grammar.specs.Numbers.{number_up_to}
 use Rattle.imap_grammar.specs.Sets.{set_at}
 use Rattle.imap_grammar.specs.SearchReading.{Reader, spelling, flag_words, other_words, word_among, or_word, key_word_of, key_word_at, argument_key}
-use Rattle.imap_grammar.specs.SearchReading.{argument_at, single_at, key_of, with_key, either_at, worded_at}
+use Rattle.imap_grammar.specs.SearchReading.{date_in, argument_at, single_at, key_of, with_key, either_at, worded_at}
+use Rattle.imap_grammar.specs.declared.dates.Day.{Day}
 use Rattle.imap_grammar.specs.declared.key_words.SystemFlag.TheVariants.{Answered}
 use Rattle.imap_grammar.specs.declared.key_words.KeyWord.{KeyWord}
 use Rattle.imap_grammar.specs.declared.key_words.KeyWord.TheVariants as words
 use Rattle.imap_grammar.specs.declared.key_words.SingleKey.{SingleKey}
 use Rattle.imap_grammar.specs.declared.key_words.SingleKey.TheVariants as single
 use Rattle.imap_grammar.specs.declared.set.SeqRange.{SeqRange}
+use Rattle.imap_grammar.proofs.DateLaw.{is_date_byte, date_again, date_all, date_sound}
 use Rattle.imap_grammar.proofs.Chains.{inside}
 use Rattle.imap_grammar.proofs.Fields.{word_of_again, word_of_sound}
 use Rattle.imap_grammar.proofs.Keywords.{word_length, other_case, same_sound}
@@ -173,6 +175,10 @@ atom_front text h = (h.0, many_map is_atom is_key_byte (key_byte is_atom refl re
 number_front : (n : ℕ) (text : List ℕ) → Number63 n text → Some1 is_key_byte text
 number_front n text h = (h.0.0.0, many_map is_digit is_key_byte (key_byte is_digit refl refl refl) text h.0.0.1)
 
+date_front : (d : Day) (text : List ℕ) → DateIs d text → Some1 is_key_byte text
+date_front d text h =
+    let k = date_all d text h in (k.0, many_map is_date_byte is_key_byte (key_byte is_date_byte refl refl refl) text k.1)
+
 -- ---- words at the front
 
 pub key_word_back : (w rest : List ℕ) → Many is_key_byte w → Stops is_key_byte rest → key_word_at (w ++ rest) ≡ (w, rest)
@@ -259,6 +265,15 @@ single_again each (keys.Larger n) text rest q s =
 single_again each (keys.Smaller n) text rest q s =
     argument_again each words.Smaller (single.Smaller n) (Number63 n) (λ cut. refl)
     (λ t h. ap (λ o. o >>= (λ k. Some (single.Smaller k))) (number_again greatest_span n t h.0 h.1)) (number_front n) text rest q s
+single_again each (keys.Before day) text rest q s =
+    argument_again each words.Before (single.Before day) (DateIs day) (λ cut. refl)
+    (λ t h. ap (λ o. o >>= (λ k. Some (single.Before k))) (date_again day t h)) (date_front day) text rest q s
+single_again each (keys.On day) text rest q s =
+    argument_again each words.On (single.On day) (DateIs day) (λ cut. refl)
+    (λ t h. ap (λ o. o >>= (λ k. Some (single.On k))) (date_again day t h)) (date_front day) text rest q s
+single_again each (keys.Since day) text rest q s =
+    argument_again each words.Since (single.Since day) (DateIs day) (λ cut. refl)
+    (λ t h. ap (λ o. o >>= (λ k. Some (single.Since k))) (date_again day t h)) (date_front day) text rest q s
 single_again each (keys.Positions set) text rest h s =
     begins_word each None text rest (set_front set text h) s (set_no_word text (set_all set text h))
     ∙ ap (λ o. option_map with_key (o >>= (λ x. Some (single.Positions x, rest)))) (set_again set text h)
@@ -368,6 +383,21 @@ single_sound words.Smaller key bytes text rest r e h k =
     let g = bind_some (number_up_to greatest_span f.argument) (λ n. Some (single.Smaller n)) f.single f.read in
     made words.Smaller (single.Smaller g.0) key bytes text r f (inside (single.Smaller g.0) f.single g.2)
     (argument_is words.Smaller (Number63 g.0) text f.gap f.argument h f.is_gap (number_sound greatest_span g.0 f.argument g.1))
+single_sound words.Before key bytes text rest r e h k =
+    let f = argument_sound words.Before key bytes text rest r e k in
+    let g = bind_some (date_in f.argument) (λ d. Some (single.Before d)) f.single f.read in
+    made words.Before (single.Before g.0) key bytes text r f (inside (single.Before g.0) f.single g.2)
+    (argument_is words.Before (DateIs g.0) text f.gap f.argument h f.is_gap (date_sound g.0 f.argument g.1))
+single_sound words.On key bytes text rest r e h k =
+    let f = argument_sound words.On key bytes text rest r e k in
+    let g = bind_some (date_in f.argument) (λ d. Some (single.On d)) f.single f.read in
+    made words.On (single.On g.0) key bytes text r f (inside (single.On g.0) f.single g.2)
+    (argument_is words.On (DateIs g.0) text f.gap f.argument h f.is_gap (date_sound g.0 f.argument g.1))
+single_sound words.Since key bytes text rest r e h k =
+    let f = argument_sound words.Since key bytes text rest r e k in
+    let g = bind_some (date_in f.argument) (λ d. Some (single.Since d)) f.single f.read in
+    made words.Since (single.Since g.0) key bytes text r f (inside (single.Since g.0) f.single g.2)
+    (argument_is words.Since (DateIs g.0) text f.gap f.argument h f.is_gap (date_sound g.0 f.argument g.1))
 single_sound words.Uid key bytes text rest r e h k =
     let f = argument_sound words.Uid key bytes text rest r e k in
     let g = bind_some (set_at f.argument) (λ s. Some (single.Uids s)) f.single f.read in

@@ -8,11 +8,14 @@ use Rattle.change_ring.specs.declared.change.Flags.{Flags}
 use Rattle.change_ring.specs.declared.flag_op.FlagOp.{FlagOp}
 use Rattle.change_ring.specs.declared.flag_op.FlagOp.TheVariants.{Set, Insert, Remove}
 use Rattle.envelope.specs.Grammar.{Rule, ◌⨾◌, Exactly, Keyword, Some1, Spaces, Gap, AfterGap, Anything}
+use Rattle.mail_date.specs.Grammar as dates
 use Rattle.imap_grammar.specs.Bytes.{is_tag, is_atom, is_pattern, is_digit, is_quotable, is_special, is_field_byte}
 use Rattle.imap_grammar.specs.Numbers.{most_size, number_of}
 use Rattle.imap_grammar.specs.declared.command.Literal.{Literal}
+use Rattle.imap_grammar.specs.declared.dates.Day.{Day}
 use Rattle.imap_grammar.specs.Items.{fast_items, flags_among}
-use Rattle.imap_grammar.specs.Keys.{Key, Always, Never, Has, Lacks, Larger, Smaller, Positions, Uids, Not, Or, all_of, flag_word}
+use Rattle.imap_grammar.specs.Keys.{Key, Always, Never, Has, Lacks, Larger, Smaller, Before, On, Since}
+use Rattle.imap_grammar.specs.Keys.{Positions, Uids, Not, Or, all_of, flag_word}
 use Rattle.imap_grammar.specs.Verbs.{word_of, stands_behind_uid, is_left_out, verb_of}
 use Rattle.imap_grammar.specs.declared.set.SeqNumber.{SeqNumber}
 use Rattle.imap_grammar.specs.declared.set.SeqNumber.TheVariants.{Number, Star}
@@ -202,6 +205,14 @@ LiteralIs literal = Exactly (codes "{") ⨾ SizeIs literal.size ⨾ Exactly (if 
 
 -- ---- searches
 
+-- `1-Feb-1994`: a day by one digit or two, the name of a month in upper or lower case, and a year by four digits
+abbrev pub DateText : Day → Rule
+DateText d = dates.Day d.day ⨾ Exactly (codes "-") ⨾ dates.Month d.month ⨾ Exactly (codes "-") ⨾ dates.Digits 4 d.year
+
+-- a date, between quotes or not. Each month has the days from 1 to 31 here
+abbrev pub DateIs : Day → Rule
+DateIs d text = (1 ≤ d.day) × (d.day ≤ 31) × (DateText d text ⊎ (Exactly (codes "\"") ⨾ DateText d ⨾ Exactly (codes "\"")) text)
+
 -- a key with no other key in it
 abbrev pub SingleIs : Key → Rule
 SingleIs Always text = Keyword (codes "ALL") text ⊎ Keyword (codes "OLD") text ⊎ (Keyword (codes "UNKEYWORD") ⨾ Gap ⨾ Some1 is_atom) text
@@ -210,6 +221,9 @@ SingleIs (Has flag) text = Keyword (flag_word flag) text
 SingleIs (Lacks flag) text = Keyword (codes "UN" ++ flag_word flag) text
 SingleIs (Larger n) text = (Keyword (codes "LARGER") ⨾ Gap ⨾ Number63 n) text
 SingleIs (Smaller n) text = (Keyword (codes "SMALLER") ⨾ Gap ⨾ Number63 n) text
+SingleIs (Before day) text = (Keyword (codes "BEFORE") ⨾ Gap ⨾ DateIs day) text
+SingleIs (On day) text = (Keyword (codes "ON") ⨾ Gap ⨾ DateIs day) text
+SingleIs (Since day) text = (Keyword (codes "SINCE") ⨾ Gap ⨾ DateIs day) text
 SingleIs (Positions set) text = SetIs set text
 SingleIs (Uids set) text = (Keyword (codes "UID") ⨾ Gap ⨾ SetIs set) text
 SingleIs _ text = ⊥

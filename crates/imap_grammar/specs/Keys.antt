@@ -1,7 +1,10 @@
 -- What SEARCH asks for (RFC 9051, 6.4.4): keys, and of which messages they are so.
-use Rattle.std.specs.Prelude.{ℕ, Bool, true, false, codes, List, [], ◌∷◌, nat_lt, not, ◌&&◌, ◌||◌}
+use Rattle.std.specs.Prelude.{ℕ, Bool, true, false, codes, List, [], ◌∷◌, length, nat_lt, not, ◌==◌, ◌&&◌, ◌||◌}
 use Rattle.change_ring.specs.declared.change.Flags.{Flags}
+use Rattle.mail_date.specs.declared.stamp.Stamp.{Stamp}
+use Rattle.mail_date.specs.Fields.{message_date}
 use Rattle.imap_grammar.specs.Sets.{is_named}
+use Rattle.imap_grammar.specs.declared.dates.Day.{Day}
 use Rattle.imap_grammar.specs.declared.set.SeqNumber.TheVariants.{Number, Star}
 use Rattle.imap_grammar.specs.declared.set.SeqRange.{SeqRange}
 use Rattle.imap_grammar.specs.declared.view.Named.{Named}
@@ -18,6 +21,10 @@ pub data Key : Type 0 where
   -- of more bytes, or of fewer
   Larger : ℕ → Key
   Smaller : ℕ → Key
+  -- received before this day, on it, or on it or later
+  Before : Day → Key
+  On : Day → Key
+  Since : Day → Key
   -- a set of positions in the view, or of UIDs
   Positions : List SeqRange → Key
   Uids : List SeqRange → Key
@@ -40,19 +47,33 @@ has_flag Draft flags = flags.draft
 has_flag Flagged flags = flags.flagged
 has_flag Seen flags = flags.seen
 
--- the key is so of this message, which has these flags and is of so many bytes; `last` is the last message of the view
-abbrev pub matches : Key → (last : Named) → (message : Named) → Flags → (size : ℕ) → Bool
-matches Always last message flags size = true
-matches Never last message flags size = false
-matches (Has flag) last message flags size = has_flag flag flags
-matches (Lacks flag) last message flags size = not (has_flag flag flags)
-matches (Larger n) last message flags size = nat_lt n size
-matches (Smaller n) last message flags size = nat_lt size n
-matches (Positions set) last message flags size = is_named set last.position message.position
-matches (Uids set) last message flags size = is_named set last.uid message.uid
-matches (Not key) last message flags size = not (matches key last message flags size)
-matches (Or one other) last message flags size = matches one last message flags size || matches other last message flags size
-matches (And one other) last message flags size = matches one last message flags size && matches other last message flags size
+-- the day of a date as it stands there, whatever its zone
+abbrev pub day_of : Stamp → Day
+day_of date = record { year = date.year; month = date.month; day = date.day }
+
+abbrev pub is_same_day : Day → Day → Bool
+is_same_day a b = (a.year == b.year) && (a.month == b.month) && (a.day == b.day)
+
+-- of an earlier year, or of the same and of an earlier month, or of the same of both and an earlier day
+abbrev pub is_before : Day → Day → Bool
+is_before a b = nat_lt a.year b.year || ((a.year == b.year) && (nat_lt a.month b.month || ((a.month == b.month) && nat_lt a.day b.day)))
+
+-- the key is so of this message, which has these flags and this text; `last` is the last message of the view
+abbrev pub matches : Key → (last : Named) → (message : Named) → Flags → (text : List ℕ) → Bool
+matches Always last message flags text = true
+matches Never last message flags text = false
+matches (Has flag) last message flags text = has_flag flag flags
+matches (Lacks flag) last message flags text = not (has_flag flag flags)
+matches (Larger n) last message flags text = nat_lt n (length text)
+matches (Smaller n) last message flags text = nat_lt (length text) n
+matches (Before day) last message flags text = is_before (day_of (message_date text)) day
+matches (On day) last message flags text = is_same_day (day_of (message_date text)) day
+matches (Since day) last message flags text = not (is_before (day_of (message_date text)) day)
+matches (Positions set) last message flags text = is_named set last.position message.position
+matches (Uids set) last message flags text = is_named set last.uid message.uid
+matches (Not key) last message flags text = not (matches key last message flags text)
+matches (Or one other) last message flags text = matches one last message flags text || matches other last message flags text
+matches (And one other) last message flags text = matches one last message flags text && matches other last message flags text
 
 -- keys one after the other mean all of them
 abbrev pub all_of : Key → List Key → Key

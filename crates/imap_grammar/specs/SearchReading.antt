@@ -1,9 +1,11 @@
 -- Reading the keys of a search from left to right, as Reading does with a line. Nobody has to believe this file.
-use Rattle.std.specs.Prelude.{ℕ, zero, suc, codes, List, [], ◌∷◌, ◌++◌, length, take, drop, Option, Some, None, if◌then◌else◌}
+use Rattle.std.specs.Prelude.{ℕ, zero, suc, codes, List, [], ◌∷◌, ◌++◌, length, take, drop, Option, Some, None, ◌==◌, ◌&&◌, nat_le, if◌then◌else◌}
 use Rattle.std.specs.List.{prefix_len}
 use Rattle.std.specs.Option.{option_map}
 use Rattle.std.specs.Str.{str_eq_ignore_ascii_case as is_same}
 use Rattle.envelope.specs.Reading.{◌>>=◌, past_byte}
+use Rattle.mail_date.specs.InternalBack.{four_at}
+use Rattle.mail_date.specs.Reading.{day_at, month_at}
 use Rattle.imap_grammar.specs.Bytes.{is_atom, is_key_byte}
 use Rattle.imap_grammar.specs.Front.{past_gap, is_blank}
 use Rattle.imap_grammar.specs.Items.{greatest_span, is_word_of}
@@ -11,9 +13,11 @@ use Rattle.imap_grammar.specs.Keys.{Key, all_of, flag_word}
 use Rattle.imap_grammar.specs.Keys as keys
 use Rattle.imap_grammar.specs.Numbers.{number_up_to}
 use Rattle.imap_grammar.specs.Sets.{set_at}
+use Rattle.imap_grammar.specs.declared.dates.Day.{Day}
 use Rattle.imap_grammar.specs.declared.key_words.SystemFlag.TheVariants.{Answered, Deleted, Draft, Flagged, Seen}
 use Rattle.imap_grammar.specs.declared.key_words.KeyWord.{KeyWord}
-use Rattle.imap_grammar.specs.declared.key_words.KeyWord.TheVariants.{All, Old, New, Recent, Has, Lacks, Keyword, Unkeyword, Larger, Smaller, Uid}
+use Rattle.imap_grammar.specs.declared.key_words.KeyWord.TheVariants.{All, Old, New, Recent, Has, Lacks, Keyword, Unkeyword}
+use Rattle.imap_grammar.specs.declared.key_words.KeyWord.TheVariants.{Larger, Smaller, Before, On, Since, Uid}
 use Rattle.imap_grammar.specs.declared.key_words.KeyWord.TheVariants.{Not, Or, Charset}
 use Rattle.imap_grammar.specs.declared.key_words.SingleKey.{SingleKey}
 use Rattle.imap_grammar.specs.declared.key_words.SingleKey.TheVariants as single
@@ -31,6 +35,9 @@ spelling Keyword = codes "KEYWORD"
 spelling Unkeyword = codes "UNKEYWORD"
 spelling Larger = codes "LARGER"
 spelling Smaller = codes "SMALLER"
+spelling Before = codes "BEFORE"
+spelling On = codes "ON"
+spelling Since = codes "SINCE"
 spelling Uid = codes "UID"
 spelling Not = codes "NOT"
 spelling Or = codes "OR"
@@ -42,7 +49,7 @@ flag_words =
     ∷ Lacks Answered ∷ Lacks Deleted ∷ Lacks Draft ∷ Lacks Flagged ∷ Lacks Seen ∷ []
 
 abbrev pub other_words : List KeyWord
-other_words = All ∷ Old ∷ New ∷ Recent ∷ Keyword ∷ Unkeyword ∷ Larger ∷ Smaller ∷ Uid ∷ Not ∷ Or ∷ Charset ∷ []
+other_words = All ∷ Old ∷ New ∷ Recent ∷ Keyword ∷ Unkeyword ∷ Larger ∷ Smaller ∷ Before ∷ On ∷ Since ∷ Uid ∷ Not ∷ Or ∷ Charset ∷ []
 
 abbrev pub word_among : List KeyWord → List ℕ → Option KeyWord
 word_among [] word = None
@@ -58,6 +65,37 @@ key_word_of word = or_word (word_among flag_words word) (word_among other_words 
 -- what stands before the first space or parenthesis, and the rest
 abbrev pub key_word_at : List ℕ → List ℕ × List ℕ
 key_word_at bytes = (take (prefix_len is_key_byte bytes) bytes, drop (prefix_len is_key_byte bytes) bytes)
+
+-- ---- dates
+
+-- a day, a month and a year, and what comes after them
+abbrev pub date_at : List ℕ → Option (Day × List ℕ)
+date_at bytes = do
+  d ← day_at bytes
+  a ← past_byte 45 d.1
+  m ← month_at a
+  b ← past_byte 45 m.1
+  y ← four_at b
+  Some (record { year = y.0; month = m.0; day = d.0 }, y.1)
+
+-- what was read, if months have the day and nothing follows
+abbrev pub if_date : Day × List ℕ → Option Day
+if_date read = if nat_le 1 read.0.day && nat_le read.0.day 31 && (length read.1 == 0) then Some read.0 else None
+
+-- from behind the quote that opens
+abbrev pub quoted_date : List ℕ → Option Day
+quoted_date bytes = do
+  read ← date_at bytes
+  rest ← past_byte 34 read.1
+  if_date (read.0, rest)
+
+abbrev pub date_or_quoted : Option (List ℕ) → List ℕ → Option Day
+date_or_quoted (Some start) text = quoted_date start
+date_or_quoted None text = date_at text >>= if_date
+
+-- the day that a text says, between quotes or not
+unfoldable pub date_in : List ℕ → Option Day
+date_in text = date_or_quoted (past_byte 34 text) text
 
 -- ---- keys with no other key in them
 
@@ -77,6 +115,9 @@ argument_key Keyword text = if is_word_of is_atom text then Some single.Never el
 argument_key Unkeyword text = if is_word_of is_atom text then Some single.Always else None
 argument_key Larger text = number_up_to greatest_span text >>= λ n. Some (single.Larger n)
 argument_key Smaller text = number_up_to greatest_span text >>= λ n. Some (single.Smaller n)
+argument_key Before text = date_in text >>= λ day. Some (single.Before day)
+argument_key On text = date_in text >>= λ day. Some (single.On day)
+argument_key Since text = date_in text >>= λ day. Some (single.Since day)
 argument_key Uid text = set_at text >>= λ set. Some (single.Uids set)
 argument_key _ text = None
 
@@ -102,6 +143,9 @@ key_of (single.Has flag) = keys.Has flag
 key_of (single.Lacks flag) = keys.Lacks flag
 key_of (single.Larger n) = keys.Larger n
 key_of (single.Smaller n) = keys.Smaller n
+key_of (single.Before day) = keys.Before day
+key_of (single.On day) = keys.On day
+key_of (single.Since day) = keys.Since day
 key_of (single.Positions set) = keys.Positions set
 key_of (single.Uids set) = keys.Uids set
 

@@ -6,6 +6,7 @@ ghost use Rattle.std.specs.Option.{option_map};
 ghost use Rattle.imap_grammar.specs.SearchReading.{argument_at, argument_key, flag_words, key_word_at, key_word_of, other_words, single_at, single_or, word_among, word_key};
 
 use crate::bytes::{Class, past_gap, run_len};
+use crate::dates::{Day, date_in};
 use crate::number::number_up_to;
 use crate::set::SeqSet;
 use crate::words::is_word_of;
@@ -33,6 +34,9 @@ pub(crate) enum KeyWord {
     Unkeyword,
     Larger,
     Smaller,
+    Before,
+    On,
+    Since,
     Uid,
     Not,
     Or,
@@ -48,6 +52,9 @@ pub(crate) enum SingleKey<'a> {
     Lacks(SystemFlag),
     Larger(u64),
     Smaller(u64),
+    Before(Day),
+    On(Day),
+    Since(Day),
     Positions(SeqSet<'a>),
     Uids(SeqSet<'a>),
 }
@@ -99,6 +106,12 @@ fn other_word(word: &[u8]) -> Option<KeyWord>
         Some(KeyWord::Larger)
     } else if word.eq_ignore_ascii_case(b"SMALLER") {
         Some(KeyWord::Smaller)
+    } else if word.eq_ignore_ascii_case(b"BEFORE") {
+        Some(KeyWord::Before)
+    } else if word.eq_ignore_ascii_case(b"ON") {
+        Some(KeyWord::On)
+    } else if word.eq_ignore_ascii_case(b"SINCE") {
+        Some(KeyWord::Since)
     } else if word.eq_ignore_ascii_case(b"UID") {
         Some(KeyWord::Uid)
     } else if word.eq_ignore_ascii_case(b"NOT") {
@@ -155,6 +168,9 @@ fn argument_key(word: KeyWord, text: &[u8]) -> Option<SingleKey<'_>>
         KeyWord::Unkeyword if is_word_of(Class::Atom, text) => Some(SingleKey::Always),
         KeyWord::Larger => Some(SingleKey::Larger(number_up_to(GREATEST_NUMBER64, text)?)),
         KeyWord::Smaller => Some(SingleKey::Smaller(number_up_to(GREATEST_NUMBER64, text)?)),
+        KeyWord::Before => Some(SingleKey::Before(date_in(text)?)),
+        KeyWord::On => Some(SingleKey::On(date_in(text)?)),
+        KeyWord::Since => Some(SingleKey::Since(date_in(text)?)),
         KeyWord::Uid => Some(SingleKey::Uids(SeqSet::of(text)?)),
         _ => None,
     }

@@ -8,6 +8,7 @@ ghost use Rattle.imap_grammar.specs.SearchReading.{group_at, key_at, key_of, key
 ghost use Rattle.imap_grammar.specs.inner.Asking.{so, single_and_rest, so_and_rest, all_and_rest};
 
 use crate::bytes::{is_blank, past_gap};
+use crate::dates::{day_of_message, is_before, is_same_day};
 use crate::key_words::{KeyWord, SingleKey, SystemFlag, key_word, key_word_at, single_at};
 use crate::view::Named;
 use change_ring::Flags;
@@ -16,11 +17,11 @@ use std::marker::Model;
 
 /// A message of which keys are asked, and the last one of its view.
 #[derive(Clone, Copy)]
-pub(crate) struct Asked {
+pub(crate) struct Asked<'t> {
     pub(crate) last: Named,
     pub(crate) message: Named,
     pub(crate) flags: Flags,
-    pub(crate) size: usize,
+    pub(crate) text: &'t [u8],
 }
 
 fn has_flag(flag: SystemFlag, flags: Flags) -> bool
@@ -35,16 +36,19 @@ fn has_flag(flag: SystemFlag, flags: Flags) -> bool
     }
 }
 
-fn is_so(key: &SingleKey<'_>, asked: Asked) -> bool
-    ensures { result ≡ so asked (key_of key.now) }
+fn is_so(key: &SingleKey<'_>, asked: Asked<'_>) -> bool
+    ensures { result ≡ so asked.entry (key_of key.now) }
 {
     match key {
         SingleKey::Always => true,
         SingleKey::Never => false,
         SingleKey::Has(flag) => has_flag(*flag, asked.flags),
         SingleKey::Lacks(flag) => !has_flag(*flag, asked.flags),
-        SingleKey::Larger(n) => *n < asked.size as u64,
-        SingleKey::Smaller(n) => (asked.size as u64) < *n,
+        SingleKey::Larger(n) => *n < asked.text.len() as u64,
+        SingleKey::Smaller(n) => (asked.text.len() as u64) < *n,
+        SingleKey::Before(day) => is_before(day_of_message(asked.text), *day),
+        SingleKey::On(day) => is_same_day(day_of_message(asked.text), *day),
+        SingleKey::Since(day) => !is_before(day_of_message(asked.text), *day),
         SingleKey::Positions(set) => set.names(asked.last.position, asked.message.position),
         SingleKey::Uids(set) => set.names(asked.last.uid as usize, asked.message.uid as usize),
     }
@@ -65,10 +69,10 @@ fn single_so<'a>(
     found: Option<KeyWord>,
     text: &'a [u8],
     rest: &'a [u8],
-    asked: Asked,
+    asked: Asked<'_>,
 ) -> Option<(bool, &'a [u8])>
     ensures { option_map (λ x. (x.0, x.1.now)) result
-        ≡ option_map (single_and_rest asked) (single_at found (text.now, rest.now)) }
+        ≡ option_map (single_and_rest asked.entry) (single_at found (text.now, rest.now)) }
 {
     let (key, rest) = single_at(found, text, rest)?;
     Some((is_so(&key, asked), rest))
@@ -76,9 +80,9 @@ fn single_so<'a>(
 
 // What stands behind NOT.
 #[cycle(keys)]
-fn not_at(levels: u8, bytes: &[u8], asked: Asked) -> Option<(bool, &[u8])>
+fn not_at<'a>(levels: u8, bytes: &'a [u8], asked: Asked<'_>) -> Option<(bool, &'a [u8])>
     ensures { option_map (λ x. (x.0, x.1.now)) result
-        ≡ option_map (so_and_rest asked) (not_at (key_at levels) bytes.now) }
+        ≡ option_map (so_and_rest asked.entry) (not_at (key_at levels) bytes.now) }
 {
     let start = past_gap(bytes)?;
     let (inner, rest) = key_at(levels, start, asked)?;
@@ -87,9 +91,9 @@ fn not_at(levels: u8, bytes: &[u8], asked: Asked) -> Option<(bool, &[u8])>
 
 // What stands behind OR.
 #[cycle(keys)]
-fn or_at(levels: u8, bytes: &[u8], asked: Asked) -> Option<(bool, &[u8])>
+fn or_at<'a>(levels: u8, bytes: &'a [u8], asked: Asked<'_>) -> Option<(bool, &'a [u8])>
     ensures { option_map (λ x. (x.0, x.1.now)) result
-        ≡ option_map (so_and_rest asked) (or_at (key_at levels) bytes.now) }
+        ≡ option_map (so_and_rest asked.entry) (or_at (key_at levels) bytes.now) }
 {
     let start = past_gap(bytes)?;
     let (one, rest) = key_at(levels, start, asked)?;
@@ -100,9 +104,14 @@ fn or_at(levels: u8, bytes: &[u8], asked: Asked) -> Option<(bool, &[u8])>
 
 // Further keys behind one, which is so or isn't.
 #[cycle(keys)]
-fn others_at(levels: u8, first: bool, bytes: &[u8], asked: Asked) -> Option<(bool, &[u8])>
+fn others_at<'a>(
+    levels: u8,
+    first: bool,
+    bytes: &'a [u8],
+    asked: Asked<'_>,
+) -> Option<(bool, &'a [u8])>
     ensures { option_map (λ x. (x.0, x.1.now)) result
-        ≡ option_map (all_and_rest asked first)
+        ≡ option_map (all_and_rest asked.entry first)
         (others_at (key_at levels) (suc (length bytes.now)) bytes.now) }
 {
     let mut all = first;
@@ -117,9 +126,9 @@ fn others_at(levels: u8, first: bool, bytes: &[u8], asked: Asked) -> Option<(boo
 
 // Keys one after the other.
 #[cycle(keys)]
-fn keys_at(levels: u8, bytes: &[u8], asked: Asked) -> Option<(bool, &[u8])>
+fn keys_at<'a>(levels: u8, bytes: &'a [u8], asked: Asked<'_>) -> Option<(bool, &'a [u8])>
     ensures { option_map (λ x. (x.0, x.1.now)) result
-        ≡ option_map (so_and_rest asked) (keys_at (key_at levels) bytes.now) }
+        ≡ option_map (so_and_rest asked.entry) (keys_at (key_at levels) bytes.now) }
 {
     let (first, rest) = key_at(levels, bytes, asked)?;
     others_at(levels, first, rest, asked)
@@ -127,9 +136,9 @@ fn keys_at(levels: u8, bytes: &[u8], asked: Asked) -> Option<(bool, &[u8])>
 
 // Keys from behind the parenthesis that opens, and what follows the one that closes.
 #[cycle(keys)]
-fn group_at(levels: u8, bytes: &[u8], asked: Asked) -> Option<(bool, &[u8])>
+fn group_at<'a>(levels: u8, bytes: &'a [u8], asked: Asked<'_>) -> Option<(bool, &'a [u8])>
     ensures { option_map (λ x. (x.0, x.1.now)) result
-        ≡ option_map (so_and_rest asked) (group_at (key_at levels) bytes.now) }
+        ≡ option_map (so_and_rest asked.entry) (group_at (key_at levels) bytes.now) }
 {
     let (inner, rest) = keys_at(levels, bytes, asked)?;
     let rest = past_byte(b')', rest)?;
@@ -138,9 +147,9 @@ fn group_at(levels: u8, bytes: &[u8], asked: Asked) -> Option<(bool, &[u8])>
 
 // The key that begins with a word.
 #[cycle(keys)]
-fn worded_at(levels: u8, bytes: &[u8], asked: Asked) -> Option<(bool, &[u8])>
+fn worded_at<'a>(levels: u8, bytes: &'a [u8], asked: Asked<'_>) -> Option<(bool, &'a [u8])>
     ensures { option_map (λ x. (x.0, x.1.now)) result
-        ≡ option_map (so_and_rest asked)
+        ≡ option_map (so_and_rest asked.entry)
         (worded_at (key_at levels) (key_word_of (key_word_at bytes.now).0) (key_word_at bytes.now)) }
 {
     let (text, rest) = key_word_at(bytes);
@@ -153,9 +162,9 @@ fn worded_at(levels: u8, bytes: &[u8], asked: Asked) -> Option<(bool, &[u8])>
 
 // Whether the key at the front is so, and what follows it: fewer than so many levels deep.
 #[cycle(keys)]
-fn key_at(levels: u8, bytes: &[u8], asked: Asked) -> Option<(bool, &[u8])>
+fn key_at<'a>(levels: u8, bytes: &'a [u8], asked: Asked<'_>) -> Option<(bool, &'a [u8])>
     ensures { option_map (λ x. (x.0, x.1.now)) result
-        ≡ option_map (so_and_rest asked) (key_at levels bytes.now) }
+        ≡ option_map (so_and_rest asked.entry) (key_at levels bytes.now) }
 {
     if levels == 0 {
         return None;
@@ -170,8 +179,8 @@ fn key_at(levels: u8, bytes: &[u8], asked: Asked) -> Option<(bool, &[u8])>
 const LEVELS: u8 = 33;
 
 // Whether the keys of a text are so, where it is such keys.
-fn keys_so(text: &[u8], asked: Asked) -> Option<bool>
-    ensures { result ≡ option_map (so asked) (keys_in text.now) }
+fn keys_so(text: &[u8], asked: Asked<'_>) -> Option<bool>
+    ensures { result ≡ option_map (so asked.entry) (keys_in text.now) }
 {
     let (all, rest) = keys_at(LEVELS, text, asked)?;
     if is_blank(rest) { Some(all) } else { None }
@@ -195,7 +204,7 @@ fn are_keys(text: &[u8]) -> bool
             seen: false,
             draft: false,
         },
-        size: 0,
+        text: &[],
     };
     keys_so(text, asked).is_some()
 }
@@ -235,16 +244,16 @@ impl<'a> SearchKeys<'a> {
         }
     }
 
-    /// Whether the keys are so of a message with these flags and of so many bytes, where `last` is the last message of the view.
-    /// It takes no memory, and the time that it takes to read the keys.
-    pub fn matches(&self, last: Named, message: Named, flags: Flags, size: usize) -> bool
-        ensures { result ≡ matches self.now last message flags size }
+    /// Whether the keys are so of a message with these flags and this text, where `last` is the last message of the view.
+    /// It takes no memory, and the time that it takes to read the keys; each BEFORE, ON and SINCE among them reads the date of the message anew.
+    pub fn matches(&self, last: Named, message: Named, flags: Flags, text: &[u8]) -> bool
+        ensures { result ≡ matches self.now last message flags text.now }
     {
         let asked = Asked {
             last,
             message,
             flags,
-            size,
+            text,
         };
         match keys_so(self.spelled, asked) {
             Some(so) => so,

@@ -7,6 +7,7 @@ mod arguments;
 mod bytes;
 mod command;
 mod cut;
+mod dates;
 mod item_words;
 mod items;
 mod key_words;
@@ -21,6 +22,7 @@ mod view;
 mod words;
 
 pub use command::{Append, Command, Fetch, ImapFault, Literal, Search, Store, Tag, Verb};
+pub use dates::Day;
 pub use items::{
     BodyPart, FetchItem, FetchItems, FieldNames, Section, Span, StatusItem, StatusItems,
 };

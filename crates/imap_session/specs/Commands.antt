@@ -165,7 +165,7 @@ storing store view done (uid ∷ uids) gone =
 -- the number of a message that was read, where the keys are so of it; `last` is the last message of the view
 abbrev pub found_in : Search → (last message : Named) → Row → List ℕ
 found_in search last message row =
-    if matches search.keys last message row.flags (length row.text)
+    if matches search.keys last message row.flags row.text
     then (if search.by_uid then message.uid else message.position) ∷ []
     else []
 

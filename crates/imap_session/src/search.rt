@@ -25,7 +25,7 @@ fn found_in(search: &Search<'_>, last: Named, message: Named, row: &Row) -> Opti
 {
     if !search
         .keys
-        .matches(last, message, row.flags, row.text.as_slice().len())
+        .matches(last, message, row.flags, row.text.as_slice())
     {
         None
     } else if search.by_uid {

@@ -12,6 +12,7 @@ use Rattle.mail_date.specs.Dates.{is_among, day_names, month_of, zone_of, offset
 use Rattle.mail_date.specs.Grammar.{Blank, Gap, Digits, Many, number_from, Year, Month, Second, ZoneText, Sign, DayName, Maybe, Date, Time, Spelled, Some1, Joined, Mark, Day, DateTime}
 use Rattle.mail_date.specs.Grammar as grammar
 use Rattle.mail_date.specs.Reading.{◌>>=◌, past_blank, past_gap, past_byte, past_mark, one_at, two_at, day_at, second_digit, third_digit, fourth_digit, year_at, month_at, word_at, offset_at, signed_at, named_at, zone_at, past_day_name, behind_colon, second_at, date_at, time_at, stamped, if_ended, date_time}
+use Rattle.mail_date.specs.InternalBack.{four_at}
 use Rattle.mail_date.proofs.Blanks.{decides_false}
 use Rattle.mail_date.proofs.BlanksAgain.{Starts, Stops, is_open, starts_on, apart, open_white, blank_stops, blank_again, past_again}
 
@@ -131,11 +132,11 @@ day_two n (a ∷ b ∷ []) rest d =
     ∙ said ((a - 48) * 10 + (b - 48)) n rest (let v = d.2 in omega (arith, v))
 day_two n (a ∷ b ∷ c ∷ cs) rest d = absurd (let e = d.0 in omega (arith, e))
 
-day_again : (n : ℕ) (text rest : List ℕ) → Day n text → Stops is_digit rest → day_at (text ++ rest) ≡ Some (n, rest)
+pub day_again : (n : ℕ) (text rest : List ℕ) → Day n text → Stops is_digit rest → day_at (text ++ rest) ≡ Some (n, rest)
 day_again n text rest (inl d) s = day_one n text rest d s
 day_again n text rest (inr d) s = day_two n text rest d
 
-day_start : (n : ℕ) (text : List ℕ) → Day n text → Starts is_digit text
+pub day_start : (n : ℕ) (text : List ℕ) → Day n text → Starts is_digit text
 day_start n text (inl d) = digits_start 0 n text d
 day_start n text (inr d) = digits_start 1 n text d
 
@@ -196,6 +197,22 @@ year_start n text (inl d) = digits_start 3 n text d.0
 year_start n text (inr (inl d)) = digits_start 2 d.0 text d.1
 year_start n text (inr (inr d)) = digits_start 1 d.0 text d.1
 
+-- four digits, whatever they say
+pub four_again : (n : ℕ) (text rest : List ℕ) → Digits 4 n text → four_at (text ++ rest) ≡ Some (n, rest)
+four_again n [] rest d = absurd (let e = d.0 in omega (arith, e))
+four_again n (a ∷ []) rest d = absurd (let e = d.0 in omega (arith, e))
+four_again n (a ∷ b ∷ []) rest d = absurd (let e = d.0 in omega (arith, e))
+four_again n (a ∷ b ∷ c ∷ []) rest d = absurd (let e = d.0 in omega (arith, e))
+four_again n (a ∷ b ∷ c ∷ e ∷ []) rest d =
+    let x = (a - 48) * 10 + (b - 48) in
+    let y = (c - 48) * 10 + (e - 48) in
+    let v = d.2 in
+    ap (λ (o : Option (ℕ × List ℕ)). o >>= (λ (x : ℕ × List ℕ). two_at x.1 >>= (λ (y : ℕ × List ℕ). Some (x.0 * 100 + y.0, y.1))))
+    (two_is a b (c ∷ e ∷ rest) d.1.0 d.1.1.0)
+    ∙ ap (λ (o : Option (ℕ × List ℕ)). o >>= (λ (y : ℕ × List ℕ). Some (x * 100 + y.0, y.1))) (two_is c e rest d.1.1.1.0 d.1.1.1.1.0)
+    ∙ said (x * 100 + y) n rest (omega (arith, v))
+four_again n (a ∷ b ∷ c ∷ e ∷ f ∷ fs) rest d = absurd (let e = d.0 in omega (arith, e))
+
 -- ---- words
 
 none_first : (p : ℕ → Bool) (b : List ℕ) → Stops p b → prefix_len p b ≡ 0
@@ -214,12 +231,12 @@ word_again a b h s =
     ∙ ap (λ (l : List ℕ). (l, drop (length a) (a ++ b))) (take_at a b (length a) refl)
     ∙ ap (λ (l : List ℕ). (a, l)) (drop_at a b (length a) refl)
 
-month_again : (n : ℕ) (text rest : List ℕ) → Month n text → Stops is_letter rest → month_at (text ++ rest) ≡ Some (n, rest)
+pub month_again : (n : ℕ) (text rest : List ℕ) → Month n text → Stops is_letter rest → month_at (text ++ rest) ≡ Some (n, rest)
 month_again n text rest h s =
     ap (λ (w : List ℕ × List ℕ). month_of w.0 >>= (λ (n : ℕ). Some (n, w.1))) (word_again text rest h.0 s)
     ∙ ap (λ (o : Option ℕ). o >>= (λ (n : ℕ). Some (n, rest))) h.1
 
-month_start : (n : ℕ) (text : List ℕ) → Month n text → Starts is_letter text
+pub month_start : (n : ℕ) (text : List ℕ) → Month n text → Starts is_letter text
 month_start n [] h = absurd (let e = h.1 in cc)
 month_start n (x ∷ xs) h = h.0.0
 

@@ -11,6 +11,7 @@ use Rattle.mail_date.specs.Bytes.{is_digit, is_letter, first_is}
 use Rattle.mail_date.specs.Dates.{is_among, day_names, month_of, zone_of, offset, year_of_two, is_date}
 use Rattle.mail_date.specs.Grammar.{Blank, Gap, Digits, Many, Year, Month, Second, ZoneText, Sign, DayName, Maybe, Date, Time, Spelled, Joined, Mark, Day, DateTime}
 use Rattle.mail_date.specs.Reading.{◌>>=◌, outside, blank_len, past_blank, past_gap, past_byte, past_mark, one_at, two_at, day_at, second_digit, third_digit, fourth_digit, year_at, month_at, word_at, offset_at, signed_at, named_at, zone_at, past_day_name, behind_colon, second_at, date_at, time_at, stamped, checked, if_ended, date_time}
+use Rattle.mail_date.specs.InternalBack.{four_at}
 use Rattle.mail_date.proofs.Blanks.{bind_some, guard_some, either, not_zero, blank_found}
 
 -- a part at the front
@@ -161,7 +162,7 @@ day_two bytes a z h (Some b) f e =
     (ruled (Digits 2 (a.0 * 10 + b.0)) (Day (a.0 * 10 + b.0)) bytes b.1 b.1 refl (λ text d. inr d)
     (two_front bytes a b (a.0 * 10 + b.0, b.1) h (one_sound a.1 b f) refl refl))
 
-day_sound : (bytes : List ℕ) (z : ℕ × List ℕ) → day_at bytes ≡ Some z → Front (Day z.0) bytes z.1
+pub day_sound : (bytes : List ℕ) (z : ℕ × List ℕ) → day_at bytes ≡ Some z → Front (Day z.0) bytes z.1
 day_sound bytes z e =
     let a = bind_some (one_at bytes) (λ (a : ℕ × List ℕ). Some (second_digit a (one_at a.1))) z e in
     day_two bytes a.0 z (one_sound bytes a.0 a.1) (one_at a.0.1) refl (some_is (second_digit a.0 (one_at a.0.1)) z a.2)
@@ -201,6 +202,21 @@ year_sound bytes z e =
     let a = bind_some (two_at bytes) (λ (a : ℕ × List ℕ). third_digit a (one_at a.1)) z e in
     year_three bytes a.0 z (two_ones bytes a.0 a.1) (one_at a.0.1) refl a.2
 
+-- four digits, whatever they say
+pub four_sound : (bytes : List ℕ) (z : ℕ × List ℕ) → four_at bytes ≡ Some z → Front (Digits 4 z.0) bytes z.1
+four_sound bytes z e =
+    let a = bind_some (two_at bytes) (λ (a : ℕ × List ℕ). two_at a.1 >>= (λ (b : ℕ × List ℕ). Some (a.0 * 100 + b.0, b.1))) z e in
+    let b = bind_some (two_at a.0.1) (λ (b : ℕ × List ℕ). Some (a.0.0 * 100 + b.0, b.1)) z a.2 in
+    let n = a.0.0 * 100 + b.0.0 in
+    let h = two_ones bytes a.0 a.1 in
+    let i = two_ones a.0.1 b.0 b.1 in
+    let first : One h.y.1 i.x = subst (λ (l : List ℕ). One l i.x) (sym h.rest) i.first in
+    let v = h.value in
+    let w = i.value in
+    subst (λ (p : ℕ × List ℕ). Front (Digits 4 p.0) bytes p.1) (some_is (n, b.0.1) z b.2)
+    (ruled (Digits 4 n) (Digits 4 n) bytes i.y.1 b.0.1 i.rest (λ text d. d)
+    (four_front bytes h.x h.y i.x i.y n h.first h.second first i.second (omega (arith, v, w))))
+
 -- ---- words
 
 one_more : (p : ℕ → Bool) (x : ℕ) (xs : List ℕ) (t : Bool) → p x ≡ t → Many p (take (prefix_len p xs) xs) → Many p (take (cond t (1 + prefix_len p xs) 0) (x ∷ xs))
@@ -216,7 +232,7 @@ many_taken p (x ∷ xs) = one_more p x xs (p x) refl (many_taken p xs)
 word_front : (P : List ℕ → Type 0) (bytes : List ℕ) → (Many is_letter (word_at bytes).0 → P (word_at bytes).0) → Front P bytes (word_at bytes).1
 word_front P bytes f = taken P (prefix_len is_letter bytes) bytes (f (many_taken is_letter bytes))
 
-month_sound : (bytes : List ℕ) (z : ℕ × List ℕ) → month_at bytes ≡ Some z → Front (Month z.0) bytes z.1
+pub month_sound : (bytes : List ℕ) (z : ℕ × List ℕ) → month_at bytes ≡ Some z → Front (Month z.0) bytes z.1
 month_sound bytes z e =
     let n = bind_some (month_of (word_at bytes).0) (λ (n : ℕ). Some (n, (word_at bytes).1)) z e in
     subst (λ (p : ℕ × List ℕ). Front (Month p.0) bytes p.1) (some_is (n.0, (word_at bytes).1) z n.2)

@@ -1,4 +1,4 @@
--- Reading back what Internal.antt writes. No code reads this form: the law `what_is_written_is_read` cites it.
+-- Reading back what Internal.antt writes, as the law `what_is_written_is_read` cites it. A year in a search is read so too (`imap_grammar`).
 use Rattle.std.specs.Prelude.{ℕ, ◌+◌, ◌*◌, List, Option, Some}
 use Rattle.mail_date.specs.declared.stamp.Stamp.{Stamp}
 use Rattle.mail_date.specs.Reading.{◌>>=◌, past_byte, two_at, month_at, signed_at, stamped, if_ended}

@@ -95,7 +95,8 @@ fn one_at(bytes: &[u8]) -> Option<(u8, &[u8])>
     }
 }
 
-pub(crate) fn two_at(bytes: &[u8]) -> Option<(u8, &[u8])>
+/// The number that two digits say, and what follows them.
+pub fn two_at(bytes: &[u8]) -> Option<(u8, &[u8])>
     ensures value { option_map (λ x. (x.0, x.1.now)) result ≡ two_at bytes.now }
     ensures bound { IfSome result (λ x. x.0 ≤ 99) }
 {
@@ -159,7 +160,7 @@ fn month_of(word: &[u8]) -> Option<u8>
 }
 
 /// The month of a name, and what follows it.
-pub(crate) fn month_at(bytes: &[u8]) -> Option<(u8, &[u8])>
+pub fn month_at(bytes: &[u8]) -> Option<(u8, &[u8])>
     ensures value { option_map (λ x. (x.0, x.1.now)) result ≡ month_at bytes.now }
 {
     let (word, rest) = word_at(bytes);
@@ -168,7 +169,7 @@ pub(crate) fn month_at(bytes: &[u8]) -> Option<(u8, &[u8])>
 }
 
 /// A day in one digit or two, and what follows it.
-pub(crate) fn day_at(bytes: &[u8]) -> Option<(u8, &[u8])>
+pub fn day_at(bytes: &[u8]) -> Option<(u8, &[u8])>
     ensures value { option_map (λ x. (x.0, x.1.now)) result ≡ day_at bytes.now }
 {
     let (a, rest) = one_at(bytes)?;

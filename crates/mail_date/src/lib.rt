@@ -14,6 +14,7 @@ mod stamp;
 mod tests;
 
 pub use field::{begins_field, message_date};
+pub use front::{day_at, month_at, two_at};
 pub use internal::{INTERNAL_LEN, write_internal_date};
 pub use laws::{
     a_message_has_the_date_that_it_says, the_first_received_is_taken, the_last_semicolon_is_taken,

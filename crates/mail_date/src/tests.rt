@@ -1,6 +1,8 @@
 //! Each public call where all goes well, and messages that say no date. The dates are those of RFC 5322 and RFC 3501.
 
-use crate::{INTERNAL_LEN, Stamp, Zone, message_date, write_internal_date};
+use crate::{
+    INTERNAL_LEN, Stamp, Zone, day_at, message_date, month_at, two_at, write_internal_date,
+};
 use std::alloc::{AllocError, Global};
 
 // The example of APPEND (RFC 3501, section 6.3.11), as Postfix would have stamped it.
@@ -54,4 +56,11 @@ fn a_message_without_a_date_has_the_first_day(rt: HostRuntime) -> Result<(), All
     )?;
     assert_eq!(rt; bad.as_slice(), first);
     Ok(())
+}
+
+#[test]
+fn parts_of_a_date_are_read(rt: HostRuntime) {
+    assert_eq!(rt; day_at(b"7-Feb-1994"), Some((7, b"-Feb-1994".as_slice())));
+    assert_eq!(rt; month_at(b"feb-1994"), Some((2, b"-1994".as_slice())));
+    assert_eq!(rt; two_at(b"1994"), Some((19, b"94".as_slice())));
 }

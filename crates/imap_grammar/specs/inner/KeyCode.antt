@@ -3,7 +3,8 @@
 use Rattle.std.specs.Prelude.{◌≡◌, ℕ, zero, suc, List, [], ◌∷◌, ◌++◌, map, ◌==◌, if◌then◌else◌}
 use Rattle.std.proofs.Common.{refl, ap, ◌∙◌, append_assoc, append-nil, sym}
 use Rattle.std.specs.Coded.{Coded, code_by, coded×, coded_list, coded_ℕ}
-use Rattle.imap_grammar.specs.Keys.{Key, Always, Never, Has, Lacks, Larger, Smaller, Positions, Uids, Not, Or, And}
+use Rattle.imap_grammar.specs.Keys.{Key, Always, Never, Has, Lacks, Larger, Smaller, Before, On, Since, Positions, Uids, Not, Or, And}
+use Rattle.imap_grammar.specs.declared.dates.Day.{Day}
 use Rattle.imap_grammar.specs.declared.key_words.SystemFlag.{SystemFlag}
 use Rattle.imap_grammar.specs.declared.key_words.SystemFlag.TheVariants.{Answered, Deleted, Draft, Flagged, Seen}
 use Rattle.imap_grammar.specs.declared.set.SeqNumber.{SeqNumber}
@@ -42,8 +43,15 @@ flag_back n =
     else if n == 3 then Flagged
     else Seen
 
+abbrev pub day_back : ℕ → List (ℕ × ℕ) → Day
+day_back year [] = record { year = year; month = 0; day = 0 }
+day_back year (p ∷ ps) = record { year = year; month = p.0; day = p.1 }
+
 abbrev pub part : ℕ → ℕ → List SeqRange → List Part
 part kind n set = (kind, (n, map range_code set)) ∷ []
+
+abbrev pub day_part : ℕ → Day → List Part
+day_part kind day = (kind, (day.year, (day.month, day.day) ∷ [])) ∷ []
 
 abbrev pub parts_of : Key → List Part
 parts_of Always = part 0 0 []
@@ -52,6 +60,9 @@ parts_of (Has flag) = part 2 (flag_code flag) []
 parts_of (Lacks flag) = part 3 (flag_code flag) []
 parts_of (Larger n) = part 4 n []
 parts_of (Smaller n) = part 5 n []
+parts_of (Before day) = day_part 11 day
+parts_of (On day) = day_part 12 day
+parts_of (Since day) = day_part 13 day
 parts_of (Positions set) = part 6 0 set
 parts_of (Uids set) = part 7 0 set
 parts_of (Not key) = parts_of key ++ part 8 0 []
@@ -79,7 +90,10 @@ pushed kind n set keys =
     else if kind == 7 then Uids (map range_back set) ∷ keys
     else if kind == 8 then negated keys
     else if kind == 9 then joined Or keys
-    else joined And keys
+    else if kind == 10 then joined And keys
+    else if kind == 11 then Before (day_back n set) ∷ keys
+    else if kind == 12 then On (day_back n set) ∷ keys
+    else Since (day_back n set) ∷ keys
 
 abbrev pub keys_back : List Part → List Key → List Key
 keys_back [] keys = keys
@@ -123,6 +137,9 @@ again (Has flag) rest keys = ap (λ x. keys_back rest (Has x ∷ keys)) (flag_ag
 again (Lacks flag) rest keys = ap (λ x. keys_back rest (Lacks x ∷ keys)) (flag_again flag)
 again (Larger n) rest keys = refl
 again (Smaller n) rest keys = refl
+again (Before day) rest keys = refl
+again (On day) rest keys = refl
+again (Since day) rest keys = refl
 again (Positions set) rest keys = ap (λ x. keys_back rest (Positions x ∷ keys)) (set_again set)
 again (Uids set) rest keys = ap (λ x. keys_back rest (Uids x ∷ keys)) (set_again set)
 again (Not key) rest keys = ap (λ x. keys_back x keys) (append_assoc (parts_of key) (part 8 0 []) rest) ∙ again key (part 8 0 [] ++ rest) keys

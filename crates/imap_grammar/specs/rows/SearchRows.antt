@@ -1,10 +1,13 @@
 -- Worked cases: searches, and of which messages their keys are so.
-use Rattle.std.specs.Prelude.{◌≡◌, Bool, codes, [], ◌∷◌, ◌++◌, Ok, Err, true, false, refl}
+use Rattle.std.specs.Prelude.{◌≡◌, ℕ, Bool, codes, List, [], ◌∷◌, ◌++◌, Ok, Err, true, false, refl}
 use Rattle.change_ring.specs.declared.change.Flags.{Flags}
-use Rattle.imap_grammar.specs.Keys.{Key, Always, Never, Has, Lacks, Larger, Smaller, Positions, Uids, Not, Or, And, matches}
+use Rattle.mail_date.specs.Fields.{message_date, received_date}
+use Rattle.mail_date.specs.Reading.{date_time}
+use Rattle.imap_grammar.specs.Keys.{Key, Always, Never, Has, Lacks, Larger, Smaller, Before, On, Since, Positions, Uids, Not, Or, And, matches}
 use Rattle.imap_grammar.specs.Keys as Keys
 use Rattle.imap_grammar.specs.Reading.{read}
-use Rattle.imap_grammar.specs.SearchReading.{keys_in, key_at}
+use Rattle.imap_grammar.specs.SearchReading.{date_in, keys_in, key_at}
+use Rattle.imap_grammar.specs.declared.dates.Day.{Day}
 use Rattle.imap_grammar.specs.declared.key_words.SystemFlag.TheVariants.{Answered, Deleted, Draft, Flagged, Seen}
 use Rattle.imap_grammar.specs.declared.set.SeqNumber.{SeqNumber}
 use Rattle.imap_grammar.specs.declared.set.SeqNumber.TheVariants.{Number, Star}
@@ -133,6 +136,99 @@ one_not_more : read (codes "a1 SEARCH NOT NOT NOT NOT NOT NOT NOT NOT NOT NOT NO
 unfolding read keys_in key_at
 one_not_more = refl
 
+-- ---- dates
+
+abbrev date : (year month day : ℕ) → Day
+date year month day = record { year = year; month = month; day = day }
+
+-- RFC 3501, 6.4.4, with another key behind NOT
+of_the_standard : read (codes "A282 SEARCH FLAGGED SINCE 1-Feb-1994 NOT DELETED") ≡ Ok
+    (codes "A282", search false true (And (Has Flagged) (And (Since (date 1994 2 1)) (Not (Has Deleted)))))
+unfolding read keys_in key_at date_in
+of_the_standard = refl
+
+quoted_date : read (codes "a1 SEARCH SINCE \"1-Feb-1994\"") ≡ Ok (codes "a1", search false true (Since (date 1994 2 1)))
+unfolding read keys_in key_at date_in
+quoted_date = refl
+
+date_in_any_case : read (codes "a1 uid search before 1-feb-1994 on 28-DEC-2026") ≡ Ok
+    (codes "a1", search true true (And (Before (date 1994 2 1)) (On (date 2026 12 28))))
+unfolding read keys_in key_at date_in
+date_in_any_case = refl
+
+zero_before_the_day : read (codes "a1 SEARCH (ON 01-Jan-0001)") ≡ Ok (codes "a1", search false true (On (date 1 1 1)))
+unfolding read keys_in key_at date_in
+zero_before_the_day = refl
+
+-- whatever the month
+thirty_first : read (codes "a1 SEARCH ON 31-Feb-1994") ≡ Ok (codes "a1", search false true (On (date 1994 2 31)))
+unfolding read keys_in key_at date_in
+thirty_first = refl
+
+day_32 : read (codes "a1 SEARCH SINCE 32-Feb-1994") ≡ Err (Arguments (codes "a1") verbs.Search)
+unfolding read keys_in key_at date_in
+day_32 = refl
+
+day_0 : read (codes "a1 SEARCH SINCE 0-Feb-1994") ≡ Err (Arguments (codes "a1") verbs.Search)
+unfolding read keys_in key_at date_in
+day_0 = refl
+
+day_00 : read (codes "a1 SEARCH SINCE \"00-Feb-1994\"") ≡ Err (Arguments (codes "a1") verbs.Search)
+unfolding read keys_in key_at date_in
+day_00 = refl
+
+no_month : read (codes "a1 SEARCH SINCE 1-Foo-1994") ≡ Err (Arguments (codes "a1") verbs.Search)
+unfolding read keys_in key_at date_in
+no_month = refl
+
+whole_month : read (codes "a1 SEARCH SINCE 1-February-1994") ≡ Err (Arguments (codes "a1") verbs.Search)
+unfolding read keys_in key_at date_in
+whole_month = refl
+
+short_year : read (codes "a1 SEARCH SINCE 1-Feb-94") ≡ Err (Arguments (codes "a1") verbs.Search)
+unfolding read keys_in key_at date_in
+short_year = refl
+
+long_year : read (codes "a1 SEARCH SINCE 1-Feb-19940") ≡ Err (Arguments (codes "a1") verbs.Search)
+unfolding read keys_in key_at date_in
+long_year = refl
+
+unclosed_date : read (codes "a1 SEARCH SINCE \"1-Feb-1994") ≡ Err (Arguments (codes "a1") verbs.Search)
+unfolding read keys_in key_at date_in
+unclosed_date = refl
+
+unopened_date : read (codes "a1 SEARCH SINCE 1-Feb-1994\"") ≡ Err (Arguments (codes "a1") verbs.Search)
+unfolding read keys_in key_at date_in
+unopened_date = refl
+
+behind_the_quote : read (codes "a1 SEARCH SINCE \"1-Feb-1994\"x") ≡ Err (Arguments (codes "a1") verbs.Search)
+unfolding read keys_in key_at date_in
+behind_the_quote = refl
+
+spaced_date : read (codes "a1 SEARCH SINCE \" 1-Feb-1994\"") ≡ Err (Arguments (codes "a1") verbs.Search)
+unfolding read keys_in key_at date_in
+spaced_date = refl
+
+number_for_month : read (codes "a1 SEARCH SINCE 1-2-1994") ≡ Err (Arguments (codes "a1") verbs.Search)
+unfolding read keys_in key_at date_in
+number_for_month = refl
+
+three_digits : read (codes "a1 SEARCH SINCE 001-Feb-1994") ≡ Err (Arguments (codes "a1") verbs.Search)
+unfolding read keys_in key_at date_in
+three_digits = refl
+
+before_alone : read (codes "a1 SEARCH BEFORE") ≡ Err (Arguments (codes "a1") verbs.Search)
+unfolding read keys_in key_at date_in
+before_alone = refl
+
+on_alone : read (codes "a1 SEARCH ON") ≡ Err (Arguments (codes "a1") verbs.Search)
+unfolding read keys_in key_at date_in
+on_alone = refl
+
+since_alone : read (codes "a1 SEARCH SINCE") ≡ Err (Arguments (codes "a1") verbs.Search)
+unfolding read keys_in key_at date_in
+since_alone = refl
+
 -- ---- messages
 
 abbrev with_seen : Bool → Flags
@@ -151,56 +247,139 @@ middle = record { position = 2; uid = 7 }
 abbrev last : Named
 last = record { position = 3; uid = 9 }
 
-not_so : matches (Not (Has Seen)) last middle seen 5 ≡ false
+-- a text of five bytes
+abbrev five : List ℕ
+five = codes "12345"
+
+not_so : matches (Not (Has Seen)) last middle seen five ≡ false
 not_so = refl
 
-not_seen : matches (Not (Has Seen)) last middle plain 5 ≡ true
+not_seen : matches (Not (Has Seen)) last middle plain five ≡ true
 not_seen = refl
 
-lacks_seen : matches (Lacks Seen) last middle seen 5 ≡ false
+lacks_seen : matches (Lacks Seen) last middle seen five ≡ false
 lacks_seen = refl
 
-one_of_two : matches (Or (Has Seen) (Has Draft)) last middle seen 5 ≡ true
+one_of_two : matches (Or (Has Seen) (Has Draft)) last middle seen five ≡ true
 one_of_two = refl
 
-none_of_two : matches (Or (Has Deleted) (Has Draft)) last middle seen 5 ≡ false
+none_of_two : matches (Or (Has Deleted) (Has Draft)) last middle seen five ≡ false
 none_of_two = refl
 
-both : matches (And (Has Seen) (Larger 4)) last middle seen 5 ≡ true
+both : matches (And (Has Seen) (Larger 4)) last middle seen five ≡ true
 both = refl
 
-not_both : matches (And (Has Seen) (Has Draft)) last middle seen 5 ≡ false
+not_both : matches (And (Has Seen) (Has Draft)) last middle seen five ≡ false
 not_both = refl
 
-no_larger : matches (Larger 5) last middle seen 5 ≡ false
+no_larger : matches (Larger 5) last middle seen five ≡ false
 no_larger = refl
 
-larger : matches (Larger 5) last middle seen 6 ≡ true
+larger : matches (Larger 5) last middle seen (codes "123456") ≡ true
 larger = refl
 
-no_smaller : matches (Smaller 5) last middle seen 5 ≡ false
+no_smaller : matches (Smaller 5) last middle seen five ≡ false
 no_smaller = refl
 
-smaller : matches (Smaller 5) last middle seen 4 ≡ true
+smaller : matches (Smaller 5) last middle seen (codes "1234") ≡ true
 smaller = refl
 
-position : matches (Positions (range (Number 2) (Number 2) ∷ [])) last middle plain 5 ≡ true
+position : matches (Positions (range (Number 2) (Number 2) ∷ [])) last middle plain five ≡ true
 position = refl
 
-position_of_another : matches (Uids (range (Number 2) (Number 2) ∷ [])) last middle plain 5 ≡ false
+position_of_another : matches (Uids (range (Number 2) (Number 2) ∷ [])) last middle plain five ≡ false
 position_of_another = refl
 
-last_position : matches (Positions (range Star Star ∷ [])) last last plain 5 ≡ true
+last_position : matches (Positions (range Star Star ∷ [])) last last plain five ≡ true
 last_position = refl
 
-before_the_last : matches (Positions (range Star Star ∷ [])) last middle plain 5 ≡ false
+before_the_last : matches (Positions (range Star Star ∷ [])) last middle plain five ≡ false
 before_the_last = refl
 
-uids_from : matches (Uids (range (Number 7) Star ∷ [])) last middle plain 5 ≡ true
+uids_from : matches (Uids (range (Number 7) Star ∷ [])) last middle plain five ≡ true
 uids_from = refl
 
-beyond_the_last : matches (Uids (range (Number 100) Star ∷ [])) last last plain 5 ≡ true
+beyond_the_last : matches (Uids (range (Number 100) Star ∷ [])) last last plain five ≡ true
 beyond_the_last = refl
 
-everything : matches (Positions (Keys.all_messages)) last middle plain 5 ≡ true
+everything : matches (Positions (Keys.all_messages)) last middle plain five ≡ true
 everything = refl
+
+-- ---- dates of messages
+
+-- the 27th of November 2026, which is the 28th already at UTC
+abbrev dated : List ℕ
+dated = codes "Received: from a.example by b.example; Fri, 27 Nov 2026 23:45:48 -0800\r\nDate: Sat, 28 Nov 2026 07:40:00 +0000\r\n\r\nx\r\n"
+
+abbrev is_so : Key → List ℕ → Bool
+is_so key text = matches key last middle plain text
+
+before_the_day_before : is_so (Before (date 2026 11 26)) dated ≡ false
+unfolding message_date received_date date_time
+before_the_day_before = refl
+
+before_the_day : is_so (Before (date 2026 11 27)) dated ≡ false
+unfolding message_date received_date date_time
+before_the_day = refl
+
+before_the_day_after : is_so (Before (date 2026 11 28)) dated ≡ true
+unfolding message_date received_date date_time
+before_the_day_after = refl
+
+on_the_day_before : is_so (On (date 2026 11 26)) dated ≡ false
+unfolding message_date received_date date_time
+on_the_day_before = refl
+
+on_the_day : is_so (On (date 2026 11 27)) dated ≡ true
+unfolding message_date received_date date_time
+on_the_day = refl
+
+on_the_day_after : is_so (On (date 2026 11 28)) dated ≡ false
+unfolding message_date received_date date_time
+on_the_day_after = refl
+
+since_the_day_before : is_so (Since (date 2026 11 26)) dated ≡ true
+unfolding message_date received_date date_time
+since_the_day_before = refl
+
+since_the_day : is_so (Since (date 2026 11 27)) dated ≡ true
+unfolding message_date received_date date_time
+since_the_day = refl
+
+since_the_day_after : is_so (Since (date 2026 11 28)) dated ≡ false
+unfolding message_date received_date date_time
+since_the_day_after = refl
+
+-- a year counts before a month, and a month before a day
+before_another_month : is_so (Before (date 2026 12 1)) dated ≡ true
+unfolding message_date received_date date_time
+before_another_month = refl
+
+before_another_year : is_so (Before (date 2027 1 1)) dated ≡ true
+unfolding message_date received_date date_time
+before_another_year = refl
+
+since_another_month : is_so (Since (date 2026 10 31)) dated ≡ true
+unfolding message_date received_date date_time
+since_another_month = refl
+
+since_another_year : is_so (Since (date 2025 12 31)) dated ≡ true
+unfolding message_date received_date date_time
+since_another_year = refl
+
+on_another_month : is_so (On (date 2026 10 27)) dated ≡ false
+unfolding message_date received_date date_time
+on_another_month = refl
+
+on_another_year : is_so (On (date 2025 11 27)) dated ≡ false
+unfolding message_date received_date date_time
+on_another_year = refl
+
+-- a message without a date is of 1-Jan-1970
+on_no_date : is_so (On (date 1970 1 1)) five ≡ true
+unfolding message_date received_date date_time
+on_no_date = refl
+
+not_before_no_date : is_so (Before (date 1970 1 1)) five ≡ false
+unfolding message_date received_date date_time
+not_before_no_date = refl
