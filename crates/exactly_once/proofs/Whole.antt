@@ -33,7 +33,7 @@ use Rattle.imap_session.specs.declared.standing.After.TheVariants.{Go, Bye}
 use Rattle.imap_session.specs.declared.standing.After.TheVariants as afters
 use Rattle.imap_session.specs.declared.standing.Selected.{Selected}
 use Rattle.imap_session.specs.Exchange as ex
-use Rattle.imap_session.specs.Exchange.{Answer, Appending, ForVerdict, Mailing, Call, Entered, Looked, Found, Counted, Altered, Expunged, Fed, Left, Refused, Starved, Exchange, Folder, Standing, Turn, played, refused, refusal_text, refusal_after, saying, having, closed, tagged, bye, is_idling}
+use Rattle.imap_session.specs.Exchange.{Answer, PendingLiteral, ForVerdict, Mailing, Call, Entered, Looked, Found, Counted, Altered, Expunged, Fed, Left, Refused, Starved, Exchange, Folder, Standing, Turn, played, refused, refusal_text, refusal_after, saying, having, closed, tagged, bye, is_idling}
 use Rattle.imap_session.specs.Commands.{appending, is_over, last_number, most_unasked, nowhere, number_named, on_rest, on_text, over, found_in, search_done, search_known, search_messages, searching, wanting, wanting_for, closing, completed, counting, entering, expunge_set, fetch_messages, fetched, fetching, folder_of, greeting, idle_turn_in, messages_done, on_chosen, on_command, on_found, on_idle_line, says, showing, store_messages, storing, telling_recent, unlimited, wrong_state, notice, noticing}
 use Rattle.imap_session.specs.Commands as commands_of
 use Rattle.imap_session.proofs.Unkept.{unkept_by}
@@ -382,13 +382,13 @@ in_append most folders a =
     (inl refl, in_found _ nowhere (λ (mailbox : ℕ). in_either (is_over most a.literal.size) (over most) _ (in_over most) (ends (codes "+ ") (response_text texts.Ready))) tt (number_named a.name folders))
     (in_either (nat_lt most_unasked a.literal.size) _ _ (bye_whole (response_text texts.LiteralTooBig)) (inl refl))
 
-in_text : (mailing : Mailing) (a : Appending) (text : List ℕ) (mailbox : ℕ) → SaysWhole (on_text mailing a text mailbox)
+in_text : (mailing : Mailing) (a : PendingLiteral) (text : List ℕ) (mailbox : ℕ) → SaysWhole (on_text mailing a text mailbox)
 in_text mailing a text mailbox =
     in_either (is_over mailing.most a.size) (over mailing.most) _ (in_over mailing.most)
     (in_either (list_any (λ b. b == 0) text) (says (response_text texts.NulByte)) _ tt
     (in_either (nat_le last_number mailing.number) (says (response_text texts.MailboxSpent)) (wanting (ex.Wait [] (ForVerdict mailbox a.flags text))) tt (inl refl, inl refl)))
 
-in_rest : (mailing : Mailing) (a : Appending) (empty : Bool) → SaysWhole (on_rest mailing a empty)
+in_rest : (mailing : Mailing) (a : PendingLiteral) (empty : Bool) → SaysWhole (on_rest mailing a empty)
 in_rest mailing a empty =
     in_found _ (says (response_text texts.OutOfMemory))
     (λ (text : List ℕ). in_either empty (on_found (on_text mailing a text) nowhere a.mailbox) (says (response_text texts.InvalidArguments)) (in_found (on_text mailing a text) nowhere (in_text mailing a text) tt a.mailbox) tt) tt a.text
@@ -457,14 +457,14 @@ while_whole None now line answers = read_whole now (read line) answers
 while_whole (Some tag) now line answers =
     played_whole tag (record now { idling = None }) (on_idle_line now.selected line) answers (in_either (is_done line) _ _ (in_showing now.selected _ tt) tt)
 
-behind_whole : (begun : Option Appending) (now : Standing) (line : List ℕ) (answers : List Answer) → TurnWhole (commands_of.turn_behind begun now line answers)
+behind_whole : (begun : Option PendingLiteral) (now : Standing) (line : List ℕ) (answers : List Answer) → TurnWhole (commands_of.turn_behind begun now line answers)
 behind_whole None now line answers = while_whole now.idling now line answers
 behind_whole (Some a) now line answers = played_whole a.tag (commands_of.without_begun now) (on_rest now.mailing a (length line == 0)) answers (in_rest now.mailing a (length line == 0))
 
 some_whole : (o : Option Turn) (turn : Turn) → TurnWhole o → o ≡ Some turn → IsWhole turn.bytes
 some_whole o turn p e = subst TurnWhole e p
 
-long_whole : (begun : Option Appending) (idling : Option (List ℕ)) → IsWhole (commands_of.long_text begun idling)
+long_whole : (begun : Option PendingLiteral) (idling : Option (List ℕ)) → IsWhole (commands_of.long_text begun idling)
 long_whole None None = ends (codes "* ") (response_text texts.LineTooLong)
 long_whole None (Some tag) = tagged_whole tag (response_text texts.ExpectedDone)
 long_whole (Some a) idling = tagged_whole a.tag (response_text (commands_of.long_rest_text a.text))

@@ -15,7 +15,7 @@ use Rattle.imap_session.specs.declared.standing.After.TheVariants as afters
 use Rattle.imap_session.specs.declared.standing.Selected.{Selected}
 use Rattle.imap_session.specs.Store.{IdleTurns}
 use Rattle.imap_session.specs.Exchange as ex
-use Rattle.imap_session.specs.Exchange.{Answer, Appending, Call, Entered, Looked, Found, Counted, Altered, Expunged, Fed, ForDone, ForLiteral, ForNothing, ForVerdict, Left, Mailing, Refused, Sent, Starved, Exchange, Standing, Turn, Waiting, closed, having, is_idling, played, refusal_after, refused, saying, waiting, Dropped}
+use Rattle.imap_session.specs.Exchange.{Answer, PendingLiteral, Call, Entered, Looked, Found, Counted, Altered, Expunged, Fed, ForDone, ForLiteral, ForNothing, ForVerdict, Left, Mailing, Refused, Sent, Starved, Exchange, Standing, Turn, Waiting, closed, having, is_idling, played, refusal_after, refused, saying, waiting, Dropped}
 use Rattle.imap_session.specs.Commands as commands_of
 use Rattle.imap_session.proofs.Barring.{line_has}
 use Rattle.imap_session.specs.Texts.{response_text}
@@ -54,7 +54,7 @@ closed_rises now afters.Submit = same_rises now.mailing now.mailing refl refl
 
 waiting_rises : (tag : List ℕ) (waits : Waiting) (now : Standing) → NumbersRise now.mailing (waiting tag waits now).mailing
 waiting_rises tag ForDone now = same_rises now.mailing now.mailing refl refl
-waiting_rises tag (ForLiteral coming mailbox flags size) now = same_rises now.mailing (waiting tag (ForLiteral coming mailbox flags size) now).mailing refl refl
+waiting_rises tag (ForLiteral coming purpose size) now = same_rises now.mailing (waiting tag (ForLiteral coming purpose size) now).mailing refl refl
 waiting_rises tag (ForVerdict mailbox flags text) now = (
   omega arith,
   λ s is. let e : record { tag = tag; append = record { message = now.mailing.number; mailbox = mailbox; text = text; flags = flags } } ≡ s = cc in let m : now.mailing.number ≡ s.append.message = ap (λ (x : Sent). x.append.message) e in
@@ -246,7 +246,7 @@ while_rises : (idling : Option (List ℕ)) (now : Standing) (line : List ℕ) (a
 while_rises None now line answers = read_rises now (read line) answers
 while_rises (Some tag) now line answers = played_rises tag (record now { idling = None }) (on_idle_line now.selected line) answers
 
-behind_rises : (begun : Option Appending) (now : Standing) (line : List ℕ) (answers : List Answer) → TurnRises now.mailing (commands_of.turn_behind begun now line answers)
+behind_rises : (begun : Option PendingLiteral) (now : Standing) (line : List ℕ) (answers : List Answer) → TurnRises now.mailing (commands_of.turn_behind begun now line answers)
 behind_rises None now line answers = while_rises now.idling now line answers
 behind_rises (Some a) now line answers =
     again (without_begun now).mailing now.mailing _ (same_rises now.mailing (without_begun now).mailing refl refl) (played_rises a.tag (without_begun now) (on_rest now.mailing a (length line == 0)) answers)

@@ -520,7 +520,9 @@ append_ungroup a rest q =
 pub command_again : (c : Command) (rest : List ℕ) → Joined (ArgumentsOf c) Spaces rest → command_at (verb_of c) rest ≡ Some c
 unfolding PairIs StatusIs FetchIs fetch_made store_made
 command_again (say.Login user password) rest q = pair_again is_atom refl refl say.Login user password rest (pair_regroup is_atom user password rest q)
-command_again say.Authenticate rest q = refl
+command_again (say.Authenticate a) rest q = absurd q.first
+command_again say.Id rest q = absurd q.first
+command_again say.Enable rest q = absurd q.first
 command_again say.StartTls rest q = refl
 command_again (say.Select name) rest q = name_again say.Select name rest (regroup Gap (Name name) Spaces rest q)
 command_again (say.Examine name) rest q = name_again say.Examine name rest (regroup Gap (Name name) Spaces rest q)
@@ -604,6 +606,7 @@ alone_fits verbs.Enable = tt
 alone_fits verbs.UidCopy = tt
 alone_fits verbs.UidMove = tt
 alone_fits verbs.Lsub = tt
+alone_fits verbs.Id = tt
 alone_fits _ = (refl, nothing)
 
 alone_sound : (v : Verb) (o : Option Command) (c : Command) (rest : List ℕ) → IsAlone v o → (o >>= λ x. if_end x rest) ≡ Some c → Fits v c rest
@@ -615,7 +618,6 @@ unfolding PairIs StatusIs fetch_made store_made
 command_sound verbs.Login c rest s e =
     let k = pair_sound is_atom refl say.Login c rest e in
     subst (λ y. Fits verbs.Login y rest) k.2 (record { verb = refl; is = pair_ungroup is_atom k.0 k.1 rest k.3 })
-command_sound verbs.Authenticate c rest s e = subst (λ y. Fits verbs.Authenticate y rest) (inside say.Authenticate c e) (record { verb = refl; is = any_rest rest s })
 command_sound verbs.StartTls c rest s e = subst (λ y. Fits verbs.StartTls y rest) (inside say.StartTls c e) (record { verb = refl; is = any_rest rest s })
 command_sound verbs.Select c rest s e = named verbs.Select say.Select c rest (λ name q. record { verb = refl; is = ungroup Gap (Name name) Spaces rest q }) e
 command_sound verbs.Examine c rest s e = named verbs.Examine say.Examine c rest (λ name q. record { verb = refl; is = ungroup Gap (Name name) Spaces rest q }) e

@@ -66,7 +66,9 @@ any_first l front back e (inr q) s = gap_stops q.front (q.back ++ back) l (e ∙
 
 arguments_first : (c : Command) (l : List ℕ) → Joined (ArgumentsOf c) Spaces l → Stops is_not_space l
 arguments_first (say.Login user password) l q = gap_first _ l q
-arguments_first say.Authenticate l q = any_first l q.front q.back q.parts q.first q.second
+arguments_first (say.Authenticate a) l q = absurd q.first
+arguments_first say.Id l q = absurd q.first
+arguments_first say.Enable l q = absurd q.first
 arguments_first say.StartTls l q = any_first l q.front q.back q.parts q.first q.second
 arguments_first (say.Select name) l q = gap_first _ l q
 arguments_first (say.Examine name) l q = gap_first _ l q

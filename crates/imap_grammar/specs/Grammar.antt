@@ -274,7 +274,9 @@ VerbIs verb = VerbWords (stands_behind_uid verb) (word_of verb)
 -- what follows the verb. A command that isn't here stands alone
 abbrev pub ArgumentsOf : Command → Rule
 ArgumentsOf (say.Login user password) = Gap ⨾ Name user ⨾ Gap ⨾ Name password
-ArgumentsOf say.Authenticate = AfterGap Anything
+ArgumentsOf (say.Authenticate a) = λ _. ⊥
+ArgumentsOf say.Id = λ _. ⊥
+ArgumentsOf say.Enable = λ _. ⊥
 ArgumentsOf say.StartTls = AfterGap Anything
 ArgumentsOf (say.Select name) = Gap ⨾ Name name
 ArgumentsOf (say.Examine name) = Gap ⨾ Name name

@@ -12,3 +12,4 @@ pub mod SearchReading
 pub mod Reading
 pub mod inner
 pub mod rows
+pub mod Literals

@@ -266,7 +266,6 @@ search_at by_uid bytes = do
 -- what a verb says with what comes after it. What is left out says nothing
 abbrev pub command_at : Verb → List ℕ → Option Command
 command_at verbs.Login rest = pair_at is_atom say.Login rest
-command_at verbs.Authenticate rest = Some say.Authenticate
 command_at verbs.StartTls rest = Some say.StartTls
 command_at verbs.Select rest = name_alone say.Select rest
 command_at verbs.Examine rest = name_alone say.Examine rest

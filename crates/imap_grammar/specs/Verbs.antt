@@ -1,7 +1,7 @@
 -- The verbs: the word of each, whether it stands behind UID, whether it is offered here, and the command that it is.
 use Rattle.std.specs.Prelude.{ℕ, Bool, true, false, codes, List, [], ◌∷◌, Option, Some, None, if◌then◌else◌}
 use Rattle.imap_grammar.specs.declared.command.Verb.{Verb}
-use Rattle.imap_grammar.specs.declared.command.Verb.TheVariants.{Capability, Noop, Logout, Namespace, Idle, Login, Authenticate, StartTls, Select, Examine, List as ListNames, Status, Close, Unselect, Expunge, Fetch, Store, UidFetch, UidStore, UidExpunge, Append, Create, Delete, Rename, Subscribe, Unsubscribe, Copy, Move, Search, Enable, UidCopy, UidMove, UidSearch, Check, Lsub}
+use Rattle.imap_grammar.specs.declared.command.Verb.TheVariants.{Capability, Noop, Logout, Namespace, Idle, Login, Authenticate, StartTls, Select, Examine, List as ListNames, Status, Close, Unselect, Expunge, Fetch, Store, UidFetch, UidStore, UidExpunge, Append, Create, Delete, Rename, Subscribe, Unsubscribe, Copy, Move, Search, Enable, UidCopy, UidMove, UidSearch, Check, Lsub, Id}
 use Rattle.imap_grammar.specs.declared.command.Command.{Command}
 use Rattle.imap_grammar.specs.declared.command.Command.TheVariants as say
 
@@ -42,6 +42,7 @@ word_of UidMove = codes "MOVE"
 word_of UidSearch = codes "SEARCH"
 word_of Check = codes "CHECK"
 word_of Lsub = codes "LSUB"
+word_of Id = codes "ID"
 
 -- the verb is UID and a second word
 abbrev pub stands_behind_uid : Verb → Bool
@@ -60,7 +61,6 @@ is_left_out Delete = true
 is_left_out Rename = true
 is_left_out Copy = true
 is_left_out Move = true
-is_left_out Enable = true
 is_left_out UidCopy = true
 is_left_out UidMove = true
 is_left_out _ = false
@@ -69,12 +69,12 @@ is_left_out _ = false
 abbrev pub offered : List Verb
 offered =
     Capability ∷ Noop ∷ Logout ∷ Namespace ∷ Idle ∷ Login ∷ Authenticate ∷ StartTls ∷ Select ∷ Examine
-    ∷ ListNames ∷ Status ∷ Close ∷ Unselect ∷ Expunge ∷ Fetch ∷ Store ∷ Append ∷ Check ∷ Lsub ∷ Subscribe ∷ Unsubscribe ∷ Search ∷ []
+    ∷ ListNames ∷ Status ∷ Close ∷ Unselect ∷ Expunge ∷ Fetch ∷ Store ∷ Append ∷ Check ∷ Lsub ∷ Subscribe ∷ Unsubscribe ∷ Search ∷ Enable ∷ Id ∷ []
 
 -- those of one word that aren't
 abbrev pub left_out : List Verb
 left_out =
-    Create ∷ Delete ∷ Rename ∷ Copy ∷ Move ∷ Enable ∷ []
+    Create ∷ Delete ∷ Rename ∷ Copy ∷ Move ∷ []
 
 -- those of UID and a second word
 abbrev pub behind_uid : List Verb
@@ -101,7 +101,9 @@ verb_of say.Logout = Logout
 verb_of say.Namespace = Namespace
 verb_of say.Idle = Idle
 verb_of (say.Login user password) = Login
-verb_of say.Authenticate = Authenticate
+verb_of (say.Authenticate a) = Authenticate
+verb_of say.Id = Id
+verb_of say.Enable = Enable
 verb_of say.StartTls = StartTls
 verb_of (say.Select name) = Select
 verb_of (say.Examine name) = Examine

@@ -81,6 +81,8 @@ pub enum Verb {
     Check,
     /// RFC 3501, 6.3.9.
     Lsub,
+    /// RFC 2971.
+    Id,
 }
 
 /// FETCH and UID FETCH (RFC 9051, 6.4.5 and 6.4.9).
@@ -180,7 +182,39 @@ impl<'a> Search<'a> {
     }
 }
 
-/// A command (RFC 9051, 6). What follows AUTHENTICATE and STARTTLS is dropped.
+/// A word of a line: in contracts its bytes.
+#[derive(Drop)]
+pub struct Word<'a> {
+    bytes: &'a [u8],
+}
+
+impl<'a> Model for Word<'a> {
+    ghost use Rattle.std.specs.Prelude.{List, ℕ};
+
+    ghost Value = { List ℕ };
+
+    ghost view = { λ w. w.bytes.now };
+}
+
+impl<'a> Word<'a> {
+    ghost use Rattle.std.specs.Prelude.{◌≡◌};
+
+    /// The word as the client wrote it.
+    pub fn as_bytes(&self) -> &[u8]
+        ensures { result.now ≡ self.now }
+    {
+        self.bytes
+    }
+}
+
+/// AUTHENTICATE (RFC 9051, 6.2.2).
+#[derive(Drop)]
+pub struct Authenticate<'a> {
+    pub mechanism: Word<'a>,
+    pub initial: Option<Word<'a>>,
+}
+
+/// A command (RFC 9051, 6). What follows STARTTLS is dropped.
 #[derive(Drop)]
 pub enum Command<'a> {
     Capability,
@@ -194,7 +228,7 @@ pub enum Command<'a> {
         user: Name<'a>,
         password: Name<'a>,
     },
-    Authenticate,
+    Authenticate(Authenticate<'a>),
     StartTls,
     Select(Name<'a>),
     Examine(Name<'a>),
@@ -223,6 +257,8 @@ pub enum Command<'a> {
     Subscribe(Name<'a>),
     Unsubscribe(Name<'a>),
     Search(Search<'a>),
+    Id,
+    Enable,
 }
 
 impl<'a> Command<'a> {
@@ -240,7 +276,9 @@ impl<'a> Command<'a> {
             Command::Namespace => Verb::Namespace,
             Command::Idle => Verb::Idle,
             Command::Login { .. } => Verb::Login,
-            Command::Authenticate => Verb::Authenticate,
+            Command::Authenticate(_) => Verb::Authenticate,
+            Command::Id => Verb::Id,
+            Command::Enable => Verb::Enable,
             Command::StartTls => Verb::StartTls,
             Command::Select(_) => Verb::Select,
             Command::Examine(_) => Verb::Examine,
@@ -325,6 +363,10 @@ pub(crate) fn offered(word: &[u8]) -> Option<Verb>
         Some(Verb::Unsubscribe)
     } else if word.eq_ignore_ascii_case(b"SEARCH") {
         Some(Verb::Search)
+    } else if word.eq_ignore_ascii_case(b"ENABLE") {
+        Some(Verb::Enable)
+    } else if word.eq_ignore_ascii_case(b"ID") {
+        Some(Verb::Id)
     } else {
         None
     }
@@ -344,8 +386,6 @@ pub(crate) fn left_out(word: &[u8]) -> Option<Verb>
         Some(Verb::Copy)
     } else if word.eq_ignore_ascii_case(b"MOVE") {
         Some(Verb::Move)
-    } else if word.eq_ignore_ascii_case(b"ENABLE") {
-        Some(Verb::Enable)
     } else {
         None
     }
@@ -383,7 +423,6 @@ pub(crate) fn is_left_out(verb: Verb) -> bool
             | Verb::Rename
             | Verb::Copy
             | Verb::Move
-            | Verb::Enable
             | Verb::UidCopy
             | Verb::UidMove
     )

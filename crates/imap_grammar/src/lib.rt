@@ -12,6 +12,7 @@ mod item_words;
 mod items;
 mod key_words;
 mod keys;
+mod literal;
 mod name;
 mod number;
 mod positions;
@@ -21,7 +22,11 @@ mod set;
 mod view;
 mod words;
 
-pub use command::{Append, Command, Fetch, ImapFault, Literal, Search, Store, Tag, Verb};
+pub use command::{
+    Append, Authenticate, Command, Fetch, ImapFault, Literal, Search, Store, Tag, Verb, Word,
+};
+pub use cut::cut_at;
+pub use literal::{announced, put_quoted};
 pub use dates::Day;
 pub use items::{
     BodyPart, FetchItem, FetchItems, FieldNames, Section, Span, StatusItem, StatusItems,

@@ -65,7 +65,6 @@ fn command_at(verb: Verb, rest: &[u8]) -> Option<Command<'_>>
 {
     match verb {
         Verb::Login => login(rest),
-        Verb::Authenticate => Some(Command::Authenticate),
         Verb::StartTls => Some(Command::StartTls),
         Verb::Select => select(rest),
         Verb::Examine => examine(rest),

@@ -3,7 +3,7 @@ use Rattle.std.specs.Prelude.{nat_lt, if◌then◌else◌}
 use Rattle.std.proofs.lemmas.Bool.Decides.{nat_tests}
 use Rattle.std.proofs.Common.{◌≡◌, ◌<◌, ◌≤◌, arith, ℕ, Bool, true, false, Option, List, [], ◌∷◌, ◌++◌, None, Some, ap, sym, ◌∙◌, append-nil, length, refl, subst}
 use Rattle.imap_session.specs.declared.standing.After.TheVariants.{Go, Bye, Literal}
-use Rattle.imap_session.specs.Exchange.{Coming, Dropped, Exchange, Folder, ForLiteral, ForNothing, ForVerdict, Standing, Starved, Wait, Waiting, after_waiting, bye, most_in_place, played, tagged, text_before, waiting}
+use Rattle.imap_session.specs.Exchange.{Coming, Dropped, Exchange, Folder, Message, Purpose, ForLiteral, ForNothing, ForVerdict, Standing, Starved, Wait, Waiting, after_waiting, bye, most_in_place, played, tagged, text_before, waiting}
 use Rattle.change_ring.specs.declared.change.Flags.{Flags}
 use Rattle.imap_grammar.specs.declared.command.Append.{Append}
 use Rattle.imap_session.specs.inner.Appends.{Leads}
@@ -56,25 +56,25 @@ submitted_again {s} {now} mailbox flags t u tag e f =
 
 -- ---- the line of an APPEND
 
-abbrev begins : List ℕ → Option ℕ → Flags → ℕ → Option (List ℕ) → Standing → Standing
-begins tag mailbox flags size text s = record s { mailing = record s.mailing { begun = Some (record { tag = tag; mailbox = mailbox; flags = flags; size = size; due = size; text = text }) } }
+abbrev begins : List ℕ → Purpose → ℕ → Option (List ℕ) → Standing → Standing
+begins tag purpose size text s = record s { mailing = record s.mailing { begun = Some (record { tag = tag; purpose = purpose; size = size; due = size; text = text }) } }
 
-pub begun_again : {s now : Standing} (how : Coming) (m mailbox : Option ℕ) (flags : Flags) (size : ℕ) (t tag : List ℕ) (y : Option (List ℕ)) → m ≡ mailbox → t ≡ tag → y ≡ text_before how → s ≡ now
-    → begins t m flags size y s ≡ waiting tag (ForLiteral how mailbox flags size) now
-begun_again {s} {now} how m mailbox flags size t tag y named e f same =
-    ap (λ (z : Option (List ℕ)). begins t m flags size z s) f
-    ∙ ap (λ (o : Option ℕ). begins t o flags size (text_before how) s) named
-    ∙ ap (λ (z : List ℕ). waiting z (ForLiteral how mailbox flags size) s) e
-    ∙ ap (waiting tag (ForLiteral how mailbox flags size)) same
+pub begun_again : {s now : Standing} (how : Coming) (p purpose : Purpose) (size : ℕ) (t tag : List ℕ) (y : Option (List ℕ)) → p ≡ purpose → t ≡ tag → y ≡ text_before how → s ≡ now
+    → begins t p size y s ≡ waiting tag (ForLiteral how purpose size) now
+begun_again {s} {now} how p purpose size t tag y named e f same =
+    ap (λ (z : Option (List ℕ)). begins t p size z s) f
+    ∙ ap (λ (o : Purpose). begins t o size (text_before how) s) named
+    ∙ ap (λ (z : List ℕ). waiting z (ForLiteral how purpose size) s) e
+    ∙ ap (waiting tag (ForLiteral how purpose size)) same
 
-less_true : (a b : ℕ) → a < b → nat_lt a b ≡ true
+pub less_true : (a b : ℕ) → a < b → nat_lt a b ≡ true
 less_true a b l = grind (arith, nat_tests)
 
-not_less : (a b : ℕ) → b ≤ a → nat_lt a b ≡ false
+pub not_less : (a b : ℕ) → b ≤ a → nat_lt a b ≡ false
 not_less a b l = grind (arith, nat_tests)
 
 -- memory is refused for a literal that comes unasked: its bytes are dropped, or, where the tag is too long to be kept, the session ends
-pub leads_dropping : (tag : List ℕ) (mailbox : Option ℕ) (flags : Flags) (size : ℕ) (now next : Standing) (before text : List ℕ) → text ≡ before → next ≡ waiting tag (ForLiteral Dropped None flags size) now
+pub leads_dropping : (tag : List ℕ) (mailbox : Option ℕ) (flags : Flags) (size : ℕ) (now next : Standing) (before text : List ℕ) → text ≡ before → next ≡ waiting tag (ForLiteral Dropped (Message None flags) size) now
     → Leads tag now (coming mailbox flags size) before text (Literal size) next
 leads_dropping tag mailbox flags size now next before text w same =
     subst (λ (n : Standing). Leads tag now (coming mailbox flags size) before text (Literal size) n) (sym same)

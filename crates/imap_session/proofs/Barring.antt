@@ -1,5 +1,5 @@
 -- Commands that aren't carried out, and those that log a client in.
-use Rattle.std.proofs.Common.{◌≡◌, ℕ, Bool, true, false, List, Option, Some, None, refl, if◌then◌else◌}
+use Rattle.std.proofs.Common.{◌≡◌, ◌⊎◌, inl, inr, ℕ, Bool, true, false, List, Option, Some, None, is_some, not, refl, if◌then◌else◌}
 use Rattle.imap_grammar.specs.Verbs.{verb_of}
 use Rattle.imap_grammar.specs.declared.command.Command.{Command}
 use Rattle.imap_grammar.specs.declared.command.Command.TheVariants as commands
@@ -10,7 +10,9 @@ use Rattle.imap_session.specs.declared.standing.Profile.TheVariants.{Standard, C
 use Rattle.imap_session.specs.declared.texts.ResponseText.{ResponseText}
 use Rattle.imap_session.specs.declared.texts.ResponseText.TheVariants as texts
 use Rattle.imap_session.specs.Exchange.{Answer, Exchange, Standing, Turn, played}
-use Rattle.imap_session.specs.Commands.{answering, arguments_text, asks_compatible, barred, barred_at, before_login, lacking_or, logged_in, login_completed, logs_in_as, on_command, on_found, on_line, says, standard_lacks, unoffered}
+use Rattle.imap_session.specs.Commands.{answering, arguments_text, asks_compatible, barred, barred_at, before_login, completed, lacking_or, logged_in, logs_in_as, on_command, on_found, on_line, refused_login, says, standard_lacks, unoffered, without_login}
+use Rattle.imap_session.specs.Plain.{is_plain, plain_in}
+use Rattle.imap_grammar.specs.declared.command.Authenticate.{Authenticate}
 use Rattle.imap_session.specs.Texts.{response_text}
 
 -- a text that refuses a command for what it is
@@ -28,6 +30,9 @@ Refuses (Some text) = refuses text ≡ true
 
 lacking_refuses : (verb : Verb) → Refuses (standard_lacks verb)
 lacking_refuses verbs.Login = refl
+lacking_refuses verbs.Authenticate = refl
+lacking_refuses verbs.Enable = refl
+lacking_refuses verbs.Id = refl
 lacking_refuses verbs.Check = refl
 lacking_refuses verbs.Lsub = refl
 lacking_refuses verbs.Subscribe = refl
@@ -49,13 +54,25 @@ early_refuses verbs.Capability = tt
 early_refuses verbs.Noop = tt
 early_refuses verbs.Logout = tt
 early_refuses verbs.Login = refl
-early_refuses verbs.Authenticate = refl
+early_refuses verbs.Id = tt
 early_refuses verbs.StartTls = refl
 early_refuses _ = refl
 
+login_refuses : (a : Authenticate) → refuses (refused_login a) ≡ true
+login_refuses a = by (is_plain a.mechanism) (is_some (plain_in a.initial))
+  where
+    by : (plain proves : Bool) → refuses (if not plain then texts.NotOffered else if proves then texts.LoginFailed else texts.InvalidArguments) ≡ true
+    by false proves = refl
+    by true true = refl
+    by true false = refl
+
+without_refuses : (command : Command) → Refuses (without_login command)
+without_refuses (commands.Authenticate a) = login_refuses a
+without_refuses command = early_refuses (verb_of command)
+
 pub barred_refuses : (login : Option (List ℕ)) (profile : Profile) (command : Command) → Refuses (barred_at login profile command)
 barred_refuses None profile command = unoffered_refuses profile command
-barred_refuses (Some user) profile command = early_refuses (verb_of command)
+barred_refuses (Some user) profile command = without_refuses command
 
 pub arguments_refuse : (profile : Profile) (verb : Verb) → refuses (arguments_text profile verb) ≡ true
 arguments_refuse Standard verb = by (standard_lacks verb) (lacking_refuses verb)
@@ -76,7 +93,7 @@ answering_has P now command refused done = by (barred now command) (barred_refus
 
 -- the same of the turn that it leads to: a command logs the client in, is refused, or is carried out
 pub line_has : (Q : Option Turn → Type 0) (now : Standing) (tag : List ℕ) (command : Command) (answers : List Answer)
-    → (logs_in_as now.login command ≡ true → Q (played tag (logged_in now) login_completed answers))
+    → (logs_in_as now.login command ≡ true → Q (played tag (logged_in now) (completed command) answers))
     → ((text : ResponseText) → refuses text ≡ true → Q (played tag now (says (response_text text)) answers))
     → Q (played tag now (on_command now command) answers)
     → Q (on_line (logs_in_as now.login command) now tag command answers)
@@ -86,8 +103,9 @@ line_has Q now tag command answers right refused done = by (logs_in_as now.login
     by true e = right e
     by false e = answering_has (λ x. Q (played tag now x answers)) now command refused done
 
--- only LOGIN logs a client in
-pub logs_in : (login : Option (List ℕ)) (command : Command) → logs_in_as login command ≡ true → verb_of command ≡ verbs.Login
+-- only LOGIN and AUTHENTICATE log a client in
+pub logs_in : (login : Option (List ℕ)) (command : Command) → logs_in_as login command ≡ true → (verb_of command ≡ verbs.Login) ⊎ (verb_of command ≡ verbs.Authenticate)
 logs_in None command e = cc
-logs_in (Some user) (commands.Login name password) e = refl
+logs_in (Some user) (commands.Login name password) e = inl refl
+logs_in (Some user) (commands.Authenticate a) e = inr refl
 logs_in (Some user) _ e = cc

@@ -6,7 +6,7 @@ use Rattle.line_io.proofs.Appended.{take_two_of}
 use Rattle.imap_session.specs.declared.standing.After.{After}
 use Rattle.imap_session.specs.declared.standing.After.TheVariants.{Bye}
 use Rattle.imap_session.specs.declared.connection.Fed.{Fed}
-use Rattle.imap_session.specs.Exchange.{Appending, Call, Answer, Sent, Standing, may_send, waits_begun, waits_for, waits_idling, waits_sent}
+use Rattle.imap_session.specs.Exchange.{PendingLiteral, Call, Answer, Sent, Standing, may_send, waits_begun, waits_for, waits_idling, waits_sent}
 use Rattle.imap_session.specs.Dialogue.{Answered, AnswersLine, AnswersOne, Bytes, Converses, Dialogue, Line, ImapConnection, Sends, StandsFor, Takes, Took, begins, ends, goes_on, has_ended, may_follow, parts, reads, silent, spelled, takes, too_long}
 
 -- what was written for a line is what is said of it alone
@@ -36,7 +36,7 @@ idling_free : (idling : Option (List ℕ)) → may_follow (waits_idling idling) 
 idling_free None = refl
 idling_free (Some tag) = refl
 
-begun_free : (begun : Option Appending) (idling : Option (List ℕ)) → may_follow (waits_begun begun (waits_idling idling)) ≡ true
+begun_free : (begun : Option PendingLiteral) (idling : Option (List ℕ)) → may_follow (waits_begun begun (waits_idling idling)) ≡ true
 begun_free None idling = idling_free idling
 begun_free (Some a) idling = refl
 

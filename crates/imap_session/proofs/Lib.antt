@@ -22,3 +22,4 @@ pub mod Asking
 pub mod FolderLaws
 pub mod TextLaws
 pub mod Barring
+pub mod Parts

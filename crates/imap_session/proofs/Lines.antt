@@ -1,5 +1,5 @@
 -- Whole lines, answered: a fault, a command, IDLE, and the line that ends it.
-use Rattle.std.proofs.Common.{◌≡◌, ℕ, List, [], ◌∷◌, ◌++◌, Bool, true, false, Option, Some, None, Result, Ok, Err, refl, ap, sym, ◌∙◌, subst, append-nil, if◌then◌else◌, ◌⊎◌, inl, inr, length, ◌<◌, ◌==◌, IfOk}
+use Rattle.std.proofs.Common.{◌≡◌, ℕ, List, [], ◌∷◌, ◌++◌, Bool, true, false, Option, Some, None, Result, Ok, Err, refl, ap, sym, ◌∙◌, subst, append-nil, if◌then◌else◌, ◌⊎◌, inl, inr, length, codes, ◌<◌, ◌≤◌, ◌==◌}
 use Rattle.std.specs.Prelude.{zero}
 use Rattle.std.proofs.lemmas.Bool.{lt-ltb}
 use Rattle.mailbox.specs.declared.clients.MailFault.{MailFault}
@@ -12,150 +12,283 @@ use Rattle.imap_session.specs.declared.standing.After.TheVariants.{Go, Idle}
 use Rattle.imap_session.specs.declared.standing.SessionFault.{SessionFault}
 use Rattle.imap_session.specs.declared.standing.Profile.{Profile}
 use Rattle.imap_session.specs.declared.standing.Selected.{Selected}
-use Rattle.imap_session.specs.Exchange.{Answer, Appending, Call, Standing, Starved, closed, played, tagged, continuing}
-use Rattle.imap_session.specs.Commands.{barred, barred_at, completed, fault_text, logged_in, logs_in_as, on_command, on_found, on_idle_line, on_line, on_read, says, appending, showing, on_rest, turn_behind, turn_of, turn_while, without_begun}
+use Rattle.imap_session.specs.Exchange.{Answer, Argument, Exchange, Message, PendingLiteral, Purpose, Response as ForResponse, Call, Standing, Starved, closed, played, tagged, continuing}
+use Rattle.imap_session.specs.Commands.{awaiting_response, given_up, lacks_part, literal_in, most_line, on_behind, on_joined, on_part, on_rest_of, on_text_line, response_in, wants_response, barred, barred_at, completed, fault_text, logged_in, logs_in_as, on_command, on_found, on_idle_line, on_line, on_read, says, appending, showing, on_rest, turn_behind, turn_of, turn_while, without_begun}
 use Rattle.imap_session.specs.Store.{Answers}
+use Rattle.imap_session.specs.inner.Lines.{AnswersJoined, AnswersText, Had, is_message, on_rest_part}
+use Rattle.imap_grammar.specs.Literals.{quoted}
+use Rattle.imap_grammar.specs.Verbs.{verb_of}
+use Rattle.imap_grammar.specs.declared.command.Verb.{Verb}
+use Rattle.imap_session.proofs.Appends.{less_true, not_less}
 use Rattle.imap_session.specs.Response.{Response}
 use Rattle.imap_session.specs.inner.Store.{Does, Plays, Reaches, after_result, is_idle, last, last_words}
 use Rattle.imap_grammar.specs.declared.command.Append.{Append}
 use Rattle.imap_session.specs.inner.Appends.{Leads}
 use Rattle.std.specs.Option.{option_map}
-use Rattle.imap_session.specs.declared.mailing.Appending as begun
-use Rattle.imap_session.specs.inner.Seen.{appending_of}
 use Rattle.imap_session.proofs.Ending.{moves_still, plays_moved}
 use Rattle.imap_session.proofs.Runs.{reaches_here}
 use Rattle.imap_session.specs.declared.texts.ResponseText.TheVariants as texts
-use Rattle.imap_grammar.specs.declared.command.Verb.TheVariants as verbs
 use Rattle.imap_session.specs.Texts.{response_text}
 use Rattle.imap_session.specs.declared.texts.ResponseText.{ResponseText}
 
 -- a line of a session that doesn't idle
-awake_turn : (now : Standing) (line : List ℕ) (answers : List Answer) → now.mailing.begun ≡ None → now.idling ≡ None → turn_of now line answers ≡ on_read now (read line) answers
-awake_turn now line answers alone awake = ap (λ b. turn_behind b now line answers) alone ∙ ap (λ i. turn_while i now line answers) awake
+pub awake_answers : {S : Type 0} (step : S → Call → Answer → S → Type 0) (now next : Standing) (line : List ℕ) (old new : S) (before after : List ℕ) (how : After) → now.mailing.begun ≡ None → now.idling ≡ None
+    → AnswersText step now line old new before after how next → Answers step now line old new before after how next
+awake_answers step now next line old new before after how alone awake p = record {
+  answers = p.answers;
+  events = p.events;
+  bytes = p.bytes;
+  played = ap (λ b. turn_behind b now line p.answers) alone ∙ ap (λ i. turn_while i now line p.answers) awake ∙ p.played;
+  met = p.met;
+  wrote = p.wrote;
+}
 
-pub answers_fault : {S : Type 0} (step : S → Call → Answer → S → Type 0) (now : Standing) (line : List ℕ) (fault : ImapFault) (s : S) (before after : List ℕ) → now.mailing.begun ≡ None → now.idling ≡ None
-    → read line ≡ Err fault → after ≡ before ++ fault_text now.profile fault
-    → Answers step now line s s before after Go now
-answers_fault step now line fault s before after alone awake h e = record {
-  answers = [];
+-- a line that is no command
+fault_turn : (now : Standing) (line : List ℕ) (fault : ImapFault) (answers : List Answer) → read line ≡ Err fault → on_text_line now line answers ≡ on_part (literal_in now.profile line fault) now line answers
+fault_turn now line fault answers h = ap (λ r. on_part (lacks_part now.profile now.login line r) now line answers) h
+
+pub answers_fault : {S : Type 0} (step : S → Call → Answer → S → Type 0) (now next : Standing) (line : List ℕ) (fault : ImapFault) (s : S) (before after : List ℕ)
+    → read line ≡ Err fault → literal_in now.profile line fault ≡ None → next ≡ now → after ≡ before ++ fault_text now.profile fault
+    → AnswersText step now line s s before after Go next
+answers_fault step now next line fault s before after h whole same e =
+    subst (λ (n : Standing). AnswersText step now line s s before after Go n) (sym same) (record {
+      answers = [];
+      events = [];
+      bytes = fault_text now.profile fault ++ [];
+      played = fault_turn now line fault [] h ∙ ap (λ o. on_part o now line []) whole ∙ ap (λ r. on_read now r []) h;
+      met = refl;
+      wrote = e ∙ ap (λ t. before ++ t) (sym (append-nil (fault_text now.profile fault)));
+    })
+
+-- a line that announces a literal
+pub answers_literal : {S : Type 0} (step : S → Call → Answer → S → Type 0) (now next : Standing) (line tag : List ℕ) (x : Exchange) (fault : ImapFault) (s : S) (before after : List ℕ) (how : After)
+    → read line ≡ Err fault → literal_in now.profile line fault ≡ Some (tag, x) → Leads tag now x before after how next
+    → AnswersText step now line s s before after how next
+answers_literal step now next line tag x fault s before after how h found p = record {
+  answers = p.0;
   events = [];
-  bytes = fault_text now.profile fault ++ [];
-  played = awake_turn now line [] alone awake ∙ ap (λ r. on_read now r []) h;
+  bytes = p.1;
+  played = fault_turn now line fault p.0 h ∙ ap (λ o. on_part o now line p.0) found ∙ p.2;
   met = refl;
-  wrote = e ∙ ap (λ t. before ++ t) (sym (append-nil (fault_text now.profile fault)));
+  wrote = p.3;
+}
+
+-- a command, as it is read
+read_turn : (now : Standing) (line tag : List ℕ) (command : Command) (answers : List Answer) → read line ≡ Ok (tag, command) → wants_response now.login command ≡ false
+    → on_text_line now line answers ≡ on_line (logs_in_as now.login command) now tag command answers
+read_turn now line tag command answers h whole =
+    ap (λ r. on_part (lacks_part now.profile now.login line r) now line answers) h
+    ∙ ap (λ (b : Bool). on_part (if b then Some (tag, awaiting_response line) else None) now line answers) whole
+    ∙ ap (λ r. on_read now r answers) h
+
+-- AUTHENTICATE without a response
+pub answers_challenge : {S : Type 0} (step : S → Call → Answer → S → Type 0) (now next : Standing) (line tag : List ℕ) (command : Command) (s : S) (before after : List ℕ) (how : After)
+    → read line ≡ Ok (tag, command) → wants_response now.login command ≡ true → Leads tag now (awaiting_response line) before after how next
+    → AnswersText step now line s s before after how next
+answers_challenge step now next line tag command s before after how h wanted p = record {
+  answers = p.0;
+  events = [];
+  bytes = p.1;
+  played = ap (λ r. on_part (lacks_part now.profile now.login line r) now line p.0) h
+      ∙ ap (λ (b : Bool). on_part (if b then Some (tag, awaiting_response line) else None) now line p.0) wanted ∙ p.2;
+  met = refl;
+  wrote = p.3;
 }
 
 -- how a command is read that doesn't log the client in, and isn't barred
 abbrev pub IsTaken : Standing → Command → Type 0
-IsTaken now command = (logs_in_as now.login command ≡ false) × (barred now command ≡ None)
+IsTaken now command = (wants_response now.login command ≡ false) × (logs_in_as now.login command ≡ false) × (barred now command ≡ None)
 
 -- as the code finds it
-pub is_taken : (now : Standing) (command : Command) (login also_login : Option (List ℕ)) (profile : Profile) (right : Bool) (bars : Option ResponseText) → login ≡ now.login → right ≡ logs_in_as login command → right ≡ false
+pub is_taken : (now : Standing) (command : Command) (first login also_login : Option (List ℕ)) (profile : Profile) (wants right : Bool) (bars : Option ResponseText)
+    → first ≡ now.login → wants ≡ wants_response first command → wants ≡ false → login ≡ now.login → right ≡ logs_in_as login command → right ≡ false
     → also_login ≡ now.login → profile ≡ now.profile → bars ≡ barred_at also_login profile command → bars ≡ None → IsTaken now command
-is_taken now command login also_login profile right bars at told wrong also_at of is none = (
+is_taken now command first login also_login profile wants right bars first_at asks whole at told wrong also_at of is none = (
+  ap (λ l. wants_response l command) (sym first_at) ∙ sym asks ∙ whole,
   ap (λ l. logs_in_as l command) (sym at) ∙ sym told ∙ wrong,
   ap (λ l. barred_at l now.profile command) (sym also_at) ∙ ap (λ p. barred_at also_login p command) (sym of) ∙ sym is ∙ none,
 )
 
-taken_turn : (now : Standing) (line tag : List ℕ) (command : Command) (answers : List Answer) → now.mailing.begun ≡ None → now.idling ≡ None → read line ≡ Ok (tag, command) → IsTaken now command
-    → turn_of now line answers ≡ played tag now (on_command now command) answers
-taken_turn now line tag command answers alone awake h taken =
-    awake_turn now line answers alone awake ∙ ap (λ r. on_read now r answers) h ∙ ap (λ b. on_line b now tag command answers) taken.0
-    ∙ ap (λ o. played tag now (on_found (λ text. says (response_text text)) (on_command now command) o) answers) taken.1
+taken_turn : (now : Standing) (line tag : List ℕ) (command : Command) (answers : List Answer) → read line ≡ Ok (tag, command) → IsTaken now command
+    → on_text_line now line answers ≡ played tag now (on_command now command) answers
+taken_turn now line tag command answers h taken =
+    read_turn now line tag command answers h taken.0 ∙ ap (λ b. on_line b now tag command answers) taken.1
+    ∙ ap (λ o. played tag now (on_found (λ text. says (response_text text)) (on_command now command) o) answers) taken.2
 
 -- the client logs in
-pub answers_login : {S : Type 0} (step : S → Call → Answer → S → Type 0) (now next : Standing) (line tag : List ℕ) (command : Command) (s : S) (before after : List ℕ) → now.mailing.begun ≡ None → now.idling ≡ None
-    → read line ≡ Ok (tag, command) → logs_in_as now.login command ≡ true → next ≡ logged_in now → after ≡ before ++ tagged tag (response_text (texts.Completed verbs.Login))
-    → Answers step now line s s before after Go next
-answers_login step now next line tag command s before after alone awake h right is wrote =
-    let words : List ℕ = tagged tag (response_text (texts.Completed verbs.Login)) in
-    subst (λ (n : Standing). Answers step now line s s before after Go n) (sym is) (record {
+pub answers_login : {S : Type 0} (step : S → Call → Answer → S → Type 0) (now next : Standing) (line tag : List ℕ) (command : Command) (verb : Verb) (s : S) (before after : List ℕ)
+    → read line ≡ Ok (tag, command) → wants_response now.login command ≡ false → logs_in_as now.login command ≡ true → verb ≡ verb_of command → next ≡ logged_in now
+    → after ≡ before ++ tagged tag (response_text (texts.Completed verb))
+    → AnswersText step now line s s before after Go next
+answers_login step now next line tag command verb s before after h whole right by is wrote =
+    let words : List ℕ = tagged tag (response_text (texts.Completed (verb_of command))) in
+    subst (λ (n : Standing). AnswersText step now line s s before after Go n) (sym is) (record {
       answers = [];
       events = [];
       bytes = words ++ [];
-      played = awake_turn now line [] alone awake ∙ ap (λ r. on_read now r []) h ∙ ap (λ b. on_line b now tag command []) right;
+      played = read_turn now line tag command [] h whole ∙ ap (λ b. on_line b now tag command []) right;
+      met = refl;
+      wrote = wrote ∙ ap (λ v. before ++ tagged tag (response_text (texts.Completed v))) by ∙ ap (λ t. before ++ t) (sym (append-nil words));
+    })
+
+-- a command that isn't carried out
+pub answers_barred : {S : Type 0} (step : S → Call → Answer → S → Type 0) (now next : Standing) (line tag : List ℕ) (command : Command) (text : ResponseText) (s : S) (before after : List ℕ)
+    → read line ≡ Ok (tag, command) → wants_response now.login command ≡ false → logs_in_as now.login command ≡ false → barred now command ≡ Some text → next ≡ now → after ≡ before ++ tagged tag (response_text text)
+    → AnswersText step now line s s before after Go next
+answers_barred step now next line tag command text s before after h whole other barred same wrote =
+    let words : List ℕ = tagged tag (response_text text) in
+    subst (λ (n : Standing). AnswersText step now line s s before after Go n) (sym same) (record {
+      answers = [];
+      events = [];
+      bytes = words ++ [];
+      played = read_turn now line tag command [] h whole ∙ ap (λ b. on_line b now tag command []) other
+          ∙ ap (λ o. played tag now (on_found (λ t. says (response_text t)) (on_command now command) o) []) barred;
       met = refl;
       wrote = wrote ∙ ap (λ t. before ++ t) (sym (append-nil words));
     })
 
--- a command that isn't carried out
-pub answers_barred : {S : Type 0} (step : S → Call → Answer → S → Type 0) (now : Standing) (line tag : List ℕ) (command : Command) (text : ResponseText) (s : S) (before after : List ℕ) → now.mailing.begun ≡ None → now.idling ≡ None
-    → read line ≡ Ok (tag, command) → logs_in_as now.login command ≡ false → barred now command ≡ Some text → after ≡ before ++ tagged tag (response_text text)
-    → Answers step now line s s before after Go now
-answers_barred step now line tag command text s before after alone awake h other barred wrote =
-    let words : List ℕ = tagged tag (response_text text) in
-    record {
-      answers = [];
-      events = [];
-      bytes = words ++ [];
-      played = awake_turn now line [] alone awake ∙ ap (λ r. on_read now r []) h ∙ ap (λ b. on_line b now tag command []) other
-          ∙ ap (λ o. played tag now (on_found (λ t. says (response_text t)) (on_command now command) o) []) barred;
-      met = refl;
-      wrote = wrote ∙ ap (λ t. before ++ t) (sym (append-nil words));
-    }
-
-pub answers_command : {S : Type 0} (step : S → Call → Answer → S → Type 0) (now mid next : Standing) (line tag : List ℕ) (command : Command) (old new : S) (before after : List ℕ) (how : After) → now.mailing.begun ≡ None → now.idling ≡ None
+pub answers_command : {S : Type 0} (step : S → Call → Answer → S → Type 0) (now mid next : Standing) (line tag : List ℕ) (command : Command) (old new : S) (before after : List ℕ) (how : After)
     → read line ≡ Ok (tag, command) → IsTaken now command → Plays step tag now mid (on_command now command) old new before after how → next ≡ (closed mid how).standing
-    → Answers step now line old new before after how next
-answers_command {S} step now mid next line tag command old new before after how alone awake h taken p is =
-    subst (λ (s : Standing). Answers step now line old new before after how s) (sym is) (record {
+    → AnswersText step now line old new before after how next
+answers_command {S} step now mid next line tag command old new before after how h taken p is =
+    subst (λ (s : Standing). AnswersText step now line old new before after how s) (sym is) (record {
       answers = p.answers;
       events = p.events;
       bytes = p.bytes;
-      played = taken_turn now line tag command p.answers alone awake h taken ∙ p.leads;
+      played = taken_turn now line tag command p.answers h taken ∙ p.leads;
       met = p.met;
       wrote = p.wrote;
     })
 
 -- ---- APPEND
 
-pub answers_append : {S : Type 0} (step : S → Call → Answer → S → Type 0) (now next : Standing) (line tag : List ℕ) (command : Command) (a : Append) (s : S) (before after : List ℕ) (how : After) → now.mailing.begun ≡ None → now.idling ≡ None
+pub answers_append : {S : Type 0} (step : S → Call → Answer → S → Type 0) (now next : Standing) (line tag : List ℕ) (command : Command) (a : Append) (s : S) (before after : List ℕ) (how : After)
     → read line ≡ Ok (tag, command) → IsTaken now command → command ≡ commands.Append a → Leads tag now (appending now.mailing.most now.folders a) before after how next
-    → Answers step now line s s before after how next
-answers_append step now next line tag command a s before after how alone awake h taken is p = record {
+    → AnswersText step now line s s before after how next
+answers_append step now next line tag command a s before after how h taken is p = record {
   answers = p.0;
   events = [];
   bytes = p.1;
-  played = taken_turn now line tag command p.0 alone awake h taken ∙ ap (λ c. played tag now (on_command now c) p.0) is ∙ p.2;
+  played = taken_turn now line tag command p.0 h taken ∙ ap (λ c. played tag now (on_command now c) p.0) is ∙ p.2;
   met = refl;
   wrote = p.3;
 }
 
--- the rest of a line behind a literal
-pub answers_rest : {S : Type 0} (step : S → Call → Answer → S → Type 0) (now next : Standing) (a : Appending) (line : List ℕ) (s : S) (before after : List ℕ) (how : After) → now.mailing.begun ≡ Some a
-    → Leads a.tag (without_begun now) (on_rest now.mailing a (length line == 0)) before after how next
-    → Answers step now line s s before after how next
-answers_rest step now next a line s before after how is p = record {
+-- ---- the rest of a line behind a literal
+
+abbrev pub behind : Standing → PendingLiteral → Standing
+behind now a = record now { mailing = record now.mailing { begun = Some a } }
+
+-- the literal isn't awaited any more
+pub without_again : {now mid : Standing} → now.mailing.begun ≡ None → mid ≡ record now { idling = None } → mid ≡ without_begun now
+without_again {now} {mid} alone same = same ∙ ap (λ (b : Option PendingLiteral). record now { idling = None; mailing = record now.mailing { begun = b } }) alone
+
+pub already_without : (now : Standing) → now.mailing.begun ≡ None → now.idling ≡ None → without_begun now ≡ now
+already_without now alone awake = sym (without_again {now = now} {mid = now} alone (ap (λ i. record now { idling = i }) awake))
+
+message_is : (p : Purpose) (a : PendingLiteral) (now : Standing) (line : List ℕ) (answers : List Answer) → is_message p ≡ true
+    → on_rest_of p a now line answers ≡ played a.tag (without_begun now) (on_rest now.mailing a (length line == 0)) answers
+message_is (Message mailbox flags) a now line answers e = refl
+message_is (Argument before) a now line answers e = absurd cc
+message_is (ForResponse before) a now line answers e = absurd cc
+
+-- of a message
+pub message_rest : {S : Type 0} (step : S → Call → Answer → S → Type 0) (now mid next : Standing) (a : PendingLiteral) (line : List ℕ) (s : S) (before held after : List ℕ) (how : After)
+    → now.mailing.begun ≡ None → is_message a.purpose ≡ true → mid ≡ record now { idling = None } → held ≡ before
+    → Leads a.tag mid (on_rest mid.mailing a (length line == 0)) held after how next
+    → Answers step (behind now a) line s s before after how next
+message_rest step now mid next a line s before held after how alone of same at p =
+    let P : Standing → List ℕ → Type 0 = λ m front. Leads a.tag m (on_rest m.mailing a (length line == 0)) front after how next in
+    let q : P (without_begun now) before = subst (P (without_begun now)) at (subst (λ (m : Standing). P m held) (without_again alone same) p) in
+    record {
+      answers = q.0;
+      events = [];
+      bytes = q.1;
+      played = message_is a.purpose a (behind now a) line q.0 of ∙ q.2;
+      met = refl;
+      wrote = q.3;
+    }
+
+part_same : (p : Purpose) (a : PendingLiteral) (one other : Standing) (line : List ℕ) (answers : List Answer) → is_message p ≡ false → without_begun one ≡ without_begun other
+    → on_rest_of p a one line answers ≡ on_rest_of p a other line answers
+part_same (Message mailbox flags) a one other line answers e same = absurd cc
+part_same (Argument before) a one other line answers e same = ap (λ m. on_behind a.tag m (option_map (λ text. before ++ quoted text ++ line) a.text) line answers) same
+part_same (ForResponse before) a one other line answers e same = ap (λ m. on_behind a.tag m (option_map (λ text. before ++ codes " " ++ response_in line) a.text) line answers) same
+
+-- of another line
+pub part_rest : {S : Type 0} (step : S → Call → Answer → S → Type 0) (now mid next : Standing) (a : PendingLiteral) (line : List ℕ) (old new : S) (before held after : List ℕ) (how : After)
+    → now.mailing.begun ≡ None → is_message a.purpose ≡ false → mid ≡ record now { idling = None } → held ≡ before
+    → Had (on_rest_part a mid line) step old new held after how next
+    → Answers step (behind now a) line old new before after how next
+part_rest step now mid next a line old new before held after how alone of same at p = record {
+  answers = p.answers;
+  events = p.events;
+  bytes = p.bytes;
+  played = part_same a.purpose a (behind now a) mid line p.answers of (ap without_begun (sym same)) ∙ p.played;
+  met = p.met;
+  wrote = p.wrote ∙ ap (λ t. t ++ p.bytes) at;
+}
+
+-- a line that was joined of its parts, or given up since memory had been refused to it
+pub part_joined : {S : Type 0} (step : S → Call → Answer → S → Type 0) (now next : Standing) (a : PendingLiteral) (line_with : List ℕ → List ℕ) (text whole rest : List ℕ) (old new : S) (before after : List ℕ) (how : After)
+    → ((answers : List Answer) → on_rest_part a now rest answers ≡ on_behind a.tag (without_begun now) (option_map line_with a.text) rest answers)
+    → now.mailing.begun ≡ None → now.idling ≡ None → a.text ≡ Some text → whole ≡ line_with text → AnswersJoined step a.tag now whole rest old new before after how next
+    → Had (on_rest_part a now rest) step old new before after how next
+part_joined step now next a line_with text whole rest old new before after how is alone awake kept joined p = record {
+  answers = p.answers;
+  events = p.events;
+  bytes = p.bytes;
+  played = is p.answers ∙ ap (λ m. on_behind a.tag m (option_map line_with a.text) rest p.answers) (already_without now alone awake)
+      ∙ ap (λ t. on_behind a.tag now (option_map line_with t) rest p.answers) kept
+      ∙ ap (λ l. on_joined a.tag now l rest p.answers) (sym joined) ∙ p.played;
+  met = p.met;
+  wrote = p.wrote;
+}
+
+part_dropped : (p : Purpose) (a : PendingLiteral) (now : Standing) (rest : List ℕ) (answers : List Answer) → is_message p ≡ false → a.text ≡ None → without_begun now ≡ now
+    → on_rest_of p a now rest answers ≡ played a.tag now (given_up rest texts.OutOfMemory texts.ByeOutOfMemory) answers
+part_dropped (Message mailbox flags) a now rest answers e none same = absurd cc
+part_dropped (Argument before) a now rest answers e none same =
+    ap (λ m. on_behind a.tag m (option_map (λ text. before ++ quoted text ++ rest) a.text) rest answers) same
+    ∙ ap (λ t. on_behind a.tag now (option_map (λ text. before ++ quoted text ++ rest) t) rest answers) none
+part_dropped (ForResponse before) a now rest answers e none same =
+    ap (λ m. on_behind a.tag m (option_map (λ text. before ++ codes " " ++ response_in rest) a.text) rest answers) same
+    ∙ ap (λ t. on_behind a.tag now (option_map (λ text. before ++ codes " " ++ response_in rest) t) rest answers) none
+
+pub part_given_up : {S : Type 0} (step : S → Call → Answer → S → Type 0) (now next : Standing) (a : PendingLiteral) (rest : List ℕ) (s : S) (before after : List ℕ) (how : After)
+    → now.mailing.begun ≡ None → now.idling ≡ None → is_message a.purpose ≡ false → a.text ≡ None → Leads a.tag now (given_up rest texts.OutOfMemory texts.ByeOutOfMemory) before after how next
+    → Had (on_rest_part a now rest) step s s before after how next
+part_given_up step now next a rest s before after how alone awake of none p = record {
   answers = p.0;
   events = [];
   bytes = p.1;
-  played = ap (λ b. turn_behind b now line p.0) is ∙ p.2;
+  played = part_dropped a.purpose a now rest p.0 of none (already_without now alone awake) ∙ p.2;
   met = refl;
   wrote = p.3;
 }
 
-pub rest_led : (tag : List ℕ) (a : Appending) (seen now next : Standing) (empty is : Bool) (held before said text : List ℕ) (how : After)
-    → seen ≡ now → empty ≡ is → held ≡ before → text ≡ said
-    → Leads tag (record seen { idling = None }) (on_rest seen.mailing a empty) held said how next
-    → Leads tag (record now { idling = None }) (on_rest now.mailing a is) before text how next
-rest_led tag a seen now next empty is held before said text how same told kept wrote p =
-    let P : Standing → Bool → List ℕ → List ℕ → Type 0 = λ m b front whole. Leads tag (record m { idling = None }) (on_rest m.mailing a b) front whole how next in
-    subst (P now is before) (sym wrote) (subst (λ (f : List ℕ). P now is f said) kept (subst (λ (b : Bool). P now b held said) told (subst (λ (m : Standing). P m empty held said) same p)))
+-- a joined line that isn't too long, and one that is
+pub joined_fits : {S : Type 0} (step : S → Call → Answer → S → Type 0) (tag : List ℕ) (now next : Standing) (line rest : List ℕ) (old new : S) (before after : List ℕ) (how : After)
+    → length line ≤ most_line → AnswersText step now line old new before after how next → AnswersJoined step tag now line rest old new before after how next
+joined_fits step tag now next line rest old new before after how fits p = record {
+  answers = p.answers;
+  events = p.events;
+  bytes = p.bytes;
+  played = ap (λ (b : Bool). if b then played tag now (given_up rest texts.LineTooLong texts.LiteralTooBig) p.answers else on_text_line now line p.answers) (not_less most_line (length line) fits) ∙ p.played;
+  met = p.met;
+  wrote = p.wrote;
+}
 
-pub taken_again : {s now : Standing} (b : Option begun.Appending) → s ≡ now → b ≡ None
-    → record s { mailing = record s.mailing { begun = option_map appending_of b } } ≡ record now { mailing = record now.mailing { begun = None } }
-taken_again {s} {now} b e none =
-    ap (λ (o : Option begun.Appending). record s { mailing = record s.mailing { begun = option_map appending_of o } }) none
-    ∙ ap (λ (x : Standing). record x { mailing = record x.mailing { begun = None } }) e
-
-pub rest_answered : {S : Type 0} (step : S → Call → Answer → S → Type 0) (now mid next : Standing) (a : Appending) (line : List ℕ) (s : S) (before text : List ℕ) (r : Result After SessionFault) → now.mailing.begun ≡ Some a
-    → mid ≡ record now { mailing = record now.mailing { begun = None } }
-    → IfOk r (λ how. Leads a.tag (record mid { idling = None }) (on_rest mid.mailing a (length line == 0)) before text how next)
-    → IfOk r (λ how. Answers step now line s s before text how next)
-rest_answered step now mid next a line s before text (Ok how) is e p =
-    answers_rest step now next a line s before text how is
-    (subst (λ (m : Standing). Leads a.tag (record m { idling = None }) (on_rest m.mailing a (length line == 0)) before text how next) e p)
-rest_answered step now mid next a line s before text (Err fault) is e p = tt
+pub joined_too_long : {S : Type 0} (step : S → Call → Answer → S → Type 0) (tag : List ℕ) (now next : Standing) (line rest : List ℕ) (s : S) (before after : List ℕ) (how : After)
+    → most_line < length line → Leads tag now (given_up rest texts.LineTooLong texts.LiteralTooBig) before after how next → AnswersJoined step tag now line rest s s before after how next
+joined_too_long step tag now next line rest s before after how long p = record {
+  answers = p.0;
+  events = [];
+  bytes = p.1;
+  played = ap (λ (b : Bool). if b then played tag now (given_up rest texts.LineTooLong texts.LiteralTooBig) p.0 else on_text_line now line p.0) (less_true most_line (length line) long) ∙ p.2;
+  met = refl;
+  wrote = p.3;
+}
 
 -- ---- IDLE
 
@@ -163,32 +296,32 @@ idle_is : (command : Command) → is_idle command ≡ true → command ≡ comma
 idle_is commands.Idle e = refl
 idle_is _ e = absurd cc
 
-pub answers_idle : {S : Type 0} (step : S → Call → Answer → S → Type 0) (now next : Standing) (line : List ℕ) (response : Response) (command : Command) (s : S) (before after : List ℕ) (how : After) → now.mailing.begun ≡ None → now.idling ≡ None
+pub answers_idle : {S : Type 0} (step : S → Call → Answer → S → Type 0) (now next : Standing) (line : List ℕ) (response : Response) (command : Command) (s : S) (before after : List ℕ) (how : After)
     → read line ≡ Ok (response.tag, command) → IsTaken now command → response.text ≡ before → is_idle command ≡ true → ((how ≡ Idle) ⊎ (how ≡ Go))
     → (how ≡ Idle → (next ≡ record now { idling = Some response.tag }) × (after ≡ response.text ++ continuing (response_text texts.Idling)))
     → (how ≡ Go → (32 < length response.tag) × (next ≡ now) × (after ≡ response.text ++ tagged response.tag (response_text texts.OutOfMemory)))
-    → Answers step now line s s before after how next
-answers_idle step now next line response command s before after Idle alone awake h taken kept i on begun starved =
-    subst (λ (n : Standing). Answers step now line s s before after Idle n) (sym (begun refl).0) (record {
+    → AnswersText step now line s s before after how next
+answers_idle step now next line response command s before after Idle h taken kept i on begun starved =
+    subst (λ (n : Standing). AnswersText step now line s s before after Idle n) (sym (begun refl).0) (record {
       answers = [];
       events = [];
       bytes = continuing (response_text texts.Idling);
-      played = taken_turn now line response.tag command [] alone awake h taken ∙ ap (λ c. played response.tag now (on_command now c) []) (idle_is command i);
+      played = taken_turn now line response.tag command [] h taken ∙ ap (λ c. played response.tag now (on_command now c) []) (idle_is command i);
       met = refl;
       wrote = (begun refl).1 ∙ ap (λ t. t ++ continuing (response_text texts.Idling)) kept;
     })
-answers_idle step now next line response command s before after Go alone awake h taken kept i on begun starved =
-    subst (λ (n : Standing). Answers step now line s s before after Go n) (sym (starved refl).1) (record {
+answers_idle step now next line response command s before after Go h taken kept i on begun starved =
+    subst (λ (n : Standing). AnswersText step now line s s before after Go n) (sym (starved refl).1) (record {
       answers = Starved zero ∷ [];
       events = [];
       bytes = tagged response.tag (response_text texts.OutOfMemory) ++ [];
-      played = taken_turn now line response.tag command (Starved zero ∷ []) alone awake h taken ∙ ap (λ c. played response.tag now (on_command now c) (Starved zero ∷ [])) (idle_is command i)
+      played = taken_turn now line response.tag command (Starved zero ∷ []) h taken ∙ ap (λ c. played response.tag now (on_command now c) (Starved zero ∷ [])) (idle_is command i)
           ∙ ap (λ (b : Bool). if b then Some (record { events = []; bytes = tagged response.tag (response_text texts.OutOfMemory) ++ []; after = Go; standing = now }) else None) (lt-ltb 32 (length response.tag) (starved refl).0);
       met = refl;
       wrote = (starved refl).2 ∙ ap (λ t. t ++ tagged response.tag (response_text texts.OutOfMemory)) kept ∙ ap (λ t. before ++ t) (sym (append-nil (tagged response.tag (response_text texts.OutOfMemory))));
     })
-answers_idle step now next line response command s before after how alone awake h taken kept i (inl e) begun starved = absurd cc
-answers_idle step now next line response command s before after how alone awake h taken kept i (inr e) begun starved = absurd cc
+answers_idle step now next line response command s before after how h taken kept i (inl e) begun starved = absurd cc
+answers_idle step now next line response command s before after how h taken kept i (inr e) begun starved = absurd cc
 
 -- the line that ends it
 pub plays_idle_line : {S : Type 0} (step : S → Call → Answer → S → Type 0) (now : Standing) (line : List ℕ) (old new : S) (before mid : Response) (final : List ℕ) (r : Result ResponseText MailFault) (how : After)

@@ -147,7 +147,7 @@ shown_in_order now commands.Check = in_showing now commands.Check refl now.selec
 shown_in_order now commands.Logout = (refl, λ must. absurd (may_not false (is_some now.selected) refl must))
 shown_in_order now commands.Idle = (refl, may_not_be (is_some now.selected))
 shown_in_order now (commands.Login user password) = λ must. refl
-shown_in_order now commands.Authenticate = λ must. refl
+shown_in_order now (commands.Authenticate a) = λ must. refl
 shown_in_order now commands.StartTls = λ must. refl
 shown_in_order now (commands.Select name) =
     in_closing now (commands.Select name) now.selected (wanting (on_folder name now.folders (entering now.profile false))) (inr (inl refl)) (

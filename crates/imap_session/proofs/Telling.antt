@@ -31,9 +31,9 @@ use Rattle.imap_session.specs.declared.standing.Selected.{Selected}
 use Rattle.imap_session.specs.declared.standing.Profile.{Profile}
 use Rattle.imap_session.specs.declared.standing.Profile.TheVariants.{Standard, Compatible}
 use Rattle.imap_session.proofs.Barring.{answering_has}
-use Rattle.imap_session.specs.Exchange.{Appending, Exchange, Expunge, Feed, Folder, ForNothing, ForVerdict, Mailing, Standing, Wait, Write, bye, kept_behind, kept_tag, refusal_text}
-use Rattle.imap_session.specs.Commands.{answering, arguments_text, subscribing, telling_recent, appended_words, asking, coming, closing, completed, counting, entering, expunge_set, fault_text, fetch_messages, fetching, folder_of, found_in, if_writable, is_over, last_number, long_rest_text, long_text, most_unasked, messages_done, nowhere, number_named, on_chosen, on_command, on_folder, on_found, on_idle_line, on_rest, on_text, on_verdict, over, refused_text, says, search_done, search_known, search_messages, searching, showing, store_messages, storing, turn_of_long_line, unlimited, wanting, wanting_for, wrong_state, entered_text}
-use Rattle.imap_session.specs.Telling.{LineTellsNoUid, RefusalTellsNoUid, TellsNoUid, VerdictTellsUid, WordsTellWhich, fault_tag, tells_uid}
+use Rattle.imap_session.specs.Exchange.{PendingLiteral, Exchange, Expunge, Feed, Folder, ForNothing, ForVerdict, Mailing, Standing, Wait, Write, bye, kept_behind, kept_tag, refusal_text}
+use Rattle.imap_session.specs.Commands.{fault_tag, flags_for, mailbox_for, answering, arguments_text, subscribing, telling_recent, appended_words, asking, coming, closing, completed, counting, entering, expunge_set, fault_text, fetch_messages, fetching, folder_of, found_in, if_writable, is_over, last_number, long_rest_text, long_text, most_unasked, messages_done, nowhere, number_named, on_chosen, on_command, on_folder, on_found, on_idle_line, on_rest, on_text, on_verdict, over, refused_text, says, search_done, search_known, search_messages, searching, showing, store_messages, storing, turn_of_long_line, unlimited, wanting, wanting_for, wrong_state, entered_text}
+use Rattle.imap_session.specs.Telling.{LineTellsNoUid, RefusalTellsNoUid, TellsNoUid, VerdictTellsUid, WordsTellWhich, tells_uid}
 use Rattle.imap_session.proofs.Appends.{asked_at, sent_at}
 use Rattle.imap_session.specs.declared.texts.ResponseText.TheVariants as texts
 use Rattle.imap_session.specs.Texts.{response_text}
@@ -172,16 +172,16 @@ pub idling_tells_none : (selected : Option Selected) (line : List ℕ) → Tells
 idling_tells_none selected line =
     in_either (is_done line) (showing selected (completed commands.Idle)) (says (response_text texts.ExpectedDone)) (in_showing selected (completed commands.Idle) refl) refl
 
-text_tells_none : (mailing : Mailing) (a : Appending) (text : List ℕ) (mailbox : ℕ) → TellsNoUid (on_text mailing a text mailbox)
+text_tells_none : (mailing : Mailing) (a : PendingLiteral) (text : List ℕ) (mailbox : ℕ) → TellsNoUid (on_text mailing a text mailbox)
 text_tells_none mailing a text mailbox =
     in_either (is_over mailing.most a.size) (over mailing.most) _ (over_tells_none mailing.most)
     (in_either (list_any (λ b. b == 0) text) (says (response_text texts.NulByte)) _ refl
-    (in_either (nat_le last_number mailing.number) (says (response_text texts.MailboxSpent)) (wanting (Wait [] (ForVerdict mailbox a.flags text))) refl tt))
+    (in_either (nat_le last_number mailing.number) (says (response_text texts.MailboxSpent)) (wanting (Wait [] (ForVerdict mailbox (flags_for a.purpose) text))) refl tt))
 
-pub rest_tells_none : (mailing : Mailing) (a : Appending) (empty : Bool) → TellsNoUid (on_rest mailing a empty)
+pub rest_tells_none : (mailing : Mailing) (a : PendingLiteral) (empty : Bool) → TellsNoUid (on_rest mailing a empty)
 rest_tells_none mailing a empty =
-    in_found (λ text. if empty then on_found (on_text mailing a text) nowhere a.mailbox else says (response_text texts.InvalidArguments)) (says (response_text texts.OutOfMemory))
-    (λ text. in_either empty (on_found (on_text mailing a text) nowhere a.mailbox) (says (response_text texts.InvalidArguments)) (in_found (on_text mailing a text) nowhere (text_tells_none mailing a text) refl a.mailbox) refl)
+    in_found (λ text. if empty then on_found (on_text mailing a text) nowhere (mailbox_for a.purpose) else says (response_text texts.InvalidArguments)) (says (response_text texts.OutOfMemory))
+    (λ text. in_either empty (on_found (on_text mailing a text) nowhere (mailbox_for a.purpose)) (says (response_text texts.InvalidArguments)) (in_found (on_text mailing a text) nowhere (text_tells_none mailing a text) refl (mailbox_for a.purpose)) refl)
     refl a.text
 
 pub fault_tells_none : (profile : Profile) (fault : ImapFault) → LineTellsNoUid (fault_tag fault) (fault_text profile fault)
@@ -190,7 +190,7 @@ fault_tells_none profile (faults.Unknown tag) = (response_text texts.UnknownComm
 fault_tells_none profile (faults.LeftOut tag) = (response_text texts.NotOffered, refl, refl)
 fault_tells_none profile (faults.Arguments tag verb) = (response_text (arguments_text profile verb), refl, row_tells_none (arguments_text profile verb))
 
-long_tells_none : (begun : Option Appending) (idling : Option (List ℕ)) → LineTellsNoUid (kept_behind begun idling) (long_text begun idling)
+long_tells_none : (begun : Option PendingLiteral) (idling : Option (List ℕ)) → LineTellsNoUid (kept_behind begun idling) (long_text begun idling)
 long_tells_none None None = (response_text texts.LineTooLong ++ codes "\r\n", refl)
 long_tells_none None (Some tag) = (response_text texts.ExpectedDone, refl, refl)
 long_tells_none (Some a) idling = (response_text (long_rest_text a.text), refl, row_tells_none (long_rest_text a.text))

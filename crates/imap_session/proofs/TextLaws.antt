@@ -7,7 +7,7 @@ use Rattle.imap_session.specs.declared.texts.ResponseText.{ResponseText}
 use Rattle.imap_session.specs.declared.texts.ResponseText.TheVariants as texts
 use Rattle.imap_session.specs.Texts.{IsLineText, is_printable, response_text, server_text}
 use Rattle.imap_session.specs.declared.texts.ServerText.{ServerText}
-use Rattle.imap_session.specs.declared.texts.ServerText.TheVariants.{Greeting, Capabilities, Namespaces}
+use Rattle.imap_session.specs.declared.texts.ServerText.TheVariants.{Greeting, Capabilities, Namespaces, Identity, NoneEnabled}
 use Rattle.imap_session.specs.declared.standing.Profile.TheVariants.{Standard, Compatible}
 
 completed_short : (verb : Verb) → length (response_text (texts.Completed verb)) ≤ 45
@@ -46,3 +46,5 @@ server_line (Greeting Compatible) = line_text _ refl refl refl
 server_line (Capabilities Standard) = line_text _ refl refl refl
 server_line (Capabilities Compatible) = line_text _ refl refl refl
 server_line Namespaces = line_text _ refl refl refl
+server_line Identity = line_text _ refl refl refl
+server_line NoneEnabled = line_text _ refl refl refl

@@ -10,8 +10,8 @@ use Rattle.delivery_token.specs.declared.Verdict.TheVariants.{Stored, Refused}
 use Rattle.delivery_token.specs.declared.Refusal.{Refusal}
 use Rattle.delivery_token.specs.declared.Refusal.TheVariants.{Full}
 use Rattle.imap_session.specs.declared.standing.Selected.{Selected}
-use Rattle.imap_session.specs.Exchange.{Appending, Exchange, ForVerdict, Mailing, Standing, Wait, tagged}
-use Rattle.imap_session.specs.Commands.{appended_words, is_over, kept_text, last_number, nowhere, on_found, on_rest, on_text, on_verdict, refused_text, says, showing, over, taking, wanting, with_bytes}
+use Rattle.imap_session.specs.Exchange.{PendingLiteral, Exchange, ForVerdict, Mailing, Standing, Wait, tagged}
+use Rattle.imap_session.specs.Commands.{appended_words, flags_for, is_over, kept_text, mailbox_for, last_number, nowhere, on_found, on_rest, on_text, on_verdict, refused_text, says, showing, over, taking, wanting, with_bytes}
 use Rattle.imap_session.specs.Shows.{IsNoOk, RestShowsNone, ShowsBefore, VerdictShowsInOrder}
 use Rattle.imap_session.specs.declared.texts.ResponseText.TheVariants as texts
 use Rattle.imap_session.specs.Texts.{response_text}
@@ -42,22 +42,22 @@ over_none : (most : Option ℕ) → RestShowsNone (over most)
 over_none None = refl
 over_none (Some most) = refl
 
-text_none : (mailing : Mailing) (a : Appending) (text : List ℕ) (mailbox : ℕ) → RestShowsNone (on_text mailing a text mailbox)
+text_none : (mailing : Mailing) (a : PendingLiteral) (text : List ℕ) (mailbox : ℕ) → RestShowsNone (on_text mailing a text mailbox)
 text_none mailing a text mailbox =
     none_either (is_over mailing.most a.size) (over mailing.most) _ (over_none mailing.most)
     (none_either (list_any (λ b. b == 0) text) (says (response_text texts.NulByte)) _ refl
-    (none_either (nat_le last_number mailing.number) (says (response_text texts.MailboxSpent)) (wanting (Wait [] (ForVerdict mailbox a.flags text))) refl (refl, (refl, refl))))
+    (none_either (nat_le last_number mailing.number) (says (response_text texts.MailboxSpent)) (wanting (Wait [] (ForVerdict mailbox (flags_for a.purpose) text))) refl (refl, (refl, refl))))
 
-named_none : (mailing : Mailing) (a : Appending) (text : List ℕ) (mailbox : Option ℕ) → RestShowsNone (on_found (on_text mailing a text) nowhere mailbox)
+named_none : (mailing : Mailing) (a : PendingLiteral) (text : List ℕ) (mailbox : Option ℕ) → RestShowsNone (on_found (on_text mailing a text) nowhere mailbox)
 named_none mailing a text None = refl
 named_none mailing a text (Some mailbox) = text_none mailing a text mailbox
 
-kept_none : (mailing : Mailing) (a : Appending) (empty : Bool) (text : Option (List ℕ))
-    → RestShowsNone (on_found (λ text. if empty then on_found (on_text mailing a text) nowhere a.mailbox else says (response_text texts.InvalidArguments)) (says (response_text texts.OutOfMemory)) text)
+kept_none : (mailing : Mailing) (a : PendingLiteral) (empty : Bool) (text : Option (List ℕ))
+    → RestShowsNone (on_found (λ text. if empty then on_found (on_text mailing a text) nowhere (mailbox_for a.purpose) else says (response_text texts.InvalidArguments)) (says (response_text texts.OutOfMemory)) text)
 kept_none mailing a empty None = refl
-kept_none mailing a empty (Some text) = none_either empty (on_found (on_text mailing a text) nowhere a.mailbox) (says (response_text texts.InvalidArguments)) (named_none mailing a text a.mailbox) refl
+kept_none mailing a empty (Some text) = none_either empty (on_found (on_text mailing a text) nowhere (mailbox_for a.purpose)) (says (response_text texts.InvalidArguments)) (named_none mailing a text (mailbox_for a.purpose)) refl
 
-pub rest_none : (mailing : Mailing) (a : Appending) (empty : Bool) → RestShowsNone (on_rest mailing a empty)
+pub rest_none : (mailing : Mailing) (a : PendingLiteral) (empty : Bool) → RestShowsNone (on_rest mailing a empty)
 rest_none mailing a empty = kept_none mailing a empty a.text
 
 shown_before : (selected : Option Selected) (words : List ℕ)
@@ -88,18 +88,18 @@ kept_again false false front back None = refl
 due_again : (due : ℕ) (front back : List ℕ) → due - length front - length back ≡ due - length (front ++ back)
 due_again due front back = rw (length-append front back) (omega arith)
 
-taking_again : (kept also_kept : Bool) (front back : List ℕ) (a : Appending) → taking also_kept back (taking kept front a) ≡ taking (kept && also_kept) (front ++ back) a
+taking_again : (kept also_kept : Bool) (front back : List ℕ) (a : PendingLiteral) → taking also_kept back (taking kept front a) ≡ taking (kept && also_kept) (front ++ back) a
 taking_again kept also_kept front back a =
-    ap₂ (λ (due : ℕ) (text : Option (List ℕ)). (let x : Appending = record { tag = a.tag; mailbox = a.mailbox; flags = a.flags; size = a.size; due = due; text = text } in x))
+    ap₂ (λ (due : ℕ) (text : Option (List ℕ)). (let x : PendingLiteral = record { tag = a.tag; purpose = a.purpose; size = a.size; due = due; text = text } in x))
     (due_again a.due front back) (kept_again kept also_kept front back a.text)
 
 pub cut_anywhere : (now : Standing) (front back : List ℕ) (kept also_kept : Bool) → with_bytes also_kept back (with_bytes kept front now) ≡ with_bytes (kept && also_kept) (front ++ back) now
 cut_anywhere now front back kept also_kept = with_begun now front back kept also_kept now.mailing.begun
   where
-    begun_as : Standing → Option Appending → Standing
+    begun_as : Standing → Option PendingLiteral → Standing
     begun_as now b = record now { mailing = record now.mailing { begun = b } }
 
-    with_begun : (now : Standing) (front back : List ℕ) (kept also_kept : Bool) (b : Option Appending)
+    with_begun : (now : Standing) (front back : List ℕ) (kept also_kept : Bool) (b : Option PendingLiteral)
         → begun_as now (option_map (taking also_kept back) (option_map (taking kept front) b)) ≡ begun_as now (option_map (taking (kept && also_kept) (front ++ back)) b)
     with_begun now front back kept also_kept None = refl
-    with_begun now front back kept also_kept (Some a) = ap (λ (x : Appending). begun_as now (Some x)) (taking_again kept also_kept front back a)
+    with_begun now front back kept also_kept (Some a) = ap (λ (x : PendingLiteral). begun_as now (Some x)) (taking_again kept also_kept front back a)

@@ -1,5 +1,5 @@
 -- What a session does about each line (RFC 9051, 6 and 7).
-use Rattle.std.specs.Prelude.{ℕ, ◌+◌, ◌-◌, ◌^◌, length, Bool, true, false, codes, decimal, List, [], ◌∷◌, ◌++◌, map, Option, Some, None, Result, Ok, Err, ◌&&◌, ◌||◌, ◌==◌, nat_le, nat_lt, not, if◌then◌else◌}
+use Rattle.std.specs.Prelude.{ℕ, ◌+◌, ◌-◌, ◌^◌, length, take, is_some, Bool, true, false, codes, decimal, List, [], ◌∷◌, ◌++◌, map, Option, Some, None, Result, Ok, Err, ◌&&◌, ◌||◌, ◌==◌, nat_le, nat_lt, not, if◌then◌else◌}
 use Rattle.std.specs.Option.{option_map}
 use Rattle.std.specs.List.{list_any}
 use Rattle.std.specs.Str.{bytes_eq}
@@ -14,6 +14,11 @@ use Rattle.imap_grammar.specs.declared.command.Command.{Command}
 use Rattle.imap_grammar.specs.declared.command.Command.TheVariants as commands
 use Rattle.imap_grammar.specs.declared.command.Fetch.{Fetch}
 use Rattle.imap_grammar.specs.declared.command.Append.{Append}
+use Rattle.imap_grammar.specs.declared.command.Authenticate.{Authenticate}
+use Rattle.imap_grammar.specs.declared.command.Literal.{Literal}
+use Rattle.imap_grammar.specs.Literals.{announced, quoted}
+use Rattle.imap_session.specs.Plain.{is_plain, is_response_of, plain_in}
+use Rattle.change_ring.specs.Log.{no_flags}
 use Rattle.imap_grammar.specs.declared.command.Store.{Store}
 use Rattle.imap_grammar.specs.declared.command.Search.{Search}
 use Rattle.imap_grammar.specs.declared.view.Named.{Named}
@@ -32,7 +37,7 @@ use Rattle.imap_answers.specs.Answers.{flags_answer, is_inbox, list_answer, open
 use Rattle.imap_session.specs.declared.standing.After.TheVariants.{Go, Bye}
 use Rattle.imap_session.specs.declared.standing.After.TheVariants as afters
 use Rattle.imap_session.specs.declared.standing.Selected.{Selected}
-use Rattle.imap_session.specs.Exchange.{Answer, Appending, Mailing, Sent, Fed, Refused, having, saying, nothing_more, refused, is_idling, Turn, Standing, Folder, Exchange, ForDone, ForLiteral, ForVerdict, ForNothing, Done, Wait, Write, Put, Enter, Look, Read, Count, Alter, Expunge, Feed, Leave, tagged, bye, played, Asked, Unasked, untagged, continuing}
+use Rattle.imap_session.specs.Exchange.{Answer, PendingLiteral, Purpose, Message, Argument, Response, Mailing, Sent, Fed, Refused, having, saying, nothing_more, refused, is_idling, Turn, Standing, Folder, Exchange, ForDone, ForLiteral, ForVerdict, ForNothing, Done, Wait, Write, Put, Enter, Look, Read, Count, Alter, Expunge, Feed, Leave, tagged, bye, played, Asked, Unasked, untagged, continuing}
 use Rattle.imap_session.specs.declared.texts.ResponseText.TheVariants as texts
 use Rattle.imap_session.specs.Texts.{response_text, server_text}
 use Rattle.imap_session.specs.declared.texts.ServerText.TheVariants as server
@@ -252,11 +257,11 @@ over (Some most) = says (response_text texts.MessageTooBig)
 
 -- the client is asked for its literal
 abbrev pub asking : (mailbox : ℕ) → Flags → (size : ℕ) → Exchange
-asking mailbox flags size = Wait (continuing (response_text texts.Ready)) (ForLiteral Asked (Some mailbox) flags size)
+asking mailbox flags size = Wait (continuing (response_text texts.Ready)) (ForLiteral Asked (Message (Some mailbox) flags) size)
 
 -- its literal comes without that, and nothing is said
 abbrev pub coming : (mailbox : Option ℕ) → Flags → (size : ℕ) → Exchange
-coming mailbox flags size = Wait [] (ForLiteral Unasked mailbox flags size)
+coming mailbox flags size = Wait [] (ForLiteral Unasked (Message mailbox flags) size)
 
 -- a literal that the client sends without being asked has at most so many bytes
 abbrev pub most_unasked : ℕ
@@ -275,17 +280,26 @@ appending most folders append =
 abbrev pub last_number : ℕ
 last_number = 4294967295
 
+-- the mailbox that a message is for, where it is known, and the flags that it is to have
+abbrev pub mailbox_for : Purpose → Option ℕ
+mailbox_for (Message mailbox flags) = mailbox
+mailbox_for purpose = None
+
+abbrev pub flags_for : Purpose → Flags
+flags_for (Message mailbox flags) = flags
+flags_for purpose = no_flags
+
 -- all bytes are there, and the line ends behind them. Memory is wanted for what the text's copies share
-abbrev pub on_text : Mailing → Appending → List ℕ → ℕ → Exchange
+abbrev pub on_text : Mailing → PendingLiteral → List ℕ → ℕ → Exchange
 on_text mailing a text mailbox =
     if is_over mailing.most a.size then over mailing.most
     else if list_any (λ b. b == 0) text then says (response_text texts.NulByte)
     else if nat_le last_number mailing.number then says (response_text texts.MailboxSpent)
-    else wanting (Wait [] (ForVerdict mailbox a.flags text))
+    else wanting (Wait [] (ForVerdict mailbox (flags_for a.purpose) text))
 
--- the rest of the line, without its CRLF, behind the literal. A rest that is too long is told as no empty one
-abbrev pub on_rest : Mailing → Appending → Bool → Exchange
-on_rest mailing a empty = on_found (λ text. if empty then on_found (on_text mailing a text) nowhere a.mailbox else says (response_text texts.InvalidArguments)) (says (response_text texts.OutOfMemory)) a.text
+-- the rest of the line, without its CRLF, behind the literal of a message. A rest that is too long is told as no empty one
+abbrev pub on_rest : Mailing → PendingLiteral → Bool → Exchange
+on_rest mailing a empty = on_found (λ text. if empty then on_found (on_text mailing a text) nowhere (mailbox_for a.purpose) else says (response_text texts.InvalidArguments)) (says (response_text texts.OutOfMemory)) a.text
 
 abbrev pub refused_text : Refusal → ResponseText
 refused_text refusals.Full = texts.ShardFull
@@ -302,10 +316,12 @@ abbrev pub on_verdict : Option Selected → ℕ → Verdict → Exchange
 on_verdict selected mailbox (verdicts.Stored uid) = Count mailbox (λ status. showing selected (says (appended_words status.uidvalidity uid)))
 on_verdict selected mailbox (verdicts.Refused why) = says (response_text (refused_text why))
 
--- What a command says of the server, whatever the state (RFC 9051, 6.1.1 and 6.3.10). One that isn't here says nothing of it.
+-- What a command says of the server, whatever the state (RFC 9051, 6.1.1, 6.3.1 and 6.3.10; RFC 2971). One that isn't here says nothing of it.
 abbrev pub notice : Profile → Command → Option (List ℕ)
 notice profile commands.Capability = Some (server_text (server.Capabilities profile))
 notice profile commands.Namespace = Some (server_text server.Namespaces)
+notice profile commands.Id = Some (server_text server.Identity)
+notice profile commands.Enable = Some (server_text server.NoneEnabled)
 notice profile _ = None
 
 -- what is said of the server, where something is, and then this
@@ -318,7 +334,7 @@ on_command now commands.Noop = showing now.selected (completed commands.Noop)
 on_command now commands.Logout = Put (bye (response_text texts.LoggingOut)) (Done (response_text (texts.Completed verbs.Logout)) Bye)
 on_command now commands.Idle = begins_idling
 on_command now (commands.Login user password) = wrong_state
-on_command now commands.Authenticate = wrong_state
+on_command now (commands.Authenticate a) = wrong_state
 on_command now commands.StartTls = wrong_state
 on_command now (commands.Select name) = selecting now.profile now.folders now.selected false name
 on_command now (commands.Examine name) = selecting now.profile now.folders now.selected true name
@@ -348,6 +364,9 @@ on_command now command = noticing (notice now.profile command) (completed comman
 -- what is said of a verb that the standard profile doesn't have, whatever follows it
 abbrev pub standard_lacks : Verb → Option ResponseText
 standard_lacks verbs.Login = Some texts.WrongState
+standard_lacks verbs.Authenticate = Some texts.WrongState
+standard_lacks verbs.Enable = Some texts.NotOffered
+standard_lacks verbs.Id = Some texts.UnknownCommand
 standard_lacks verbs.Check = Some texts.UnknownCommand
 standard_lacks verbs.Lsub = Some texts.UnknownCommand
 standard_lacks verbs.Subscribe = Some texts.NotOffered
@@ -371,19 +390,27 @@ abbrev pub unoffered : Profile → Command → Option ResponseText
 unoffered Standard command = if asks_compatible command then Some texts.InvalidArguments else standard_lacks (verb_of command)
 unoffered Compatible command = None
 
--- what is said to a client that is to log in first. Few commands are for it too (RFC 9051, 6.1 and 6.2), and a LOGIN that is carried out never comes here
+-- what is said to a client that is to log in first. Few commands are for it too (RFC 9051, 6.1 and 6.2), and one that logs it in never comes here
 abbrev pub before_login : Verb → Option ResponseText
 before_login verbs.Capability = None
 before_login verbs.Noop = None
 before_login verbs.Logout = None
+before_login verbs.Id = None
 before_login verbs.Login = Some texts.LoginFailed
-before_login verbs.Authenticate = Some texts.NotOffered
 before_login verbs.StartTls = Some texts.NotOffered
 before_login _ = Some texts.WrongState
 
+-- the same of AUTHENTICATE: its mechanism isn't offered, its response isn't one of that, or it is another user's
+abbrev pub refused_login : Authenticate → ResponseText
+refused_login a = if not (is_plain a.mechanism) then texts.NotOffered else if is_some (plain_in a.initial) then texts.LoginFailed else texts.InvalidArguments
+
+abbrev pub without_login : Command → Option ResponseText
+without_login (commands.Authenticate a) = Some (refused_login a)
+without_login command = before_login (verb_of command)
+
 abbrev pub barred_at : Option (List ℕ) → Profile → Command → Option ResponseText
 barred_at None profile command = unoffered profile command
-barred_at (Some user) profile command = before_login (verb_of command)
+barred_at (Some user) profile command = without_login command
 
 -- what is said in place of carrying a command out, where it isn't
 abbrev pub barred : Standing → Command → Option ResponseText
@@ -395,13 +422,11 @@ answering now command = on_found (λ text. says (response_text text)) (on_comman
 -- the client logs in as the user as whom it is to. The password isn't looked at: only the machine itself can connect, and who may log in is told by what stands in front
 abbrev pub logs_in_as : Option (List ℕ) → Command → Bool
 logs_in_as (Some user) (commands.Login name password) = bytes_eq name user
+logs_in_as (Some user) (commands.Authenticate a) = is_response_of user a
 logs_in_as _ _ = false
 
 abbrev pub logged_in : Standing → Standing
 logged_in now = record now { login = None }
-
-abbrev pub login_completed : Exchange
-login_completed = says (response_text (texts.Completed verbs.Login))
 
 -- ---- lines
 
@@ -427,19 +452,102 @@ only_says text now (answer ∷ more) = None
 
 -- a command under its tag, which logs the client in or not
 abbrev pub on_line : Bool → Standing → List ℕ → Command → List Answer → Option Turn
-on_line true now tag command answers = played tag (logged_in now) login_completed answers
+on_line true now tag command answers = played tag (logged_in now) (completed command) answers
 on_line false now tag command answers = played tag now (answering now command) answers
 
 abbrev pub on_read : Standing → Result (List ℕ × Command) ImapFault → List Answer → Option Turn
 on_read now (Ok line) answers = on_line (logs_in_as now.login line.1) now line.0 line.1 answers
 on_read now (Err fault) answers = only_says (fault_text now.profile fault) now answers
 
+-- ---- lines that go on
+
+-- a command's line has at most so many bytes with its literals in it, as one without has
+abbrev pub most_line : ℕ
+most_line = 8190
+
+-- The client is to send a literal, which is an argument of the line that began so (RFC 9051, 4.3). One that it sends without being asked for is no command, so
+-- where it is too big the session ends.
+abbrev pub awaiting_argument : (before : List ℕ) → Literal → Exchange
+awaiting_argument before literal =
+    if literal.waits
+    then (if nat_lt most_line (length before + literal.size) then says (response_text texts.LineTooLong)
+    else wanting (Wait (continuing (response_text texts.Ready)) (ForLiteral Asked (Argument before) literal.size)))
+    else (if nat_lt most_unasked literal.size then Wait (bye (response_text texts.LiteralTooBig)) ForNothing
+    else Wait [] (ForLiteral Unasked (Argument before) literal.size))
+
+-- The client is to send its response on a line of its own (RFC 9051, 6.2.2). The server's challenge is empty.
+abbrev pub awaiting_response : (line : List ℕ) → Exchange
+awaiting_response line = wanting (Wait (continuing []) (ForLiteral Asked (Response line) 0))
+
+-- the tag of a line that is no command
+abbrev pub fault_tag : ImapFault → Option (List ℕ)
+fault_tag faults.NoTag = None
+fault_tag (faults.Unknown tag) = Some tag
+fault_tag (faults.LeftOut tag) = Some tag
+fault_tag (faults.Arguments tag verb) = Some tag
+
+abbrev pub lacks_literal : (line : List ℕ) → (tag : Option (List ℕ)) → Option (ℕ × Literal) → Option (List ℕ × Exchange)
+lacks_literal line (Some tag) (Some found) = Some (tag, awaiting_argument (take found.0 line) found.1)
+lacks_literal line _ _ = None
+
+-- a line that is no command as it stands, and announces a literal at its end. The standard profile has literals in APPEND alone, where they are messages
+abbrev pub literal_in : Profile → (line : List ℕ) → ImapFault → Option (List ℕ × Exchange)
+literal_in Standard line fault = None
+literal_in Compatible line fault = lacks_literal line (fault_tag fault) (announced line)
+
+-- AUTHENTICATE without a response, of a client that is to log in
+abbrev pub wants_response : (login : Option (List ℕ)) → Command → Bool
+wants_response (Some user) (commands.Authenticate a) = is_plain a.mechanism && not (is_some a.initial)
+wants_response _ _ = false
+
+abbrev pub lacks_part : Profile → (login : Option (List ℕ)) → (line : List ℕ) → Result (List ℕ × Command) ImapFault → Option (List ℕ × Exchange)
+lacks_part profile login line (Ok read) = if wants_response login read.1 then Some (read.0, awaiting_response line) else None
+lacks_part profile login line (Err fault) = literal_in profile line fault
+
+-- what is done about a line that isn't whole yet, and its tag
+abbrev pub unfinished : Profile → (login : Option (List ℕ)) → (line : List ℕ) → Option (List ℕ × Exchange)
+unfinished profile login line = lacks_part profile login line (read line)
+
+abbrev pub on_part : Option (List ℕ × Exchange) → Standing → List ℕ → List Answer → Option Turn
+on_part None now line answers = on_read now (read line) answers
+on_part (Some part) now line answers = played part.0 now part.1 answers
+
+-- a line, which may have literals in it, or be such that one is to come
+abbrev pub on_text_line : Standing → List ℕ → List Answer → Option Turn
+on_text_line now line answers = on_part (unfinished now.profile now.login line) now line answers
+
+abbrev pub comes_unasked : Option (ℕ × Literal) → Bool
+comes_unasked None = false
+comes_unasked (Some found) = not found.1.waits
+
+-- A line is given up that ends so, and that is told. But where it announces a literal that comes without being asked for, the session ends.
+abbrev pub given_up : (rest : List ℕ) → (told parting : ResponseText) → Exchange
+given_up rest told parting = if comes_unasked (announced rest) then Wait (bye (response_text parting)) ForNothing else says (response_text told)
+
+-- the line with its literals in it, under this tag, and its end
+abbrev pub on_joined : (tag : List ℕ) → Standing → (line rest : List ℕ) → List Answer → Option Turn
+on_joined tag now line rest answers =
+    if nat_lt most_line (length line) then played tag now (given_up rest texts.LineTooLong texts.LiteralTooBig) answers
+    else on_text_line now line answers
+
+-- the same where memory may have been refused to what came of it
+abbrev pub on_behind : (tag : List ℕ) → Standing → (line : Option (List ℕ)) → (rest : List ℕ) → List Answer → Option Turn
+on_behind tag now None rest answers = played tag now (given_up rest texts.OutOfMemory texts.ByeOutOfMemory) answers
+on_behind tag now (Some line) rest answers = on_joined tag now line rest answers
+
+-- an empty response is written as `=` behind AUTHENTICATE
+abbrev pub response_in : List ℕ → List ℕ
+response_in [] = codes "="
+response_in line = line
+
+-- ---- turns
+
 -- the line that ends an IDLE: DONE, or any other, which isn't read as a command
 abbrev pub on_idle_line : Option Selected → List ℕ → Exchange
 on_idle_line selected line = if is_done line then showing selected (completed commands.Idle) else says (response_text texts.ExpectedDone)
 
 abbrev pub turn_while : Option (List ℕ) → Standing → List ℕ → List Answer → Option Turn
-turn_while None now line answers = on_read now (read line) answers
+turn_while None now line answers = on_text_line now line answers
 turn_while (Some tag) now line answers = played tag (record now { idling = None }) (on_idle_line now.selected line) answers
 
 -- A session waits for one thing at a time: the rest of a line, or a verdict. The message whose bytes came, or on which the verdict is there, is no longer kept.
@@ -449,9 +557,15 @@ without_begun now = record now { idling = None; mailing = record now.mailing { b
 abbrev pub without_sent : Standing → Standing
 without_sent now = record now { idling = None; mailing = record now.mailing { begun = None; sent = None } }
 
-abbrev pub turn_behind : Option Appending → Standing → List ℕ → List Answer → Option Turn
+-- The rest of a line behind a literal. One that is an argument is read as the quoted string that says the same, in the literal's place.
+abbrev pub on_rest_of : Purpose → PendingLiteral → Standing → List ℕ → List Answer → Option Turn
+on_rest_of (Message mailbox flags) a now line answers = played a.tag (without_begun now) (on_rest now.mailing a (length line == 0)) answers
+on_rest_of (Argument before) a now line answers = on_behind a.tag (without_begun now) (option_map (λ text. before ++ quoted text ++ line) a.text) line answers
+on_rest_of (Response before) a now line answers = on_behind a.tag (without_begun now) (option_map (λ text. before ++ codes " " ++ response_in line) a.text) line answers
+
+abbrev pub turn_behind : Option PendingLiteral → Standing → List ℕ → List Answer → Option Turn
 turn_behind None now line answers = turn_while now.idling now line answers
-turn_behind (Some a) now line answers = played a.tag (without_begun now) (on_rest now.mailing a (length line == 0)) answers
+turn_behind (Some a) now line answers = on_rest_of a.purpose a now line answers
 
 -- where a line leads, with these answers of the store
 abbrev pub turn_of : Standing → List ℕ → List Answer → Option Turn
@@ -460,7 +574,7 @@ turn_of now line answers = turn_behind now.mailing.begun now line answers
 -- ---- bytes of a literal
 
 -- so many are due
-abbrev pub due_of : Option Appending → ℕ
+abbrev pub due_of : Option PendingLiteral → ℕ
 due_of None = 0
 due_of (Some a) = a.due
 
@@ -468,7 +582,7 @@ abbrev pub kept_text : Bool → List ℕ → Option (List ℕ) → Option (List 
 kept_text true bytes (Some text) = Some (text ++ bytes)
 kept_text kept bytes text = None
 
-abbrev pub taking : Bool → List ℕ → Appending → Appending
+abbrev pub taking : Bool → List ℕ → PendingLiteral → PendingLiteral
 taking kept bytes a = record a { due = a.due - length bytes; text = kept_text kept bytes a.text }
 
 -- these bytes came; memory may have been refused to them
@@ -500,14 +614,14 @@ abbrev pub long_rest_text : Option (List ℕ) → ResponseText
 long_rest_text None = texts.OutOfMemory
 long_rest_text (Some text) = texts.InvalidArguments
 
-abbrev pub long_text : Option Appending → Option (List ℕ) → List ℕ
+abbrev pub long_text : Option PendingLiteral → Option (List ℕ) → List ℕ
 long_text None idling = long_idle_text idling
 long_text (Some a) idling = tagged a.tag (response_text (long_rest_text a.text))
 
 abbrev pub long_line_text : Standing → List ℕ
 long_line_text now = long_text now.mailing.begun now.idling
 
--- where a line leads that is too long. It ends an IDLE and an APPEND
+-- where a line leads that is too long. It ends an IDLE, and a command that goes on behind a literal
 abbrev pub turn_of_long_line : Standing → Turn
 turn_of_long_line now = record { events = []; bytes = long_line_text now; after = Go; standing = without_begun now }
 

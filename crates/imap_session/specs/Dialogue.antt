@@ -15,9 +15,9 @@ use Rattle.imap_session.specs.Store.{Answers, AnswersVerdict, IdleTurns, Met, Ta
 abbrev pub most_bytes : ℕ
 most_bytes = 8192
 
--- the room that an answer reserves before anything is done: for a line that is said again and 114 bytes, beside the tag of an IDLE or an APPEND
+-- the room that an answer reserves before anything is done: for a line that is said again and 152 bytes, beside the tag of a command that isn't done yet
 abbrev pub answer_room : ℕ
-answer_room = 8306
+answer_room = 8344
 
 -- where a client's dialogue stands: where its session does, and the bytes of the line that has not ended yet
 pub record Dialogue : Type 0 where
@@ -113,7 +113,7 @@ pub record Took {S : Type 0} (step : S → Call → Answer → S → Type 0) (d 
 
 -- ---- turns while it idles
 
--- how long the tag is of an IDLE or an APPEND that isn't done yet
+-- how long the tag is of a command that isn't done yet
 abbrev pub tag_len : Option (List ℕ) → ℕ
 tag_len None = 0
 tag_len (Some tag) = length tag

@@ -62,11 +62,19 @@ pub record Folder : Type 0 where
   pub name : List ℕ
   pub mailbox : ℕ
 
--- a message that a client appends, while its bytes come: the tag, the mailbox that was named, where there is one, and how many bytes were announced
-pub record Appending : Type 0 where
+-- what a client sends behind a line, and for what
+pub data Purpose : Type 0 where
+  -- a message that is appended: the mailbox that was named, where there is one, and the flags that it is to have
+  Message : (mailbox : Option ℕ) → Flags → Purpose
+  -- an argument of the line that began so
+  Argument : (line : List ℕ) → Purpose
+  -- the response that AUTHENTICATE of this line asks for: it has no bytes, but the rest of the line behind them
+  Response : (line : List ℕ) → Purpose
+
+-- a literal while its bytes come: the tag of its command, what it is for, and how many bytes were announced
+pub record PendingLiteral : Type 0 where
   pub tag : List ℕ
-  pub mailbox : Option ℕ
-  pub flags : Flags
+  pub purpose : Purpose
   pub size : ℕ
   -- so many bytes are still to come; and those that came, unless memory was refused to them
   pub due : ℕ
@@ -77,12 +85,12 @@ pub record Sent : Type 0 where
   pub tag : List ℕ
   pub append : Append
 
--- What a session knows of messages that its client appends: the most bytes of one, or that none is taken; the number of the next that is submitted, the one whose bytes come,
--- and the one that waits for its verdict.
+-- What a session knows of messages that its client appends: the most bytes of one, or that none is taken; the number of the next that is submitted, the literal whose bytes come,
+-- which may be a message's, and the message that waits for its verdict.
 pub record Mailing : Type 0 where
   pub most : Option ℕ
   pub number : ℕ
-  pub begun : Option Appending
+  pub begun : Option PendingLiteral
   pub sent : Option Sent
 
 pub record Standing : Type 0 where
@@ -125,7 +133,7 @@ waits_idling None = Go
 waits_idling (Some tag) = afters.Idle
 
 -- one to which bytes of a literal are due waits for those, and for the rest of the line behind them
-abbrev pub waits_begun : Option Appending → After → After
+abbrev pub waits_begun : Option PendingLiteral → After → After
 waits_begun None other = other
 waits_begun (Some a) other = afters.Literal a.due
 
@@ -142,8 +150,8 @@ waits_for now = waits_sent now.mailing.sent (waits_begun now.mailing.begun (wait
 abbrev pub may_send : Standing → After
 may_send now = if now.ended then Bye else waits_for now
 
--- the tag of an IDLE or an APPEND that isn't done yet
-abbrev pub kept_behind : Option Appending → Option (List ℕ) → Option (List ℕ)
+-- the tag of a command that isn't done yet: of an IDLE, or of one that goes on behind a literal
+abbrev pub kept_behind : Option PendingLiteral → Option (List ℕ) → Option (List ℕ)
 kept_behind None idling = idling
 kept_behind (Some a) idling = Some a.tag
 
@@ -167,7 +175,7 @@ pub data Coming : Type 0 where
 pub data Waiting : Type 0 where
   ForDone : Waiting
   -- so many bytes of a literal, and the rest of the line behind them
-  ForLiteral : Coming → (mailbox : Option ℕ) → Flags → (size : ℕ) → Waiting
+  ForLiteral : Coming → Purpose → (size : ℕ) → Waiting
   -- the verdict on a message, which is submitted under the next number
   ForVerdict : (mailbox : ℕ) → Flags → (text : List ℕ) → Waiting
   -- nothing more: it has ended
@@ -175,7 +183,7 @@ pub data Waiting : Type 0 where
 
 abbrev pub after_waiting : Waiting → After
 after_waiting ForDone = afters.Idle
-after_waiting (ForLiteral coming mailbox flags size) = afters.Literal size
+after_waiting (ForLiteral coming purpose size) = afters.Literal size
 after_waiting (ForVerdict mailbox flags text) = afters.Submit
 after_waiting ForNothing = Bye
 
@@ -188,8 +196,8 @@ text_before Dropped = None
 -- the standing of a session that waits so, with this tag
 abbrev pub waiting : List ℕ → Waiting → Standing → Standing
 waiting tag ForDone now = record now { idling = Some tag }
-waiting tag (ForLiteral coming mailbox flags size) now =
-    record now { mailing = record now.mailing { begun = Some (record { tag = tag; mailbox = mailbox; flags = flags; size = size; due = size; text = text_before coming }) } }
+waiting tag (ForLiteral coming purpose size) now =
+    record now { mailing = record now.mailing { begun = Some (record { tag = tag; purpose = purpose; size = size; due = size; text = text_before coming }) } }
 waiting tag (ForVerdict mailbox flags text) now =
     record now {
       mailing = record now.mailing {
@@ -274,6 +282,12 @@ refused tag now fault = saying (refusal_text tag fault) (closed now (refusal_aft
 abbrev pub most_in_place : ℕ
 most_in_place = 32
 
+-- what is known of the purpose of a literal whose bytes are dropped
+abbrev pub nameless : Purpose → Purpose
+nameless (Message mailbox flags) = Message None flags
+nameless (Argument line) = Argument []
+nameless (Response line) = Response []
+
 -- this is said, and the session waits
 abbrev pub waits_so : List ℕ → List ℕ → Waiting → Standing → Turn
 waits_so tag bytes waits now = saying bytes (nothing_more (after_waiting waits) (waiting tag waits now))
@@ -282,14 +296,14 @@ waits_so tag bytes waits now = saying bytes (nothing_more (after_waiting waits) 
 abbrev pub where_long : List ℕ → Turn → Option Turn
 where_long tag turn = if nat_lt most_in_place (length tag) then Some turn else None
 
--- What a session does in place of waiting where memory is refused to it. Who waits for more of an IDLE or an APPEND keeps its tag till then; behind a literal it is
+-- What a session does in place of waiting where memory is refused to it. Who waits for more of an IDLE or of a line with a literal keeps its tag till then; behind a literal it is
 -- kept already. Where a client waits to be asked for a literal, it is told so at once. But the bytes of a literal that isn't asked for come whatever was refused, and
 -- they are no commands: they are counted and dropped, and it is told behind them. Only where the tag can't be kept, with which that is to be told, the session ends.
 abbrev pub unkept : List ℕ → Waiting → Standing → ℕ → Option Turn
 unkept tag ForDone now zero = where_long tag (refused tag now NoMemory)
-unkept tag (ForLiteral Asked mailbox flags size) now zero = where_long tag (refused tag now NoMemory)
-unkept tag (ForLiteral Unasked mailbox flags size) now zero = Some (waits_so tag [] (ForLiteral Dropped None flags size) now)
-unkept tag (ForLiteral Unasked mailbox flags size) now (suc zero) = where_long tag (waits_so tag (bye (response_text texts.ByeOutOfMemory)) ForNothing now)
+unkept tag (ForLiteral Asked purpose size) now zero = where_long tag (refused tag now NoMemory)
+unkept tag (ForLiteral Unasked purpose size) now zero = Some (waits_so tag [] (ForLiteral Dropped (nameless purpose) size) now)
+unkept tag (ForLiteral Unasked purpose size) now (suc zero) = where_long tag (waits_so tag (bye (response_text texts.ByeOutOfMemory)) ForNothing now)
 unkept tag waits now n = None
 
 -- Where an exchange leads with these answers; nowhere where they are none to its calls. Memory is refused to the session itself only where it

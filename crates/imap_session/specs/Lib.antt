@@ -1,4 +1,5 @@
 pub mod Texts
+pub mod Plain
 pub mod Exchange
 pub mod Commands
 pub mod Response

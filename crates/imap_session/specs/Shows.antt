@@ -114,6 +114,13 @@ RestShowsNone (Wait bytes waits) = (bytes ≡ []) × (after_waiting waits ≡ Su
 RestShowsNone (Write bytes x) = (bytes ≡ []) × RestShowsNone x
 RestShowsNone _ = ⊥
 
+-- A line that isn't whole yet asks nothing of the store, and has no tagged OK. The client may be asked for more.
+abbrev pub PartShowsNone : Exchange → Type 0
+PartShowsNone (Done words how) = IsNoOk words
+PartShowsNone (Wait bytes waits) = Unit {0}
+PartShowsNone (Write bytes x) = (bytes ≡ []) × PartShowsNone x
+PartShowsNone _ = ⊥
+
 -- a last line that is no tagged OK, and nothing before it
 abbrev pub IsRefused : Exchange → Type 0
 IsRefused (Done words how) = IsNoOk words

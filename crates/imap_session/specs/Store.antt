@@ -11,8 +11,8 @@ use Rattle.delivery_token.specs.declared.Verdict.{Verdict}
 use Rattle.change_ring.specs.Log.{replay}
 use Rattle.cursor_set.specs.Lines.{lines}
 use Rattle.imap_session.specs.declared.standing.After.{After}
-use Rattle.imap_session.specs.Exchange.{Appending, Call, Answer, Entered, Looked, Expunged, Fed, Left, Refused, Event, Feed, Sent, Standing}
-use Rattle.imap_session.specs.Commands.{count_shown, idle_turn, most_changes, turn_of, turn_of_verdict, with_bytes}
+use Rattle.imap_session.specs.Exchange.{Message, PendingLiteral, Purpose, Call, Answer, Entered, Looked, Expunged, Fed, Left, Refused, Event, Feed, Sent, Standing}
+use Rattle.imap_session.specs.Commands.{count_shown, idle_turn, most_changes, most_line, turn_of, turn_of_verdict, with_bytes}
 
 -- ---- answers of the code
 
@@ -79,8 +79,8 @@ abbrev pub most_first_room : ℕ
 most_first_room = 4096
 
 -- With these bytes the text of the literal, where one is kept, is longer than the room that was made for it before its bytes came.
-abbrev pub IsBeyondRoom : Option Appending → List ℕ → Type 0
-IsBeyondRoom begun bytes = IfSome begun (λ (a : Appending). IfSome a.text (λ text. min a.size most_first_room < length text + length bytes))
+abbrev pub IsBeyondRoom : Option PendingLiteral → List ℕ → Type 0
+IsBeyondRoom begun bytes = IfSome begun (λ (a : PendingLiteral). IfSome a.text (λ text. min a.size most_first_room < length text + length bytes))
 
 -- These bytes of the literal were taken. They are dropped, with those before them, only where they want more room than was made before its bytes came.
 abbrev pub TakesBytes : Standing → List ℕ → Standing → Type 0
@@ -101,15 +101,20 @@ pub record IdleTurns {S : Type 0} (step : S → Call → Answer → S → Type 0
 abbrev pub Starves : {S : Type 0} → (S → Call → Answer → S → Type 0) → S → S → Type 0
 Starves step old new = (new ≡ old) ⊎ step old (Feed most_changes) (Refused NoMemory) new
 
--- The room that is reserved before a line is answered: for its own tag or that of the IDLE or the APPEND that it ends, for the lines that end the answer,
--- and for the line before the last of CAPABILITY, NAMESPACE and LOGOUT, or the one by which SELECT and EXAMINE tell that a mailbox was left.
+-- The room that is reserved before a line is answered: for its own tag or that of the command that it ends or goes on with, for the lines that end the answer,
+-- and for the line before the last of CAPABILITY, NAMESPACE, ID, ENABLE and LOGOUT, or the one by which SELECT and EXAMINE tell that a mailbox was left.
 abbrev pub room_while : Option (List ℕ) → List ℕ → ℕ
-room_while None line = length line + 114
+room_while None line = length line + 152
 room_while (Some tag) line = length tag + 48
 
-abbrev pub room_behind : Option Appending → Option (List ℕ) → List ℕ → ℕ
+-- behind a literal that is an argument the line may be as long as any
+abbrev pub room_rest : Purpose → ℕ
+room_rest (Message mailbox flags) = 48
+room_rest purpose = most_line + 152
+
+abbrev pub room_behind : Option PendingLiteral → Option (List ℕ) → List ℕ → ℕ
 room_behind None idling line = room_while idling line
-room_behind (Some a) idling line = length a.tag + 48
+room_behind (Some a) idling line = length a.tag + room_rest a.purpose
 
 abbrev pub room_for : Standing → List ℕ → ℕ
 room_for now line = room_behind now.mailing.begun now.idling line

@@ -5,8 +5,6 @@ use Rattle.change_ring.specs.declared.change.Flags.{Flags}
 use Rattle.mailbox.specs.declared.clients.Opening.{Opening}
 use Rattle.mailbox.specs.declared.clients.Row.{Row}
 use Rattle.mailbox.specs.declared.mailbox.Status.{Status}
-use Rattle.imap_grammar.specs.declared.command.ImapFault.{ImapFault}
-use Rattle.imap_grammar.specs.declared.command.ImapFault.TheVariants.{NoTag, Unknown, LeftOut, Arguments}
 use Rattle.delivery_token.specs.declared.Verdict.{Verdict}
 use Rattle.delivery_token.specs.declared.Verdict.TheVariants.{Stored, Refused}
 use Rattle.imap_session.specs.declared.standing.Selected.{Selected}
@@ -60,13 +58,6 @@ IsTaggedWithoutUid tag text = (words : List ℕ) × (text ≡ tagged tag words) 
 abbrev pub LineTellsNoUid : Option (List ℕ) → (text : List ℕ) → Type 0
 LineTellsNoUid None text = IsUntagged text
 LineTellsNoUid (Some tag) text = IsTaggedWithoutUid tag text
-
--- the tag of a line that is no command
-abbrev pub fault_tag : ImapFault → Option (List ℕ)
-fault_tag NoTag = None
-fault_tag (Unknown tag) = Some tag
-fault_tag (LeftOut tag) = Some tag
-fault_tag (Arguments tag verb) = Some tag
 
 -- where the store or memory refuses, the line is untagged, or it has this tag and tells no UID
 abbrev pub RefusalTellsNoUid : (tag text : List ℕ) → Type 0

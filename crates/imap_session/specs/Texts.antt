@@ -6,7 +6,7 @@ use Rattle.imap_grammar.specs.declared.command.Verb.{Verb}
 use Rattle.imap_session.specs.declared.standing.Profile.{Profile}
 use Rattle.imap_session.specs.declared.standing.Profile.TheVariants.{Standard, Compatible}
 use Rattle.imap_session.specs.declared.texts.ServerText.{ServerText}
-use Rattle.imap_session.specs.declared.texts.ServerText.TheVariants.{Greeting, Capabilities, Namespaces}
+use Rattle.imap_session.specs.declared.texts.ServerText.TheVariants.{Greeting, Capabilities, Namespaces, Identity, NoneEnabled}
 use Rattle.imap_session.specs.declared.texts.ResponseText.{ResponseText}
 use Rattle.imap_session.specs.declared.texts.ResponseText.TheVariants.{Completed, SelectCompleted, ExamineCompleted, NoSuchMailbox, TryCreate, NotOffered, MessagesGone, ReadOnly, MailboxSpent, MessageTooBig, BadCharset, NulByte, OutOfMemory, ShardFull, ShardClosed, MailboxFull, NoUidLeft, WrongState, SequenceTooHigh, InvalidArguments, UnknownCommand, LoginFailed, ExpectedDone, PreviousClosed, NoneRecent, MissingTag, LineTooLong, LoggingOut, InternalFault, ChangesMissed, LiteralTooBig, ByeOutOfMemory, Idling, Ready}
 
@@ -53,10 +53,10 @@ response_text ByeOutOfMemory = codes "Out of memory"
 response_text Idling = codes "idling"
 response_text Ready = codes "ready"
 
--- the words for what a profile has (RFC 9051, 7.2.2; RFC 2177, 2342, 3691 and 4315)
+-- the words for what a profile has (RFC 9051, 7.2.2; RFC 2177, 2342, 2971, 3691, 4315, 4959, 5161 and 7888)
 abbrev pub capabilities : Profile → List ℕ
 capabilities Standard = codes "CAPABILITY IMAP4rev2 IDLE"
-capabilities Compatible = codes "CAPABILITY IMAP4rev2 IMAP4rev1 IDLE NAMESPACE UIDPLUS UNSELECT"
+capabilities Compatible = codes "CAPABILITY IMAP4rev2 IMAP4rev1 AUTH=PLAIN ENABLE ID IDLE LITERAL- NAMESPACE SASL-IR UIDPLUS UNSELECT"
 
 -- what is said of the server, behind a star
 abbrev pub server_text : ServerText → List ℕ
@@ -64,6 +64,8 @@ server_text (Greeting Standard) = codes "PREAUTH IMAP4rev2 server ready"
 server_text (Greeting Compatible) = codes "OK [" ++ capabilities Compatible ++ codes "] IMAP4rev2 server ready"
 server_text (Capabilities profile) = capabilities profile
 server_text Namespaces = codes "NAMESPACE ((\"\" \"/\")) NIL NIL"
+server_text Identity = codes "ID (\"name\" \"post_house\" \"version\" \"0.2.0\")"
+server_text NoneEnabled = codes "ENABLED"
 
 -- the byte is printable ASCII, a space among it: no CR, no LF and no NUL
 abbrev pub is_printable : ℕ → Bool

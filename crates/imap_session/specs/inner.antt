@@ -2,3 +2,4 @@ pub mod Appends
 pub mod Response
 pub mod Seen
 pub mod Store
+pub mod Lines

@@ -3,19 +3,22 @@
 
 ghost use Rattle.std.specs.Prelude.{◌≡◌};
 ghost use Rattle.std.specs.Option.{option_copied};
-ghost use Rattle.imap_session.specs.Commands.{arguments_text, asks_compatible, barred_at, before_login, logs_in_as, standard_lacks, unoffered, unoffered_verb};
+ghost use Rattle.imap_session.specs.Commands.{arguments_text, asks_compatible, barred_at, before_login, logs_in_as, refused_login, standard_lacks, unoffered, unoffered_verb, without_login};
 
+use crate::plain::{has_response, is_plain, is_response_of};
 use crate::standing::Profile;
 use crate::texts::ResponseText;
 use crate::user::UserName;
-use imap_grammar::{Command, Verb};
+use imap_grammar::{Authenticate, Command, Verb};
 
 // What is said of a verb that the standard profile doesn't have.
 fn standard_lacks(verb: Verb) -> Option<ResponseText>
     ensures { result ≡ standard_lacks verb }
 {
     match verb {
-        Verb::Login => Some(ResponseText::WrongState),
+        Verb::Login | Verb::Authenticate => Some(ResponseText::WrongState),
+        Verb::Enable => Some(ResponseText::NotOffered),
+        Verb::Id => Some(ResponseText::UnknownCommand),
         Verb::Check | Verb::Lsub => Some(ResponseText::UnknownCommand),
         Verb::Subscribe | Verb::Unsubscribe => Some(ResponseText::NotOffered),
         Verb::Search | Verb::UidSearch => Some(ResponseText::NotOffered),
@@ -73,10 +76,33 @@ fn before_login(verb: Verb) -> Option<ResponseText>
     ensures { result ≡ before_login verb }
 {
     match verb {
-        Verb::Capability | Verb::Noop | Verb::Logout => None,
+        Verb::Capability | Verb::Noop | Verb::Logout | Verb::Id => None,
         Verb::Login => Some(ResponseText::LoginFailed),
-        Verb::Authenticate | Verb::StartTls => Some(ResponseText::NotOffered),
+        Verb::StartTls => Some(ResponseText::NotOffered),
         _ => Some(ResponseText::WrongState),
+    }
+}
+
+// The same of AUTHENTICATE.
+fn refused_login(asked: &Authenticate<'_>) -> ResponseText
+    ensures { result ≡ refused_login asked.now }
+{
+    if !is_plain(asked.mechanism.as_bytes()) {
+        return ResponseText::NotOffered;
+    }
+    if has_response(asked) {
+        ResponseText::LoginFailed
+    } else {
+        ResponseText::InvalidArguments
+    }
+}
+
+fn without_login(command: &Command<'_>) -> Option<ResponseText>
+    ensures { result ≡ without_login command.now }
+{
+    match command {
+        Command::Authenticate(asked) => Some(refused_login(asked)),
+        _ => before_login(command.verb()),
     }
 }
 
@@ -90,7 +116,7 @@ pub(crate) fn barred_at(
 {
     match login {
         None => unoffered(profile, command),
-        Some(_) => before_login(command.verb()),
+        Some(_) => without_login(command),
     }
 }
 
@@ -103,6 +129,7 @@ pub(crate) fn logs_in_as(login: Option<&[u8]>, command: &Command<'_>) -> bool
     };
     match command {
         Command::Login { user: name, .. } => name.is(user),
+        Command::Authenticate(asked) => is_response_of(user, asked),
         _ => false,
     }
 }

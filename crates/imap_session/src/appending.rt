@@ -2,19 +2,18 @@
 //! What is said where is told in specs/Commands.antt; what comes behind the literal in `session`.
 
 use crate::folders::find_folder;
-use crate::mailing::{Appending, begin_text, refused_size};
+use crate::mailing::{PendingLiteral, Purpose, begin_text, refused_size};
 use crate::response::Response;
 use crate::say::{put_bye, put_continuing, put_tagged};
 use crate::session::Session;
 use crate::standing::After;
 use crate::tag::Tag;
 use crate::texts::ResponseText;
-use change_ring::Flags;
 use imap_grammar::{Append as AppendCommand, Name};
 use std::alloc::{AllocError, Global};
 
 /// A literal that the client sends without being asked has at most so many bytes.
-const MOST_UNASKED: u64 = 4_096;
+pub(crate) const MOST_UNASKED: u64 = 4_096;
 
 impl Session {
     ghost use Rattle.std.specs.Prelude.{◌≡◌, ◌^◌, ◌<◌, ◌≤◌, min, true, false, [], length, None, Some, IfOk, IfSome};
@@ -24,25 +23,25 @@ impl Session {
     ghost use Rattle.imap_session.specs.Commands.{appending, asking, coming, number_named, wanting};
     ghost use Rattle.imap_session.specs.Store.{most_first_room};
     ghost use Rattle.imap_session.specs.inner.Appends.{Leads};
+    ghost use Rattle.imap_session.specs.inner.Seen.{HasLineRoom, purpose_of};
 
     // Waits for the bytes of a literal.
-    fn begin_literal(
+    pub(crate) fn begin_literal(
         &mut self,
         tag: Tag,
-        mailbox: Option<u8>,
-        flags: Flags,
+        purpose: Purpose,
         size: usize,
         text: Option<Vec<u8>>,
     ) -> After
         requires going { self.old.ended ≡ false }
         requires unsent { self.old.mailing.sent ≡ None }
-        requires room { IfSome text (λ t. min size most_first_room ≤ vec_capacity t) }
+        requires room { IfSome text (λ t. (min size most_first_room ≤ vec_capacity t)
+            × HasLineRoom purpose) }
         ensures begun { self.new ≡ record self.old {
           mailing = record self.old.mailing {
             begun = Some (record {
               tag = tag;
-              mailbox = mailbox;
-              flags = flags;
+              purpose = purpose_of purpose;
               size = size;
               due = size;
               text = option_map (λ t. t.items) text;
@@ -52,10 +51,9 @@ impl Session {
         ensures waits { result ≡ After.Literal size }
         ensures sends { result ≡ may_send self.new }
     {
-        self.mailing.begun = Some(Appending {
+        self.mailing.begun = Some(PendingLiteral {
             tag,
-            mailbox,
-            flags,
+            purpose,
             size,
             due: size,
             text,
@@ -94,7 +92,11 @@ impl Session {
             return After::Go;
         };
         put_continuing(ResponseText::Ready, out);
-        self.begin_literal(own_tag, Some(mailbox), append.flags, size, Some(text))
+        let purpose = Purpose::Message {
+            mailbox: Some(mailbox),
+            flags: append.flags,
+        };
+        self.begin_literal(own_tag, purpose, size, Some(text))
     }
 
     // The number of the mailbox of this name, where there is one.
@@ -188,11 +190,19 @@ impl Session {
             self.ended = true;
             return After::Bye;
         };
+        let flags = append.flags;
         match prepared {
             Ok((mailbox, text)) => {
-                return self.begin_literal(tag, mailbox, append.flags, size, Some(text));
+                let purpose = Purpose::Message { mailbox, flags };
+                return self.begin_literal(tag, purpose, size, Some(text));
             }
-            Err(_) => return self.begin_literal(tag, None, append.flags, size, None),
+            Err(_) => {
+                let purpose = Purpose::Message {
+                    mailbox: None,
+                    flags,
+                };
+                return self.begin_literal(tag, purpose, size, None);
+            }
         }
     }
 

@@ -21,8 +21,8 @@ use std::marker::Model;
 /// The most bytes of a line with its CRLF.
 const MAX_LINE: usize = 8_192;
 
-/// Room for what a line's answer reserves before anything is done, beside the tag of an IDLE or an APPEND.
-const ANSWER_ROOM: usize = MAX_LINE + 114;
+/// Room for what a line's answer reserves before anything is done, beside the tag of a command that isn't done yet.
+const ANSWER_ROOM: usize = MAX_LINE + 152;
 
 // What a call took of a piece, and what the client may send next.
 #[derive(Clone, Copy)]
@@ -40,7 +40,7 @@ pub struct Progress {
     pub after: Option<After>,
 }
 
-// How long the tag of the IDLE or the APPEND is that isn't done yet.
+// How long the tag is of the command that isn't done yet.
 fn tag_len(session: &Session) -> usize
     ensures length { result ≡ tag_len (kept_tag session.now) }
     ensures bound { result < 2 ^ 63 }
@@ -321,8 +321,8 @@ impl ImapConnection {
     /// Takes a piece to its end, or to the line that ends the session or submits a message: each line that ends in it is answered
     /// (RFC 9051, 2.2), one of more than 8,192 bytes with its CRLF as too long, and the bytes of a literal are kept for the line that announced
     /// it (4.3), wherever they are cut. Where memory is refused before a line is answered, what was taken till then stands, and the rest is for
-    /// the next call. It is refused only where `out` has no room, behind what it has by then, for 8,306 bytes and the tag of the IDLE or the
-    /// APPEND that isn't done, and never over a piece that is empty. A message is submitted only by a byte that was taken; and whatever the connection stands for, the store was asked
+    /// the next call. It is refused only where `out` has no room, behind what it has by then, for 8,344 bytes and the tag of the command
+    /// that isn't done, and never over a piece that is empty. A message is submitted only by a byte that was taken; and whatever the connection stands for, the store was asked
     /// some calls, one after the other, or none.
     pub fn take<S: Store>(
         &mut self,

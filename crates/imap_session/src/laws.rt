@@ -3,20 +3,21 @@
 ghost use Rattle.imap_grammar.specs.declared.command.Command.{Command};
 ghost use Rattle.imap_grammar.specs.declared.command.ImapFault.{ImapFault};
 ghost use Rattle.mailbox.specs.declared.clients.MailFault.{MailFault};
-ghost use Rattle.std.specs.Prelude.{◌≡◌, ◌&&◌, ◌++◌, ℕ, Bool, true, List, Option};
+ghost use Rattle.std.specs.Prelude.{◌≡◌, ◌&&◌, ◌++◌, ℕ, Bool, true, List, Option, Some};
 ghost use Rattle.delivery_token.specs.declared.Verdict.{Verdict};
-ghost use Rattle.imap_session.specs.Exchange.{Appending, Mailing, Standing, kept_tag, refusal_text};
-ghost use Rattle.imap_session.specs.Commands.{answering, appended_words, fault_text, on_idle_line, on_rest, on_verdict, turn_of_long_line, with_bytes};
-ghost use Rattle.imap_session.specs.Shows.{DoneShowsInOrder, RestShowsNone, ShowsInOrder, VerdictShowsInOrder};
-ghost use Rattle.imap_session.specs.Telling.{LineTellsNoUid, RefusalTellsNoUid, TellsNoUid, VerdictTellsUid, WordsTellWhich, fault_tag, tells_uid};
+ghost use Rattle.imap_session.specs.Exchange.{Exchange, PendingLiteral, Mailing, Standing, kept_tag, refusal_text};
+ghost use Rattle.imap_session.specs.Commands.{answering, appended_words, fault_tag, fault_text, given_up, on_idle_line, on_rest, on_verdict, turn_of_long_line, unfinished, with_bytes};
+ghost use Rattle.imap_session.specs.Shows.{DoneShowsInOrder, PartShowsNone, RestShowsNone, ShowsInOrder, VerdictShowsInOrder};
+ghost use Rattle.imap_session.specs.Telling.{LineTellsNoUid, RefusalTellsNoUid, TellsNoUid, VerdictTellsUid, WordsTellWhich, tells_uid};
 ghost use Rattle.imap_session.specs.Texts.{IsLineText, response_text, server_text};
+ghost use Rattle.imap_session.specs.declared.texts.ResponseText.TheVariants as texts;
 ghost use Rattle.imap_session.specs.declared.texts.ServerText.{ServerText};
 ghost use Rattle.imap_session.specs.declared.standing.Profile.{Profile};
 ghost use Rattle.imap_session.specs.declared.standing.Selected.{Selected};
 ghost use Rattle.imap_session.specs.declared.texts.ResponseText.{ResponseText};
 
-/// Changes are shown right before the tagged OK of NOOP, CHECK, EXPUNGE, STATUS, LIST, LSUB, UID FETCH, UID STORE and UID EXPUNGE, and as EXPUNGE and
-/// UID EXPUNGE remove messages: nowhere else, and no other line that these commands say is of that kind. Where a mailbox is selected no such
+/// Changes are shown right before the tagged OK of NOOP, CHECK, EXPUNGE, STATUS, LIST, LSUB, UID FETCH, UID STORE, UID SEARCH and UID EXPUNGE, and as EXPUNGE
+/// and UID EXPUNGE remove messages: nowhere else, and no other line that these commands say is of that kind. Where a mailbox is selected no such
 /// tagged OK comes without them. A command that isn't carried out shows none. A plain FETCH and a plain STORE show none (RFC 9051, 7.5.1), and IDLE shows none before its turns.
 pub fn changes_are_shown_in_order()
     ensures { (now : Standing) (command : Command)
@@ -32,8 +33,16 @@ pub fn done_shows_in_order()
 /// What stands behind a literal shows no changes, asks nothing of the store and has no tagged OK: the message is refused, or it is submitted and
 /// nothing is said before the verdict on it.
 pub fn rest_shows_none()
-    ensures { (mailing : Mailing) (begun : Appending) (ends : Bool)
+    ensures { (mailing : Mailing) (begun : PendingLiteral) (ends : Bool)
         → RestShowsNone (on_rest mailing begun ends) }
+{}
+
+/// A line that isn't whole yet shows no changes, asks nothing of the store and has no tagged OK; nor has one that is given up.
+pub fn parts_show_none()
+    ensures unfinished { (profile : Profile) (login : Option (List ℕ)) (line tag : List ℕ) (x : Exchange)
+        → unfinished profile login line ≡ Some (tag, x) → PartShowsNone x }
+    ensures given_up { (rest : List ℕ) → PartShowsNone (given_up rest texts.LineTooLong texts.LiteralTooBig)
+        × PartShowsNone (given_up rest texts.OutOfMemory texts.ByeOutOfMemory) }
 {}
 
 /// The verdict on an appended message shows changes right before the tagged OK that tells its UID, where a mailbox is selected. A message that was
@@ -60,7 +69,7 @@ pub fn only_a_stored_verdict_tells_a_uid()
     ensures commands { (now : Standing) (command : Command) → TellsNoUid (answering now command) }
     ensures idling { (selected : Option Selected) (line : List ℕ)
         → TellsNoUid (on_idle_line selected line) }
-    ensures rest { (mailing : Mailing) (begun : Appending) (ends : Bool)
+    ensures rest { (mailing : Mailing) (begun : PendingLiteral) (ends : Bool)
         → TellsNoUid (on_rest mailing begun ends) }
 
     // Nor does the line for no command, for one that is too long, or for a refusal of the store or of memory.

@@ -1,4 +1,4 @@
-//! A message that a client appends: its bytes as they come, what is said of it when all are there, and its way to the mailbox.
+//! A literal that a client sends, whose bytes come; and a message that it appends by one: what is said of it when all are there, and its way to the mailbox.
 //! What is said where is told in specs/Commands.antt; no mailbox is asked here.
 
 ghost use Rattle.std.specs.Prelude.{◌≡◌, ◌^◌, ◌<◌, ◌≤◌, ◌==◌, Bool, [], length, min, IfErr, IfOk, IfSome, None, Some, true, false};
@@ -6,30 +6,88 @@ ghost use Rattle.std.specs.Vec.{vec_capacity};
 ghost use Rattle.std.specs.List.{list_any};
 ghost use Rattle.std.specs.Option.{option_map};
 ghost use Rattle.imap_session.specs.Commands.{is_over, long_rest_text, on_rest, over, says, taking, wanting};
-ghost use Rattle.imap_session.specs.Exchange.{Appending as AppendingSpec, Mailing as MailingSpec, ForVerdict, Wait};
+ghost use Rattle.imap_session.specs.Exchange.{PendingLiteral as PendingSpec, Mailing as MailingSpec, ForVerdict, Wait};
 ghost use Rattle.imap_session.specs.Store.{IsBeyondRoom, most_first_room};
 ghost use Rattle.imap_session.specs.Texts.{response_text};
-ghost use Rattle.imap_session.specs.inner.Seen.{HasFirstRoom, appending_of};
+ghost use Rattle.imap_session.specs.inner.Seen.{HasFirstRoom, pending_of};
 
+use crate::response::LAST;
 use crate::standing::Append;
 use crate::tag::Tag;
 use crate::texts::ResponseText;
-use change_ring::Flags;
+use crate::turn::FIRST;
+use crate::unfinished::MOST_LINE;
+use change_ring::{Flags, NO_FLAGS};
 use std::alloc::{AllocError, Global};
 use std::marker::Model;
 
 /// The greatest number of a message, which none has.
 pub(crate) const LAST_NUMBER: u32 = 4_294_967_295;
 
-/// So much room a message's text begins with, or less where it is shorter.
+/// So much room a literal's text begins with, or less where it is shorter.
 const FIRST_ROOM: usize = 4_096;
 
-/// A message whose bytes come.
+/// What a client sends behind a line, and for what.
 #[derive(Drop)]
-pub(crate) struct Appending {
+pub(crate) enum Purpose {
+    /// A message that is appended: the mailbox that was named, where there is one, and the flags that it is to have.
+    Message { mailbox: Option<u8>, flags: Flags },
+    /// An argument of the line that began so, kept in room for a whole line.
+    Argument(Vec<u8>),
+    /// The response that AUTHENTICATE of this line asks for, kept in room for a whole line. It has no bytes, but the rest of the line behind them.
+    Response(Vec<u8>),
+}
+
+impl Purpose {
+    ghost use Rattle.std.specs.Prelude.{◌≡◌};
+    ghost use Rattle.imap_session.specs.Commands.{flags_for, mailbox_for};
+    ghost use Rattle.imap_session.specs.Store.{room_rest};
+    ghost use Rattle.imap_session.specs.inner.Lines.{is_message};
+    ghost use Rattle.imap_session.specs.inner.Seen.{purpose_of};
+
+    /// Whether it is a message.
+    pub(crate) fn is_message(&self) -> bool
+        ensures { result ≡ is_message (purpose_of self.now) }
+    {
+        matches!(self, Purpose::Message { .. })
+    }
+
+    /// How much room the answer to the rest of the line reserves, beside the tag.
+    pub(crate) fn room(&self) -> usize
+        ensures { result ≡ room_rest (purpose_of self.now) }
+    {
+        match self {
+            Purpose::Message { .. } => LAST,
+            Purpose::Argument(_) | Purpose::Response(_) => MOST_LINE + LAST + FIRST,
+        }
+    }
+
+    // Of a message the number of the mailbox that was named.
+    pub(crate) fn mailbox(&self) -> Option<u8>
+        ensures { result ≡ mailbox_for (purpose_of self.now) }
+    {
+        match self {
+            Purpose::Message { mailbox, .. } => *mailbox,
+            Purpose::Argument(_) | Purpose::Response(_) => None,
+        }
+    }
+
+    // Of a message the flags that it is to have.
+    pub(crate) fn flags(&self) -> Flags
+        ensures { result ≡ flags_for (purpose_of self.now) }
+    {
+        match self {
+            Purpose::Message { flags, .. } => *flags,
+            Purpose::Argument(_) | Purpose::Response(_) => NO_FLAGS,
+        }
+    }
+}
+
+/// A literal whose bytes come.
+#[derive(Drop)]
+pub(crate) struct PendingLiteral {
     pub(crate) tag: Tag,
-    pub(crate) mailbox: Option<u8>,
-    pub(crate) flags: Flags,
+    pub(crate) purpose: Purpose,
     pub(crate) size: usize,
     pub(crate) due: usize,
     // None where memory was refused.
@@ -43,14 +101,14 @@ pub(crate) struct Sent {
     pub(crate) append: Append,
 }
 
-/// What a session knows of the messages that its client appends.
+/// What a session knows of the literal that its client sends, and of the messages that it appends.
 #[derive(Drop)]
 pub(crate) struct Mailing {
     // The most bytes of a message. None: no message is taken.
     pub(crate) most: Option<u32>,
     // The number of the next that is submitted.
     pub(crate) number: u32,
-    pub(crate) begun: Option<Appending>,
+    pub(crate) begun: Option<PendingLiteral>,
     pub(crate) sent: Option<Sent>,
 }
 
@@ -58,24 +116,24 @@ impl Model for Mailing {
     ghost use Rattle.std.specs.Prelude.{IfSome};
     ghost use Rattle.std.specs.Option.{option_map};
     ghost use Rattle.imap_session.specs.Exchange.{Mailing as Known};
-    ghost use Rattle.imap_session.specs.inner.Seen.{HasFirstRoom, appending_of, sent_of};
+    ghost use Rattle.imap_session.specs.inner.Seen.{HasFirstRoom, pending_of, sent_of};
 
     ghost Value = { Known };
 
-    ghost view = { λ m. record { most = m.most; number = m.number; begun = option_map appending_of m.begun; sent = option_map sent_of m.sent } };
+    ghost view = { λ m. record { most = m.most; number = m.number; begun = option_map pending_of m.begun; sent = option_map sent_of m.sent } };
 
     // Room for the first bytes of a literal is made before it is awaited.
     ghost invariant = { λ m. IfSome m.begun HasFirstRoom };
 }
 
-impl Appending {
+impl PendingLiteral {
     // Keeps bytes that came, or drops all where memory is refused. For the first bytes it isn't asked.
     pub(crate) fn keep(&mut self, bytes: &[u8])
         requires fits { length bytes.now ≤ self.old.due }
         requires first { HasFirstRoom self.old }
         ensures taken { (kept : Bool)
-            × (appending_of self.new ≡ taking kept bytes.now (appending_of self.old)) ×
-            (kept ≡ false → IsBeyondRoom (Some (appending_of self.old)) bytes.now) }
+            × (pending_of self.new ≡ taking kept bytes.now (pending_of self.old)) ×
+            (kept ≡ false → IsBeyondRoom (Some (pending_of self.old)) bytes.now) }
         ensures room { HasFirstRoom self.new }
     {
         self.due -= bytes.len();
@@ -88,7 +146,7 @@ impl Appending {
     }
 }
 
-// A message's text, before its bytes come, with room for the first of them. A client may announce more than it sends, so room for more is asked
+// A literal's text, before its bytes come, with room for the first of them. A client may announce more than it sends, so room for more is asked
 // only as they come.
 pub(crate) fn begin_text(alloc: Global, size: usize) -> Result<Vec<u8>, AllocError>
     ensures empty { IfOk result (λ text. text.items ≡ []) }
@@ -130,8 +188,8 @@ pub(crate) fn refused_size(most: Option<u32>, size: u64) -> Option<ResponseText>
 }
 
 /// What is said behind a literal where the rest of the line is too long.
-pub(crate) fn long_rest_text(begun: &Appending) -> ResponseText
-    ensures { result ≡ long_rest_text (appending_of begun.now).text }
+pub(crate) fn long_rest_text(begun: &PendingLiteral) -> ResponseText
+    ensures { result ≡ long_rest_text (pending_of begun.now).text }
 {
     match &begun.text {
         None => ResponseText::OutOfMemory,
@@ -148,11 +206,11 @@ pub(crate) fn judge(
     number: u32,
     empty: bool,
 ) -> Result<(u8, Vec<u8>), ResponseText>
-    ensures says { IfErr result (λ told. (mailing : MailingSpec) (a : AppendingSpec)
+    ensures says { IfErr result (λ told. (mailing : MailingSpec) (a : PendingSpec)
         → mailing.most ≡ most → mailing.number ≡ number →
         a.mailbox ≡ mailbox → a.size ≡ size → a.text ≡ option_map (λ t. t.items) text →
         on_rest mailing a empty ≡ says (response_text told)) }
-    ensures ready { IfOk result (λ made. (mailing : MailingSpec) (a : AppendingSpec)
+    ensures ready { IfOk result (λ made. (mailing : MailingSpec) (a : PendingSpec)
         → mailing.most ≡ most → mailing.number ≡ number →
         a.mailbox ≡ mailbox → a.size ≡ size → a.text ≡ option_map (λ t. t.items) text →
         on_rest mailing a empty ≡ wanting (Wait [] (ForVerdict made.0 a.flags made.1.items))) }

@@ -1,6 +1,6 @@
 //! Lines, each with one text, written in room that was reserved.
 
-ghost use Rattle.std.specs.Prelude.{◌≡◌, ◌+◌, ◌≤◌, ◌++◌, vec_len, length};
+ghost use Rattle.std.specs.Prelude.{◌≡◌, ◌+◌, ◌≤◌, ◌++◌, [], vec_len, length};
 ghost use Rattle.std.specs.Vec.{vec_capacity};
 ghost use Rattle.imap_session.specs.Exchange.{bye, continuing, tagged, untagged};
 ghost use Rattle.imap_session.specs.Texts.{response_text, server_text};
@@ -78,4 +78,12 @@ pub(crate) fn put_continuing(text: ResponseText, out: &mut Vec<u8>) -> usize
     put(words, out);
     put(b"\r\n", out);
     words.len() + 4
+}
+
+// The empty challenge of a mechanism whose client speaks first (RFC 9051, 6.2.2).
+pub(crate) fn put_challenge(out: &mut Vec<u8>)
+    requires fits { vec_len out.old + 4 ≤ vec_capacity out.old }
+    ensures text { out.new.items ≡ out.old.items ++ continuing [] }
+{
+    put(b"+ \r\n", out);
 }

@@ -3,7 +3,7 @@
 
 use crate::access::{barred_at, logs_in_as};
 use crate::appended::{STORED, tell_verdict};
-use crate::mailing::{Appending, Mailing, Sent, judge, long_rest_text};
+use crate::mailing::{Mailing, PendingLiteral, Purpose, Sent, judge, long_rest_text};
 use crate::response::{LAST, Response, put_last};
 use crate::say::{put_continuing, put_of_server, put_tagged, put_untagged};
 use crate::standing::{Admission, After, Append, Folder, Profile, Selected, SessionFault};
@@ -13,9 +13,10 @@ use crate::texts::{ResponseText, ServerText};
 use crate::turn::{
     FIRST, after_command, append_of, carry_out, end_idle, is_idle, put_fault, put_first_line,
 };
+use crate::unfinished::{MOST_LINE, argument_due, wants_response, with_argument, with_response};
 use crate::user::UserName;
 use delivery_token::{Text, Verdict};
-use imap_grammar::{Command, Verb, read_line};
+use imap_grammar::{Command, ImapFault, Verb, read_line};
 use mailbox::MailFault;
 use std::alloc::{AllocError, Global};
 use std::marker::Model;
@@ -50,17 +51,19 @@ impl Model for Session {
 }
 
 impl Session {
-    ghost use Rattle.std.specs.Prelude.{◌≡◌, ◌≢◌, ◌==◌, ◌^◌, ◌⊎◌, ◌+◌, ◌<◌, ◌≤◌, ◌++◌, ◌↔◌, ℕ, List, IfErr, take, min, if◌then◌else◌, true, false, [], codes, length, is_some, None, Some, Err, OnOk, OnErr, IfOk, vec_len};
+    ghost use Rattle.std.specs.Prelude.{◌≡◌, ◌≢◌, ◌==◌, ◌^◌, ◌⊎◌, ◌+◌, ◌<◌, ◌≤◌, ◌++◌, ◌↔◌, ℕ, List, IfErr, IfSome, Ok, take, min, if◌then◌else◌, true, false, [], codes, length, is_some, None, Some, Err, OnOk, OnErr, IfOk, vec_len};
     ghost use Rattle.std.specs.Option.{option_copied, option_map};
     ghost use Rattle.std.specs.Vec.{vec_capacity};
-    ghost use Rattle.imap_session.specs.Exchange.{Sent as SentSpec, begun_with, kept_tag, Feed, Refused, closed, is_idling, may_send, refusal_text, continuing, tagged};
+    ghost use Rattle.imap_session.specs.Exchange.{Answer, Call, Sent as SentSpec, begun_with, kept_tag, Feed, Refused, closed, is_idling, may_send, refusal_text, continuing, tagged};
     ghost use Rattle.imap_session.specs.Texts.{response_text};
     ghost use Rattle.imap_session.specs.declared.texts.ResponseText.TheVariants as texts;
     ghost use Rattle.imap_grammar.specs.declared.command.Verb.TheVariants as verbs;
-    ghost use Rattle.imap_session.specs.Commands.{due_of, on_rest, on_verdict, greeting, logged_in, long_line_text, most_changes, on_idle_line, turn_of_long_line};
-    ghost use Rattle.imap_session.specs.inner.Seen.{HasFirstRoom, appending_of, sent_of};
+    ghost use Rattle.imap_session.specs.Commands.{due_of, on_rest, on_verdict, greeting, logged_in, long_line_text, most_changes, on_idle_line, most_line, turn_of_long_line};
+    ghost use Rattle.imap_session.specs.inner.Seen.{HasFirstRoom, pending_of, purpose_of, sent_of};
+    ghost use Rattle.imap_session.specs.inner.Lines.{AnswersJoined, AnswersText, Had, IsJoined, is_message, on_rest_part};
+    ghost use Rattle.imap_grammar.specs.Reading.{read};
     ghost use Rattle.imap_session.specs.inner.Appends.{Leads};
-    ghost use Rattle.imap_session.specs.Store.{Answers, AnswersVerdict, IdleTurns, Starves, TakesBytes, room_for, room_for_verdict};
+    ghost use Rattle.imap_session.specs.Store.{Answers, AnswersVerdict, IdleTurns, Starves, TakesBytes, room_for, room_for_verdict, room_rest};
     ghost use Rattle.imap_session.specs.inner.Store.{Plays, behind_first_line, first_line, is_open};
 
     /// The session of a client whose mailboxes have these names, and which comes in so. It has selected no mailbox. Where two have the same name, the
@@ -111,16 +114,16 @@ impl Session {
         self.profile
     }
 
-    // The client has logged in.
-    fn log_in(&mut self, tag: &[u8], out: &mut Vec<u8>) -> After
+    // The client has logged in, by a command of this verb.
+    fn log_in(&mut self, tag: &[u8], verb: Verb, out: &mut Vec<u8>) -> After
         requires fits { vec_len out.old + (length tag.now + LAST) ≤ vec_capacity out.old }
         ensures after { result ≡ After.Go }
         ensures standing { self.new ≡ logged_in self.old }
         ensures text { out.new.items
-            ≡ out.old.items ++ tagged tag.now (response_text (texts.Completed verbs.Login)) }
+            ≡ out.old.items ++ tagged tag.now (response_text (texts.Completed verb)) }
     {
         self.login = None;
-        put_last(tag, ResponseText::Completed(Verb::Login), out);
+        put_last(tag, ResponseText::Completed(verb), out);
         After::Go
     }
 
@@ -165,7 +168,7 @@ impl Session {
         }
     }
 
-    /// The tag of the IDLE or the APPEND that isn't done yet, which its last line will have.
+    /// The tag of the command that isn't done yet, which its last line will have.
     pub fn kept_tag(&self) -> Option<&[u8]>
         ensures { option_copied result ≡ kept_tag self.now }
     {
@@ -256,6 +259,98 @@ impl Session {
         after
     }
 
+    // Answers a command under its tag, which it has in this line.
+    fn answer_read<S: Store>(
+        &mut self,
+        alloc: Global,
+        line: &[u8],
+        tag: &[u8],
+        command: &Command<'_>,
+        store: &mut S,
+        out: &mut Vec<u8>,
+    ) -> After
+        requires going { self.old.ended ≡ false }
+        requires awake { self.old.idling ≡ None }
+        requires alone { self.old.mailing.begun ≡ None }
+        requires unsent { self.old.mailing.sent ≡ None }
+        requires fits { vec_len out.old + (length tag.now + LAST + FIRST) ≤ vec_capacity out.old }
+        ensures answered { read line.now ≡ Ok (tag.now, command.now)
+            → AnswersText S.step self.old line.now store.old store.new out.old.items out.new.items
+            result self.new }
+        ensures folders { self.new.folders ≡ self.old.folders }
+        ensures sends { result ≡ may_send self.new }
+    {
+        if wants_response(self.awaited(), command) {
+            return self.await_response(alloc, tag, line, out);
+        }
+        if logs_in_as(self.awaited(), command) {
+            return self.log_in(tag, command.verb(), out);
+        }
+        if let Some(text) = barred_at(self.awaited(), self.profile(), command) {
+            put_last(tag, text, out);
+            return After::Go;
+        }
+        if let Some(append) = append_of(command) {
+            let response = Response::new(tag, LAST, out);
+            return self.begin_append(alloc, append, response, out);
+        }
+        if is_idle(command) {
+            let response = Response::new(tag, LAST, out);
+            return self.begin_idling(alloc, response, out);
+        }
+        let first = put_first_line(self.profile(), command, out);
+        let response = Response::new(tag, LAST + (FIRST - first), out);
+        self.answer(alloc, command, store, response, out)
+    }
+
+    // Answers a line that is no command as it stands.
+    fn answer_fault(&mut self, alloc: Global, line: &[u8], fault: &ImapFault<'_>, out: &mut Vec<u8>) -> After
+        requires going { self.old.ended ≡ false }
+        requires awake { self.old.idling ≡ None }
+        requires alone { self.old.mailing.begun ≡ None }
+        requires unsent { self.old.mailing.sent ≡ None }
+        requires fits { vec_len out.old + (length line.now + LAST + FIRST) ≤ vec_capacity out.old }
+        ensures answered { {S : Type 0} (step : S → Call → Answer → S → Type 0) (store : S) → read line.now ≡ Err fault.now
+            → AnswersText step self.old line.now store store out.old.items out.new.items result
+            self.new }
+        ensures folders { self.new.folders ≡ self.old.folders }
+        ensures sends { result ≡ may_send self.new }
+    {
+        match argument_due(self.profile(), line, fault) {
+            Some(found) => self.await_argument(alloc, found, out),
+            None => {
+                put_fault(self.profile(), fault, out);
+                After::Go
+            }
+        }
+    }
+
+    // Answers a line as one of a command, in room that was reserved.
+    fn text_line<S: Store>(
+        &mut self,
+        alloc: Global,
+        line: &[u8],
+        store: &mut S,
+        out: &mut Vec<u8>,
+    ) -> After
+        requires going { self.old.ended ≡ false }
+        requires awake { self.old.idling ≡ None }
+        requires alone { self.old.mailing.begun ≡ None }
+        requires unsent { self.old.mailing.sent ≡ None }
+        requires fits { vec_len out.old + (length line.now + LAST + FIRST) ≤ vec_capacity out.old }
+        ensures answered { AnswersText S.step self.old line.now store.old store.new out.old.items
+            out.new.items result self.new }
+        ensures folders { self.new.folders ≡ self.old.folders }
+        ensures sends { result ≡ may_send self.new }
+    {
+        match read_line(line) {
+            Err(fault) => self.answer_fault(alloc, line, &fault, out),
+            Ok((tag, command)) => {
+                self.answer_read(alloc, line, tag.as_bytes(), &command, store, out)
+            }
+        }
+    }
+
     // Answers a line where it doesn't idle.
     fn awake_line<S: Store>(
         &mut self,
@@ -275,38 +370,12 @@ impl Session {
         ensures refused { OnErr result ((self.new ≡ self.old) × (store.new ≡ store.old)
             × (out.new.items ≡ out.old.items)) }
         ensures memory { OnErr result (vec_capacity out.old
-            < vec_len out.old + (length line.now + 114)) }
+            < vec_len out.old + (length line.now + 152)) }
         ensures folders { self.new.folders ≡ self.old.folders }
         ensures sends { IfOk result (λ after. after ≡ may_send self.new) }
     {
         out.reserve(line.len() + LAST + FIRST)?;
-        match read_line(line) {
-            Err(fault) => {
-                put_fault(self.profile(), &fault, out);
-                Ok(After::Go)
-            }
-            Ok((tag, command)) => {
-                let tag = tag.as_bytes();
-                if logs_in_as(self.awaited(), &command) {
-                    return Ok(self.log_in(tag, out));
-                }
-                if let Some(text) = barred_at(self.awaited(), self.profile(), &command) {
-                    put_last(tag, text, out);
-                    return Ok(After::Go);
-                }
-                if let Some(append) = append_of(&command) {
-                    let response = Response::new(tag, LAST, out);
-                    return Ok(self.begin_append(alloc, append, response, out));
-                }
-                if is_idle(&command) {
-                    let response = Response::new(tag, LAST, out);
-                    return Ok(self.begin_idling(alloc, response, out));
-                }
-                let first = put_first_line(self.profile(), &command, out);
-                let response = Response::new(tag, LAST + (FIRST - first), out);
-                Ok(self.answer(alloc, &command, store, response, out))
-            }
-        }
+        Ok(self.text_line(alloc, line, store, out))
     }
 
     // Answers the line that ended an IDLE.
@@ -375,11 +444,12 @@ impl Session {
     ///
     /// Behind the literal of an APPEND the line is the rest of that command's, which is to be empty: the message is then submitted, or it is said
     /// why not (6.3.12). It has the bytes that were taken till then, so whoever calls it hands over all that are due first. While the verdict on a
-    /// message is awaited no line may come.
+    /// message is awaited no line may come. With the compatible profile a line may have other literals (4.3): each is an argument, in whose place the
+    /// quoted string stands that says the same, and the line may have 8,190 bytes then. So the response goes behind AUTHENTICATE (6.2.2).
     ///
     /// Errors, after which the session, the store and `out` are as they were: `Ended` exactly where the session has ended; `NoMemory` where
-    /// memory was refused, and `out` has no room for the line's length and 114 bytes more; where the line ends an IDLE or an APPEND, for the
-    /// length of its tag and 48 more.
+    /// memory was refused, and `out` has no room for the line's length and 152 bytes more; where the line ends an IDLE or an APPEND, for the
+    /// length of its tag and 48 more; where it goes on with another command, for the length of its tag and 8,342 more.
     pub fn line<S: Store>(
         &mut self,
         alloc: Global,
@@ -405,7 +475,7 @@ impl Session {
             return Err(SessionFault::Ended);
         }
         if let Some(begun) = self.mailing.begun.take() {
-            return self.rest_line(begun, line, out);
+            return self.rest_line(alloc, begun, line, store, out);
         }
         match self.idling.take() {
             None => self.awake_line(alloc, line, store, out),
@@ -413,7 +483,7 @@ impl Session {
         }
     }
 
-    /// How many bytes of the literal are still due that APPEND announced.
+    /// How many bytes of the literal are still due that was announced.
     pub fn literal_due(&self) -> usize
         ensures { result ≡ due_of self.now.mailing.begun }
     {
@@ -423,7 +493,7 @@ impl Session {
         }
     }
 
-    /// Takes bytes of the literal that APPEND announced, those at the front of the piece, and answers how many: as many as are due. When
+    /// Takes bytes of the literal that was announced, those at the front of the piece, and answers how many: as many as are due. When
     /// none is due the rest of the line goes to `line`. Where memory is refused the bytes are dropped, and the command ends with that; but none of the
     /// first 4,096, for which there is room once a literal is taken.
     pub fn literal(&mut self, piece: &[u8]) -> usize
@@ -459,72 +529,171 @@ impl Session {
         self.mailing.sent.is_some()
     }
 
-    // Answers the rest of a line behind a literal.
-    fn rest_line(
+    // Answers a line with its literals in it, which ends so, in room that was reserved; None where it is too long.
+    fn joined_line<S: Store>(
         &mut self,
-        begun: Appending,
+        alloc: Global,
+        tag: &[u8],
+        line: Option<Vec<u8>>,
+        rest: &[u8],
+        store: &mut S,
+        out: &mut Vec<u8>,
+    ) -> After
+        requires going { self.old.ended ≡ false }
+        requires awake { self.old.idling ≡ None }
+        requires alone { self.old.mailing.begun ≡ None }
+        requires unsent { self.old.mailing.sent ≡ None }
+        requires short { IfSome line (λ l. length l.items ≤ most_line) }
+        requires fits { vec_len out.old + (length tag.now + MOST_LINE + LAST + FIRST) ≤ vec_capacity out.old }
+        ensures answered { (whole : List ℕ) → IsJoined line whole
+            → AnswersJoined S.step tag.now self.old whole rest.now store.old store.new out.old.items
+            out.new.items result self.new }
+        ensures folders { self.new.folders ≡ self.old.folders }
+        ensures sends { result ≡ may_send self.new }
+    {
+        match line {
+            Some(line) => self.text_line(alloc, &line, store, out),
+            None => {
+                let told = ResponseText::LineTooLong;
+                self.give_up(tag, rest, told, ResponseText::LiteralTooBig, out)
+            }
+        }
+    }
+
+    // Answers the rest of a line behind a literal that is an argument of it, or behind a challenge.
+    fn part_line<S: Store>(
+        &mut self,
+        alloc: Global,
+        begun: PendingLiteral,
+        rest: &[u8],
+        store: &mut S,
+        out: &mut Vec<u8>,
+    ) -> After
+        requires going { self.old.ended ≡ false }
+        requires awake { self.old.idling ≡ None }
+        requires alone { self.old.mailing.begun ≡ None }
+        requires unsent { self.old.mailing.sent ≡ None }
+        requires part { is_message (purpose_of begun.purpose) ≡ false }
+        requires room { HasFirstRoom begun }
+        requires fits { vec_len out.old + (length begun.tag + MOST_LINE + LAST + FIRST) ≤ vec_capacity out.old }
+        ensures answered { Had (on_rest_part (pending_of begun) self.old rest.now) S.step store.old store.new
+            out.old.items out.new.items result self.new }
+        ensures folders { self.new.folders ≡ self.old.folders }
+        ensures sends { result ≡ may_send self.new }
+    {
+        let PendingLiteral {
+            tag,
+            purpose,
+            size: _,
+            due: _,
+            text,
+        } = begun;
+        let tag = tag.as_slice();
+        let Some(text) = text else {
+            let told = ResponseText::OutOfMemory;
+            return self.give_up(tag, rest, told, ResponseText::ByeOutOfMemory, out);
+        };
+        match purpose {
+            Purpose::Argument(before) => {
+                let line = with_argument(before, &text, rest);
+                self.joined_line(alloc, tag, line, rest, store, out)
+            }
+            Purpose::Response(before) => {
+                let line = with_response(before, rest);
+                self.joined_line(alloc, tag, line, rest, store, out)
+            }
+            Purpose::Message { .. } => unreachable!(),
+        }
+    }
+
+    // Answers the rest of a line behind the literal of a message.
+    fn message_line(&mut self, begun: PendingLiteral, rest: &[u8], out: &mut Vec<u8>) -> After
+        requires going { self.old.ended ≡ false }
+        requires awake { self.old.idling ≡ None }
+        requires alone { self.old.mailing.begun ≡ None }
+        requires unsent { self.old.mailing.sent ≡ None }
+        requires fits { vec_len out.old + (length begun.tag + LAST) ≤ vec_capacity out.old }
+        ensures leads { Leads begun.tag self.old
+            (on_rest self.old.mailing (pending_of begun) (length rest.now == 0)) out.old.items
+            out.new.items result self.new }
+        ensures folders { self.new.folders ≡ self.old.folders }
+        ensures sends { result ≡ may_send self.new }
+    {
+        match self.submit(begun, rest.is_empty()) {
+            Ok(()) => After::Submit,
+            Err((tag, text)) => {
+                put_last(tag.as_slice(), text, out);
+                After::Go
+            }
+        }
+    }
+
+    // Answers the rest of a line behind a literal.
+    fn rest_line<S: Store>(
+        &mut self,
+        alloc: Global,
+        begun: PendingLiteral,
         line: &[u8],
+        store: &mut S,
         out: &mut Vec<u8>,
     ) -> Result<After, SessionFault>
         requires going { self.old.ended ≡ false }
         requires alone { self.old.mailing.begun ≡ None }
         requires unsent { self.old.mailing.sent ≡ None }
         requires room { HasFirstRoom begun }
-        ensures answered { IfOk result (λ after. Leads begun.tag (record self.old { idling = None })
-            (on_rest self.old.mailing (appending_of begun) (length line.now == 0)) out.old.items
-            out.new.items after self.new) }
+        ensures answered { IfOk result (λ after. Answers S.step
+            (record self.old { mailing = record self.old.mailing { begun = Some (pending_of begun) } })
+            line.now store.old store.new out.old.items out.new.items after self.new) }
         ensures lasts { result ≢ Err SessionFault.Ended }
         ensures refused { OnErr result ((self.new
             ≡ record self.old {
               mailing = record self.old.mailing
-                  { begun = Some (appending_of begun) };
+                  { begun = Some (pending_of begun) };
             }) ×
-            (out.new.items ≡ out.old.items)) }
+            (store.new ≡ store.old) × (out.new.items ≡ out.old.items)) }
         ensures memory { OnErr result (vec_capacity out.old
-            < vec_len out.old + (length begun.tag + 48)) }
+            < vec_len out.old + (length begun.tag + room_rest (purpose_of begun.purpose))) }
         ensures folders { self.new.folders ≡ self.old.folders }
         ensures sends { IfOk result (λ after. after ≡ may_send self.new) }
     {
-        if out.reserve(begun.tag.as_slice().len() + LAST).is_err() {
+        if out.reserve(begun.tag.as_slice().len() + begun.purpose.room()).is_err() {
             self.mailing.begun = Some(begun);
             return Err(SessionFault::NoMemory);
         }
         self.idling = None;
-        match self.submit(begun, line.is_empty()) {
-            Ok(()) => Ok(After::Submit),
-            Err((tag, text)) => {
-                put_last(tag.as_slice(), text, out);
-                Ok(After::Go)
-            }
+        if begun.purpose.is_message() {
+            return Ok(self.message_line(begun, line, out));
         }
+        Ok(self.part_line(alloc, begun, line, store, out))
     }
 
     // Submits a message whose bytes are all there, or gives its tag back with what the last line says.
-    fn submit(&mut self, begun: Appending, ends: bool) -> Result<(), (Tag, ResponseText)>
+    fn submit(&mut self, begun: PendingLiteral, ends: bool) -> Result<(), (Tag, ResponseText)>
         requires going { self.old.ended ≡ false }
         requires awake { self.old.idling ≡ None }
         requires alone { self.old.mailing.begun ≡ None }
         requires unsent { self.old.mailing.sent ≡ None }
         ensures sent { OnOk result ((before : List ℕ)
-            → Leads begun.tag self.old (on_rest self.old.mailing (appending_of begun) ends) before
+            → Leads begun.tag self.old (on_rest self.old.mailing (pending_of begun) ends) before
             before
             After.Submit self.new) }
         ensures refused { IfErr result (λ told. (before : List ℕ)
-            → Leads begun.tag self.old (on_rest self.old.mailing (appending_of begun) ends)
+            → Leads begun.tag self.old (on_rest self.old.mailing (pending_of begun) ends)
             before (before ++ tagged told.0 (response_text told.1)) After.Go self.new) }
         ensures tag { IfErr result (λ told. told.0 ≡ begun.tag) }
         ensures folders { self.new.folders ≡ self.old.folders }
         ensures waits { OnOk result (may_send self.new ≡ After.Submit) }
         ensures goes { OnErr result (may_send self.new ≡ After.Go) }
     {
-        let Appending {
+        let PendingLiteral {
             tag,
-            mailbox,
-            flags,
+            purpose,
             size,
             due: _,
             text,
         } = begun;
+        let mailbox = purpose.mailbox();
+        let flags = purpose.flags();
         let most = self.mailing.most;
         let message = self.mailing.number;
         match judge(text, mailbox, size, most, message, ends) {

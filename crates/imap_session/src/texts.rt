@@ -12,7 +12,7 @@ use imap_grammar::Verb;
 pub const MOST_TEXT: usize = 45;
 
 /// One of the server has at most so many.
-pub const MOST_SERVER_TEXT: usize = 90;
+pub const MOST_SERVER_TEXT: usize = 128;
 
 /// What a line says behind its tag, where no number is in it; and what one that has none says: behind `* `, `* BYE ` or `+ `.
 #[derive(Clone, Copy, Debug, PartialEq, Eq)]
@@ -75,6 +75,10 @@ pub enum ServerText {
     Capabilities(Profile),
     /// RFC 9051, 6.3.10.
     Namespaces,
+    /// RFC 2971, 3.2: the name of the server and its version.
+    Identity,
+    /// RFC 9051, 6.3.1: there is nothing that a client could enable.
+    NoneEnabled,
 }
 
 impl ServerText {
@@ -89,11 +93,13 @@ impl ServerText {
         match self {
             ServerText::Greeting(Profile::Standard) => b"PREAUTH IMAP4rev2 server ready",
             ServerText::Greeting(Profile::Compatible) =>
-                b"OK [CAPABILITY IMAP4rev2 IMAP4rev1 IDLE NAMESPACE UIDPLUS UNSELECT] IMAP4rev2 server ready",
+                b"OK [CAPABILITY IMAP4rev2 IMAP4rev1 AUTH=PLAIN ENABLE ID IDLE LITERAL- NAMESPACE SASL-IR UIDPLUS UNSELECT] IMAP4rev2 server ready",
             ServerText::Capabilities(Profile::Standard) => b"CAPABILITY IMAP4rev2 IDLE",
             ServerText::Capabilities(Profile::Compatible) =>
-                b"CAPABILITY IMAP4rev2 IMAP4rev1 IDLE NAMESPACE UIDPLUS UNSELECT",
+                b"CAPABILITY IMAP4rev2 IMAP4rev1 AUTH=PLAIN ENABLE ID IDLE LITERAL- NAMESPACE SASL-IR UIDPLUS UNSELECT",
             ServerText::Namespaces => b"NAMESPACE ((\"\" \"/\")) NIL NIL",
+            ServerText::Identity => b"ID (\"name\" \"post_house\" \"version\" \"0.2.0\")",
+            ServerText::NoneEnabled => b"ENABLED",
         }
     }
 }
@@ -139,6 +145,7 @@ fn completed(verb: Verb) -> &'static [u8]
         Verb::UidSearch => b"OK UID SEARCH completed",
         Verb::Check => b"OK CHECK completed",
         Verb::Lsub => b"OK LSUB completed",
+        Verb::Id => b"OK ID completed",
     }
 }
 

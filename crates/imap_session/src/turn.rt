@@ -22,8 +22,8 @@ use imap_grammar::{Append, Command, ImapFault, Verb, is_done};
 use mailbox::MailFault;
 use std::alloc::Global;
 
-/// Room for the line that CAPABILITY, NAMESPACE or LOGOUT writes before its last one, or by which SELECT or EXAMINE tells that a mailbox was left.
-pub(crate) const FIRST: usize = 66;
+/// Room for the line that CAPABILITY, NAMESPACE, ID, ENABLE or LOGOUT writes before its last one, or by which SELECT or EXAMINE tells that a mailbox was left.
+pub(crate) const FIRST: usize = 104;
 
 // Writes what is said of a line that is no command, in room that was reserved.
 pub(crate) fn put_fault(profile: Profile, fault: &ImapFault<'_>, out: &mut Vec<u8>)
@@ -126,6 +126,8 @@ pub(crate) fn put_first_line(profile: Profile, command: &Command<'_>, out: &mut 
     match command {
         Command::Capability => put_of_server(ServerText::Capabilities(profile), out),
         Command::Namespace => put_of_server(ServerText::Namespaces, out),
+        Command::Id => put_of_server(ServerText::Identity, out),
+        Command::Enable => put_of_server(ServerText::NoneEnabled, out),
         Command::Logout => put_bye(ResponseText::LoggingOut, out),
         _ => 0,
     }
@@ -159,13 +161,15 @@ pub(crate) fn carry_out<S: Store>(
     match command {
         Command::Capability => Ok(ResponseText::Completed(Verb::Capability)),
         Command::Namespace => Ok(ResponseText::Completed(Verb::Namespace)),
+        Command::Id => Ok(ResponseText::Completed(Verb::Id)),
+        Command::Enable => Ok(ResponseText::Completed(Verb::Enable)),
         Command::Noop => note_nothing(*selected, store, response),
         Command::Check => check(*selected, store, response),
         Command::Logout => Ok(ResponseText::Completed(Verb::Logout)),
         Command::Idle => unreachable!(),
         Command::Append(_) => unreachable!(),
         Command::Login { .. } => Ok(ResponseText::WrongState),
-        Command::Authenticate => Ok(ResponseText::WrongState),
+        Command::Authenticate(_) => Ok(ResponseText::WrongState),
         Command::StartTls => Ok(ResponseText::WrongState),
         Command::Select(name) => {
             select_mailbox(profile, folders, false, name, selected, store, response)

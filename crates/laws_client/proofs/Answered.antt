@@ -9,7 +9,7 @@ use Rattle.delivery_token.specs.declared.Verdict.{Verdict}
 use Rattle.delivery_token.specs.declared.log.Noted.{Noted}
 use Rattle.world.specs.World.{Config, World}
 use Rattle.world.proofs.Base.{Every, Rising, every_append, every_weaker, rising_push}
-use Rattle.imap_session.specs.Exchange.{Answer, Appending, ForDone, ForLiteral, ForNothing, ForVerdict, Mailing, Sent, Standing, Turn, Waiting, kept_tag, waiting}
+use Rattle.imap_session.specs.Exchange.{Answer, PendingLiteral, ForDone, ForLiteral, ForNothing, ForVerdict, Mailing, Sent, Standing, Turn, Waiting, kept_tag, waiting}
 use Rattle.imap_session.specs.Commands.{on_verdict, turn_of, turn_with, without_sent}
 use Rattle.imap_session.specs.Store.{IdleTurns, Met}
 use Rattle.house_peers.proofs.Rising.{NumbersRise, idles_keep, then_rises}
@@ -32,7 +32,7 @@ use Rattle.laws_client.proofs.Moved.{Calls}
 
 numbers_wait : (base : Mailing) (tag : List ℕ) (now : Standing) (w : Waiting) → NumbersRise base now.mailing → NumbersRise base (waiting tag w now).mailing
 numbers_wait base tag now ForDone k = k
-numbers_wait base tag now (ForLiteral coming mailbox flags size) k = k
+numbers_wait base tag now (ForLiteral coming purpose size) k = k
 numbers_wait base tag now (ForVerdict mailbox flags text) k = then_rises base now.mailing (waiting tag (ForVerdict mailbox flags text) now).mailing k (
   omega arith,
   λ s is. let e : record { tag = tag; append = record { message = now.mailing.number; mailbox = mailbox; text = text; flags = flags } } ≡ s = cc in let m : now.mailing.number ≡ s.append.message = ap (λ (x : Sent). x.append.message) e in
@@ -179,7 +179,7 @@ no_notes u first notes tags unbegun none = record {
   tags = tags;
   mail = record {
     same = refl;
-    begun = subst (λ (o : Option Appending). IfSome o (IsBegunAs first.standing.folders [])) (sym unbegun) tt;
+    begun = subst (λ (o : Option PendingLiteral). IfSome o (IsBegunAs first.standing.folders [])) (sym unbegun) tt;
     waits = subst (λ (o : Option Sent). IfSome o (IsSentAs first.standing.folders [])) (sym none) tt;
   };
   order = tt;

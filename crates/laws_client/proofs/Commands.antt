@@ -24,7 +24,7 @@ use Rattle.imap_grammar.specs.declared.command.ImapFault.{ImapFault}
 use Rattle.imap_grammar.specs.declared.command.ImapFault.TheVariants.{NoTag, Unknown, LeftOut, Arguments}
 use Rattle.imap_session.specs.declared.standing.After.TheVariants.{Go}
 use Rattle.imap_session.specs.declared.standing.Selected.{Selected}
-use Rattle.imap_session.specs.Exchange.{Answer, Appending, Exchange, Expunge, Feed, Folder, ForNothing, ForVerdict, Mailing, Sent, Standing, Turn, Wait, Write, bye, kept_behind, tagged, untagged}
+use Rattle.imap_session.specs.Exchange.{Answer, PendingLiteral, Exchange, Expunge, Feed, Folder, ForNothing, ForVerdict, Mailing, Sent, Standing, Turn, Wait, Write, bye, kept_behind, tagged, untagged}
 use Rattle.imap_session.specs.Commands.{appended_words, appending, last_number, long_idle_text, long_rest_text, long_text, most_unasked, nowhere, number_named, on_rest, on_text, on_verdict, is_over, over, turn_behind, turn_with, wanting, wanting_for, without_begun, without_sent, completed, counting, expunge_set, fault_text, fetch_messages, fetched, fetching, folder_of, in_selected, in_writable, messages_done, on_chosen, on_command, on_found, on_idle_line, on_read, on_set, only_says, says, showing, store_messages, stored, storing, subscribing, turn_while, unlimited, wrong_state, arguments_text, asking, coming, logged_in, login_completed, refused_text, found_in, search_done, search_known, search_messages, searching}
 use Rattle.imap_answers.specs.Answers.{flags_answer, list_answer}
 use Rattle.imap_answers.specs.declared.list.Listing.{Listing}
@@ -244,7 +244,7 @@ append_says tag view most folders a t = by a.literal.waits (is_over most a.liter
     by false big false o = nothing_leaves view
 
 -- what stands behind a literal
-rest_says : (tag view : List ℕ) (mailing : Mailing) (a : Appending) (empty : Bool) → IsTag tag → Says tag view (on_rest mailing a empty)
+rest_says : (tag view : List ℕ) (mailing : Mailing) (a : PendingLiteral) (empty : Bool) → IsTag tag → Says tag view (on_rest mailing a empty)
 rest_says tag view mailing a empty t = kept a.text
   where
     text_says : (big nul spent : Bool) (text : List ℕ) (mailbox : ℕ)
@@ -365,7 +365,7 @@ while_follows None now line view answers turn new h e sees = read_follows now (r
 while_follows (Some tag) now line view answers turn new t e sees =
     turn_follows tag (refusals tag t) view (record now { idling = None }) (on_idle_line now.selected line) answers turn new e (idle_line_says tag view now.selected line t) sees
 
-behind_follows : (begun : Option Appending) (now : Standing) (line view : List ℕ) (answers : List Answer) (turn : Turn) (new : List ℕ)
+behind_follows : (begun : Option PendingLiteral) (now : Standing) (line view : List ℕ) (answers : List Answer) (turn : Turn) (new : List ℕ)
     → IsFollowed (kept_behind begun now.idling) now view line → turn_behind begun now line answers ≡ Some turn → SeesAll view turn.events new → Leads view turn.bytes new
 behind_follows None now line view answers turn new h e sees = while_follows now.idling now line view answers turn new h e sees
 behind_follows (Some a) now line view answers turn new t e sees =
@@ -382,7 +382,7 @@ long_rest_tells_nothing : (tag : List ℕ) (text : Option (List ℕ)) → IsTag 
 long_rest_tells_nothing tag None t messages = tagged_tells_nothing tag (response_text texts.OutOfMemory) t (text_plain texts.OutOfMemory) messages
 long_rest_tells_nothing tag (Some text) t messages = tagged_tells_nothing tag (response_text texts.InvalidArguments) t (text_plain texts.InvalidArguments) messages
 
-long_tells_nothing : (begun : Option Appending) (idling : Option (List ℕ)) → IfSome (kept_behind begun idling) IsTag → TellsNothing (long_text begun idling)
+long_tells_nothing : (begun : Option PendingLiteral) (idling : Option (List ℕ)) → IfSome (kept_behind begun idling) IsTag → TellsNothing (long_text begun idling)
 long_tells_nothing None idling t = long_idle_tells_nothing idling t
 long_tells_nothing (Some a) idling t = long_rest_tells_nothing a.tag a.text t
 

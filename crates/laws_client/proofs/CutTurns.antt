@@ -31,7 +31,7 @@ use Rattle.imap_session.specs.declared.standing.After.TheVariants as afters
 use Rattle.imap_session.specs.declared.standing.Selected.{Selected}
 use Rattle.imap_session.proofs.Unkept.{unkept_by}
 use Rattle.imap_session.specs.Exchange as ex
-use Rattle.imap_session.specs.Exchange.{Answer, Appending, Call, Entered, Looked, Found, Counted, Altered, Expunged, Fed, Left, Refused, Starved, Event as Happened, Exchange, Folder, ForVerdict, Mailing, Sent, Standing, Turn, bye, closed, having, is_idling, kept_behind, kept_tag, played, refusal_after, refusal_text, refused, saying, tagged, untagged}
+use Rattle.imap_session.specs.Exchange.{Answer, PendingLiteral, Call, Entered, Looked, Found, Counted, Altered, Expunged, Fed, Left, Refused, Starved, Event as Happened, Exchange, Folder, ForVerdict, Mailing, Sent, Standing, Turn, bye, closed, having, is_idling, kept_behind, kept_tag, played, refusal_after, refusal_text, refused, saying, tagged, untagged}
 use Rattle.imap_session.specs.Commands.{appended_words, appending, closing, completed, counting, entering, expunge_set, fetch_messages, fetched, fetching, folder_of, idle_turn_in, if_writable, is_over, last_number, long_rest_text, long_text, messages_done, most_unasked, nowhere, number_named, on_chosen, on_command, on_found, on_idle_line, on_read, on_rest, on_text, on_verdict, over, refused_text, says, showing, store_messages, storing, turn_behind, turn_of, turn_while, turn_with, unlimited, wanting, wanting_for, without_begun, without_sent, wrong_state, arguments_text, entered_text, logged_in, login_completed, logs_in_as, on_line, subscribing, telling_recent, found_in, search_done, search_known, search_messages, searching}
 use Rattle.laws_client.specs.Commands.{AreNames, HasToldParts}
 use Rattle.laws_client.specs.Talks.{Happening, Line, LongLine, Turned, Literal, Heard, leads_to}
@@ -442,13 +442,13 @@ plain_turn tag t o now x answers p = plain tag o (played tag now x answers) (pla
 
 -- ---- lines
 
-text_cut : (mailing : Mailing) (a : Appending) (text : List ℕ) (mailbox : ℕ) → SaysCut true (on_text mailing a text mailbox)
+text_cut : (mailing : Mailing) (a : PendingLiteral) (text : List ℕ) (mailbox : ℕ) → SaysCut true (on_text mailing a text mailbox)
 text_cut mailing a text mailbox =
     in_either true (is_over mailing.most a.size) (over mailing.most) _ (in_over true mailing.most)
     (in_either true (list_any (λ b. b == 0) text) (says (response_text texts.NulByte)) _ (refl, refl)
     (in_either true (nat_le last_number mailing.number) (says (response_text texts.MailboxSpent)) (wanting (ex.Wait [] (ForVerdict mailbox a.flags text))) (refl, refl) (passes_none, (refl, passes_none))))
 
-rest_cut : (mailing : Mailing) (a : Appending) (empty : Bool) → SaysCut true (on_rest mailing a empty)
+rest_cut : (mailing : Mailing) (a : PendingLiteral) (empty : Bool) → SaysCut true (on_rest mailing a empty)
 rest_cut mailing a empty =
     in_found true (λ text. if empty then on_found (on_text mailing a text) nowhere a.mailbox else says (response_text texts.InvalidArguments)) (says (response_text texts.OutOfMemory))
     (λ (text : List ℕ). in_either true empty (on_found (on_text mailing a text) nowhere a.mailbox) (says (response_text texts.InvalidArguments)) (in_found true (on_text mailing a text) nowhere (text_cut mailing a text) (refl, refl) a.mailbox) (refl, refl))
@@ -477,11 +477,11 @@ while_cut : (idling : Option (List ℕ)) (now : Standing) (line : List ℕ) (ans
 while_cut None now line answers t names = read_cut now (read line) answers (read_tagged_so IsWord (λ tag word. word) line) (read_told line) names
 while_cut (Some tag) now line answers t names = plain_turn tag t true (record now { idling = None }) (on_idle_line now.selected line) answers (idling_cut now.selected line)
 
-behind_cut : (begun : Option Appending) (now : Standing) (line : List ℕ) (answers : List Answer) → IfSome begun (λ (a : Appending). IsWord a.tag) → IfSome now.idling IsWord → AreNames now.folders → TurnOne (turn_behind begun now line answers)
+behind_cut : (begun : Option PendingLiteral) (now : Standing) (line : List ℕ) (answers : List Answer) → IfSome begun (λ (a : PendingLiteral). IsWord a.tag) → IfSome now.idling IsWord → AreNames now.folders → TurnOne (turn_behind begun now line answers)
 behind_cut None now line answers t s names = while_cut now.idling now line answers s names
 behind_cut (Some a) now line answers t s names = plain_turn a.tag t true (without_begun now) (on_rest now.mailing a (length line == 0)) answers (rest_cut now.mailing a (length line == 0))
 
-long_cut : (begun : Option Appending) (idling : Option (List ℕ)) → IfSome begun (λ (a : Appending). IsWord a.tag) → IfSome idling IsWord → IsOneAnswer (long_text begun idling)
+long_cut : (begun : Option PendingLiteral) (idling : Option (List ℕ)) → IfSome begun (λ (a : PendingLiteral). IsWord a.tag) → IfSome idling IsWord → IsOneAnswer (long_text begun idling)
 long_cut None None t s = opens (untagged_passes texts.LineTooLong)
 long_cut None (Some tag) t s = ends (tagged_ends tag (response_text texts.ExpectedDone) s refl refl)
 long_cut (Some a) idling t s = let w = says_cut true (long_rest_text a.text) in ends (tagged_ends a.tag (response_text (long_rest_text a.text)) t w.0 w.1)
@@ -551,11 +551,11 @@ command_one now line tag command answers turn names kept reads e short = by now.
     told : HasToldParts command
     told = subst HasTold reads (read_told line)
 
-    by : (begun : Option Appending) (idling : Option (List ℕ)) → begun ≡ now.mailing.begun → idling ≡ now.idling → OneOf tag (leaves_open command) turn.bytes
-    by (Some b) idling p q = absurd (none-some b.tag (sym kept ∙ sym (ap (λ (x : Option Appending). kept_behind x now.idling) p)))
-    by None (Some i) p q = absurd (none-some i (sym kept ∙ sym (ap (λ (x : Option Appending). kept_behind x now.idling) p) ∙ sym q))
+    by : (begun : Option PendingLiteral) (idling : Option (List ℕ)) → begun ≡ now.mailing.begun → idling ≡ now.idling → OneOf tag (leaves_open command) turn.bytes
+    by (Some b) idling p q = absurd (none-some b.tag (sym kept ∙ sym (ap (λ (x : Option PendingLiteral). kept_behind x now.idling) p)))
+    by None (Some i) p q = absurd (none-some i (sym kept ∙ sym (ap (λ (x : Option PendingLiteral). kept_behind x now.idling) p) ∙ sym q))
     by None None p q =
-        let first : turn_while now.idling now line answers ≡ Some turn = subst (λ (o : Option Appending). turn_behind o now line answers ≡ Some turn) (sym p) e in
+        let first : turn_while now.idling now line answers ≡ Some turn = subst (λ (o : Option PendingLiteral). turn_behind o now line answers ≡ Some turn) (sym p) e in
         let second : on_read now (read line) answers ≡ Some turn = subst (λ (o : Option (List ℕ)). turn_while o now line answers ≡ Some turn) (sym q) first in
         let third : on_line (logs_in_as now.login command) now tag command answers ≡ Some turn = subst (λ (r : Result (List ℕ × Command) ImapFault). on_read now r answers ≡ Some turn) reads second in
         line_case (OneOf tag (leaves_open command) turn.bytes) now tag command answers turn

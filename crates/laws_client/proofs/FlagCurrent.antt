@@ -21,7 +21,7 @@ use Rattle.imap_grammar.specs.declared.command.ImapFault.{ImapFault}
 use Rattle.imap_session.specs.declared.standing.After.{After}
 use Rattle.imap_session.specs.declared.standing.After.TheVariants.{Go}
 use Rattle.imap_session.specs.declared.standing.Selected.{Selected}
-use Rattle.imap_session.specs.Exchange.{Answer, Fed, Refused, Appending, Event as Happened, Done, Feed, Standing, Turn, having, kept_behind, kept_tag, played, refused, saying}
+use Rattle.imap_session.specs.Exchange.{Answer, Fed, Refused, PendingLiteral, Event as Happened, Done, Feed, Standing, Turn, having, kept_behind, kept_tag, played, refused, saying}
 use Rattle.imap_session.specs.Commands.{completed, on_idle_line, on_read, says, showing, turn_behind, turn_while, unlimited}
 use Rattle.imap_session.specs.Store.{Met}
 use Rattle.house.specs.Meets.{Meets}
@@ -136,18 +136,18 @@ noop_at_end k n now line tag w turn v K a kept reads ok = by now.mailing.begun n
         (λ text is d. absurd (false≢true (sym (refused_turn tag text now a.answers turn t is d) ∙ ok)))
         (λ d. shown_at_end k n tag (response_text (texts.Completed verbs.Noop)) Go now w a.answers turn v K t (subst (λ (o : Option Selected). played tag now (showing o (completed commands.Noop)) a.answers ≡ Some turn) a.there d) a.met ok) e
 
-    by : (begun : Option Appending) (idling : Option (List ℕ)) → begun ≡ now.mailing.begun → idling ≡ now.idling → IsAtEnd v n
-    by (Some b) idling p q = absurd (none-some b.tag (sym (ap (λ (o : Option (List ℕ)). o) kept) ∙ sym (ap (λ (x : Option Appending). kept_behind x now.idling) p)))
-    by None (Some i) p q = absurd (none-some i (sym kept ∙ sym (ap (λ (x : Option Appending). kept_behind x now.idling) p) ∙ sym q))
+    by : (begun : Option PendingLiteral) (idling : Option (List ℕ)) → begun ≡ now.mailing.begun → idling ≡ now.idling → IsAtEnd v n
+    by (Some b) idling p q = absurd (none-some b.tag (sym (ap (λ (o : Option (List ℕ)). o) kept) ∙ sym (ap (λ (x : Option PendingLiteral). kept_behind x now.idling) p)))
+    by None (Some i) p q = absurd (none-some i (sym kept ∙ sym (ap (λ (x : Option PendingLiteral). kept_behind x now.idling) p) ∙ sym q))
     by None None p q =
-        let first : turn_while now.idling now line a.answers ≡ Some turn = subst (λ (o : Option Appending). turn_behind o now line a.answers ≡ Some turn) (sym p) a.answered in
+        let first : turn_while now.idling now line a.answers ≡ Some turn = subst (λ (o : Option PendingLiteral). turn_behind o now line a.answers ≡ Some turn) (sym p) a.answered in
         let second : on_read now (read line) a.answers ≡ Some turn = subst (λ (o : Option (List ℕ)). turn_while o now line a.answers ≡ Some turn) (sym q) first in
         read_current (subst (λ (r : Result (List ℕ × Command) ImapFault). on_read now r a.answers ≡ Some turn) reads second)
 
 done_at_end : (k : Config) (n : ℕ) (now : Standing) (line tag : List ℕ) (w : World) (turn : Turn) (v : World) → Kept k w → IsAnswered k n now line w turn v
     → now.mailing.begun ≡ None → now.idling ≡ Some tag → is_done line ≡ true → has_ok true tag turn.bytes ≡ true → IsAtEnd v n
 done_at_end k n now line tag w turn v K a begun idling done ok =
-    let first : turn_while now.idling now line a.answers ≡ Some turn = subst (λ (o : Option Appending). turn_behind o now line a.answers ≡ Some turn) begun a.answered in
+    let first : turn_while now.idling now line a.answers ≡ Some turn = subst (λ (o : Option PendingLiteral). turn_behind o now line a.answers ≡ Some turn) begun a.answered in
     let second : turn_while (Some tag) now line a.answers ≡ Some turn = subst (λ (o : Option (List ℕ)). turn_while o now line a.answers ≡ Some turn) idling first in
     let third : played tag (record now { idling = None }) (on_idle_line (Some a.selected) line) a.answers ≡ Some turn =
     subst (λ (o : Option Selected). played tag (record now { idling = None }) (on_idle_line o line) a.answers ≡ Some turn) a.there second in
@@ -174,7 +174,7 @@ done_tells_flags k events n first began sent told now w line tag turn v s h is s
     let S = sound_always k events began h is in
     let before = lives_flags k n first began h S stands lives (short_met k n w turn.events v a.met short) in
     let after = lives_flags k n first began h S stands (turns lives (Line line a.answers) (line ++ crlf) turn v refl tt a.answered a.met) short in
-    let kept : kept_tag now ≡ Some tag = ap (λ (b : Option Appending). kept_behind b now.idling) begun ∙ ap (λ (i : Option (List ℕ)). kept_behind None i) idling in
+    let kept : kept_tag now ≡ Some tag = ap (λ (b : Option PendingLiteral). kept_behind b now.idling) begun ∙ ap (λ (i : Option (List ℕ)). kept_behind None i) idling in
     let told_is : told_of now (Line line a.answers) turn.bytes ≡ Words turn.bytes = ap (λ (o : Option (List ℕ)). told_line o line turn.bytes) kept in
     flags_now v n s (hears_all None (told ++ Words turn.bytes ∷ [])) at (done_at_end k n now line tag w turn v before.sound.kept a begun idling done ok s at)
     (subst (λ (one : Told). IsRightOnFlags (point_of v n) (hears_all None (told ++ one ∷ []))) told_is after.right)

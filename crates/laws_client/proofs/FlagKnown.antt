@@ -6,7 +6,7 @@ use Rattle.imap_grammar.specs.Reading.{read}
 use Rattle.imap_grammar.specs.declared.command.Command.{Command}
 use Rattle.imap_grammar.specs.declared.command.Command.TheVariants as commands
 use Rattle.imap_grammar.specs.declared.command.ImapFault.{ImapFault}
-use Rattle.imap_session.specs.Exchange.{Answer as StoreAnswer, Appending, Standing, Turn, kept_tag, kept_behind, may_send, played}
+use Rattle.imap_session.specs.Exchange.{Answer as StoreAnswer, PendingLiteral, Standing, Turn, kept_tag, kept_behind, may_send, played}
 use Rattle.imap_session.specs.Commands.{logged_in, on_command, on_read, says, turn_behind, turn_of, turn_of_long_line, turn_while, with_bytes}
 use Rattle.imap_session.specs.Store.{Met}
 use Rattle.laws_client.specs.Client.{Client}
@@ -110,11 +110,11 @@ line_flags now p line answers turn q client stands numbered e sees met right = b
     more : MayCome (kept_tag now) now (counted p) line → IsRightOnFlags q (reads_on turn.bytes client)
     more may = happening_flags now p (Line line answers) turn q client stands e sees met right may
 
-    by : (begun : Option Appending) (idling : Option (List ℕ)) → begun ≡ now.mailing.begun → idling ≡ now.idling → IsRightOnFlags q (hears client (told_line (kept_behind begun idling) line turn.bytes))
+    by : (begun : Option PendingLiteral) (idling : Option (List ℕ)) → begun ≡ now.mailing.begun → idling ≡ now.idling → IsRightOnFlags q (hears client (told_line (kept_behind begun idling) line turn.bytes))
     by (Some a) idling b i = more (subst (λ (o : Option (List ℕ)). MayCome o now (counted p) line) (ap₂ kept_behind b i) tt)
     by None (Some tag) b i = more (subst (λ (o : Option (List ℕ)). MayCome o now (counted p) line) (ap₂ kept_behind b i) tt)
     by None None b i =
-        let first : turn_while now.idling now line answers ≡ Some turn = subst (λ (o : Option Appending). turn_behind o now line answers ≡ Some turn) (sym b) e in
+        let first : turn_while now.idling now line answers ≡ Some turn = subst (λ (o : Option PendingLiteral). turn_behind o now line answers ≡ Some turn) (sym b) e in
         let second : on_read now (read line) answers ≡ Some turn = subst (λ (o : Option (List ℕ)). turn_while o now line answers ≡ Some turn) (sym i) first in
         read_flags now p (read line) answers turn q client stands numbered (read_tagged line) (read_told line) second sees met right
         (λ may. more (subst (λ (o : Option (List ℕ)). MayCome o now (counted p) line) (ap₂ kept_behind b i) may))

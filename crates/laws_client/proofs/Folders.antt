@@ -13,7 +13,7 @@ use Rattle.imap_session.specs.declared.standing.After.{After}
 use Rattle.imap_session.specs.declared.standing.After.TheVariants.{Go, Bye}
 use Rattle.imap_session.specs.declared.standing.After.TheVariants as afters
 use Rattle.imap_session.specs.declared.standing.Selected.{Selected}
-use Rattle.imap_session.specs.Exchange.{Answer, Entered, Looked, Found, Counted, Altered, Expunged, Fed, Left, Refused, Starved, Exchange, ForDone, ForLiteral, ForVerdict, ForNothing, Done, Wait, Write, Put, Enter, Look, Read, Count, Alter, Expunge, Feed, Leave, Standing, Turn, Appending, Sent, Waiting, closed, having, played, refusal_after, refusal_text, refused, saying, tagged, waiting, unkept}
+use Rattle.imap_session.specs.Exchange.{Answer, Entered, Looked, Found, Counted, Altered, Expunged, Fed, Left, Refused, Starved, Exchange, ForDone, ForLiteral, ForVerdict, ForNothing, Done, Wait, Write, Put, Enter, Look, Read, Count, Alter, Expunge, Feed, Leave, Standing, Turn, PendingLiteral, Sent, Waiting, closed, having, played, refusal_after, refusal_text, refused, saying, tagged, waiting, unkept}
 use Rattle.imap_session.proofs.Unkept.{unkept_by}
 use Rattle.imap_session.specs.Commands.{idle_turn_in, turn_of, fault_text, on_command, on_idle_line, on_read, on_rest, on_verdict, only_says, turn_behind, turn_of_verdict, turn_while, turn_with, without_begun, without_sent, logged_in, login_completed, says}
 use Rattle.delivery_token.specs.declared.Verdict.{Verdict}
@@ -46,7 +46,7 @@ given_up tag now fault turn e = told now (saying (refusal_text tag fault)) (λ s
 
 waiting_keeps : (tag : List ℕ) (now : Standing) (w : Waiting) → (waiting tag w now).folders ≡ now.folders
 waiting_keeps tag now ForDone = refl
-waiting_keeps tag now (ForLiteral coming mailbox flags size) = refl
+waiting_keeps tag now (ForLiteral coming purpose size) = refl
 waiting_keeps tag now (ForVerdict mailbox flags text) = refl
 waiting_keeps tag now ForNothing = refl
 
@@ -117,7 +117,7 @@ while_keeps : (idling : Option (List ℕ)) (now : Standing) (line : List ℕ) (a
 while_keeps None now line answers turn e = read_keeps now (read line) answers turn e
 while_keeps (Some tag) now line answers turn e = folders_stay tag (record now { idling = None }) (on_idle_line now.selected line) answers turn e
 
-behind_keeps : (begun : Option Appending) (now : Standing) (line : List ℕ) (answers : List Answer) (turn : Turn) → turn_behind begun now line answers ≡ Some turn → turn.standing.folders ≡ now.folders
+behind_keeps : (begun : Option PendingLiteral) (now : Standing) (line : List ℕ) (answers : List Answer) (turn : Turn) → turn_behind begun now line answers ≡ Some turn → turn.standing.folders ≡ now.folders
 behind_keeps None now line answers turn e = while_keeps now.idling now line answers turn e
 behind_keeps (Some a) now line answers turn e = folders_stay a.tag (without_begun now) (on_rest now.mailing a (length line == 0)) answers turn e
 

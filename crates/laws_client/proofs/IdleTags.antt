@@ -15,7 +15,7 @@ use Rattle.imap_session.specs.declared.standing.After.{After}
 use Rattle.imap_session.specs.declared.standing.After.TheVariants.{Go, Bye}
 use Rattle.imap_session.specs.declared.standing.After.TheVariants as afters
 use Rattle.imap_session.specs.declared.standing.Selected.{Selected}
-use Rattle.imap_session.specs.Exchange.{Answer, Entered, Looked, Found, Counted, Altered, Expunged, Fed, Left, Refused, Starved, Exchange, ForDone, ForLiteral, ForVerdict, ForNothing, Done, Wait, Write, Put, Enter, Look, Read, Count, Alter, Expunge, Feed, Leave, Standing, Turn, Appending, Sent, Waiting, closed, having, played, refusal_after, refusal_text, refused, saying, tagged, waiting, Dropped, unkept}
+use Rattle.imap_session.specs.Exchange.{Answer, Entered, Looked, Found, Counted, Altered, Expunged, Fed, Left, Refused, Starved, Exchange, ForDone, ForLiteral, ForVerdict, ForNothing, Done, Wait, Write, Put, Enter, Look, Read, Count, Alter, Expunge, Feed, Leave, Standing, Turn, PendingLiteral, Sent, Waiting, closed, having, played, refusal_after, refusal_text, refused, saying, tagged, waiting, Dropped, unkept}
 use Rattle.imap_session.proofs.Unkept.{unkept_by}
 use Rattle.imap_session.specs.Commands.{fault_text, on_command, on_idle_line, on_read, on_rest, on_verdict, only_says, taking, turn_behind, turn_of, turn_of_verdict, turn_while, turn_with, with_bytes, without_begun, without_sent, logged_in, login_completed, says}
 use Rattle.delivery_token.specs.declared.Verdict.{Verdict}
@@ -115,7 +115,7 @@ AreTagsOf P now = IfSome now.idling P × IfSome now.mailing.begun (λ begun. P b
 
 waiting_keeps : (P : List ℕ → Type 0) → (tag : List ℕ) → P tag → (now : Standing) (w : Waiting) → AreTagsOf P now → AreTagsOf P (waiting tag w now)
 waiting_keeps P tag t now ForDone k = (t, k.1, k.2)
-waiting_keeps P tag t now (ForLiteral coming mailbox flags size) k = (k.0, t, k.2)
+waiting_keeps P tag t now (ForLiteral coming purpose size) k = (k.0, t, k.2)
 waiting_keeps P tag t now (ForVerdict mailbox flags text) k = (k.0, k.1, t)
 waiting_keeps P tag t now ForNothing k = k
 
@@ -137,7 +137,7 @@ while_keeps : (P : List ℕ → Type 0) → ((tag : List ℕ) → is_word_of is_
 while_keeps P make None now line answers turn t k e = read_keeps P now (read line) answers turn (read_tagged_so P make line) k e
 while_keeps P make (Some tag) now line answers turn t k e = played_keeps (AreTagsOf P) tag (tags_keep P tag t) (record now { idling = None }) (on_idle_line now.selected line) answers turn (tt, k.1, k.2) e
 
-behind_keeps : (P : List ℕ → Type 0) → ((tag : List ℕ) → is_word_of is_tag tag ≡ true → P tag) → (begun : Option Appending) (now : Standing) (line : List ℕ) (answers : List Answer) (turn : Turn) → IfSome begun (λ a. P a.tag) → AreTagsOf P now → turn_behind begun now line answers ≡ Some turn → Kept (AreTagsOf P) turn
+behind_keeps : (P : List ℕ → Type 0) → ((tag : List ℕ) → is_word_of is_tag tag ≡ true → P tag) → (begun : Option PendingLiteral) (now : Standing) (line : List ℕ) (answers : List Answer) (turn : Turn) → IfSome begun (λ a. P a.tag) → AreTagsOf P now → turn_behind begun now line answers ≡ Some turn → Kept (AreTagsOf P) turn
 behind_keeps P make None now line answers turn t k e = while_keeps P make now.idling now line answers turn k.0 k e
 behind_keeps P make (Some a) now line answers turn t k e = played_keeps (AreTagsOf P) a.tag (tags_keep P a.tag t) (without_begun now) (on_rest now.mailing a (length line == 0)) answers turn (tt, tt, k.2) e
 
@@ -150,7 +150,7 @@ kept_tags_are_tags = line_keeps IsTag word_is_tag
 
 -- ---- bytes of a literal, and verdicts
 
-taken_keeps : (P : List ℕ → Type 0) → (kept : Bool) (bytes : List ℕ) (begun : Option Appending) → IfSome begun (λ a. P a.tag) → IfSome (option_map (taking kept bytes) begun) (λ a. P a.tag)
+taken_keeps : (P : List ℕ → Type 0) → (kept : Bool) (bytes : List ℕ) (begun : Option PendingLiteral) → IfSome begun (λ a. P a.tag) → IfSome (option_map (taking kept bytes) begun) (λ a. P a.tag)
 taken_keeps P kept bytes None t = tt
 taken_keeps P kept bytes (Some a) t = t
 

@@ -223,9 +223,9 @@ behind_lines tells lines bytes whole p = record {
 -- where memory is refused to who waits so, something is said
 abbrev pub IsAloud : Waiting → Type 0
 IsAloud ForDone = Unit {0}
-IsAloud (ForLiteral Asked mailbox flags size) = Unit {0}
-IsAloud (ForLiteral Unasked mailbox flags size) = ⊥
-IsAloud (ForLiteral Dropped mailbox flags size) = Unit {0}
+IsAloud (ForLiteral Asked purpose size) = Unit {0}
+IsAloud (ForLiteral Unasked purpose size) = ⊥
+IsAloud (ForLiteral Dropped purpose size) = Unit {0}
 IsAloud (ForVerdict mailbox flags text) = Unit {0}
 IsAloud ForNothing = Unit {0}
 
@@ -271,11 +271,11 @@ long_apart tells tag turn p = by (nat_lt ex.most_in_place (length tag))
 aloud_unkept : (tells : List ℕ → Bool) → Spares tells → (tag : List ℕ) → IsWord tag → (waits : Waiting) (now : Standing) (n : ℕ) → IsAloud waits → TurnApart tells (unkept tag waits now n)
 aloud_unkept tells spares tag t ForDone now zero p = long_apart tells tag (refused tag now NoMemory) (refused_apart tells spares tag t now NoMemory)
 aloud_unkept tells spares tag t ForDone now (suc n) p = tt
-aloud_unkept tells spares tag t (ForLiteral Asked mailbox flags size) now zero p = long_apart tells tag (refused tag now NoMemory) (refused_apart tells spares tag t now NoMemory)
-aloud_unkept tells spares tag t (ForLiteral Asked mailbox flags size) now (suc n) p = tt
-aloud_unkept tells spares tag t (ForLiteral Unasked mailbox flags size) now n p = absurd p
-aloud_unkept tells spares tag t (ForLiteral Dropped mailbox flags size) now zero p = tt
-aloud_unkept tells spares tag t (ForLiteral Dropped mailbox flags size) now (suc n) p = tt
+aloud_unkept tells spares tag t (ForLiteral Asked purpose size) now zero p = long_apart tells tag (refused tag now NoMemory) (refused_apart tells spares tag t now NoMemory)
+aloud_unkept tells spares tag t (ForLiteral Asked purpose size) now (suc n) p = tt
+aloud_unkept tells spares tag t (ForLiteral Unasked purpose size) now n p = absurd p
+aloud_unkept tells spares tag t (ForLiteral Dropped purpose size) now zero p = tt
+aloud_unkept tells spares tag t (ForLiteral Dropped purpose size) now (suc n) p = tt
 aloud_unkept tells spares tag t (ForVerdict mailbox flags text) now zero p = tt
 aloud_unkept tells spares tag t (ForVerdict mailbox flags text) now (suc n) p = tt
 aloud_unkept tells spares tag t ForNothing now zero p = tt

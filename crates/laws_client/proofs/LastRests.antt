@@ -5,7 +5,7 @@ use Rattle.std.specs.List.{list_any}
 use Rattle.delivery_token.specs.declared.Refusal.{Refusal}
 use Rattle.delivery_token.specs.declared.Refusal.TheVariants as refusals
 use Rattle.imap_session.specs.Exchange as ex
-use Rattle.imap_session.specs.Exchange.{Answer, Appending, Exchange, ForVerdict, Mailing, Standing, played}
+use Rattle.imap_session.specs.Exchange.{Answer, PendingLiteral, Exchange, ForVerdict, Mailing, Standing, played}
 use Rattle.imap_session.specs.Commands.{is_over, last_number, long_rest_text, long_text, nowhere, on_found, on_rest, on_text, over, refused_text, says, turn_of_long_line, wanting}
 use Rattle.laws_client.proofs.IdleTags.{AreTagsOf}
 use Rattle.laws_client.proofs.LastLines.{Apart, IsWord, SaysApart, Spares, TurnFine, fine, fine_wait, fine_wanting, played_apart, star_apart, tagged_apart}
@@ -34,7 +34,7 @@ over_apart tells spares (Some most) = (refl, spares.no (behind 3 texts.MessageTo
 
 -- ---- behind a literal
 
-text_fine : (tells : List ℕ → Bool) → Spares tells → (mailing : Mailing) (a : Appending) (text : List ℕ) (mailbox : ℕ) → EndsFine tells (on_text mailing a text mailbox)
+text_fine : (tells : List ℕ → Bool) → Spares tells → (mailing : Mailing) (a : PendingLiteral) (text : List ℕ) (mailbox : ℕ) → EndsFine tells (on_text mailing a text mailbox)
 text_fine tells spares mailing a text mailbox =
     either_fine tells (is_over mailing.most a.size) (over mailing.most) _ (says_fine tells spares (over mailing.most) (over_apart tells spares mailing.most))
     (either_fine tells (list_any (λ b. b == 0) text) (says (response_text texts.NulByte)) _ (says_fine tells spares (says (response_text texts.NulByte)) (refl, spares.no (behind 3 texts.NulByte)))
@@ -42,7 +42,7 @@ text_fine tells spares mailing a text mailbox =
     (says_fine tells spares (says (response_text texts.MailboxSpent)) (refl, spares.no (behind 3 texts.MailboxSpent)))
     (λ tag t now answers. fine_wanting tells spares tag t now (ex.Wait [] (ForVerdict mailbox a.flags text)) (fine_wait tells spares tag t now (ForVerdict mailbox a.flags text)) answers)))
 
-pub rest_fine : (tells : List ℕ → Bool) → Spares tells → (mailing : Mailing) (a : Appending) (empty : Bool) → EndsFine tells (on_rest mailing a empty)
+pub rest_fine : (tells : List ℕ → Bool) → Spares tells → (mailing : Mailing) (a : PendingLiteral) (empty : Bool) → EndsFine tells (on_rest mailing a empty)
 rest_fine tells spares mailing a empty =
     found_fine tells (λ text. if empty then on_found (on_text mailing a text) nowhere a.mailbox else says (response_text texts.InvalidArguments)) (says (response_text texts.OutOfMemory))
     (λ (text : List ℕ). either_fine tells empty (on_found (on_text mailing a text) nowhere a.mailbox) (says (response_text texts.InvalidArguments))
@@ -56,7 +56,7 @@ rest_words : (tells : List ℕ → Bool) → Spares tells → (text : Option (Li
 rest_words tells spares None = (refl, spares.no (behind 3 texts.OutOfMemory))
 rest_words tells spares (Some text) = (refl, spares.bad (behind 4 texts.InvalidArguments))
 
-long_apart : (tells : List ℕ → Bool) → Spares tells → (begun : Option Appending) (idling : Option (List ℕ)) → IfSome begun (λ (a : Appending). IsWord a.tag) → IfSome idling IsWord → Apart tells (long_text begun idling)
+long_apart : (tells : List ℕ → Bool) → Spares tells → (begun : Option PendingLiteral) (idling : Option (List ℕ)) → IfSome begun (λ (a : PendingLiteral). IsWord a.tag) → IfSome idling IsWord → Apart tells (long_text begun idling)
 long_apart tells spares None None t s = star_apart tells texts.LineTooLong
 long_apart tells spares None (Some tag) t s = tagged_apart tells tag (response_text texts.ExpectedDone) s refl (spares.bad (behind 4 texts.ExpectedDone))
 long_apart tells spares (Some a) idling t s = let w = rest_words tells spares a.text in tagged_apart tells a.tag (response_text (long_rest_text a.text)) t w.0 w.1

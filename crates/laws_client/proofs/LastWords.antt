@@ -14,7 +14,7 @@ use Rattle.imap_grammar.specs.declared.command.Store.{Store}
 use Rattle.imap_grammar.specs.Verbs.{verb_of}
 use Rattle.imap_session.specs.declared.standing.Selected.{Selected}
 use Rattle.imap_session.specs.Exchange as ex
-use Rattle.imap_session.specs.Exchange.{Answer, Appending, Exchange, Folder, ForVerdict, Mailing, Standing, Turn, bye, played, untagged}
+use Rattle.imap_session.specs.Exchange.{Answer, PendingLiteral, Exchange, Folder, ForVerdict, Mailing, Standing, Turn, bye, played, untagged}
 use Rattle.imap_session.specs.Commands.{appending, asking, closing, completed, counting, entering, expunge_set, fetch_messages, fetching, folder_of, if_writable, is_over, messages_done, most_unasked, notice, noticing, nowhere, number_named, on_chosen, on_command, on_found, on_idle_line, on_read, over, says, showing, store_messages, storing, subscribing, telling_recent, turn_behind, turn_of, turn_while, unlimited, wanting, wanting_for, without_begun, wrong_state, arguments_text, entered_text, logged_in, login_completed, found_in, search_done, search_known, search_messages, searching}
 use Rattle.imap_session.specs.Telling.{tells_uid}
 use Rattle.exactly_once.proofs.Whole.{IsWhole, bye_whole, ends, fetched_whole, flags_whole, list_whole, opening_whole, found_whole}
@@ -198,7 +198,7 @@ while_fine : (idling : Option (List ℕ)) (now : Standing) (line : List ℕ) (an
 while_fine None now line answers t = read_fine now (read line) answers (read_tagged_so IsWord (λ tag word. word) line)
 while_fine (Some tag) now line answers t = says_fine tells_uid uid_spares (on_idle_line now.selected line) (idling_apart now.selected line) tag t (record now { idling = None }) answers
 
-behind_fine : (begun : Option Appending) (now : Standing) (line : List ℕ) (answers : List Answer) → IfSome begun (λ (a : Appending). IsWord a.tag) → IfSome now.idling IsWord → TurnFine tells_uid (turn_behind begun now line answers)
+behind_fine : (begun : Option PendingLiteral) (now : Standing) (line : List ℕ) (answers : List Answer) → IfSome begun (λ (a : PendingLiteral). IsWord a.tag) → IfSome now.idling IsWord → TurnFine tells_uid (turn_behind begun now line answers)
 behind_fine None now line answers t s = while_fine now.idling now line answers s
 behind_fine (Some a) now line answers t s = rest_fine tells_uid uid_spares now.mailing a (length line == 0) a.tag t (without_begun now) answers
 

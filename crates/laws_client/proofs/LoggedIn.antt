@@ -11,7 +11,7 @@ use Rattle.imap_grammar.specs.declared.command.Command.{Command}
 use Rattle.imap_grammar.specs.declared.command.Command.TheVariants as commands
 use Rattle.imap_grammar.specs.declared.command.ImapFault.{ImapFault}
 use Rattle.imap_session.specs.declared.standing.Selected.{Selected}
-use Rattle.imap_session.specs.Exchange.{Answer, Fed, Refused, Appending, ForDone, ForLiteral, ForNothing, ForVerdict, Sent, Standing, Turn, Waiting, is_idling, played, waiting}
+use Rattle.imap_session.specs.Exchange.{Answer, Fed, Refused, PendingLiteral, ForDone, ForLiteral, ForNothing, ForVerdict, Sent, Standing, Turn, Waiting, is_idling, played, waiting}
 use Rattle.imap_session.specs.Commands.{barred_at, before_login, fault_text, idle_turn_in, logged_in, login_completed, logs_in_as, on_command, on_found, on_idle_line, on_line, on_read, on_rest, on_verdict, says, turn_behind, turn_while, turn_with, without_begun, without_sent}
 use Rattle.imap_session.specs.Texts.{response_text}
 use Rattle.laws_client.specs.Clients.{Told}
@@ -31,7 +31,7 @@ NoLogin s = s.login ≡ None
 waits_on : (tag : List ℕ) (now : Standing) (w : Waiting) → NoLogin now → NoLogin (waiting tag w now)
 unfolding NoLogin
 waits_on tag now ForDone k = k
-waits_on tag now (ForLiteral coming mailbox flags size) k = k
+waits_on tag now (ForLiteral coming purpose size) k = k
 waits_on tag now (ForVerdict mailbox flags text) k = k
 waits_on tag now ForNothing k = k
 
@@ -91,7 +91,7 @@ while_early : (idling : Option (List ℕ)) (now : Standing) (user line : List �
 while_early None now user line answers turn early e = read_early now user (read line) answers turn early e
 while_early (Some tag) now user line answers turn early e = selected_stays tag (record now { idling = None }) (on_idle_line now.selected line) answers turn (in_idle_line now.selected line) e
 
-behind_early : (begun : Option Appending) (now : Standing) (user line : List ℕ) (answers : List Answer) (turn : Turn) → now.login ≡ Some user → turn_behind begun now line answers ≡ Some turn → turn.standing.selected ≡ now.selected
+behind_early : (begun : Option PendingLiteral) (now : Standing) (user line : List ℕ) (answers : List Answer) (turn : Turn) → now.login ≡ Some user → turn_behind begun now line answers ≡ Some turn → turn.standing.selected ≡ now.selected
 behind_early None now user line answers turn early e = while_early now.idling now user line answers turn early e
 behind_early (Some a) now user line answers turn early e = selected_stays a.tag (without_begun now) (on_rest now.mailing a (length line == 0)) answers turn (in_rest now.mailing a (length line == 0)) e
 

@@ -25,7 +25,7 @@ use Rattle.imap_session.specs.declared.standing.After.{After}
 use Rattle.imap_session.specs.declared.standing.After.TheVariants.{Go, Bye}
 use Rattle.imap_session.specs.declared.standing.After.TheVariants as afters
 use Rattle.imap_session.specs.declared.standing.Selected.{Selected}
-use Rattle.imap_session.specs.Exchange.{Answer, Entered, Looked, Found, Counted, Altered, Expunged, Fed, Left, Refused, Starved, Exchange, ForDone, ForLiteral, ForVerdict, ForNothing, Done, Wait, Write, Put, Enter, Look, Read, Count, Alter, Expunge, Feed, Leave, Folder, Mailing, Standing, Turn, Appending, Sent, Waiting, closed, having, played, refusal_after, refusal_text, refused, saying, tagged, waiting, unkept, Asked, Dropped, Unasked, bye}
+use Rattle.imap_session.specs.Exchange.{Answer, Entered, Looked, Found, Counted, Altered, Expunged, Fed, Left, Refused, Starved, Exchange, ForDone, ForLiteral, ForVerdict, ForNothing, Done, Wait, Write, Put, Enter, Look, Read, Count, Alter, Expunge, Feed, Leave, Folder, Mailing, Standing, Turn, PendingLiteral, Sent, Waiting, closed, having, played, refusal_after, refusal_text, refused, saying, tagged, waiting, unkept, Asked, Dropped, Unasked, bye}
 use Rattle.imap_session.proofs.Unkept.{unkept_by}
 use Rattle.imap_session.specs.Commands.{appending, closing, completed, counting, entering, expunge_set, fault_text, fetch_messages, fetched, fetching, folder_of, idle_turn_in, if_writable, in_writable, is_over, kept_text, last_number, messages_done, most_unasked, nowhere, number_named, on_chosen, on_command, on_folder, on_found, on_idle_line, on_read, on_rest, on_set, on_text, on_verdict, only_says, over, says, selecting, showing, store_messages, stored, storing, taking, turn_behind, turn_of, turn_of_long_line, turn_of_verdict, turn_while, turn_with, unlimited, wanting, wanting_for, with_bytes, without_begun, without_sent, wrong_state, asking, coming, entered_text, logged_in, login_completed, subscribing, telling_recent, found_in, search_done, search_known, search_messages, searching}
 use Rattle.delivery_token.specs.declared.Verdict.{Verdict}
@@ -91,9 +91,9 @@ given_up most tag now fault turn k e = told most now (saying (refusal_text tag f
 
 waiting_keeps : (most : ℕ) (tag : List ℕ) (now : Standing) (w : Waiting) → WaitFits most w → IsMailShort most now.mailing → IsMailShort most (waiting tag w now).mailing
 waiting_keeps most tag now ForDone p k = k
-waiting_keeps most tag now (ForLiteral Asked mailbox flags size) p k = record { takes = k.takes; begun = omega arith; sent = k.sent }
-waiting_keeps most tag now (ForLiteral Unasked mailbox flags size) p k = record { takes = k.takes; begun = omega arith; sent = k.sent }
-waiting_keeps most tag now (ForLiteral Dropped mailbox flags size) p k = record { takes = k.takes; begun = tt; sent = k.sent }
+waiting_keeps most tag now (ForLiteral Asked purpose size) p k = record { takes = k.takes; begun = omega arith; sent = k.sent }
+waiting_keeps most tag now (ForLiteral Unasked purpose size) p k = record { takes = k.takes; begun = omega arith; sent = k.sent }
+waiting_keeps most tag now (ForLiteral Dropped purpose size) p k = record { takes = k.takes; begun = tt; sent = k.sent }
 waiting_keeps most tag now (ForVerdict mailbox flags text) p k = record { takes = k.takes; begun = k.begun; sent = p }
 waiting_keeps most tag now ForNothing p k = k
 
@@ -260,7 +260,7 @@ fit_command most now _ = tt
 over_most : (most : ℕ) (o : Option ℕ) (size : ℕ) → o ≡ Some most → is_over o size ≡ false → size ≤ most
 over_most most o size e h = not_over most size (sym (ap (λ (x : Option ℕ). is_over x size) e) ∙ h)
 
-fit_rest : (most : ℕ) (mailing : Mailing) (a : Appending) (empty : Bool) → mailing.most ≡ Some most → IfSome a.text (λ text. length text + a.due ≤ a.size) → TextsFit most (on_rest mailing a empty)
+fit_rest : (most : ℕ) (mailing : Mailing) (a : PendingLiteral) (empty : Bool) → mailing.most ≡ Some most → IfSome a.text (λ text. length text + a.due ≤ a.size) → TextsFit most (on_rest mailing a empty)
 fit_rest most mailing a empty takes short = kept a.text short
   where
     by : (text : List ℕ) (mailbox : ℕ) (x y z : Bool) → is_over mailing.most a.size ≡ x → length text + a.due ≤ a.size
@@ -309,7 +309,7 @@ while_keeps most (Some tag) now line answers turn k e = mail_stays most tag (rec
 none_begun : (most : ℕ) (now : Standing) → IsMailShort most now.mailing → IsMailShort most (without_begun now).mailing
 none_begun most now k = record { takes = k.takes; begun = tt; sent = k.sent }
 
-behind_keeps : (most : ℕ) (begun : Option Appending) (now : Standing) (line : List ℕ) (answers : List Answer) (turn : Turn) → IfSome begun (λ a. IfSome a.text (λ text. length text + a.due ≤ a.size)) → IsMailShort most now.mailing
+behind_keeps : (most : ℕ) (begun : Option PendingLiteral) (now : Standing) (line : List ℕ) (answers : List Answer) (turn : Turn) → IfSome begun (λ a. IfSome a.text (λ text. length text + a.due ≤ a.size)) → IsMailShort most now.mailing
     → turn_behind begun now line answers ≡ Some turn → Kept most turn
 behind_keeps most None now line answers turn b k e = while_keeps most now.idling now line answers turn k e
 behind_keeps most (Some a) now line answers turn b k e =
@@ -333,14 +333,14 @@ verdict_mail most now verdict answers turn k e = heard_keeps most now.mailing.se
 pub bytes_mail : (most : ℕ) (now : Standing) (kept : Bool) (bytes : List ℕ) → IsMailShort most now.mailing → IfSome now.mailing.begun (λ a. length bytes ≤ a.due) → IsMailShort most (with_bytes kept bytes now).mailing
 bytes_mail most now kept bytes k few = record { takes = k.takes; begun = by now.mailing.begun k.begun few; sent = k.sent }
   where
-    text_with : (b : Bool) (a : Appending) (text : Option (List ℕ)) → IfSome text (λ t. length t + a.due ≤ a.size) → length bytes ≤ a.due
+    text_with : (b : Bool) (a : PendingLiteral) (text : Option (List ℕ)) → IfSome text (λ t. length t + a.due ≤ a.size) → length bytes ≤ a.due
         → IfSome (kept_text b bytes text) (λ t. length t + (a.due - length bytes) ≤ a.size)
     text_with true a None h f = tt
     text_with true a (Some text) h f = omega (arith, h, f, length-append text bytes)
     text_with false a None h f = tt
     text_with false a (Some text) h f = tt
 
-    by : (begun : Option Appending) → IfSome begun (λ a. IfSome a.text (λ text. length text + a.due ≤ a.size)) → IfSome begun (λ a. length bytes ≤ a.due)
+    by : (begun : Option PendingLiteral) → IfSome begun (λ a. IfSome a.text (λ text. length text + a.due ≤ a.size)) → IfSome begun (λ a. length bytes ≤ a.due)
         → IfSome (option_map (taking kept bytes) begun) (λ a. IfSome a.text (λ text. length text + a.due ≤ a.size))
     by None h f = tt
     by (Some a) h f = text_with kept a a.text h f

@@ -23,7 +23,7 @@ use Rattle.imap_grammar.specs.declared.command.ImapFault.{ImapFault}
 use Rattle.imap_session.specs.declared.standing.After.{After}
 use Rattle.imap_session.specs.declared.standing.After.TheVariants.{Go}
 use Rattle.imap_session.specs.declared.standing.Selected.{Selected}
-use Rattle.imap_session.specs.Exchange.{Answer, Fed, Refused, Appending, Event as Happened, Done, Feed, Standing, Turn, having, kept_behind, kept_tag, played, refusal_text, refused, saying}
+use Rattle.imap_session.specs.Exchange.{Answer, Fed, Refused, PendingLiteral, Event as Happened, Done, Feed, Standing, Turn, having, kept_behind, kept_tag, played, refusal_text, refused, saying}
 use Rattle.imap_session.specs.Commands.{completed, on_idle_line, on_read, says, showing, turn_behind, turn_of, turn_while, unlimited}
 use Rattle.imap_session.specs.Store.{Met}
 use Rattle.house.specs.Meets.{Meets}
@@ -139,18 +139,18 @@ noop_fed now line tag selected answers turn there answered kept reads ok = by no
         (λ text is d. absurd (false≢true (sym (refused_turn tag text now answers turn t is d) ∙ ok)))
         (λ d. shown_fed tag (response_text (texts.Completed verbs.Noop)) Go now answers turn t (subst (λ (o : Option Selected). played tag now (showing o (completed commands.Noop)) answers ≡ Some turn) there d) ok) e
 
-    by : (begun : Option Appending) (idling : Option (List ℕ)) → begun ≡ now.mailing.begun → idling ≡ now.idling → LastFed (false ≡ true) turn.events
-    by (Some b) idling p q = absurd (none-some b.tag (sym (ap (λ (o : Option (List ℕ)). o) kept) ∙ sym (ap (λ (x : Option Appending). kept_behind x now.idling) p)))
-    by None (Some i) p q = absurd (none-some i (sym kept ∙ sym (ap (λ (x : Option Appending). kept_behind x now.idling) p) ∙ sym q))
+    by : (begun : Option PendingLiteral) (idling : Option (List ℕ)) → begun ≡ now.mailing.begun → idling ≡ now.idling → LastFed (false ≡ true) turn.events
+    by (Some b) idling p q = absurd (none-some b.tag (sym (ap (λ (o : Option (List ℕ)). o) kept) ∙ sym (ap (λ (x : Option PendingLiteral). kept_behind x now.idling) p)))
+    by None (Some i) p q = absurd (none-some i (sym kept ∙ sym (ap (λ (x : Option PendingLiteral). kept_behind x now.idling) p) ∙ sym q))
     by None None p q =
-        let first : turn_while now.idling now line answers ≡ Some turn = subst (λ (o : Option Appending). turn_behind o now line answers ≡ Some turn) (sym p) answered in
+        let first : turn_while now.idling now line answers ≡ Some turn = subst (λ (o : Option PendingLiteral). turn_behind o now line answers ≡ Some turn) (sym p) answered in
         let second : on_read now (read line) answers ≡ Some turn = subst (λ (o : Option (List ℕ)). turn_while o now line answers ≡ Some turn) (sym q) first in
         read_fed (subst (λ (r : Result (List ℕ × Command) ImapFault). on_read now r answers ≡ Some turn) reads second)
 
 pub done_fed : (now : Standing) (line tag : List ℕ) (selected : Selected) (answers : List Answer) (turn : Turn) → IfSome now.idling IsTag → now.selected ≡ Some selected → turn_of now line answers ≡ Some turn
     → now.mailing.begun ≡ None → now.idling ≡ Some tag → is_done line ≡ true → has_ok true tag turn.bytes ≡ true → LastFed (false ≡ true) turn.events
 done_fed now line tag selected answers turn tags there answered begun idling done ok =
-    let first : turn_while now.idling now line answers ≡ Some turn = subst (λ (o : Option Appending). turn_behind o now line answers ≡ Some turn) begun answered in
+    let first : turn_while now.idling now line answers ≡ Some turn = subst (λ (o : Option PendingLiteral). turn_behind o now line answers ≡ Some turn) begun answered in
     let second : turn_while (Some tag) now line answers ≡ Some turn = subst (λ (o : Option (List ℕ)). turn_while o now line answers ≡ Some turn) idling first in
     let third : played tag (record now { idling = None }) (on_idle_line (Some selected) line) answers ≡ Some turn =
     subst (λ (o : Option Selected). played tag (record now { idling = None }) (on_idle_line o line) answers ≡ Some turn) there second in

@@ -6,7 +6,7 @@ use Rattle.imap_grammar.specs.Reading.{read}
 use Rattle.imap_grammar.specs.declared.command.Command.{Command}
 use Rattle.imap_grammar.specs.declared.command.Command.TheVariants as commands
 use Rattle.imap_grammar.specs.declared.command.ImapFault.{ImapFault}
-use Rattle.imap_session.specs.Exchange.{Answer as StoreAnswer, Appending, Standing, Folder, Turn, is_idling, kept_tag, kept_behind, played}
+use Rattle.imap_session.specs.Exchange.{Answer as StoreAnswer, PendingLiteral, Standing, Folder, Turn, is_idling, kept_tag, kept_behind, played}
 use Rattle.imap_session.specs.Commands.{logged_in, on_command, on_read, says, turn_behind, turn_of, turn_while}
 use Rattle.imap_session.specs.Store.{Met}
 use Rattle.laws_client.specs.Client.{Client}
@@ -83,11 +83,11 @@ line_known now old line answers turn new client stands numbered e met right = by
     more : MayCome (kept_tag now) now old line → IsRightAbout new (reads_on turn.bytes client)
     more may = happening_known now old (Line line answers) turn new client stands e met right may
 
-    by : (begun : Option Appending) (idling : Option (List ℕ)) → begun ≡ now.mailing.begun → idling ≡ now.idling → IsRightAbout new (hears client (told_line (kept_behind begun idling) line turn.bytes))
+    by : (begun : Option PendingLiteral) (idling : Option (List ℕ)) → begun ≡ now.mailing.begun → idling ≡ now.idling → IsRightAbout new (hears client (told_line (kept_behind begun idling) line turn.bytes))
     by (Some a) idling b i = more (subst (λ (o : Option (List ℕ)). MayCome o now old line) (ap₂ kept_behind b i) tt)
     by None (Some tag) b i = more (subst (λ (o : Option (List ℕ)). MayCome o now old line) (ap₂ kept_behind b i) tt)
     by None None b i =
-        let first : turn_while now.idling now line answers ≡ Some turn = subst (λ (o : Option Appending). turn_behind o now line answers ≡ Some turn) (sym b) e in
+        let first : turn_while now.idling now line answers ≡ Some turn = subst (λ (o : Option PendingLiteral). turn_behind o now line answers ≡ Some turn) (sym b) e in
         let second : on_read now (read line) answers ≡ Some turn = subst (λ (o : Option (List ℕ)). turn_while o now line answers ≡ Some turn) (sym i) first in
         read_known now old (read line) answers turn new client stands numbered (read_tagged line) (read_told line) second met right
         (λ may. more (subst (λ (o : Option (List ℕ)). MayCome o now old line) (ap₂ kept_behind b i) may))

@@ -26,7 +26,7 @@ use Rattle.imap_grammar.specs.declared.items.StatusItem.{StatusItem}
 use Rattle.imap_grammar.specs.declared.command.ImapFault.{ImapFault}
 use Rattle.imap_session.specs.declared.standing.After.TheVariants.{Go}
 use Rattle.imap_session.specs.declared.standing.Selected.{Selected}
-use Rattle.imap_session.specs.Exchange.{Alter, Altered, Answer, Appending, Exchange, Expunge, Feed, Folder, ForNothing, ForVerdict, Found, Mailing, Read, Sent, Standing, Turn, Wait, Write, bye, kept_behind, kept_tag}
+use Rattle.imap_session.specs.Exchange.{Alter, Altered, Answer, PendingLiteral, Exchange, Expunge, Feed, Folder, ForNothing, ForVerdict, Found, Mailing, Read, Sent, Standing, Turn, Wait, Write, bye, kept_behind, kept_tag}
 use Rattle.imap_session.specs.Commands.{turn_of, turn_of_verdict, appended_words, appending, last_number, most_unasked, nowhere, number_named, on_rest, on_text, on_verdict, is_over, over, turn_behind, turn_with, wanting, wanting_for, without_begun, without_sent, completed, counting, expunge_set, fault_text, fetch_messages, fetched, fetching, folder_of, in_selected, in_writable, messages_done, on_chosen, on_command, on_found, on_idle_line, on_read, on_set, only_says, says, showing, store_messages, stored, storing, subscribing, turn_while, unlimited, wrong_state, asking, coming, logged_in, login_completed, refused_text, found_in, search_done, search_known, search_messages, searching}
 use Rattle.laws_client.specs.ListTurns.{IsPlain, IsTag}
 use Rattle.laws_client.specs.Fetches.{AreToldParts, IsNumbered}
@@ -265,7 +265,7 @@ append_says tag p most folders a t = by a.literal.waits (is_over most a.literal.
     by false big false o = nothing_leaves p
 
 -- what stands behind a literal
-rest_says : (tag : List ℕ) (p : Point) (mailing : Mailing) (a : Appending) (empty : Bool) → IsTag tag → SaysFlags tag p (on_rest mailing a empty)
+rest_says : (tag : List ℕ) (p : Point) (mailing : Mailing) (a : PendingLiteral) (empty : Bool) → IsTag tag → SaysFlags tag p (on_rest mailing a empty)
 rest_says tag p mailing a empty t = kept a.text
   where
     text_says : (big nul spent : Bool) (text : List ℕ) (mailbox : ℕ)
@@ -358,7 +358,7 @@ while_follows None now line p answers turn q h e sees = read_follows now (read l
 while_follows (Some tag) now line p answers turn q t e sees =
     turn_tells tag (refusals tag t) p (record now { idling = None }) (on_idle_line now.selected line) answers turn q e (idle_line_says tag p now.selected line t) sees
 
-behind_follows : (begun : Option Appending) (now : Standing) (line : List ℕ) (p : Point) (answers : List Answer) (turn : Turn) (q : Point)
+behind_follows : (begun : Option PendingLiteral) (now : Standing) (line : List ℕ) (p : Point) (answers : List Answer) (turn : Turn) (q : Point)
     → IsFollowed (kept_behind begun now.idling) now (counted p) line → turn_behind begun now line answers ≡ Some turn → SeesAllMoments p turn.events q → LeadsFlags p turn.bytes q
 behind_follows None now line p answers turn q h e sees = while_follows now.idling now line p answers turn q h e sees
 behind_follows (Some a) now line p answers turn q t e sees =

@@ -13,7 +13,7 @@ use Rattle.imap_session.specs.declared.standing.After.{After}
 use Rattle.imap_session.specs.declared.standing.After.TheVariants.{Go, Bye}
 use Rattle.imap_session.specs.declared.standing.After.TheVariants as afters
 use Rattle.imap_session.specs.declared.standing.Selected.{Selected}
-use Rattle.imap_session.specs.Exchange.{Answer, Entered, Looked, Found, Counted, Altered, Expunged, Fed, Left, Refused, Starved, Exchange, ForDone, ForLiteral, ForVerdict, ForNothing, Done, Wait, Write, Put, Enter, Look, Read, Count, Alter, Expunge, Feed, Leave, Standing, Turn, Appending, Sent, Waiting, closed, having, played, refusal_after, refusal_text, refused, saying, tagged, waiting, Folder, Mailing, kept_behind, kept_tag, is_idling, unkept, bye}
+use Rattle.imap_session.specs.Exchange.{Answer, Entered, Looked, Found, Counted, Altered, Expunged, Fed, Left, Refused, Starved, Exchange, ForDone, ForLiteral, ForVerdict, ForNothing, Done, Wait, Write, Put, Enter, Look, Read, Count, Alter, Expunge, Feed, Leave, Standing, Turn, PendingLiteral, Sent, Waiting, closed, having, played, refusal_after, refusal_text, refused, saying, tagged, waiting, Folder, Mailing, kept_behind, kept_tag, is_idling, unkept, bye}
 use Rattle.imap_session.proofs.Unkept.{unkept_by}
 use Rattle.imap_session.specs.Commands.{idle_turn_in, turn_of, fault_text, on_command, on_idle_line, on_read, on_rest, on_verdict, only_says, turn_behind, turn_while, turn_with, without_begun, without_sent, appending, closing, completed, counting, entering, expunge_set, fetch_messages, fetched, fetching, folder_of, if_writable, in_writable, is_over, last_number, messages_done, most_unasked, nowhere, number_named, on_chosen, on_folder, on_found, on_set, on_text, over, says, selecting, showing, store_messages, stored, storing, unlimited, wanting, wanting_for, wrong_state, opened, asking, coming, logged_in, login_completed, subscribing, telling_recent, entered_text, found_in, search_done, search_known, search_messages, searching}
 use Rattle.delivery_token.specs.declared.Verdict.{Verdict}
@@ -95,7 +95,7 @@ given_up tag now fault turn e = told now (saying (refusal_text tag fault)) (λ s
 
 waiting_keeps : (tag : List ℕ) (now : Standing) (w : Waiting) → (waiting tag w now).selected ≡ now.selected
 waiting_keeps tag now ForDone = refl
-waiting_keeps tag now (ForLiteral coming mailbox flags size) = refl
+waiting_keeps tag now (ForLiteral coming purpose size) = refl
 waiting_keeps tag now (ForVerdict mailbox flags text) = refl
 waiting_keeps tag now ForNothing = refl
 
@@ -241,7 +241,7 @@ in_command now (commands.Store store) e = stay_writable now (store_messages stor
 in_command now (commands.Append append) e = in_append now.mailing.most now.folders append
 in_command now _ e = tt
 
-pub in_rest : (mailing : Mailing) (a : Appending) (empty : Bool) → StaysIn (on_rest mailing a empty)
+pub in_rest : (mailing : Mailing) (a : PendingLiteral) (empty : Bool) → StaysIn (on_rest mailing a empty)
 in_rest mailing a empty =
     in_found (λ text. if empty then on_found (on_text mailing a text) nowhere a.mailbox else says (response_text texts.InvalidArguments)) (says (response_text texts.OutOfMemory)) a.text
     (λ text. in_if empty (on_found (on_text mailing a text) nowhere a.mailbox) (says (response_text texts.InvalidArguments)) (in_found (on_text mailing a text) nowhere a.mailbox (λ mailbox. submits text mailbox) tt) tt) tt
@@ -403,16 +403,16 @@ read_sel now (Err fault) answers turn client t e k = reads_sel turn.bytes client
 line_sel : (now : Standing) (line : List ℕ) (answers : List Answer) (turn : Turn) (client : Option Client) → turn_of now line answers ≡ Some turn → Known_selected client now → Known_selected (hears client (told_line (kept_tag now) line turn.bytes)) turn.standing
 line_sel now line answers turn client e k = by now.mailing.begun now.idling refl refl
   where
-    by : (begun : Option Appending) (idling : Option (List ℕ)) → begun ≡ now.mailing.begun → idling ≡ now.idling → Known_selected (hears client (told_line (kept_behind begun idling) line turn.bytes)) turn.standing
+    by : (begun : Option PendingLiteral) (idling : Option (List ℕ)) → begun ≡ now.mailing.begun → idling ≡ now.idling → Known_selected (hears client (told_line (kept_behind begun idling) line turn.bytes)) turn.standing
     by (Some a) idling p q =
-        let d : played a.tag (without_begun now) (on_rest now.mailing a (length line == 0)) answers ≡ Some turn = subst (λ (o : Option Appending). turn_behind o now line answers ≡ Some turn) (sym p) e in
+        let d : played a.tag (without_begun now) (on_rest now.mailing a (length line == 0)) answers ≡ Some turn = subst (λ (o : Option PendingLiteral). turn_behind o now line answers ≡ Some turn) (sym p) e in
         reads_sel turn.bytes client now turn.standing k (selected_stays a.tag (without_begun now) (on_rest now.mailing a (length line == 0)) answers turn (in_rest now.mailing a (length line == 0)) d)
     by None (Some tag) p q =
-        let first : turn_while now.idling now line answers ≡ Some turn = subst (λ (o : Option Appending). turn_behind o now line answers ≡ Some turn) (sym p) e in
+        let first : turn_while now.idling now line answers ≡ Some turn = subst (λ (o : Option PendingLiteral). turn_behind o now line answers ≡ Some turn) (sym p) e in
         let d : played tag (record now { idling = None }) (on_idle_line now.selected line) answers ≡ Some turn = subst (λ (o : Option (List ℕ)). turn_while o now line answers ≡ Some turn) (sym q) first in
         reads_sel turn.bytes client now turn.standing k (selected_stays tag (record now { idling = None }) (on_idle_line now.selected line) answers turn (in_idle_line now.selected line) d)
     by None None p q =
-        let first : turn_while now.idling now line answers ≡ Some turn = subst (λ (o : Option Appending). turn_behind o now line answers ≡ Some turn) (sym p) e in
+        let first : turn_while now.idling now line answers ≡ Some turn = subst (λ (o : Option PendingLiteral). turn_behind o now line answers ≡ Some turn) (sym p) e in
         let second : on_read now (read line) answers ≡ Some turn = subst (λ (o : Option (List ℕ)). turn_while o now line answers ≡ Some turn) (sym q) first in
         read_sel now (read line) answers turn client (read_tagged line) second k
 

@@ -18,7 +18,7 @@ use Rattle.house_peers.specs.Caller as connection
 use Rattle.house_peers.specs.Caller.{Caller, Proceeds, Terms, Works, copies_of, greeted, meets, more_waits, setting_of, with_unsaid}
 use Rattle.imap_session.specs.declared.standing.After.{After}
 use Rattle.imap_session.specs.Exchange as calls
-use Rattle.imap_session.specs.Exchange.{Appending, Sent, Standing, is_idling}
+use Rattle.imap_session.specs.Exchange.{PendingLiteral, Sent, Standing, is_idling}
 use Rattle.imap_session.specs.Commands.{due_of}
 use Rattle.imap_session.specs.Store.{Met}
 use Rattle.imap_session.specs.Dialogue as imap
@@ -117,7 +117,7 @@ met_short : (k : Config) (q : ℕ) (w : World) (events : List calls.Event) (v : 
 met_short k q w [] v S met = rw met S
 met_short k q w (e ∷ events) v S (mid, one, more) = met_short k q mid events v (call_short k q w e.call e.answer mid S one) more
 
-due_some : (n : ℕ) (begun : Option Appending) → n ≤ due_of begun → IfSome begun (λ a. n ≤ a.due)
+due_some : (n : ℕ) (begun : Option PendingLiteral) → n ≤ due_of begun → IfSome begun (λ a. n ≤ a.due)
 due_some n None h = tt
 due_some n (Some a) h = h
 

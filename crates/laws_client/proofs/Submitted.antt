@@ -14,7 +14,7 @@ use Rattle.imap_grammar.specs.declared.command.ImapFault.{ImapFault}
 use Rattle.delivery_token.specs.declared.Verdict.{Verdict}
 use Rattle.mailbox.specs.declared.clients.MailFault.TheVariants.{Stranger, Lapped}
 use Rattle.imap_session.specs.declared.standing.Selected.{Selected}
-use Rattle.imap_session.specs.Exchange.{Answer, Fed, Refused, is_idling, Appending, Asked, Dropped, Folder, ForDone, ForLiteral, ForNothing, ForVerdict, Mailing, Sent, Standing, Turn, Unasked, Waiting, waiting}
+use Rattle.imap_session.specs.Exchange.{Answer, Fed, Refused, is_idling, PendingLiteral, Asked, Dropped, Folder, ForDone, ForLiteral, ForNothing, ForVerdict, Mailing, Sent, Standing, Turn, Unasked, Waiting, waiting}
 use Rattle.imap_session.specs.Commands.{due_of, fault_text, idle_turn_in, kept_text, number_named, on_command, on_idle_line, on_read, on_rest, on_verdict, only_says, taking, turn_behind, turn_of, turn_while, turn_with, with_bytes, without_begun, without_sent, logged_in, login_completed, logs_in_as, on_line, says}
 use Rattle.imap_session.specs.Store.{IdleTurns, Met}
 use Rattle.house_peers.proofs.Rising.{idles_keep}
@@ -49,7 +49,7 @@ line_stays Q keeps now line answers turn q l r s e = behind now.mailing.begun e
     while None e = reads (read line) e
     while (Some tag) e = played_keeps Q tag (keeps tag) (record now { idling = None }) (on_idle_line now.selected line) answers turn r e
 
-    behind : (begun : Option Appending) → turn_behind begun now line answers ≡ Some turn → Q turn.standing
+    behind : (begun : Option PendingLiteral) → turn_behind begun now line answers ≡ Some turn → Q turn.standing
     behind None e = while now.idling e
     behind (Some a) e = played_keeps Q a.tag (keeps a.tag) (without_begun now) (on_rest now.mailing a (length line == 0)) answers turn s e
 
@@ -61,7 +61,7 @@ HasFolders folders s = s.folders ≡ folders
 folders_wait : (folders : List Folder) (tag : List ℕ) (now : Standing) (w : Waiting) → HasFolders folders now → HasFolders folders (waiting tag w now)
 unfolding HasFolders
 folders_wait folders tag now ForDone k = k
-folders_wait folders tag now (ForLiteral coming mailbox flags size) k = k
+folders_wait folders tag now (ForLiteral coming purpose size) k = k
 folders_wait folders tag now (ForVerdict mailbox flags text) k = k
 folders_wait folders tag now ForNothing k = k
 
@@ -72,7 +72,7 @@ folders_keep folders tag = record { ends = λ now k. k; enters = λ now selected
 -- ---- what its client sent
 
 -- of a message whose bytes come, so many of them came, behind its line
-pub record BegunWith (folders : List Folder) (sent : List ℕ) (a : Appending) (text : List ℕ) : Type 0 where
+pub record BegunWith (folders : List Folder) (sent : List ℕ) (a : PendingLiteral) (text : List ℕ) : Type 0 where
   pub front : List ℕ
   pub line : List ℕ
   pub append : Append
@@ -82,7 +82,7 @@ pub record BegunWith (folders : List Folder) (sent : List ℕ) (a : Appending) (
   pub size : length text + a.due ≡ append.literal.size
   pub whole : sent ≡ front ++ (line ++ crlf) ++ text
 
-abbrev pub IsBegunAs : List Folder → List ℕ → Appending → Type 0
+abbrev pub IsBegunAs : List Folder → List ℕ → PendingLiteral → Type 0
 IsBegunAs folders sent a = (text : List ℕ) → a.text ≡ Some text → BegunWith folders sent a text
 
 -- the messages that a session knows of are its client's
@@ -112,7 +112,7 @@ waits_more folders sent bytes (Some message) h = sent_more folders sent bytes me
 same_mail : (folders : List Folder) (sent bytes : List ℕ) (now next : Standing) → Mailed folders sent now → next.folders ≡ now.folders → next.mailing.sent ≡ now.mailing.sent → next.mailing.begun ≡ None → Mailed folders (sent ++ bytes) next
 same_mail folders sent bytes now next m same waits begun = record {
   same = same ∙ m.same;
-  begun = subst (λ (o : Option Appending). IfSome o (IsBegunAs folders (sent ++ bytes))) (sym begun) tt;
+  begun = subst (λ (o : Option PendingLiteral). IfSome o (IsBegunAs folders (sent ++ bytes))) (sym begun) tt;
   waits = subst (λ (o : Option Sent). IfSome o (IsSentAs folders (sent ++ bytes))) (sym waits) (waits_more folders sent bytes now.mailing.sent m.waits);
 }
 
@@ -128,7 +128,7 @@ no_bytes (b ∷ bs) e = let some : length (b ∷ bs) ≡ 0 = eqb-true (length (b
 -- ---- an APPEND begins
 
 -- its bytes are to come
-begins : (folders : List Folder) (sent line tag : List ℕ) (append : Append) (mailbox : Option ℕ) (a : Appending) → read line ≡ Ok (tag, commands.Append append) → mailbox ≡ number_named append.name folders → a.tag ≡ tag → a.mailbox ≡ mailbox
+begins : (folders : List Folder) (sent line tag : List ℕ) (append : Append) (mailbox : Option ℕ) (a : PendingLiteral) → read line ≡ Ok (tag, commands.Append append) → mailbox ≡ number_named append.name folders → a.tag ≡ tag → a.mailbox ≡ mailbox
     → a.flags ≡ append.flags → a.due ≡ append.literal.size → a.text ≡ Some [] → IsBegunAs folders (sent ++ (line ++ crlf)) a
 begins folders sent line tag append mailbox a reads named same at flags due none text is =
     let empty : text ≡ [] = ap (the_text text) (sym is ∙ none) in record {
@@ -146,7 +146,7 @@ begins folders sent line tag append mailbox a reads named same at flags due none
     the_text d None = d
     the_text d (Some t) = t
 
-dropped : (folders : List Folder) (sent : List ℕ) (a : Appending) → a.text ≡ None → IsBegunAs folders sent a
+dropped : (folders : List Folder) (sent : List ℕ) (a : PendingLiteral) → a.text ≡ None → IsBegunAs folders sent a
 dropped folders sent a none text is = absurd (none-some text (sym none ∙ is))
 
 append_begins : (folders : List Folder) (sent line tag : List ℕ) (append : Append) (now next : Standing) → Mailed folders sent now → next.folders ≡ now.folders → now.mailing.begun ≡ None → read line ≡ Ok (tag, commands.Append append)
@@ -155,18 +155,18 @@ append_begins folders sent line tag append now next m same begun reads (inl e) =
 append_begins folders sent line tag append now next m same begun reads (inr (ForDone, p, e)) = absurd p
 append_begins folders sent line tag append now next m same begun reads (inr (ForVerdict mailbox flags text, p, e)) = absurd p
 append_begins folders sent line tag append now next m same begun reads (inr (ForNothing, p, e)) = same_mail folders sent (line ++ crlf) now next m same (ap (λ (x : Mailing). x.sent) e) (ap (λ (x : Mailing). x.begun) e ∙ begun)
-append_begins folders sent line tag append now next m same begun reads (inr (ForLiteral Dropped mailbox flags size, p, e)) = record {
+append_begins folders sent line tag append now next m same begun reads (inr (ForLiteral Dropped purpose size, p, e)) = record {
   same = same ∙ m.same;
   begun = subst (λ (x : Mailing). IfSome x.begun (IsBegunAs folders (sent ++ (line ++ crlf)))) (sym e) (dropped folders (sent ++ (line ++ crlf)) _ refl);
   waits = subst (λ (x : Mailing). IfSome x.sent (IsSentAs folders (sent ++ (line ++ crlf)))) (sym e) (waits_more folders sent (line ++ crlf) now.mailing.sent m.waits);
 }
-append_begins folders sent line tag append now next m same begun reads (inr (ForLiteral Asked mailbox flags size, p, e)) = record {
+append_begins folders sent line tag append now next m same begun reads (inr (ForLiteral Asked purpose size, p, e)) = record {
   same = same ∙ m.same;
   begun = subst (λ (x : Mailing). IfSome x.begun (IsBegunAs folders (sent ++ (line ++ crlf)))) (sym e)
       (begins folders sent line tag append mailbox _ reads (p.0 ∙ ap (number_named append.name) m.same) refl refl p.1 p.2 refl);
   waits = subst (λ (x : Mailing). IfSome x.sent (IsSentAs folders (sent ++ (line ++ crlf)))) (sym e) (waits_more folders sent (line ++ crlf) now.mailing.sent m.waits);
 }
-append_begins folders sent line tag append now next m same begun reads (inr (ForLiteral Unasked mailbox flags size, p, e)) = record {
+append_begins folders sent line tag append now next m same begun reads (inr (ForLiteral Unasked purpose size, p, e)) = record {
   same = same ∙ m.same;
   begun = subst (λ (x : Mailing). IfSome x.begun (IsBegunAs folders (sent ++ (line ++ crlf)))) (sym e)
       (begins folders sent line tag append mailbox _ reads (p.0 ∙ ap (number_named append.name) m.same) refl refl p.1 p.2 refl);
@@ -175,7 +175,7 @@ append_begins folders sent line tag append now next m same begun reads (inr (For
 
 -- ---- its bytes come, and then the rest of the line
 
-bytes_come : (folders : List Folder) (sent bytes : List ℕ) (kept : Bool) (a : Appending) → length bytes ≤ a.due → IsBegunAs folders sent a → IsBegunAs folders (sent ++ bytes) (taking kept bytes a)
+bytes_come : (folders : List Folder) (sent bytes : List ℕ) (kept : Bool) (a : PendingLiteral) → length bytes ≤ a.due → IsBegunAs folders sent a → IsBegunAs folders (sent ++ bytes) (taking kept bytes a)
 bytes_come folders sent bytes kept a few h text is = by kept a.text refl is
   where
     the_text : List ℕ → Option (List ℕ) → List ℕ
@@ -199,14 +199,14 @@ bytes_come folders sent bytes kept a few h text is = by kept a.text refl is
           whole = ap (λ (x : List ℕ). x ++ bytes) b.whole ∙ append_assoc (b.front ++ (b.line ++ crlf)) had bytes ∙ ap (λ (x : List ℕ). (b.front ++ (b.line ++ crlf)) ++ x) all;
         }
 
-rest_comes : (folders : List Folder) (sent line : List ℕ) (a : Appending) (now next : Standing) → Mailed folders sent now → next.folders ≡ now.folders → now.mailing.begun ≡ Some a → a.due ≡ 0
+rest_comes : (folders : List Folder) (sent line : List ℕ) (a : PendingLiteral) (now next : Standing) → Mailed folders sent now → next.folders ≡ now.folders → now.mailing.begun ≡ Some a → a.due ≡ 0
     → IsMail (ForItsVerdict a (length line == 0)) a.tag (without_begun now).mailing next.mailing → Mailed folders (sent ++ (line ++ crlf)) next
 rest_comes folders sent line a now next m same begun due (inl e) = same_mail folders sent (line ++ crlf) now next m same (ap (λ (x : Mailing). x.sent) e) (ap (λ (x : Mailing). x.begun) e)
 rest_comes folders sent line a now next m same begun due (inr (ForDone, p, e)) = absurd p
 rest_comes folders sent line a now next m same begun due (inr (ForNothing, p, e)) = absurd p
-rest_comes folders sent line a now next m same begun due (inr (ForLiteral coming mailbox flags size, p, e)) = absurd p
+rest_comes folders sent line a now next m same begun due (inr (ForLiteral coming purpose size, p, e)) = absurd p
 rest_comes folders sent line a now next m same begun due (inr (ForVerdict mailbox flags text, p, e)) =
-    let h : IsBegunAs folders sent a = subst (λ (o : Option Appending). IfSome o (IsBegunAs folders sent)) begun m.begun in
+    let h : IsBegunAs folders sent a = subst (λ (o : Option PendingLiteral). IfSome o (IsBegunAs folders sent)) begun m.begun in
     let b = h text p.2 in
     let empty : line ≡ [] = no_bytes line p.3 in record {
       same = same ∙ m.same;
@@ -260,7 +260,7 @@ line_mailed folders sent line now answers turn m due e = behind now.mailing.begu
         let mailing = idling_mail tag (record now { idling = None }) now.selected line answers turn e in
         same_mail folders sent (line ++ crlf) now turn.standing m same (ap (λ (x : Mailing). x.sent) mailing) (ap (λ (x : Mailing). x.begun) mailing ∙ none)
 
-    behind : (begun : Option Appending) → now.mailing.begun ≡ begun → turn_behind begun now line answers ≡ Some turn → Mailed folders (sent ++ (line ++ crlf)) turn.standing
+    behind : (begun : Option PendingLiteral) → now.mailing.begun ≡ begun → turn_behind begun now line answers ≡ Some turn → Mailed folders (sent ++ (line ++ crlf)) turn.standing
     behind None none e = while now.idling none e
     behind (Some a) is e =
         rest_comes folders sent line a now turn.standing m same is (sym (ap due_of is) ∙ due) (rest_mail (without_begun now) now.mailing a (length line == 0) answers turn e)
@@ -302,7 +302,7 @@ mail_turn k n folders sent bytes now w (Literal kept literal) turn v m few is e 
     subst (λ (t : Turn). Mailed folders (sent ++ bytes) t.standing) (ap (the_turn turn) e)
     (subst (λ (x : List ℕ). Mailed folders (sent ++ x) (with_bytes kept literal now)) (sym is) (record { same = m.same; begun = by now.mailing.begun few m.begun; waits = waits_more folders sent literal now.mailing.sent m.waits }))
   where
-    by : (o : Option Appending) → length literal ≤ due_of o → IfSome o (IsBegunAs folders sent) → IfSome (option_map (taking kept literal) o) (IsBegunAs folders (sent ++ literal))
+    by : (o : Option PendingLiteral) → length literal ≤ due_of o → IfSome o (IsBegunAs folders sent) → IfSome (option_map (taking kept literal) o) (IsBegunAs folders (sent ++ literal))
     by None few h = tt
     by (Some a) few h = bytes_come folders sent literal kept a few h
 mail_turn k n folders sent bytes now w (Heard verdict answers) turn v m due is e met = by now.mailing.sent e

@@ -4,7 +4,7 @@ use Rattle.std.specs.Prelude.{Option, Some, None, IfSome}
 use Rattle.std.proofs.lemmas.Option.{none-some}
 use Rattle.mailbox.specs.declared.clients.MailFault.TheVariants.{Stranger, Lapped}
 use Rattle.imap_session.specs.declared.standing.Selected.{Selected}
-use Rattle.imap_session.specs.Exchange.{Answer, Fed, Refused, Standing, Turn, Appending, is_idling, kept_behind, kept_tag, may_send}
+use Rattle.imap_session.specs.Exchange.{Answer, Fed, Refused, Standing, Turn, PendingLiteral, is_idling, kept_behind, kept_tag, may_send}
 use Rattle.imap_session.specs.Commands.{idle_turn_in, turn_of_long_line, with_bytes}
 use Rattle.laws_client.specs.Beliefs.{IsOf, Follows, Leads}
 use Rattle.laws_client.specs.Commands.{IsFollowed}
@@ -44,7 +44,7 @@ happening_keeps_so P make now (Heard verdict answers) turn k e = verdict_keeps P
 pub happening_keeps : (now : Standing) (view : List ℕ) (happening : Happening) (turn : Turn) → AreTags now → leads_to now happening ≡ Some turn → Kept (AreTagsOf IsTag) turn
 happening_keeps now view happening turn k e = happening_keeps_so IsTag word_is_tag now happening turn k e
 
-pub kept_is_tag : (begun : Option Appending) (idling : Option (List ℕ)) → IfSome begun (λ a. IsTag a.tag) → IfSome idling IsTag → IfSome (kept_behind begun idling) IsTag
+pub kept_is_tag : (begun : Option PendingLiteral) (idling : Option (List ℕ)) → IfSome begun (λ a. IsTag a.tag) → IfSome idling IsTag → IfSome (kept_behind begun idling) IsTag
 kept_is_tag None idling b i = i
 kept_is_tag (Some a) idling b i = b
 

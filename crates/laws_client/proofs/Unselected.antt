@@ -14,7 +14,7 @@ use Rattle.imap_grammar.specs.declared.command.Command.{Command}
 use Rattle.imap_grammar.specs.declared.command.Command.TheVariants as commands
 use Rattle.imap_grammar.specs.declared.command.ImapFault.{ImapFault}
 use Rattle.imap_session.specs.declared.standing.Selected.{Selected}
-use Rattle.imap_session.specs.Exchange.{Answer, Appending, Entered, Left, Refused, Event, Exchange, Put, Enter, Leave, Folder, Standing, Turn, closed, having, kept_behind, kept_tag, played, refusal_after, refused, saying, tagged}
+use Rattle.imap_session.specs.Exchange.{Answer, PendingLiteral, Entered, Left, Refused, Event, Exchange, Put, Enter, Leave, Folder, Standing, Turn, closed, having, kept_behind, kept_tag, played, refusal_after, refused, saying, tagged}
 use Rattle.imap_session.specs.Commands.{closing, entering, folder_of, on_command, on_folder, on_found, on_read, opened, says, telling_recent, turn_behind, turn_of, turn_while, wanting, entered_text, barred_at, logs_in_as, on_line}
 use Rattle.imap_session.specs.Store.{Met}
 use Rattle.imap_answers.specs.Answers.{all_flags, opening_text}
@@ -193,11 +193,11 @@ line_none : (now : Standing) (line asks : List ℕ) (answers : List Answer) (tur
     → has_ok true asks turn.bytes ≡ false → (turn.standing.selected ≡ None) ⊎ Kept now turn
 line_none now line asks answers turn h awake a e unsaid = by now.mailing.begun now.idling refl refl awake
   where
-    by : (begun : Option Appending) (idling : Option (List ℕ)) → begun ≡ now.mailing.begun → idling ≡ now.idling → kept_behind begun idling ≡ None → (turn.standing.selected ≡ None) ⊎ Kept now turn
+    by : (begun : Option PendingLiteral) (idling : Option (List ℕ)) → begun ≡ now.mailing.begun → idling ≡ now.idling → kept_behind begun idling ≡ None → (turn.standing.selected ≡ None) ⊎ Kept now turn
     by (Some a) idling p q none = absurd (none-some a.tag (sym none))
     by None (Some tag) p q none = absurd (none-some tag (sym none))
     by None None p q none =
-        let first : turn_while now.idling now line answers ≡ Some turn = subst (λ (o : Option Appending). turn_behind o now line answers ≡ Some turn) (sym p) e in
+        let first : turn_while now.idling now line answers ≡ Some turn = subst (λ (o : Option PendingLiteral). turn_behind o now line answers ≡ Some turn) (sym p) e in
         let second : on_read now (read line) answers ≡ Some turn = subst (λ (o : Option (List ℕ)). turn_while o now line answers ≡ Some turn) (sym q) first in
         read_none now (read line) asks answers turn (read_tagged line) h a second unsaid
 

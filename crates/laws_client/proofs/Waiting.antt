@@ -24,7 +24,7 @@ use Rattle.imap_session.specs.declared.standing.After.TheVariants.{Go, Bye}
 use Rattle.imap_session.specs.declared.standing.After.TheVariants as afters
 use Rattle.imap_session.specs.declared.standing.Selected.{Selected}
 use Rattle.imap_session.specs.Exchange as ex
-use Rattle.imap_session.specs.Exchange.{Answer, Appending, Asked, Call, Dropped, Entered, Looked, Found, Counted, Altered, Expunged, Fed, Left, Refused, Starved, Exchange, Folder, ForDone, ForLiteral, ForNothing, ForVerdict, Mailing, Standing, Turn, Unasked, Waiting, bye, closed, having, played, refusal_after, saying, text_before, unkept, waiting, where_long, refused}
+use Rattle.imap_session.specs.Exchange.{Answer, PendingLiteral, Asked, Call, Dropped, Entered, Looked, Found, Counted, Altered, Expunged, Fed, Left, Refused, Starved, Exchange, Folder, ForDone, ForLiteral, ForNothing, ForVerdict, Mailing, Standing, Turn, Unasked, Waiting, bye, closed, having, played, refusal_after, saying, text_before, unkept, waiting, where_long, refused}
 use Rattle.imap_session.specs.Commands.{appending, asking, closing, coming, completed, counting, entering, expunge_set, fetch_messages, fetching, folder_of, if_writable, is_over, last_number, messages_done, most_unasked, notice, noticing, nowhere, number_named, on_chosen, on_command, on_found, on_idle_line, on_rest, on_text, on_verdict, over, says, showing, store_messages, storing, telling_recent, unlimited, wanting, wanting_for, wrong_state, entered_text, logged_in, login_completed, logs_in_as, on_line, found_in, search_done, search_known, search_messages, searching}
 use Rattle.imap_session.specs.declared.texts.ResponseText.TheVariants as texts
 use Rattle.imap_session.specs.Texts.{response_text}
@@ -54,18 +54,18 @@ WaitsAs A (ex.Leave remove x) = WaitsAs A x
 
 -- who waits for a literal that wasn't asked for may drop its bytes
 abbrev pub Drops : (Waiting → Type 0) → Type 0
-Drops A = (mailbox : Option ℕ) (flags : Flags) (size : ℕ) → A (ForLiteral Unasked mailbox flags size) → A (ForLiteral Dropped None flags size)
+Drops A = (mailbox : Option ℕ) (flags : Flags) (size : ℕ) → A (ForLiteral Unasked purpose size) → A (ForLiteral Dropped None flags size)
 
 -- what is known of messages where it waits so
 abbrev pub waiting_mail : List ℕ → Waiting → Mailing → Mailing
 waiting_mail tag ForDone m = m
-waiting_mail tag (ForLiteral coming mailbox flags size) m = record m { begun = Some (record { tag = tag; mailbox = mailbox; flags = flags; size = size; due = size; text = text_before coming }) }
+waiting_mail tag (ForLiteral coming purpose size) m = record m { begun = Some (record { tag = tag; mailbox = mailbox; flags = flags; size = size; due = size; text = text_before coming }) }
 waiting_mail tag (ForVerdict mailbox flags text) m = record m { number = m.number + 1; sent = Some (record { tag = tag; append = record { message = m.number; mailbox = mailbox; text = text; flags = flags } }) }
 waiting_mail tag ForNothing m = m
 
 waiting_is : (tag : List ℕ) (w : Waiting) (now : Standing) → (waiting tag w now).mailing ≡ waiting_mail tag w now.mailing
 waiting_is tag ForDone now = refl
-waiting_is tag (ForLiteral coming mailbox flags size) now = refl
+waiting_is tag (ForLiteral coming purpose size) now = refl
 waiting_is tag (ForVerdict mailbox flags text) now = refl
 waiting_is tag ForNothing now = refl
 
@@ -107,13 +107,13 @@ long_mail A tag m turn p = by (nat_lt ex.most_in_place (length tag))
 unkept_mail : (A : Waiting → Type 0) → Drops A → (tag : List ℕ) (w : Waiting) (now : Standing) (n : ℕ) → A w → TurnMail A tag now.mailing (unkept tag w now n)
 unkept_mail A drops tag ForDone now zero p = long_mail A tag now.mailing (refused tag now NoMemory) (closed_mail A tag now (refusal_after NoMemory))
 unkept_mail A drops tag ForDone now (suc n) p = tt
-unkept_mail A drops tag (ForLiteral Asked mailbox flags size) now zero p = long_mail A tag now.mailing (refused tag now NoMemory) (closed_mail A tag now (refusal_after NoMemory))
-unkept_mail A drops tag (ForLiteral Asked mailbox flags size) now (suc n) p = tt
-unkept_mail A drops tag (ForLiteral Unasked mailbox flags size) now zero p = inr (ForLiteral Dropped None flags size, drops mailbox flags size p, refl)
-unkept_mail A drops tag (ForLiteral Unasked mailbox flags size) now (suc zero) p = long_mail A tag now.mailing _ (inl refl)
-unkept_mail A drops tag (ForLiteral Unasked mailbox flags size) now (suc (suc n)) p = tt
-unkept_mail A drops tag (ForLiteral Dropped mailbox flags size) now zero p = tt
-unkept_mail A drops tag (ForLiteral Dropped mailbox flags size) now (suc n) p = tt
+unkept_mail A drops tag (ForLiteral Asked purpose size) now zero p = long_mail A tag now.mailing (refused tag now NoMemory) (closed_mail A tag now (refusal_after NoMemory))
+unkept_mail A drops tag (ForLiteral Asked purpose size) now (suc n) p = tt
+unkept_mail A drops tag (ForLiteral Unasked purpose size) now zero p = inr (ForLiteral Dropped None flags size, drops mailbox flags size p, refl)
+unkept_mail A drops tag (ForLiteral Unasked purpose size) now (suc zero) p = long_mail A tag now.mailing _ (inl refl)
+unkept_mail A drops tag (ForLiteral Unasked purpose size) now (suc (suc n)) p = tt
+unkept_mail A drops tag (ForLiteral Dropped purpose size) now zero p = tt
+unkept_mail A drops tag (ForLiteral Dropped purpose size) now (suc n) p = tt
 unkept_mail A drops tag (ForVerdict mailbox flags text) now zero p = tt
 unkept_mail A drops tag (ForVerdict mailbox flags text) now (suc n) p = tt
 unkept_mail A drops tag ForNothing now zero p = tt
@@ -312,8 +312,8 @@ in_storing A store view done p (uid ∷ uids) gone =
 
 -- an APPEND waits for the literal that it announced, for the mailbox that it named
 abbrev pub ForItsLiteral : Option ℕ → Append → Waiting → Type 0
-ForItsLiteral found append (ForLiteral Dropped mailbox flags size) = Unit {0}
-ForItsLiteral found append (ForLiteral coming mailbox flags size) = (mailbox ≡ found) × (flags ≡ append.flags) × (size ≡ append.literal.size)
+ForItsLiteral found append (ForLiteral Dropped purpose size) = Unit {0}
+ForItsLiteral found append (ForLiteral coming purpose size) = (mailbox ≡ found) × (flags ≡ append.flags) × (size ≡ append.literal.size)
 ForItsLiteral found append ForNothing = Unit {0}
 ForItsLiteral found append w = ⊥
 
@@ -391,7 +391,7 @@ done_mail : (tag : List ℕ) (m next : Mailing) → IsMail ForItsDone tag m next
 done_mail tag m next (inl e) = e
 done_mail tag m next (inr (ForDone, p, e)) = e
 done_mail tag m next (inr (ForNothing, p, e)) = e
-done_mail tag m next (inr (ForLiteral coming mailbox flags size, p, e)) = absurd p
+done_mail tag m next (inr (ForLiteral coming purpose size, p, e)) = absurd p
 done_mail tag m next (inr (ForVerdict mailbox flags text, p, e)) = absurd p
 
 done_drops : Drops ForItsDone
@@ -437,25 +437,25 @@ pub verdict_mail : (tag : List ℕ) (now : Standing) (selected : Option Selected
 verdict_mail tag now selected mailbox verdict answers turn e = so_mail tag now (on_verdict selected mailbox verdict) answers turn (verdict_waits selected mailbox verdict) e
 
 -- behind a literal it waits for the verdict on that message
-abbrev pub ForItsVerdict : Appending → Bool → Waiting → Type 0
+abbrev pub ForItsVerdict : PendingLiteral → Bool → Waiting → Type 0
 ForItsVerdict a empty (ForVerdict mailbox flags text) = (a.mailbox ≡ Some mailbox) × (flags ≡ a.flags) × (a.text ≡ Some text) × (empty ≡ true)
 ForItsVerdict a empty w = ⊥
 
-verdict_drops : (a : Appending) (empty : Bool) → Drops (ForItsVerdict a empty)
+verdict_drops : (a : PendingLiteral) (empty : Bool) → Drops (ForItsVerdict a empty)
 verdict_drops a empty mailbox flags size p = absurd p
 
 over_so : (A : Waiting → Type 0) (most : Option ℕ) → WaitsAs A (over most)
 over_so A None = tt
 over_so A (Some most) = tt
 
-text_waits : (mailing : Mailing) (a : Appending) (empty : Bool) (text : List ℕ) (mailbox : ℕ) → a.mailbox ≡ Some mailbox → a.text ≡ Some text → empty ≡ true → WaitsAs (ForItsVerdict a empty) (on_text mailing a text mailbox)
+text_waits : (mailing : Mailing) (a : PendingLiteral) (empty : Bool) (text : List ℕ) (mailbox : ℕ) → a.mailbox ≡ Some mailbox → a.text ≡ Some text → empty ≡ true → WaitsAs (ForItsVerdict a empty) (on_text mailing a text mailbox)
 text_waits mailing a empty text mailbox m t e =
     let A : Waiting → Type 0 = ForItsVerdict a empty in
     in_either A (is_over mailing.most a.size) (over mailing.most) _ (over_so A mailing.most)
     (in_either A (list_any (λ b. b == 0) text) (says (response_text texts.NulByte)) _ tt
     (in_either A (nat_le last_number mailing.number) (says (response_text texts.MailboxSpent)) (wanting (ex.Wait [] (ForVerdict mailbox a.flags text))) tt (m, refl, t, e)))
 
-rest_waits : (mailing : Mailing) (a : Appending) (empty : Bool) → WaitsAs (ForItsVerdict a empty) (on_rest mailing a empty)
+rest_waits : (mailing : Mailing) (a : PendingLiteral) (empty : Bool) → WaitsAs (ForItsVerdict a empty) (on_rest mailing a empty)
 rest_waits mailing a empty = by_text a.text refl
   where
     by_mailbox : (text : List ℕ) → a.text ≡ Some text → empty ≡ true → (found : Option ℕ) → a.mailbox ≡ found → WaitsAs (ForItsVerdict a empty) (on_found (on_text mailing a text) nowhere found)
@@ -470,6 +470,6 @@ rest_waits mailing a empty = by_text a.text refl
     by_text None t = tt
     by_text (Some text) t = by_empty text t empty refl
 
-pub rest_mail : (now : Standing) (mailing : Mailing) (a : Appending) (empty : Bool) (answers : List Answer) (turn : Turn) → played a.tag now (on_rest mailing a empty) answers ≡ Some turn → IsMail (ForItsVerdict a empty) a.tag now.mailing turn.standing.mailing
+pub rest_mail : (now : Standing) (mailing : Mailing) (a : PendingLiteral) (empty : Bool) (answers : List Answer) (turn : Turn) → played a.tag now (on_rest mailing a empty) answers ≡ Some turn → IsMail (ForItsVerdict a empty) a.tag now.mailing turn.standing.mailing
 rest_mail now mailing a empty answers turn e =
     some_mail (ForItsVerdict a empty) a.tag now.mailing _ turn (played_mail (ForItsVerdict a empty) (verdict_drops a empty) a.tag now (on_rest mailing a empty) answers (rest_waits mailing a empty)) e

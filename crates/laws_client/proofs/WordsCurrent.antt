@@ -12,7 +12,7 @@ use Rattle.imap_grammar.specs.Reading.{is_done}
 use Rattle.imap_grammar.specs.declared.command.Command.TheVariants as commands
 use Rattle.imap_session.specs.declared.standing.After.TheVariants.{Go}
 use Rattle.imap_session.specs.declared.standing.Selected.{Selected}
-use Rattle.imap_session.specs.Exchange.{Answer, Appending, Counted, Refused, Count, Done, Feed, Sent, Standing, Turn, having, is_idling, kept_behind, kept_tag, played, refusal_text, refused}
+use Rattle.imap_session.specs.Exchange.{Answer, PendingLiteral, Counted, Refused, Count, Done, Feed, Sent, Standing, Turn, having, is_idling, kept_behind, kept_tag, played, refusal_text, refused}
 use Rattle.imap_session.specs.Commands.{appended_words, completed, on_idle_line, on_verdict, refused_text, says, showing, turn_behind, turn_of, turn_while, turn_with, unlimited, without_begun, without_sent}
 use Rattle.imap_session.specs.Store.{Met}
 use Rattle.laws_client.specs.Beliefs.{IsRight}
@@ -124,19 +124,19 @@ kept_current k n now line selected w answers turn v K t there tag kept e met ok 
   where
     while : (idling : Option (List ℕ)) → now.idling ≡ idling → now.mailing.begun ≡ None → IsCurrent v n
     while None is none =
-        absurd (none-some tag (sym is ∙ ap (λ (b : Option Appending). kept_behind b now.idling) (sym none) ∙ kept))
+        absurd (none-some tag (sym is ∙ ap (λ (b : Option PendingLiteral). kept_behind b now.idling) (sym none) ∙ kept))
     while (Some i) is none =
-        let first : turn_while now.idling now line answers ≡ Some turn = subst (λ (o : Option Appending). turn_behind o now line answers ≡ Some turn) none e in
+        let first : turn_while now.idling now line answers ≡ Some turn = subst (λ (o : Option PendingLiteral). turn_behind o now line answers ≡ Some turn) none e in
         let second : turn_while (Some i) now line answers ≡ Some turn = subst (λ (o : Option (List ℕ)). turn_while o now line answers ≡ Some turn) is first in
         let third : played i (record now { idling = None }) (on_idle_line (Some selected) line) answers ≡ Some turn =
         subst (λ (o : Option Selected). played i (record now { idling = None }) (on_idle_line o line) answers ≡ Some turn) there second in
         idle_line_current k n i line selected (record now { idling = None }) w answers turn v K (subst (λ (o : Option (List ℕ)). IfSome o IsWord) is t.0) third met ok
 
-    behind : (begun : Option Appending) → now.mailing.begun ≡ begun → IsCurrent v n
+    behind : (begun : Option PendingLiteral) → now.mailing.begun ≡ begun → IsCurrent v n
     behind None is = while now.idling refl is
     behind (Some a) is =
-        let first : turn_behind (Some a) now line answers ≡ Some turn = subst (λ (o : Option Appending). turn_behind o now line answers ≡ Some turn) is e in
-        let word : IsWord a.tag = subst (λ (o : Option Appending). IfSome o (λ (x : Appending). IsWord x.tag)) is t.1 in
+        let first : turn_behind (Some a) now line answers ≡ Some turn = subst (λ (o : Option PendingLiteral). turn_behind o now line answers ≡ Some turn) is e in
+        let word : IsWord a.tag = subst (λ (o : Option PendingLiteral). IfSome o (λ (x : PendingLiteral). IsWord x.tag)) is t.1 in
         absurd (never_turn _ turn (rest_fine starts_ok ok_spares now.mailing a (length line == 0) a.tag word (without_begun now) answers) first ok)
 
 is_words : Told → List ℕ → Type 0

@@ -10,7 +10,7 @@ use Rattle.workers_sync.specs.declared.courier.Lost.TheVariants as lost
 use Rattle.imap_session.specs.declared.standing.After.{After}
 use Rattle.imap_session.specs.declared.standing.After.TheVariants.{Bye, Submit}
 use Rattle.imap_session.specs.declared.standing.Append.{Append}
-use Rattle.imap_session.specs.Exchange.{Appending, Sent, Standing, kept_tag, may_send, waits_begun, waits_idling, waits_sent}
+use Rattle.imap_session.specs.Exchange.{PendingLiteral, Sent, Standing, kept_tag, may_send, waits_begun, waits_idling, waits_sent}
 use Rattle.imap_session.specs.Store.{AnswersVerdict}
 use Rattle.imap_session.specs.declared.connection.Progress.{Progress}
 use Rattle.imap_session.specs.Dialogue as dialogue
@@ -31,10 +31,10 @@ more_carried P Q R carried more first second done h = subst R (append_assoc done
 -- ---- what a session waits for
 
 -- what a client may send, by the parts of a standing that say it
-abbrev sends : Bool → Option Sent → Option Appending → Option (List ℕ) → After
+abbrev sends : Bool → Option Sent → Option PendingLiteral → Option (List ℕ) → After
 sends ended sent begun idling = if ended then Bye else waits_sent sent (waits_begun begun (waits_idling idling))
 
-follows : (ended : Bool) (sent : Option Sent) (begun : Option Appending) (idling : Option (List ℕ)) → ended ≡ false → sent ≡ None → may_follow (sends ended sent begun idling) ≡ true
+follows : (ended : Bool) (sent : Option Sent) (begun : Option PendingLiteral) (idling : Option (List ℕ)) → ended ≡ false → sent ≡ None → may_follow (sends ended sent begun idling) ≡ true
 follows true sent begun idling going unsent = absurd (let x : true ≡ false = going in cc)
 follows false (Some s) begun idling going unsent = absurd (let x : Some s ≡ None = unsent in cc)
 follows false None None None going unsent = refl
@@ -45,7 +45,7 @@ follows false None (Some a) idling going unsent = refl
 pub takes_more_now : (now : Standing) → now.ended ≡ false → now.mailing.sent ≡ None → takes_more now ≡ true
 takes_more_now now going unsent = follows now.ended now.mailing.sent now.mailing.begun now.idling going unsent
 
-stops : (ended : Bool) (sent : Option Sent) (begun : Option Appending) (idling : Option (List ℕ)) → sends ended sent begun idling ≢ Submit → (may_follow (sends ended sent begun idling) ≡ true) ⊎ (ended ≡ true)
+stops : (ended : Bool) (sent : Option Sent) (begun : Option PendingLiteral) (idling : Option (List ℕ)) → sends ended sent begun idling ≢ Submit → (may_follow (sends ended sent begun idling) ≡ true) ⊎ (ended ≡ true)
 stops true sent begun idling not = inr refl
 stops false (Some s) begun idling not = absurd (not refl)
 stops false None None None not = inl refl

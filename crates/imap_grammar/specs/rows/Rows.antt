@@ -409,10 +409,6 @@ unselect : read (codes "a4 UNSELECT") ≡ Ok (codes "a4", say.Unselect)
 unfolding read
 unselect = refl
 
-authenticate : read (codes "x AUTHENTICATE") ≡ Ok (codes "x", say.Authenticate)
-unfolding read
-authenticate = refl
-
 start_tls : read (codes "x STARTTLS") ≡ Ok (codes "x", say.StartTls)
 unfolding read
 start_tls = refl

@@ -2,17 +2,31 @@
 use Rattle.std.specs.Prelude.{◌≤◌, min, IfSome}
 use Rattle.std.specs.Option.{option_map}
 use Rattle.std.specs.Vec.{vec_capacity}
-use Rattle.imap_session.specs.declared.mailing.Appending as begun
+use Rattle.imap_session.specs.declared.mailing.PendingLiteral as begun
 use Rattle.imap_session.specs.declared.mailing.Sent as sent
-use Rattle.imap_session.specs.Exchange.{Appending, Sent}
+use Rattle.imap_session.specs.declared.mailing.Purpose as purposes
+use Rattle.imap_session.specs.declared.mailing.Purpose.TheVariants as said
+use Rattle.imap_session.specs.Commands.{most_line}
+use Rattle.imap_session.specs.Exchange.{Argument, Message, PendingLiteral, Purpose, Response, Sent}
 use Rattle.imap_session.specs.Store.{most_first_room}
 
-abbrev pub appending_of : begun.Appending → Appending
-appending_of a = record { tag = a.tag; mailbox = a.mailbox; flags = a.flags; size = a.size; due = a.due; text = option_map (λ t. t.items) a.text }
+abbrev pub purpose_of : purposes.Purpose → Purpose
+purpose_of (said.Message mailbox flags) = Message mailbox flags
+purpose_of (said.Argument line) = Argument line.items
+purpose_of (said.Response line) = Response line.items
+
+abbrev pub pending_of : begun.PendingLiteral → PendingLiteral
+pending_of a = record { tag = a.tag; purpose = purpose_of a.purpose; size = a.size; due = a.due; text = option_map (λ t. t.items) a.text }
 
 abbrev pub sent_of : sent.Sent → Sent
 sent_of s = record { tag = s.tag; append = s.append }
 
--- for the first bytes of the text, where one is kept, room was made before they came
-abbrev pub HasFirstRoom : begun.Appending → Type 0
-HasFirstRoom a = IfSome a.text (λ text. min a.size most_first_room ≤ vec_capacity text)
+-- a line that goes on has room for as much as a line may have
+abbrev pub HasLineRoom : purposes.Purpose → Type 0
+HasLineRoom (said.Message mailbox flags) = Unit {0}
+HasLineRoom (said.Argument line) = most_line ≤ vec_capacity line
+HasLineRoom (said.Response line) = most_line ≤ vec_capacity line
+
+-- for the first bytes of the text, where one is kept, room was made before they came, and for the line that goes on behind it
+abbrev pub HasFirstRoom : begun.PendingLiteral → Type 0
+HasFirstRoom a = IfSome a.text (λ text. (min a.size most_first_room ≤ vec_capacity text) × HasLineRoom a.purpose)

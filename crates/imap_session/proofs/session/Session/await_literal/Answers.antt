@@ -1,5 +1,5 @@
 use Rattle.std.proofs.Common.{◌++◌, ◌∙◌, ap, refl, List, ℕ, Some}
-use Rattle.imap_session.specs.Exchange.{Asked, ForLiteral, continuing}
+use Rattle.imap_session.specs.Exchange.{Asked, ForLiteral, Message, continuing}
 use Rattle.imap_session.specs.Commands.{asking, wanting}
 use Rattle.imap_session.proofs.Appends.{begun_again, leads_starved, leads_wanting_waits, said_under}
 use Rattle.imap_session.proofs.session.Session.await_literal.Goals as goal
@@ -23,7 +23,7 @@ returns-in_default-begin_text-clause-leads c =
 pub returns-clause-leads : goal.returns-clause-leads
 returns-clause-leads c =
     let a = c.args.append.now in
-    rw c.begin_literal.ensures.waits (leads_wanting_waits c.args.response.tag (continuing (response_text texts.Ready)) (ForLiteral Asked (Some c.args.mailbox) a.flags a.literal.size) c.args.self.now _ _ c.args.response.text c.put_continuing.new.out.items refl
+    rw c.begin_literal.ensures.waits (leads_wanting_waits c.args.response.tag (continuing (response_text texts.Ready)) (ForLiteral Asked (Message (Some c.args.mailbox) a.flags) a.literal.size) c.args.self.now _ _ c.args.response.text c.put_continuing.new.out.items refl
     (c.put_continuing.ensures.text ∙ ap (λ (t : List ℕ). t ++ continuing (response_text texts.Ready)) c.release-tag.ensures.text)
-    (c.begin_literal.ensures.begun ∙ begun_again {s = c.args.self.now} Asked (Some c.args.mailbox) (Some c.args.mailbox) a.flags a.literal.size c.in-Ok.own_tag c.args.response.tag (Some c.in-Ok-begin_text.text.items) refl (c.in-Ok.ensures.ok ∙ c.release-tag.ensures.tag)
+    (c.begin_literal.ensures.begun ∙ begun_again {s = c.args.self.now} Asked (Message (Some c.args.mailbox) a.flags) (Message (Some c.args.mailbox) a.flags) a.literal.size c.in-Ok.own_tag c.args.response.tag (Some c.in-Ok-begin_text.text.items) refl (c.in-Ok.ensures.ok ∙ c.release-tag.ensures.tag)
     (ap (λ (t : List ℕ). Some t) c.in-Ok-begin_text.ensures.empty) refl))

@@ -1,79 +1,11 @@
-use Rattle.std.proofs.Common.{◌≡◌, ◌++◌, Err, true, false, List, Option, Some, ℕ, Ok, ◌∙◌, ap, subst, sym}
-use Rattle.imap_grammar.specs.Reading.{read}
-use Rattle.imap_session.specs.declared.standing.Profile.{Profile}
-use Rattle.imap_session.specs.inner.Appends.{Leads}
-use Rattle.imap_session.specs.Response.{Response}
-use Rattle.imap_session.specs.Commands.{appending, barred_at, fault_text, logs_in_as}
-use Rattle.imap_session.specs.inner.Store.{first_line}
-use Rattle.imap_session.proofs.Ending.{plays_first_line}
-use Rattle.imap_session.proofs.Lines.{IsTaken, answers_append, answers_barred, answers_command, answers_fault, answers_idle, answers_login, is_taken}
-use Rattle.std.specs.Option.{option_copied}
-use Rattle.imap_session.specs.Exchange.{tagged}
-use Rattle.imap_session.specs.Texts.{response_text}
-use Rattle.imap_session.specs.declared.texts.ResponseText.TheVariants as texts
-use Rattle.imap_grammar.specs.declared.command.Verb.TheVariants as verbs
+use Rattle.std.proofs.Common.{List, ℕ, subst}
+use Rattle.imap_session.specs.inner.Lines.{AnswersText}
+use Rattle.imap_session.proofs.Lines.{awake_answers}
 use Rattle.imap_session.proofs.session.Session.awake_line.Goals as goal
 
-pub returns-in-Err-clause-answered : goal.returns-in-Err-clause-answered
-returns-in-Err-clause-answered g c =
-    let found : read c.args.line.now ≡ Err c.in-Err.fault = sym c.read_line.ensures.exact ∙ c.in-Err.is in
-    let said : fault_text c.profile.result c.in-Err.fault ≡ fault_text c.args.self.now.profile c.in-Err.fault = ap (λ (p : Profile). fault_text p c.in-Err.fault) c.profile.ensures in
-    let wrote : c.put_fault.new.out.items ≡ c.args.out.now.items ++ fault_text c.args.self.now.profile c.in-Err.fault = rw (c.reserve.ensures.items, said) at c.put_fault.ensures.text in
-    answers_fault g.S.Store.step c.args.self.now c.args.line.now c.in-Err.fault c.args.store.now c.args.out.now.items c.put_fault.new.out.items c.requires.alone c.requires.awake found wrote
-
-pub returns-then-logs_in_as-clause-answered : goal.returns-then-logs_in_as-clause-answered
-returns-then-logs_in_as-clause-answered g c =
+pub returns-clause-answered : goal.returns-clause-answered
+returns-clause-answered g c =
     let now = c.args.self.now in
-    let found : read c.args.line.now ≡ Ok (c.in-Ok.tag, c.in-Ok.command) = sym c.read_line.ensures.exact ∙ c.in-Ok.is in
-    let right : logs_in_as now.login c.in-Ok.command ≡ true = ap (λ (l : Option (List ℕ)). logs_in_as l c.in-Ok.command) (sym c.awaited.ensures) ∙ sym c.logs_in_as.ensures ∙ c.if-logs_in_as.true in
-    let wrote : c.log_in.new.out.items ≡ c.args.out.now.items ++ tagged c.in-Ok.tag (response_text (texts.Completed verbs.Login)) = rw (c.reserve.ensures.items, c.as_bytes-tag.ensures) at c.log_in.ensures.text in
-    rw c.log_in.ensures.after
-    (answers_login g.S.Store.step now c.log_in.new.self c.args.line.now c.in-Ok.tag c.in-Ok.command c.args.store.now c.args.out.now.items c.log_in.new.out.items c.requires.alone c.requires.awake found right c.log_in.ensures.standing wrote)
-
-pub returns-in-Some-clause-answered : goal.returns-in-Some-clause-answered
-returns-in-Some-clause-answered g c =
-    let now = c.args.self.now in
-    let found : read c.args.line.now ≡ Ok (c.in-Ok.tag, c.in-Ok.command) = sym c.read_line.ensures.exact ∙ c.in-Ok.is in
-    let other : logs_in_as now.login c.in-Ok.command ≡ false = ap (λ (l : Option (List ℕ)). logs_in_as l c.in-Ok.command) (sym c.awaited.ensures) ∙ sym c.logs_in_as.ensures ∙ c.if-logs_in_as.false in
-    let bars : barred_at now.login now.profile c.in-Ok.command ≡ Some c.in-Some.text =
-    ap (λ (l : Option (List ℕ)). barred_at l now.profile c.in-Ok.command) (sym c.awaited-in-Ok.ensures) ∙ ap (λ (p : Profile). barred_at (option_copied c.awaited-in-Ok.result) p c.in-Ok.command) (sym c.profile-in-Ok.ensures) ∙ sym c.barred_at.ensures ∙ c.in-Some.is in
-    let wrote : c.put_last.new.out.items ≡ c.args.out.now.items ++ tagged c.in-Ok.tag (response_text c.in-Some.text) = rw (c.reserve.ensures.items, c.as_bytes-tag.ensures) at c.put_last.ensures in
-    answers_barred g.S.Store.step now c.args.line.now c.in-Ok.tag c.in-Ok.command c.in-Some.text c.args.store.now c.args.out.now.items c.put_last.new.out.items c.requires.alone c.requires.awake found other bars wrote
-
-pub returns-then-is_idle-clause-answered : goal.returns-then-is_idle-clause-answered
-returns-then-is_idle-clause-answered g c =
-    let now = c.args.self.now in
-    let response : Response = c.new-response-then-is_idle.result in
-    let tag : response.tag ≡ c.in-Ok.tag = ap (λ (r : Response). r.tag) c.new-response-then-is_idle.ensures ∙ c.as_bytes-tag.ensures in
-    let kept : response.text ≡ c.args.out.now.items = ap (λ (r : Response). r.text) c.new-response-then-is_idle.ensures ∙ c.reserve.ensures.items in
-    let found : read c.args.line.now ≡ Ok (response.tag, c.in-Ok.command) = sym c.read_line.ensures.exact ∙ c.in-Ok.is ∙ ap (λ t. Ok (t, c.in-Ok.command)) (sym tag) in
-    let taken : IsTaken now c.in-Ok.command = is_taken now c.in-Ok.command _ _ _ _ _ c.awaited.ensures c.logs_in_as.ensures c.if-logs_in_as.false c.awaited-in-Ok.ensures c.profile-in-Ok.ensures c.barred_at.ensures c.in_default.is in
-    answers_idle g.S.Store.step now c.begin_idling.new.self c.args.line.now response c.in-Ok.command c.args.store.now c.args.out.now.items c.begin_idling.new.out.items c.begin_idling.result
-    c.requires.alone c.requires.awake found taken kept (sym c.is_idle.ensures ∙ c.if-is_idle.true) c.begin_idling.ensures.only c.begin_idling.ensures.begun c.begin_idling.ensures.starved
-
-pub returns-else-is_idle-clause-answered : goal.returns-else-is_idle-clause-answered
-returns-else-is_idle-clause-answered g c =
-    let now = c.args.self.now in
-    let response : Response = c.new-response-in-Ok.result in
-    let tag : response.tag ≡ c.in-Ok.tag = ap (λ (r : Response). r.tag) c.new-response-in-Ok.ensures ∙ c.as_bytes-tag.ensures in
-    let found : read c.args.line.now ≡ Ok (response.tag, c.in-Ok.command) = sym c.read_line.ensures.exact ∙ c.in-Ok.is ∙ ap (λ t. Ok (t, c.in-Ok.command)) (sym tag) in
-    let taken : IsTaken now c.in-Ok.command = is_taken now c.in-Ok.command _ _ _ _ _ c.awaited.ensures c.logs_in_as.ensures c.if-logs_in_as.false c.awaited-in-Ok.ensures c.profile-in-Ok.ensures c.barred_at.ensures c.in_default.is in
-    let kept : response.text ≡ c.args.out.now.items ++ first_line now.profile c.in-Ok.command =
-    ap (λ (r : Response). r.text) c.new-response-in-Ok.ensures ∙ c.put_first_line-first.ensures.line
-    ∙ ap (λ (t : List ℕ). t ++ first_line c.profile-in-Ok-2.result c.in-Ok.command) c.reserve.ensures.items ∙ ap (λ (p : Profile). c.args.out.now.items ++ first_line p c.in-Ok.command) c.profile-in-Ok-2.ensures in
-    let next = record now { selected = c.answer.new.self.selected } in
-    answers_command g.S.Store.step now next c.answer.new.self c.args.line.now response.tag c.in-Ok.command c.args.store.now
-    c.answer.new.store c.args.out.now.items c.answer.new.out.items c.answer.result c.requires.alone c.requires.awake found taken
-    (plays_first_line g.S.Store.step response.tag now next c.in-Ok.command _ _ c.args.out.now.items response.text _ _ kept c.answer.ensures.plays) c.answer.ensures.standing
-
-pub returns-in-Some-append_of-clause-answered : goal.returns-in-Some-append_of-clause-answered
-returns-in-Some-append_of-clause-answered g c =
-    let now = c.args.self.now in
-    let response : Response = c.new-response.result in
-    let tag : response.tag ≡ c.in-Ok.tag = ap (λ (r : Response). r.tag) c.new-response.ensures ∙ c.as_bytes-tag.ensures in
-    let kept : response.text ≡ c.args.out.now.items = ap (λ (r : Response). r.text) c.new-response.ensures ∙ c.reserve.ensures.items in
-    let found : read c.args.line.now ≡ Ok (response.tag, c.in-Ok.command) = sym c.read_line.ensures.exact ∙ c.in-Ok.is ∙ ap (λ t. Ok (t, c.in-Ok.command)) (sym tag) in
-    let taken : IsTaken now c.in-Ok.command = is_taken now c.in-Ok.command _ _ _ _ _ c.awaited.ensures c.logs_in_as.ensures c.if-logs_in_as.false c.awaited-in-Ok.ensures c.profile-in-Ok.ensures c.barred_at.ensures c.in_default.is in
-    let P : List ℕ → Type 0 = λ before. Leads response.tag now (appending now.mailing.most now.folders c.in-Some-append_of.append.now) before c.begin_append.new.out.items c.begin_append.result c.begin_append.new.self in
-    answers_append g.S.Store.step now c.begin_append.new.self c.args.line.now response.tag c.in-Ok.command c.in-Some-append_of.append.now c.args.store.now c.args.out.now.items c.begin_append.new.out.items c.begin_append.result
-    c.requires.alone c.requires.awake found taken c.in-Some-append_of.ensures.some (subst P kept c.begin_append.ensures.leads)
+    let P : List ℕ → Type 0 = λ before. AnswersText g.S.Store.step now c.args.line.now c.args.store.now c.text_line.new.store before c.text_line.new.out.items c.text_line.result c.text_line.new.self in
+    awake_answers g.S.Store.step now c.text_line.new.self c.args.line.now c.args.store.now c.text_line.new.store c.args.out.now.items c.text_line.new.out.items c.text_line.result c.requires.alone c.requires.awake
+    (subst P c.reserve.ensures.items c.text_line.ensures.answered)

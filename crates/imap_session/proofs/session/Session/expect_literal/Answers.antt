@@ -1,5 +1,5 @@
-use Rattle.std.proofs.Common.{◌++◌, ◌∙◌, ap, refl, ℕ, List, None, Some, [], append-nil, subst, sym, ◌<◌, length}
-use Rattle.imap_session.specs.Exchange.{Dropped, ForLiteral, Unasked, bye, most_in_place}
+use Rattle.std.proofs.Common.{◌++◌, ◌∙◌, ap, refl, ℕ, List, Option, None, Some, [], append-nil, subst, sym, ◌<◌, length}
+use Rattle.imap_session.specs.Exchange.{Dropped, ForLiteral, Message, Unasked, bye, most_in_place}
 use Rattle.imap_session.specs.Commands.{coming, number_named}
 use Rattle.imap_session.proofs.Appends.{begun_again, ended_again, leads_dropping, leads_parting, leads_waits}
 use Rattle.imap_session.proofs.session.Session.expect_literal.Goals as goal
@@ -19,9 +19,9 @@ returns-in-Ok-prepared-clause-leads c =
     let a = c.args.append.now in
     let now = c.args.self.now in
     let named = number_named a.name now.folders in
-    rw c.begin_literal.ensures.waits (leads_waits c.args.response.tag [] (ForLiteral Unasked named a.flags a.literal.size) now _ (coming named a.flags a.literal.size) c.args.response.text c.release-tag.new.out.items refl
+    rw c.begin_literal.ensures.waits (leads_waits c.args.response.tag [] (ForLiteral Unasked (Message named a.flags) a.literal.size) now _ (coming named a.flags a.literal.size) c.args.response.text c.release-tag.new.out.items refl
     (c.release-tag.ensures.text ∙ sym (append-nil c.args.response.text))
-    (c.begin_literal.ensures.begun ∙ begun_again {s = now} Unasked c.in-Ok-prepared.mailbox named a.flags a.literal.size c.in-Ok.tag c.args.response.tag (Some c.in-Ok-prepared.text.items) c.in-Ok-prepared.ensures.number
+    (c.begin_literal.ensures.begun ∙ begun_again {s = now} Unasked (Message c.in-Ok-prepared.mailbox a.flags) (Message named a.flags) a.literal.size c.in-Ok.tag c.args.response.tag (Some c.in-Ok-prepared.text.items) (ap (λ (o : Option ℕ). Message o a.flags) c.in-Ok-prepared.ensures.number)
     (c.in-Ok.ensures.ok ∙ c.release-tag.ensures.tag) (ap (λ (t : List ℕ). Some t) c.in-Ok-prepared.ensures.empty) refl))
 
 pub returns-in-Err-clause-leads : goal.returns-in-Err-clause-leads
@@ -29,4 +29,4 @@ returns-in-Err-clause-leads c =
     let a = c.args.append.now in
     let now = c.args.self.now in
     rw c.begin_literal-in-Err.ensures.waits (leads_dropping c.args.response.tag (number_named a.name now.folders) a.flags a.literal.size now _ c.args.response.text c.release-tag.new.out.items c.release-tag.ensures.text
-    (c.begin_literal-in-Err.ensures.begun ∙ begun_again {s = now} Dropped None None a.flags a.literal.size c.in-Ok.tag c.args.response.tag None refl (c.in-Ok.ensures.ok ∙ c.release-tag.ensures.tag) refl refl))
+    (c.begin_literal-in-Err.ensures.begun ∙ begun_again {s = now} Dropped (Message None a.flags) (Message None a.flags) a.literal.size c.in-Ok.tag c.args.response.tag None refl (c.in-Ok.ensures.ok ∙ c.release-tag.ensures.tag) refl refl))

@@ -1,8 +1,8 @@
 use Rattle.std.proofs.Common.{[], ◌++◌, ◌∙◌, ap, append-nil, refl, sym}
 use Rattle.imap_session.specs.contracts.session.Session.{the_view}
 use Rattle.imap_session.specs.Exchange.{ForVerdict, Standing, Wait, tagged}
-use Rattle.imap_session.specs.Commands.{on_rest}
-use Rattle.imap_session.specs.inner.Seen.{appending_of}
+use Rattle.imap_session.specs.Commands.{flags_for, on_rest}
+use Rattle.imap_session.specs.inner.Seen.{pending_of, purpose_of}
 use Rattle.imap_session.proofs.Appends.{leads_says, leads_starved, leads_wanting_waits, submitted_again}
 use Rattle.imap_session.proofs.session.Session.submit.Goals as goal
 use Rattle.imap_session.specs.declared.texts.ResponseText.TheVariants as texts
@@ -12,22 +12,22 @@ pub returns-in-Err-clause-refused : goal.returns-in-Err-clause-refused
 returns-in-Err-clause-refused c before =
     let now = c.args.self.now in
     let same = ap the_view c.self-inside.view_is ∙ c.self.view_is in
-    leads_says c.args.begun.tag (response_text c.in-Err.text) now now (on_rest now.mailing (appending_of c.args.begun) c.args.ends) before (before ++ tagged c.args.begun.tag (response_text c.in-Err.text))
-    (c.in-Err.ensures.says now.mailing (appending_of c.args.begun) (sym (ap (λ (s : Standing). s.mailing.most) same)) (sym (ap (λ (s : Standing). s.mailing.number) same)) refl refl refl)
+    leads_says c.args.begun.tag (response_text c.in-Err.text) now now (on_rest now.mailing (pending_of c.args.begun) c.args.ends) before (before ++ tagged c.args.begun.tag (response_text c.in-Err.text))
+    (c.in-Err.ensures.says now.mailing (pending_of c.args.begun) (sym (ap (λ (s : Standing). s.mailing.most) same)) (sym (ap (λ (s : Standing). s.mailing.number) same)) refl refl refl)
     refl refl
 
 pub returns-in_default-clause-refused : goal.returns-in_default-clause-refused
 returns-in_default-clause-refused c before =
     let now = c.args.self.now in
     let same = ap the_view c.self-inside.view_is ∙ c.self.view_is in
-    leads_starved c.args.begun.tag now now (on_rest now.mailing (appending_of c.args.begun) c.args.ends) (Wait [] (ForVerdict c.in-Ok.mailbox c.args.begun.flags c.in-Ok.text.items)) before (before ++ tagged c.args.begun.tag (response_text texts.OutOfMemory))
-    (c.in-Ok.ensures.ready now.mailing (appending_of c.args.begun) (sym (ap (λ (s : Standing). s.mailing.most) same)) (sym (ap (λ (s : Standing). s.mailing.number) same)) refl refl refl)
+    leads_starved c.args.begun.tag now now (on_rest now.mailing (pending_of c.args.begun) c.args.ends) (Wait [] (ForVerdict c.in-Ok.mailbox (flags_for (purpose_of c.args.begun.purpose)) c.in-Ok.text.items)) before (before ++ tagged c.args.begun.tag (response_text texts.OutOfMemory))
+    (c.in-Ok.ensures.ready now.mailing (pending_of c.args.begun) (sym (ap (λ (s : Standing). s.mailing.most) same)) (sym (ap (λ (s : Standing). s.mailing.number) same)) refl refl refl)
     refl refl
 
 pub returns-in-Ok-new-clause-sent : goal.returns-in-Ok-new-clause-sent
 returns-in-Ok-new-clause-sent c before =
     let now = c.args.self.now in
     let same = ap the_view c.self-inside.view_is ∙ c.self.view_is in
-    leads_wanting_waits c.args.begun.tag [] (ForVerdict c.in-Ok.mailbox c.args.begun.flags c.in-Ok.text.items) now _ (on_rest now.mailing (appending_of c.args.begun) c.args.ends) before before
-    (c.in-Ok.ensures.ready now.mailing (appending_of c.args.begun) (sym (ap (λ (s : Standing). s.mailing.most) same)) (sym (ap (λ (s : Standing). s.mailing.number) same)) refl refl refl)
-    (sym (append-nil before)) (submitted_again c.in-Ok.mailbox c.args.begun.flags c.in-Ok-new.text c.in-Ok.text.items c.args.begun.tag c.in-Ok-new.ensures same)
+    leads_wanting_waits c.args.begun.tag [] (ForVerdict c.in-Ok.mailbox (flags_for (purpose_of c.args.begun.purpose)) c.in-Ok.text.items) now _ (on_rest now.mailing (pending_of c.args.begun) c.args.ends) before before
+    (c.in-Ok.ensures.ready now.mailing (pending_of c.args.begun) (sym (ap (λ (s : Standing). s.mailing.most) same)) (sym (ap (λ (s : Standing). s.mailing.number) same)) refl refl refl)
+    (sym (append-nil before)) (submitted_again c.in-Ok.mailbox (flags_for (purpose_of c.args.begun.purpose)) c.in-Ok-new.text c.in-Ok.text.items c.args.begun.tag c.in-Ok-new.ensures same)
