@@ -1,13 +1,14 @@
 -- What is said of a message that a client appends.
 use Rattle.std.specs.Prelude.{nat_lt, if◌then◌else◌}
 use Rattle.std.proofs.lemmas.Bool.Decides.{nat_tests}
-use Rattle.std.proofs.Common.{◌≡◌, ◌<◌, ◌≤◌, arith, ℕ, Bool, true, false, Option, List, [], ◌∷◌, ◌++◌, None, Some, ap, sym, ◌∙◌, append-nil, length, refl, subst}
+use Rattle.std.proofs.Common.{◌≡◌, ◌<◌, ◌≤◌, ◌+◌, arith, ℕ, Bool, true, false, Option, List, [], ◌∷◌, ◌++◌, None, Some, ap, sym, ◌∙◌, append-nil, length, refl, subst}
 use Rattle.imap_session.specs.declared.standing.After.TheVariants.{Go, Bye, Literal}
-use Rattle.imap_session.specs.Exchange.{Coming, Dropped, Exchange, Folder, Message, Purpose, ForLiteral, ForNothing, ForVerdict, Standing, Starved, Wait, Waiting, after_waiting, bye, most_in_place, played, tagged, text_before, waiting}
+use Rattle.imap_session.specs.Exchange.{Argument, Asked, Coming, Dropped, Exchange, Unasked, continuing, Folder, Message, Purpose, ForLiteral, ForNothing, ForVerdict, Standing, Starved, Wait, Waiting, after_waiting, bye, most_in_place, played, tagged, text_before, waiting}
 use Rattle.change_ring.specs.declared.change.Flags.{Flags}
 use Rattle.imap_grammar.specs.declared.command.Append.{Append}
+use Rattle.imap_grammar.specs.declared.command.Literal.{Literal as Announced}
 use Rattle.imap_session.specs.inner.Appends.{Leads}
-use Rattle.imap_session.specs.Commands.{appending, asking, coming, most_unasked, nowhere, is_over, number_named, on_found, over, says, wanting}
+use Rattle.imap_session.specs.Commands.{appending, asking, awaiting_argument, coming, most_line, most_unasked, nowhere, is_over, number_named, on_found, over, says, wanting}
 use Rattle.imap_session.specs.declared.texts.ResponseText.TheVariants as texts
 use Rattle.imap_session.specs.Texts.{response_text}
 
@@ -49,10 +50,11 @@ leads_wanting_waits tag bytes waits now next x before text e w same =
     subst (λ (n : Standing). Leads tag now x before text (after_waiting waits) n) (sym same)
     ([], bytes ++ [], ap (λ y. played tag now y []) e, w ∙ ap (λ t. before ++ t) (sym (append-nil bytes)))
 
-pub submitted_again : {s now : Standing} (mailbox : ℕ) (flags : Flags) (t u tag : List ℕ) → t ≡ u → s ≡ now
-    → waiting tag (ForVerdict mailbox flags t) s ≡ waiting tag (ForVerdict mailbox flags u) now
-submitted_again {s} {now} mailbox flags t u tag e f =
-    ap (λ (y : List ℕ). waiting tag (ForVerdict mailbox flags y) s) e ∙ ap (λ (x : Standing). waiting tag (ForVerdict mailbox flags u) x) f
+pub submitted_again : {s now : Standing} (mailbox : ℕ) (own flags : Flags) (t u tag : List ℕ) → own ≡ flags → t ≡ u → s ≡ now
+    → waiting tag (ForVerdict mailbox own t) s ≡ waiting tag (ForVerdict mailbox flags u) now
+submitted_again {s} {now} mailbox own flags t u tag same e f =
+    ap (λ (y : Flags). waiting tag (ForVerdict mailbox y t) s) same
+    ∙ ap (λ (y : List ℕ). waiting tag (ForVerdict mailbox flags y) s) e ∙ ap (λ (x : Standing). waiting tag (ForVerdict mailbox flags u) x) f
 
 -- ---- the line of an APPEND
 
@@ -128,3 +130,54 @@ sent_too_big most folders a e big = unasked most folders a e ∙ ap (if_asked mo
 pub sent_fits : (most : Option ℕ) (folders : List Folder) (a : Append) → a.literal.waits ≡ false → a.literal.size ≤ most_unasked → appending most folders a ≡ coming (number_named a.name folders) a.flags a.literal.size
 unfolding if_asked
 sent_fits most folders a e fits = unasked most folders a e ∙ ap (if_asked most a (number_named a.name folders)) (not_less most_unasked a.literal.size fits)
+
+-- ---- a literal that is an argument
+
+argument_at : List ℕ → Announced → Bool → Bool → Bool → Exchange
+argument_at before literal waits long big =
+    if waits
+    then (if long then says (response_text texts.LineTooLong) else wanting (Wait (continuing (response_text texts.Ready)) (ForLiteral Asked (Argument before) literal.size)))
+    else (if big then Wait (bye (response_text texts.LiteralTooBig)) ForNothing else Wait [] (ForLiteral Unasked (Argument before) literal.size))
+
+pub argument_too_long : (before : List ℕ) (literal : Announced) → literal.waits ≡ true → most_line < length before + literal.size → awaiting_argument before literal ≡ says (response_text texts.LineTooLong)
+unfolding argument_at
+argument_too_long before literal w l =
+    ap (λ b. argument_at before literal b (nat_lt most_line (length before + literal.size)) (nat_lt most_unasked literal.size)) w
+    ∙ ap (λ b. argument_at before literal true b (nat_lt most_unasked literal.size)) (less_true most_line (length before + literal.size) l)
+
+pub argument_asked : (before : List ℕ) (literal : Announced) → literal.waits ≡ true → length before + literal.size ≤ most_line
+    → awaiting_argument before literal ≡ wanting (Wait (continuing (response_text texts.Ready)) (ForLiteral Asked (Argument before) literal.size))
+unfolding argument_at
+argument_asked before literal w l =
+    ap (λ b. argument_at before literal b (nat_lt most_line (length before + literal.size)) (nat_lt most_unasked literal.size)) w
+    ∙ ap (λ b. argument_at before literal true b (nat_lt most_unasked literal.size)) (not_less most_line (length before + literal.size) l)
+
+pub argument_too_big : (before : List ℕ) (literal : Announced) → literal.waits ≡ false → most_unasked < literal.size → awaiting_argument before literal ≡ Wait (bye (response_text texts.LiteralTooBig)) ForNothing
+unfolding argument_at
+argument_too_big before literal w l =
+    ap (λ b. argument_at before literal b (nat_lt most_line (length before + literal.size)) (nat_lt most_unasked literal.size)) w
+    ∙ ap (λ b. argument_at before literal false (nat_lt most_line (length before + literal.size)) b) (less_true most_unasked literal.size l)
+
+pub argument_comes : (before : List ℕ) (literal : Announced) → literal.waits ≡ false → literal.size ≤ most_unasked → awaiting_argument before literal ≡ Wait [] (ForLiteral Unasked (Argument before) literal.size)
+unfolding argument_at
+argument_comes before literal w l =
+    ap (λ b. argument_at before literal b (nat_lt most_line (length before + literal.size)) (nat_lt most_unasked literal.size)) w
+    ∙ ap (λ b. argument_at before literal false (nat_lt most_line (length before + literal.size)) b) (not_less most_unasked literal.size l)
+
+-- memory is refused for one that comes unasked
+pub leads_dropping_argument : (tag before_literal : List ℕ) (size : ℕ) (now next : Standing) (x : Exchange) (before text : List ℕ) → x ≡ Wait [] (ForLiteral Unasked (Argument before_literal) size) → text ≡ before
+    → next ≡ waiting tag (ForLiteral Dropped (Argument []) size) now → Leads tag now x before text (Literal size) next
+leads_dropping_argument tag line size now next x before text e w same =
+    subst (λ (n : Standing). Leads tag now x before text (Literal size) n) (sym same)
+    (Starved 0 ∷ [], [], ap (λ y. played tag now y (Starved 0 ∷ [])) e, w ∙ sym (append-nil before))
+
+pub leads_parting_argument : (tag line : List ℕ) (size : ℕ) (now next : Standing) (x : Exchange) (before text : List ℕ) → x ≡ Wait [] (ForLiteral Unasked (Argument line) size) → most_in_place < length tag
+    → text ≡ before ++ bye (response_text texts.ByeOutOfMemory) → next ≡ record now { ended = true } → Leads tag now x before text Bye next
+leads_parting_argument tag line size now next x before text e long w same =
+    subst (λ (n : Standing). Leads tag now x before text Bye n) (sym same) (
+      Starved 1 ∷ [],
+      bye (response_text texts.ByeOutOfMemory) ++ [],
+      ap (λ y. played tag now y (Starved 1 ∷ [])) e
+      ∙ ap (λ (b : Bool). if b then Some (record { events = []; bytes = bye (response_text texts.ByeOutOfMemory) ++ []; after = Bye; standing = record now { ended = true } }) else None) (less_true most_in_place (length tag) long),
+      w ∙ ap (λ t. before ++ t) (sym (append-nil (bye (response_text texts.ByeOutOfMemory)))),
+    )

@@ -23,3 +23,4 @@ pub mod FolderLaws
 pub mod TextLaws
 pub mod Barring
 pub mod Parts
+pub mod PlainLaws

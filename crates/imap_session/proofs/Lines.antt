@@ -1,6 +1,6 @@
 -- Whole lines, answered: a fault, a command, IDLE, and the line that ends it.
 use Rattle.std.proofs.Common.{◌≡◌, ℕ, List, [], ◌∷◌, ◌++◌, Bool, true, false, Option, Some, None, Result, Ok, Err, refl, ap, sym, ◌∙◌, subst, append-nil, if◌then◌else◌, ◌⊎◌, inl, inr, length, codes, ◌<◌, ◌≤◌, ◌==◌}
-use Rattle.std.specs.Prelude.{zero}
+use Rattle.std.specs.Prelude.{zero, IfNone, IfSome, Vec}
 use Rattle.std.proofs.lemmas.Bool.{lt-ltb}
 use Rattle.mailbox.specs.declared.clients.MailFault.{MailFault}
 use Rattle.imap_grammar.specs.declared.command.Command.{Command}
@@ -12,11 +12,11 @@ use Rattle.imap_session.specs.declared.standing.After.TheVariants.{Go, Idle}
 use Rattle.imap_session.specs.declared.standing.SessionFault.{SessionFault}
 use Rattle.imap_session.specs.declared.standing.Profile.{Profile}
 use Rattle.imap_session.specs.declared.standing.Selected.{Selected}
-use Rattle.imap_session.specs.Exchange.{Answer, Argument, Exchange, Message, PendingLiteral, Purpose, Response as ForResponse, Call, Standing, Starved, closed, played, tagged, continuing}
-use Rattle.imap_session.specs.Commands.{awaiting_response, given_up, lacks_part, literal_in, most_line, on_behind, on_joined, on_part, on_rest_of, on_text_line, response_in, wants_response, barred, barred_at, completed, fault_text, logged_in, logs_in_as, on_command, on_found, on_idle_line, on_line, on_read, says, appending, showing, on_rest, turn_behind, turn_of, turn_while, without_begun}
+use Rattle.imap_session.specs.Exchange.{Answer, Argument, Exchange, ForNothing, Wait, bye, Message, PendingLiteral, Purpose, Response as ForResponse, Call, Standing, Starved, closed, played, tagged, continuing}
+use Rattle.imap_session.specs.Commands.{awaiting_response, comes_unasked, given_up, lacks_part, literal_in, most_line, on_behind, on_joined, on_part, on_rest_of, on_text_line, response_in, wants_response, barred, barred_at, completed, fault_text, logged_in, logs_in_as, on_command, on_found, on_idle_line, on_line, on_read, says, appending, showing, on_rest, turn_behind, turn_of, turn_while, without_begun}
 use Rattle.imap_session.specs.Store.{Answers}
-use Rattle.imap_session.specs.inner.Lines.{AnswersJoined, AnswersText, Had, is_message, on_rest_part}
-use Rattle.imap_grammar.specs.Literals.{quoted}
+use Rattle.imap_session.specs.inner.Lines.{AnswersJoined, AnswersText, Had, IsJoined, is_message, on_rest_part}
+use Rattle.imap_grammar.specs.Literals.{announced, quoted}
 use Rattle.imap_grammar.specs.Verbs.{verb_of}
 use Rattle.imap_grammar.specs.declared.command.Verb.{Verb}
 use Rattle.imap_session.proofs.Appends.{less_true, not_less}
@@ -24,6 +24,9 @@ use Rattle.imap_session.specs.Response.{Response}
 use Rattle.imap_session.specs.inner.Store.{Does, Plays, Reaches, after_result, is_idle, last, last_words}
 use Rattle.imap_grammar.specs.declared.command.Append.{Append}
 use Rattle.imap_session.specs.inner.Appends.{Leads}
+use Rattle.imap_session.specs.inner.Seen.{pending_of}
+use Rattle.imap_session.specs.declared.mailing.PendingLiteral as begun
+use Rattle.std.specs.Global.{Global}
 use Rattle.std.specs.Option.{option_map}
 use Rattle.imap_session.proofs.Ending.{moves_still, plays_moved}
 use Rattle.imap_session.proofs.Runs.{reaches_here}
@@ -180,11 +183,11 @@ abbrev pub behind : Standing → PendingLiteral → Standing
 behind now a = record now { mailing = record now.mailing { begun = Some a } }
 
 -- the literal isn't awaited any more
-pub without_again : {now mid : Standing} → now.mailing.begun ≡ None → mid ≡ record now { idling = None } → mid ≡ without_begun now
-without_again {now} {mid} alone same = same ∙ ap (λ (b : Option PendingLiteral). record now { idling = None; mailing = record now.mailing { begun = b } }) alone
+pub without_again : (now mid : Standing) → now.mailing.begun ≡ None → mid ≡ record now { idling = None } → mid ≡ without_begun now
+without_again now mid alone same = same ∙ ap (λ (b : Option PendingLiteral). record now { idling = None; mailing = record now.mailing { begun = b } }) alone
 
 pub already_without : (now : Standing) → now.mailing.begun ≡ None → now.idling ≡ None → without_begun now ≡ now
-already_without now alone awake = sym (without_again {now = now} {mid = now} alone (ap (λ i. record now { idling = i }) awake))
+already_without now alone awake = sym (without_again now now alone (ap (λ i. record now { idling = i }) awake))
 
 message_is : (p : Purpose) (a : PendingLiteral) (now : Standing) (line : List ℕ) (answers : List Answer) → is_message p ≡ true
     → on_rest_of p a now line answers ≡ played a.tag (without_begun now) (on_rest now.mailing a (length line == 0)) answers
@@ -199,7 +202,7 @@ pub message_rest : {S : Type 0} (step : S → Call → Answer → S → Type 0) 
     → Answers step (behind now a) line s s before after how next
 message_rest step now mid next a line s before held after how alone of same at p =
     let P : Standing → List ℕ → Type 0 = λ m front. Leads a.tag m (on_rest m.mailing a (length line == 0)) front after how next in
-    let q : P (without_begun now) before = subst (P (without_begun now)) at (subst (λ (m : Standing). P m held) (without_again alone same) p) in
+    let q : P (without_begun now) before = subst (P (without_begun now)) at (subst (λ (m : Standing). P m held) (without_again now mid alone same) p) in
     record {
       answers = q.0;
       events = [];
@@ -352,3 +355,39 @@ pub says_done : {S : Type 0} (step : S → Call → Answer → S → Type 0) (ta
     → Reaches step tag now now (on_idle_line selected line) (completed commands.Idle) old new before after
 says_done step tag now selected line old new before after e r =
     subst (λ (b : Bool). Reaches step tag now now (if b then showing selected (completed commands.Idle) else says (response_text texts.ExpectedDone)) (completed commands.Idle) old new before after) (sym e) r
+
+-- ---- a line that is no command
+
+pub fault_answered : {S : Type 0} (step : S → Call → Answer → S → Type 0) (now next : Standing) (line : List ℕ) (fault : ImapFault) (s : S) (before after : List ℕ) (how : After) → read line ≡ Err fault
+    → ((tag : List ℕ) (x : Exchange) → literal_in now.profile line fault ≡ Some (tag, x) → Leads tag now x before after how next)
+    → (literal_in now.profile line fault ≡ None → (how ≡ Go) × (next ≡ now) × (after ≡ before ++ fault_text now.profile fault))
+    → AnswersText step now line s s before after how next
+fault_answered step now next line fault s before after how h asks told = by (literal_in now.profile line fault) refl
+  where
+    by : (o : Option (List ℕ × Exchange)) → literal_in now.profile line fault ≡ o → AnswersText step now line s s before after how next
+    by (Some part) e = answers_literal step now next line part.0 part.1 fault s before after how h e (asks part.0 part.1 e)
+    by None e =
+        let k = told e in
+        subst (λ (w : After). AnswersText step now line s s before after w next) (sym k.0) (answers_fault step now next line fault s before after h e k.1 k.2)
+
+-- a line that is given up
+pub given_as : (rest : List ℕ) (told parting : ResponseText) (b : Bool) → comes_unasked (announced rest) ≡ b
+    → given_up rest told parting ≡ (if b then Wait (bye (response_text parting)) ForNothing else says (response_text told))
+given_as rest told parting b e = ap (λ (t : Bool). if t then Wait (bye (response_text parting)) ForNothing else says (response_text told)) e
+
+-- ---- a literal that was taken out of the session
+
+pub taken_again : {s now : Standing} (b : Option begun.PendingLiteral) → s ≡ now → b ≡ None
+    → record s { mailing = record s.mailing { begun = option_map pending_of b } } ≡ record now { mailing = record now.mailing { begun = None } }
+taken_again {s} {now} b e none =
+    ap (λ (o : Option begun.PendingLiteral). record s { mailing = record s.mailing { begun = option_map pending_of o } }) none
+    ∙ ap (λ (x : Standing). record x { mailing = record x.mailing { begun = None } }) e
+
+pub put_back : (now mid : Standing) (a : PendingLiteral) → mid ≡ record now { mailing = record now.mailing { begun = None } } → now.mailing.begun ≡ Some a
+    → record mid { mailing = record mid.mailing { begun = Some a } } ≡ now
+put_back now mid a e is =
+    ap (λ (m : Standing). record m { mailing = record m.mailing { begun = Some a } }) e ∙ ap (λ (b : Option PendingLiteral). record now { mailing = record now.mailing { begun = b } }) (sym is)
+
+pub joined_is : (o : Option (Vec ℕ Global)) (whole : List ℕ) → IfSome o (λ line. line.items ≡ whole) → IfNone o (most_line < length whole) → IsJoined o whole
+joined_is None whole same long = long
+joined_is (Some line) whole same long = same

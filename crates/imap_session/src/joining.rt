@@ -41,7 +41,8 @@ impl Session {
         requires unsent { self.old.mailing.sent ≡ None }
         requires waits { found.literal.waits ≡ true }
         requires fits { vec_len out.old + (length found.tag.now + LAST) ≤ vec_capacity out.old }
-        ensures leads { Leads found.tag.now self.old (awaiting_argument found.before.now found.literal)
+        ensures leads { Leads found.entry.tag.now self.old
+            (awaiting_argument found.entry.before.now found.entry.literal)
             out.old.items out.new.items result self.new }
         ensures folders { self.new.folders ≡ self.old.folders }
         ensures sends { result ≡ may_send self.new }
@@ -51,7 +52,7 @@ impl Session {
             before,
             literal,
         } = found;
-        if literal.size > MOST_LINE as u64 || before.len() as u128 + literal.size as u128 > MOST_LINE as u128 {
+        if before.len() as u128 + literal.size as u128 > MOST_LINE as u128 {
             put_last(tag, ResponseText::LineTooLong, out);
             return After::Go;
         }
@@ -78,7 +79,8 @@ impl Session {
         requires comes { found.literal.waits ≡ false }
         requires size { found.literal.size ≤ 4096 }
         requires fits { vec_len out.old + (length found.tag.now + LAST) ≤ vec_capacity out.old }
-        ensures leads { Leads found.tag.now self.old (awaiting_argument found.before.now found.literal)
+        ensures leads { Leads found.entry.tag.now self.old
+            (awaiting_argument found.entry.before.now found.entry.literal)
             out.old.items out.new.items result self.new }
         ensures folders { self.new.folders ≡ self.old.folders }
         ensures sends { result ≡ may_send self.new }
@@ -107,7 +109,8 @@ impl Session {
         requires alone { self.old.mailing.begun ≡ None }
         requires unsent { self.old.mailing.sent ≡ None }
         requires fits { vec_len out.old + (length found.tag.now + LAST) ≤ vec_capacity out.old }
-        ensures leads { Leads found.tag.now self.old (awaiting_argument found.before.now found.literal)
+        ensures leads { Leads found.entry.tag.now self.old
+            (awaiting_argument found.entry.before.now found.entry.literal)
             out.old.items out.new.items result self.new }
         ensures folders { self.new.folders ≡ self.old.folders }
         ensures sends { result ≡ may_send self.new }

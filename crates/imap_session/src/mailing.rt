@@ -5,7 +5,7 @@ ghost use Rattle.std.specs.Prelude.{◌≡◌, ◌^◌, ◌<◌, ◌≤◌, ◌=
 ghost use Rattle.std.specs.Vec.{vec_capacity};
 ghost use Rattle.std.specs.List.{list_any};
 ghost use Rattle.std.specs.Option.{option_map};
-ghost use Rattle.imap_session.specs.Commands.{is_over, long_rest_text, on_rest, over, says, taking, wanting};
+ghost use Rattle.imap_session.specs.Commands.{flags_for, is_over, long_rest_text, mailbox_for, on_rest, over, says, taking, wanting};
 ghost use Rattle.imap_session.specs.Exchange.{PendingLiteral as PendingSpec, Mailing as MailingSpec, ForVerdict, Wait};
 ghost use Rattle.imap_session.specs.Store.{IsBeyondRoom, most_first_room};
 ghost use Rattle.imap_session.specs.Texts.{response_text};
@@ -208,12 +208,12 @@ pub(crate) fn judge(
 ) -> Result<(u8, Vec<u8>), ResponseText>
     ensures says { IfErr result (λ told. (mailing : MailingSpec) (a : PendingSpec)
         → mailing.most ≡ most → mailing.number ≡ number →
-        a.mailbox ≡ mailbox → a.size ≡ size → a.text ≡ option_map (λ t. t.items) text →
+        mailbox_for a.purpose ≡ mailbox → a.size ≡ size → a.text ≡ option_map (λ t. t.items) text →
         on_rest mailing a empty ≡ says (response_text told)) }
     ensures ready { IfOk result (λ made. (mailing : MailingSpec) (a : PendingSpec)
         → mailing.most ≡ most → mailing.number ≡ number →
-        a.mailbox ≡ mailbox → a.size ≡ size → a.text ≡ option_map (λ t. t.items) text →
-        on_rest mailing a empty ≡ wanting (Wait [] (ForVerdict made.0 a.flags made.1.items))) }
+        mailbox_for a.purpose ≡ mailbox → a.size ≡ size → a.text ≡ option_map (λ t. t.items) text →
+        on_rest mailing a empty ≡ wanting (Wait [] (ForVerdict made.0 (flags_for a.purpose) made.1.items))) }
     ensures numbered { IfOk result (λ made. number < 4294967295) }
 {
     let Some(mut text) = text else {

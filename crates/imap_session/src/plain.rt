@@ -3,7 +3,7 @@
 
 ghost use Rattle.std.specs.Prelude.{◌≡◌, ◌<◌, ◌≤◌, length, is_some, take, Some, None, IfSome};
 ghost use Rattle.std.specs.Option.{option_map};
-ghost use Rattle.imap_session.specs.Plain.{decoded, is_from, is_plain, is_response_of, plain_in, plain_of};
+ghost use Rattle.imap_session.specs.Plain.{decoded, most_decoded, is_from, is_plain, is_response_of, plain_in, plain_of};
 
 use base64::engine::general_purpose::STANDARD;
 use imap_grammar::{Authenticate, Word, cut_at};
@@ -33,7 +33,8 @@ fn room() -> [u8; MOST_DECODED] {
 }
 
 // The bytes that a text is in base64.
-fn decoded<'b>(text: &[u8], room: &'b mut [u8; MOST_DECODED]) -> Option<&'b [u8]>
+fn decoded<'b>(text: &[u8], room: &'b mut [u8]) -> Option<&'b [u8]>
+    requires room { length room.old ≡ most_decoded }
     ensures { option_map (λ b. b.now) result ≡ decoded text.now }
 {
     let Ok(n) = STANDARD.decode_slice(text, room) else {

@@ -54,11 +54,11 @@ impl Session {
     ghost use Rattle.std.specs.Prelude.{◌≡◌, ◌≢◌, ◌==◌, ◌^◌, ◌⊎◌, ◌+◌, ◌<◌, ◌≤◌, ◌++◌, ◌↔◌, ℕ, List, IfErr, IfSome, Ok, take, min, if◌then◌else◌, true, false, [], codes, length, is_some, None, Some, Err, OnOk, OnErr, IfOk, vec_len};
     ghost use Rattle.std.specs.Option.{option_copied, option_map};
     ghost use Rattle.std.specs.Vec.{vec_capacity};
-    ghost use Rattle.imap_session.specs.Exchange.{Answer, Call, Sent as SentSpec, begun_with, kept_tag, Feed, Refused, closed, is_idling, may_send, refusal_text, continuing, tagged};
+    ghost use Rattle.imap_session.specs.Exchange.{Exchange, Sent as SentSpec, begun_with, kept_tag, Feed, Refused, closed, is_idling, may_send, refusal_text, continuing, tagged};
     ghost use Rattle.imap_session.specs.Texts.{response_text};
     ghost use Rattle.imap_session.specs.declared.texts.ResponseText.TheVariants as texts;
     ghost use Rattle.imap_grammar.specs.declared.command.Verb.TheVariants as verbs;
-    ghost use Rattle.imap_session.specs.Commands.{due_of, on_rest, on_verdict, greeting, logged_in, long_line_text, most_changes, on_idle_line, most_line, turn_of_long_line};
+    ghost use Rattle.imap_session.specs.Commands.{due_of, fault_tag, fault_text, literal_in, on_rest, on_verdict, greeting, logged_in, long_line_text, most_changes, on_idle_line, most_line, turn_of_long_line};
     ghost use Rattle.imap_session.specs.inner.Seen.{HasFirstRoom, pending_of, purpose_of, sent_of};
     ghost use Rattle.imap_session.specs.inner.Lines.{AnswersJoined, AnswersText, Had, IsJoined, is_message, on_rest_part};
     ghost use Rattle.imap_grammar.specs.Reading.{read};
@@ -309,10 +309,16 @@ impl Session {
         requires awake { self.old.idling ≡ None }
         requires alone { self.old.mailing.begun ≡ None }
         requires unsent { self.old.mailing.sent ≡ None }
-        requires fits { vec_len out.old + (length line.now + LAST + FIRST) ≤ vec_capacity out.old }
-        ensures answered { {S : Type 0} (step : S → Call → Answer → S → Type 0) (store : S) → read line.now ≡ Err fault.now
-            → AnswersText step self.old line.now store store out.old.items out.new.items result
-            self.new }
+        requires tagged { IfSome (fault_tag fault.now) (λ tag.
+            vec_len out.old + (length tag + LAST) ≤ vec_capacity out.old) }
+        requires fits { vec_len out.old + length (fault_text self.old.profile fault.now)
+            ≤ vec_capacity out.old }
+        ensures asks { (tag : List ℕ) (x : Exchange)
+            → literal_in self.old.profile line.now fault.now ≡ Some (tag, x)
+            → Leads tag self.old x out.old.items out.new.items result self.new }
+        ensures told { literal_in self.old.profile line.now fault.now ≡ None
+            → (result ≡ After.Go) × (self.new ≡ self.old) × (out.new.items
+            ≡ out.old.items ++ fault_text self.old.profile fault.now) }
         ensures folders { self.new.folders ≡ self.old.folders }
         ensures sends { result ≡ may_send self.new }
     {

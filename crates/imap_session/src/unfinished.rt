@@ -40,6 +40,7 @@ pub(crate) struct DueArgument<'a> {
 pub(crate) fn argument_due<'a>(profile: Profile, line: &'a [u8], fault: &'a ImapFault<'_>) -> Option<DueArgument<'a>>
     ensures some { IfSome result (λ found. literal_in profile line.now fault.now
         ≡ Some (found.tag.now, awaiting_argument found.before.now found.literal)) }
+    ensures tag { IfSome result (λ found. fault_tag fault.now ≡ Some found.tag.now) }
     ensures none { IfNone result (literal_in profile line.now fault.now ≡ None) }
 {
     match profile {

@@ -74,3 +74,9 @@ returns-in-Close g c login mailing = rw c.in-Close.is (c.close.ensures c.args.re
 
 pub returns-in-Unselect : goal.returns-in-Unselect
 returns-in-Unselect g c login mailing = rw c.in-Unselect.is (c.unselect.ensures c.args.response.now)
+
+pub returns-in-Id : goal.returns-in-Id
+returns-in-Id g c login mailing tag now was = rw (c.in-Id.is, ← was) (reaches_here g.S.Store.step tag now (completed commands.Id) _ _)
+
+pub returns-in-Enable : goal.returns-in-Enable
+returns-in-Enable g c login mailing tag now was = rw (c.in-Enable.is, ← was) (reaches_here g.S.Store.step tag now (completed commands.Enable) _ _)

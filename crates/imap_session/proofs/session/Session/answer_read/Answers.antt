@@ -1,72 +1,76 @@
-use Rattle.std.proofs.Common.{◌≡◌, ◌++◌, Err, true, false, List, Option, Some, ℕ, Ok, ◌∙◌, ap, subst, sym}
+use Rattle.std.proofs.Common.{◌≡◌, ◌++◌, true, false, List, Option, Some, ℕ, Ok, ◌∙◌, ap, refl, subst, sym}
 use Rattle.imap_grammar.specs.Reading.{read}
+use Rattle.imap_grammar.specs.Verbs.{verb_of}
 use Rattle.imap_session.specs.declared.standing.Profile.{Profile}
 use Rattle.imap_session.specs.inner.Appends.{Leads}
 use Rattle.imap_session.specs.Response.{Response}
-use Rattle.imap_session.specs.Commands.{appending, barred_at, fault_text, logs_in_as}
+use Rattle.imap_session.specs.Commands.{appending, awaiting_response, barred_at, logs_in_as, wants_response}
 use Rattle.imap_session.specs.inner.Store.{first_line}
 use Rattle.imap_session.proofs.Ending.{plays_first_line}
-use Rattle.imap_session.proofs.Lines.{IsTaken, answers_append, answers_barred, answers_command, answers_fault, answers_idle, answers_login, is_taken}
+use Rattle.imap_session.proofs.Lines.{IsTaken, answers_append, answers_barred, answers_challenge, answers_command, answers_idle, answers_login, is_taken}
 use Rattle.std.specs.Option.{option_copied}
 use Rattle.imap_session.specs.Exchange.{tagged}
 use Rattle.imap_session.specs.Texts.{response_text}
 use Rattle.imap_session.specs.declared.texts.ResponseText.TheVariants as texts
-use Rattle.imap_grammar.specs.declared.command.Verb.TheVariants as verbs
-use Rattle.imap_session.proofs.session.Session.awake_line.Goals as goal
+use Rattle.imap_session.proofs.session.Session.answer_read.Goals as goal
+
+pub returns-then-wants_response-clause-answered : goal.returns-then-wants_response-clause-answered
+returns-then-wants_response-clause-answered g c found =
+    let now = c.args.self.now in
+    let wanted : wants_response now.login c.args.command.now ≡ true = ap (λ (l : Option (List ℕ)). wants_response l c.args.command.now) (sym c.awaited.ensures) ∙ sym c.wants_response.ensures ∙ c.if-wants_response.true in
+    answers_challenge g.S.Store.step now c.await_response.new.self c.args.line.now c.args.tag.now c.args.command.now c.args.store.now c.args.out.now.items c.await_response.new.out.items c.await_response.result found wanted c.await_response.ensures.leads
 
 pub returns-then-logs_in_as-clause-answered : goal.returns-then-logs_in_as-clause-answered
-returns-then-logs_in_as-clause-answered g c =
+returns-then-logs_in_as-clause-answered g c found =
     let now = c.args.self.now in
-    let found : read c.args.line.now ≡ Ok (c.args.tag.now, c.args.command.now) = sym c.read_line.ensures.exact ∙ c.in-Ok.is in
-    let right : logs_in_as now.login c.args.command.now ≡ true = ap (λ (l : Option (List ℕ)). logs_in_as l c.args.command.now) (sym c.awaited.ensures) ∙ sym c.logs_in_as.ensures ∙ c.if-logs_in_as.true in
-    let wrote : c.log_in.new.out.items ≡ c.args.out.now.items ++ tagged c.args.tag.now (response_text (texts.Completed verbs.Login)) = rw (c.reserve.ensures.items, c.as_bytes-tag.ensures) at c.log_in.ensures.text in
+    let whole : wants_response now.login c.args.command.now ≡ false = ap (λ (l : Option (List ℕ)). wants_response l c.args.command.now) (sym c.awaited.ensures) ∙ sym c.wants_response.ensures ∙ c.if-wants_response.false in
+    let right : logs_in_as now.login c.args.command.now ≡ true = ap (λ (l : Option (List ℕ)). logs_in_as l c.args.command.now) (sym c.awaited-2.ensures) ∙ sym c.logs_in_as.ensures ∙ c.if-logs_in_as.true in
     rw c.log_in.ensures.after
-    (answers_login g.S.Store.step now c.log_in.new.self c.args.line.now c.args.tag.now c.args.command.now c.args.store.now c.args.out.now.items c.log_in.new.out.items c.requires.alone c.requires.awake found right c.log_in.ensures.standing wrote)
+    (answers_login g.S.Store.step now c.log_in.new.self c.args.line.now c.args.tag.now c.args.command.now c.verb.result c.args.store.now c.args.out.now.items c.log_in.new.out.items found whole right c.verb.ensures c.log_in.ensures.standing c.log_in.ensures.text)
 
 pub returns-in-Some-clause-answered : goal.returns-in-Some-clause-answered
-returns-in-Some-clause-answered g c =
+returns-in-Some-clause-answered g c found =
     let now = c.args.self.now in
-    let found : read c.args.line.now ≡ Ok (c.args.tag.now, c.args.command.now) = sym c.read_line.ensures.exact ∙ c.in-Ok.is in
-    let other : logs_in_as now.login c.args.command.now ≡ false = ap (λ (l : Option (List ℕ)). logs_in_as l c.args.command.now) (sym c.awaited.ensures) ∙ sym c.logs_in_as.ensures ∙ c.if-logs_in_as.false in
+    let whole : wants_response now.login c.args.command.now ≡ false = ap (λ (l : Option (List ℕ)). wants_response l c.args.command.now) (sym c.awaited.ensures) ∙ sym c.wants_response.ensures ∙ c.if-wants_response.false in
+    let other : logs_in_as now.login c.args.command.now ≡ false = ap (λ (l : Option (List ℕ)). logs_in_as l c.args.command.now) (sym c.awaited-2.ensures) ∙ sym c.logs_in_as.ensures ∙ c.if-logs_in_as.false in
     let bars : barred_at now.login now.profile c.args.command.now ≡ Some c.in-Some.text =
-    ap (λ (l : Option (List ℕ)). barred_at l now.profile c.args.command.now) (sym c.awaited-in-Ok.ensures) ∙ ap (λ (p : Profile). barred_at (option_copied c.awaited-in-Ok.result) p c.args.command.now) (sym c.profile-in-Ok.ensures) ∙ sym c.barred_at.ensures ∙ c.in-Some.is in
-    let wrote : c.put_last.new.out.items ≡ c.args.out.now.items ++ tagged c.args.tag.now (response_text c.in-Some.text) = rw (c.reserve.ensures.items, c.as_bytes-tag.ensures) at c.put_last.ensures in
-    answers_barred g.S.Store.step now c.args.line.now c.args.tag.now c.args.command.now c.in-Some.text c.args.store.now c.args.out.now.items c.put_last.new.out.items c.requires.alone c.requires.awake found other bars wrote
+    ap (λ (l : Option (List ℕ)). barred_at l now.profile c.args.command.now) (sym c.awaited-3.ensures) ∙ ap (λ (p : Profile). barred_at (option_copied c.awaited-3.result) p c.args.command.now) (sym c.profile.ensures) ∙ sym c.barred_at.ensures ∙ c.in-Some.is in
+    answers_barred g.S.Store.step now now c.args.line.now c.args.tag.now c.args.command.now c.in-Some.text c.args.store.now c.args.out.now.items c.put_last.new.out.items found whole other bars refl c.put_last.ensures
 
 pub returns-then-is_idle-clause-answered : goal.returns-then-is_idle-clause-answered
-returns-then-is_idle-clause-answered g c =
+returns-then-is_idle-clause-answered g c read_so =
     let now = c.args.self.now in
     let response : Response = c.new-response-then-is_idle.result in
-    let tag : response.tag ≡ c.args.tag.now = ap (λ (r : Response). r.tag) c.new-response-then-is_idle.ensures ∙ c.as_bytes-tag.ensures in
-    let kept : response.text ≡ c.args.out.now.items = ap (λ (r : Response). r.text) c.new-response-then-is_idle.ensures ∙ c.reserve.ensures.items in
-    let found : read c.args.line.now ≡ Ok (response.tag, c.args.command.now) = sym c.read_line.ensures.exact ∙ c.in-Ok.is ∙ ap (λ t. Ok (t, c.args.command.now)) (sym tag) in
-    let taken : IsTaken now c.args.command.now = is_taken now c.args.command.now _ _ _ _ _ c.awaited.ensures c.logs_in_as.ensures c.if-logs_in_as.false c.awaited-in-Ok.ensures c.profile-in-Ok.ensures c.barred_at.ensures c.in_default.is in
+    let tag : response.tag ≡ c.args.tag.now = ap (λ (r : Response). r.tag) c.new-response-then-is_idle.ensures in
+    let kept : response.text ≡ c.args.out.now.items = ap (λ (r : Response). r.text) c.new-response-then-is_idle.ensures in
+    let found : read c.args.line.now ≡ Ok (response.tag, c.args.command.now) = read_so ∙ ap (λ t. Ok (t, c.args.command.now)) (sym tag) in
+    let taken : IsTaken now c.args.command.now = is_taken now c.args.command.now _ _ _ _ _ _ _ c.awaited.ensures c.wants_response.ensures c.if-wants_response.false c.awaited-2.ensures c.logs_in_as.ensures c.if-logs_in_as.false c.awaited-3.ensures c.profile.ensures c.barred_at.ensures c.in_default.is in
     answers_idle g.S.Store.step now c.begin_idling.new.self c.args.line.now response c.args.command.now c.args.store.now c.args.out.now.items c.begin_idling.new.out.items c.begin_idling.result
-    c.requires.alone c.requires.awake found taken kept (sym c.is_idle.ensures ∙ c.if-is_idle.true) c.begin_idling.ensures.only c.begin_idling.ensures.begun c.begin_idling.ensures.starved
+    found taken kept (sym c.is_idle.ensures ∙ c.if-is_idle.true) c.begin_idling.ensures.only c.begin_idling.ensures.begun c.begin_idling.ensures.starved
 
-pub returns-else-is_idle-clause-answered : goal.returns-else-is_idle-clause-answered
-returns-else-is_idle-clause-answered g c =
+pub returns-clause-answered : goal.returns-clause-answered
+returns-clause-answered g c read_so =
     let now = c.args.self.now in
-    let response : Response = c.new-response-in-Ok.result in
-    let tag : response.tag ≡ c.args.tag.now = ap (λ (r : Response). r.tag) c.new-response-in-Ok.ensures ∙ c.as_bytes-tag.ensures in
-    let found : read c.args.line.now ≡ Ok (response.tag, c.args.command.now) = sym c.read_line.ensures.exact ∙ c.in-Ok.is ∙ ap (λ t. Ok (t, c.args.command.now)) (sym tag) in
-    let taken : IsTaken now c.args.command.now = is_taken now c.args.command.now _ _ _ _ _ c.awaited.ensures c.logs_in_as.ensures c.if-logs_in_as.false c.awaited-in-Ok.ensures c.profile-in-Ok.ensures c.barred_at.ensures c.in_default.is in
+    let response : Response = c.new-response-2.result in
+    let tag : response.tag ≡ c.args.tag.now = ap (λ (r : Response). r.tag) c.new-response-2.ensures in
+    let found : read c.args.line.now ≡ Ok (response.tag, c.args.command.now) = read_so ∙ ap (λ t. Ok (t, c.args.command.now)) (sym tag) in
+    let taken : IsTaken now c.args.command.now = is_taken now c.args.command.now _ _ _ _ _ _ _ c.awaited.ensures c.wants_response.ensures c.if-wants_response.false c.awaited-2.ensures c.logs_in_as.ensures c.if-logs_in_as.false c.awaited-3.ensures c.profile.ensures c.barred_at.ensures c.in_default.is in
     let kept : response.text ≡ c.args.out.now.items ++ first_line now.profile c.args.command.now =
-    ap (λ (r : Response). r.text) c.new-response-in-Ok.ensures ∙ c.put_first_line-first.ensures.line
-    ∙ ap (λ (t : List ℕ). t ++ first_line c.profile-in-Ok-2.result c.args.command.now) c.reserve.ensures.items ∙ ap (λ (p : Profile). c.args.out.now.items ++ first_line p c.args.command.now) c.profile-in-Ok-2.ensures in
+    ap (λ (r : Response). r.text) c.new-response-2.ensures ∙ c.put_first_line-first.ensures.line
+    ∙ ap (λ (p : Profile). c.args.out.now.items ++ first_line p c.args.command.now) c.profile-2.ensures in
     let next = record now { selected = c.answer.new.self.selected } in
     answers_command g.S.Store.step now next c.answer.new.self c.args.line.now response.tag c.args.command.now c.args.store.now
-    c.answer.new.store c.args.out.now.items c.answer.new.out.items c.answer.result c.requires.alone c.requires.awake found taken
+    c.answer.new.store c.args.out.now.items c.answer.new.out.items c.answer.result found taken
     (plays_first_line g.S.Store.step response.tag now next c.args.command.now _ _ c.args.out.now.items response.text _ _ kept c.answer.ensures.plays) c.answer.ensures.standing
 
 pub returns-in-Some-append_of-clause-answered : goal.returns-in-Some-append_of-clause-answered
-returns-in-Some-append_of-clause-answered g c =
+returns-in-Some-append_of-clause-answered g c read_so =
     let now = c.args.self.now in
     let response : Response = c.new-response.result in
-    let tag : response.tag ≡ c.args.tag.now = ap (λ (r : Response). r.tag) c.new-response.ensures ∙ c.as_bytes-tag.ensures in
-    let kept : response.text ≡ c.args.out.now.items = ap (λ (r : Response). r.text) c.new-response.ensures ∙ c.reserve.ensures.items in
-    let found : read c.args.line.now ≡ Ok (response.tag, c.args.command.now) = sym c.read_line.ensures.exact ∙ c.in-Ok.is ∙ ap (λ t. Ok (t, c.args.command.now)) (sym tag) in
-    let taken : IsTaken now c.args.command.now = is_taken now c.args.command.now _ _ _ _ _ c.awaited.ensures c.logs_in_as.ensures c.if-logs_in_as.false c.awaited-in-Ok.ensures c.profile-in-Ok.ensures c.barred_at.ensures c.in_default.is in
+    let tag : response.tag ≡ c.args.tag.now = ap (λ (r : Response). r.tag) c.new-response.ensures in
+    let kept : response.text ≡ c.args.out.now.items = ap (λ (r : Response). r.text) c.new-response.ensures in
+    let found : read c.args.line.now ≡ Ok (response.tag, c.args.command.now) = read_so ∙ ap (λ t. Ok (t, c.args.command.now)) (sym tag) in
+    let taken : IsTaken now c.args.command.now = is_taken now c.args.command.now _ _ _ _ _ _ _ c.awaited.ensures c.wants_response.ensures c.if-wants_response.false c.awaited-2.ensures c.logs_in_as.ensures c.if-logs_in_as.false c.awaited-3.ensures c.profile.ensures c.barred_at.ensures c.in_default.is in
     let P : List ℕ → Type 0 = λ before. Leads response.tag now (appending now.mailing.most now.folders c.in-Some-append_of.append.now) before c.begin_append.new.out.items c.begin_append.result c.begin_append.new.self in
     answers_append g.S.Store.step now c.begin_append.new.self c.args.line.now response.tag c.args.command.now c.in-Some-append_of.append.now c.args.store.now c.args.out.now.items c.begin_append.new.out.items c.begin_append.result
-    c.requires.alone c.requires.awake found taken c.in-Some-append_of.ensures.some (subst P kept c.begin_append.ensures.leads)
+    found taken c.in-Some-append_of.ensures.some (subst P kept c.begin_append.ensures.leads)

@@ -1,19 +1,15 @@
-use Rattle.std.proofs.Common.{◌≡◌, ◌∙◌, ◌++◌, ap, refl, List, ℕ}
-use Rattle.imap_session.specs.declared.standing.After.TheVariants.{Go, Submit}
-use Rattle.imap_session.specs.Exchange.{tagged}
+use Rattle.std.proofs.Common.{◌∙◌, ap, sym, None}
+use Rattle.imap_session.specs.Exchange.{Standing}
 use Rattle.imap_session.specs.inner.Seen.{pending_of}
-use Rattle.imap_session.proofs.Lines.{rest_led}
+use Rattle.imap_session.proofs.Lines.{message_rest, part_rest}
 use Rattle.imap_session.proofs.session.Session.rest_line.Goals as goal
-use Rattle.imap_session.specs.Texts.{response_text}
 
-pub returns-in-Ok-clause-answered : goal.returns-in-Ok-clause-answered
-returns-in-Ok-clause-answered c =
-    rest_led c.args.begun.tag (pending_of c.args.begun) _ c.args.self.now c.submit.new.self _ _ c.reserve.new.self.items c.args.out.now.items c.reserve.new.self.items c.reserve.new.self.items Submit
-    c.self.view_is c.is_empty.ensures c.reserve.ensures.items refl (c.in-Ok.ensures.sent c.reserve.new.self.items)
+pub returns-then-is_message-clause-answered : goal.returns-then-is_message-clause-answered
+returns-then-is_message-clause-answered g c =
+    message_rest g.S.Store.step c.args.self.now _ c.message_line.new.self (pending_of c.args.begun) c.args.line.now c.args.store.now c.args.out.now.items c.reserve.new.self.items c.message_line.new.out.items c.message_line.result
+    c.requires.alone (sym c.is_message.ensures ∙ c.if-is_message.true) (ap (λ (s : Standing). record s { idling = None }) c.self.view_is) c.reserve.ensures.items c.message_line.ensures.leads
 
-pub returns-in-Err-clause-answered : goal.returns-in-Err-clause-answered
-returns-in-Err-clause-answered c =
-    let R = c.reserve.new.self.items in
-    let own : c.as_slice-in-Err.result.now ≡ c.in-Err.tag = c.as_slice-in-Err.ensures in
-    rest_led c.args.begun.tag (pending_of c.args.begun) _ c.args.self.now c.submit.new.self _ _ R c.args.out.now.items (R ++ tagged c.in-Err.tag (response_text c.in-Err.text)) c.put_last.new.out.items Go
-    c.self.view_is c.is_empty.ensures c.reserve.ensures.items (c.put_last.ensures ∙ ap (λ (t : List ℕ). R ++ tagged t (response_text c.in-Err.text)) own) (c.in-Err.ensures.refused R)
+pub returns-clause-answered : goal.returns-clause-answered
+returns-clause-answered g c =
+    part_rest g.S.Store.step c.args.self.now _ c.part_line.new.self (pending_of c.args.begun) c.args.line.now c.args.store.now c.part_line.new.store c.args.out.now.items c.reserve.new.self.items c.part_line.new.out.items c.part_line.result
+    c.requires.alone (sym c.is_message.ensures ∙ c.if-is_message.false) (ap (λ (s : Standing). record s { idling = None }) c.self.view_is) c.reserve.ensures.items c.part_line.ensures.answered

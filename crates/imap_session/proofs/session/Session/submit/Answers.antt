@@ -13,7 +13,7 @@ returns-in-Err-clause-refused c before =
     let now = c.args.self.now in
     let same = ap the_view c.self-inside.view_is ∙ c.self.view_is in
     leads_says c.args.begun.tag (response_text c.in-Err.text) now now (on_rest now.mailing (pending_of c.args.begun) c.args.ends) before (before ++ tagged c.args.begun.tag (response_text c.in-Err.text))
-    (c.in-Err.ensures.says now.mailing (pending_of c.args.begun) (sym (ap (λ (s : Standing). s.mailing.most) same)) (sym (ap (λ (s : Standing). s.mailing.number) same)) refl refl refl)
+    (c.in-Err.ensures.says now.mailing (pending_of c.args.begun) (sym (ap (λ (s : Standing). s.mailing.most) same)) (sym (ap (λ (s : Standing). s.mailing.number) same)) (sym c.mailbox-mailbox.ensures) refl refl)
     refl refl
 
 pub returns-in_default-clause-refused : goal.returns-in_default-clause-refused
@@ -21,13 +21,13 @@ returns-in_default-clause-refused c before =
     let now = c.args.self.now in
     let same = ap the_view c.self-inside.view_is ∙ c.self.view_is in
     leads_starved c.args.begun.tag now now (on_rest now.mailing (pending_of c.args.begun) c.args.ends) (Wait [] (ForVerdict c.in-Ok.mailbox (flags_for (purpose_of c.args.begun.purpose)) c.in-Ok.text.items)) before (before ++ tagged c.args.begun.tag (response_text texts.OutOfMemory))
-    (c.in-Ok.ensures.ready now.mailing (pending_of c.args.begun) (sym (ap (λ (s : Standing). s.mailing.most) same)) (sym (ap (λ (s : Standing). s.mailing.number) same)) refl refl refl)
+    (c.in-Ok.ensures.ready now.mailing (pending_of c.args.begun) (sym (ap (λ (s : Standing). s.mailing.most) same)) (sym (ap (λ (s : Standing). s.mailing.number) same)) (sym c.mailbox-mailbox.ensures) refl refl)
     refl refl
 
-pub returns-in-Ok-new-clause-sent : goal.returns-in-Ok-new-clause-sent
-returns-in-Ok-new-clause-sent c before =
+pub returns-clause-sent : goal.returns-clause-sent
+returns-clause-sent c before =
     let now = c.args.self.now in
     let same = ap the_view c.self-inside.view_is ∙ c.self.view_is in
     leads_wanting_waits c.args.begun.tag [] (ForVerdict c.in-Ok.mailbox (flags_for (purpose_of c.args.begun.purpose)) c.in-Ok.text.items) now _ (on_rest now.mailing (pending_of c.args.begun) c.args.ends) before before
-    (c.in-Ok.ensures.ready now.mailing (pending_of c.args.begun) (sym (ap (λ (s : Standing). s.mailing.most) same)) (sym (ap (λ (s : Standing). s.mailing.number) same)) refl refl refl)
-    (sym (append-nil before)) (submitted_again c.in-Ok.mailbox (flags_for (purpose_of c.args.begun.purpose)) c.in-Ok-new.text c.in-Ok.text.items c.args.begun.tag c.in-Ok-new.ensures same)
+    (c.in-Ok.ensures.ready now.mailing (pending_of c.args.begun) (sym (ap (λ (s : Standing). s.mailing.most) same)) (sym (ap (λ (s : Standing). s.mailing.number) same)) (sym c.mailbox-mailbox.ensures) refl refl)
+    (sym (append-nil before)) (submitted_again c.in-Ok.mailbox c.flags-flags.result (flags_for (purpose_of c.args.begun.purpose)) c.in-Ok-new.text c.in-Ok.text.items c.args.begun.tag c.flags-flags.ensures c.in-Ok-new.ensures same)
