@@ -1,6 +1,6 @@
 -- A verb that stands alone: what it says is the command that it is with nothing after it.
 use Rattle.std.proofs.Common.{◌≡◌, ℕ, List}
-use Rattle.std.specs.Prelude.{Option, Some}
+use Rattle.std.specs.Prelude.{Some}
 use Rattle.imap_grammar.specs.Reading.{command_at, if_end}
 use Rattle.imap_grammar.specs.Verbs.{alone}
 use Rattle.imap_grammar.specs.declared.command.Command.{Command}

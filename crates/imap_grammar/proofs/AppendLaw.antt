@@ -31,7 +31,7 @@ pub taken_digits : (bytes : List ℕ) → list_all is_digit (take (prefix_len is
 taken_digits bytes = all_of is_digit is_digit (take (prefix_len is_digit bytes) bytes) (λ b e. e) (many_taken is_digit bytes)
 
 -- the text begins with this byte
-abbrev Opens : ℕ → List ℕ → Type 0
+abbrev pub Opens : ℕ → List ℕ → Type 0
 Opens b bytes = (more : List ℕ) × (bytes ≡ b ∷ more)
 
 -- ---- flags
@@ -176,7 +176,7 @@ record FoundDate (bytes rest : List ℕ) : Type 0 where
   is : GivenDate text
 
 -- a string that begins with a quote is a quoted one
-quoted_only : (value text rest more : List ℕ) → text ++ rest ≡ 34 ∷ more → StringOf is_atom value text → AnyQuoted text
+pub quoted_only : (value text rest more : List ℕ) → text ++ rest ≡ 34 ∷ more → StringOf is_atom value text → AnyQuoted text
 quoted_only value text rest more e (inr q) = (value, q)
 quoted_only value [] rest more e (inl h) = absurd (omega (arith, h.1.0))
 quoted_only value (x ∷ xs) rest more e (inl h) =
@@ -191,7 +191,7 @@ quoted_only value (x ∷ xs) rest more e (inl h) =
     first_same : (x : ℕ) (xs more : List ℕ) → x ∷ xs ≡ 34 ∷ more → x ≡ 34
     first_same x xs more k = ap head_or k
 
-opens_first : (b : ℕ) (bytes : List ℕ) → first_is b bytes ≡ true → Opens b bytes
+pub opens_first : (b : ℕ) (bytes : List ℕ) → first_is b bytes ≡ true → Opens b bytes
 opens_first b bytes e = let k = byte_sound b bytes (drop 1 bytes) (ap (λ (t : Bool). cond t (Some (drop 1 bytes)) None) e) in (drop 1 bytes, k)
 
 date_sound : (bytes rest : List ℕ) → past_date bytes ≡ Some rest → FoundDate bytes rest
@@ -212,7 +212,7 @@ date_sound bytes rest e =
 
 -- ---- the literal
 
-closing : Bool → List ℕ
+unfoldable pub closing : Bool → List ℕ
 closing waits = cond waits (codes "}") (codes "+}")
 
 ends_again : (waits : Bool) (back rest : List ℕ) → back ≡ closing waits → (literal_end (back ++ rest) ≡ Some (waits, rest)) × Stops is_digit (back ++ rest)
@@ -241,7 +241,7 @@ literal_made digits last = Some (record { size = min (number_of digits) most_siz
 sized_at : List ℕ → ℕ → Option (Literal × List ℕ)
 sized_at start n = literal_end (drop n start) >>= literal_made (take n start)
 
-literal_again : (l : Literal) (text rest : List ℕ) → LiteralIs l text → literal_at (text ++ rest) ≡ Some (l, rest)
+pub literal_again : (l : Literal) (text rest : List ℕ) → LiteralIs l text → literal_at (text ++ rest) ≡ Some (l, rest)
 unfolding literal_made sized_at closing
 literal_again l text rest q =
     let digits : List ℕ = q.second.front in
@@ -260,12 +260,12 @@ literal_again l text rest q =
 literal_opens : (l : Literal) (text rest : List ℕ) → LiteralIs l text → Opens 123 (text ++ rest)
 literal_opens l text rest q = (q.back ++ rest, ap (λ t. t ++ rest) (q.parts ∙ ap (λ t. t ++ q.back) q.first))
 
-record FoundLiteral (bytes : List ℕ) (l : Literal) (rest : List ℕ) : Type 0 where
-  text : List ℕ
-  parts : bytes ≡ text ++ rest
-  is : LiteralIs l text
+pub record FoundLiteral (bytes : List ℕ) (l : Literal) (rest : List ℕ) : Type 0 where
+  pub text : List ℕ
+  pub parts : bytes ≡ text ++ rest
+  pub is : LiteralIs l text
 
-literal_sound : (bytes : List ℕ) (x : Literal × List ℕ) → literal_at bytes ≡ Some x → FoundLiteral bytes x.0 x.1
+pub literal_sound : (bytes : List ℕ) (x : Literal × List ℕ) → literal_at bytes ≡ Some x → FoundLiteral bytes x.0 x.1
 unfolding literal_made sized_at closing
 literal_sound bytes x e =
     let a = bind_some (past_byte 123 bytes) (λ start. some_len is_digit start >>= sized_at start) x e in

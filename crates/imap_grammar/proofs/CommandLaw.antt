@@ -15,7 +15,7 @@ use Rattle.envelope.specs.Bytes.{is_space, is_not_space}
 use Rattle.envelope.specs.Grammar.{Many, Some1, Spaces, Gap, Exactly, Keyword, Anything, AfterGap, Joined}
 use Rattle.envelope.specs.Reading.{◌>>=◌}
 use Rattle.imap_grammar.specs.Bytes.{is_atom, is_pattern}
-use Rattle.imap_grammar.specs.Grammar.{GivenDate, GivenFlags, LiteralIs, Name, StringOf, SetIs, ItemsAre, StatusItemIs, Separated, Parenthesized, FlagsAre, operation_word, flags_of, ChangeIs, ArgumentsOf}
+use Rattle.imap_grammar.specs.Grammar.{GivenDate, GivenFlags, LiteralIs, Name, StringOf, SetIs, ItemsAre, StatusItemIs, Separated, Parenthesized, FlagsAre, operation_word, flags_of, ChangeIs, ArgumentsOf, CapabilityNames, IdParameters}
 use Rattle.imap_grammar.specs.Items.{status_item_of}
 use Rattle.imap_grammar.specs.Reading.{word_at, string_at, if_end, in_parentheses, name_alone, fetch_items_at, status_items_in, flags_at, operation_of, change_with, fetch_at, store_at, set_alone, pair_at, status_at, search_at, command_at}
 use Rattle.imap_grammar.specs.Front.{past_gap}
@@ -33,6 +33,8 @@ use Rattle.imap_grammar.specs.declared.command.Store.{Store}
 use Rattle.imap_grammar.specs.declared.command.Command.{Command}
 use Rattle.imap_grammar.specs.declared.command.Command.TheVariants as say
 use Rattle.imap_grammar.proofs.AppendLaw.{AppendIs, append_again, append_sound}
+use Rattle.imap_grammar.proofs.IdLaw.{id_again, id_sound}
+use Rattle.imap_grammar.proofs.NamedWords.{enable_again, enable_sound, authenticate_again, authenticate_regroup, authenticate_sound, authenticate_ungroup}
 use Rattle.imap_grammar.proofs.ChosenLaw.{SearchIs, search_again, search_sound, search_regroup, search_ungroup}
 use Rattle.imap_grammar.specs.declared.command.Search.{Search}
 use Rattle.imap_grammar.specs.declared.command.Append.{Append}
@@ -520,9 +522,7 @@ append_ungroup a rest q =
 pub command_again : (c : Command) (rest : List ℕ) → Joined (ArgumentsOf c) Spaces rest → command_at (verb_of c) rest ≡ Some c
 unfolding PairIs StatusIs FetchIs fetch_made store_made
 command_again (say.Login user password) rest q = pair_again is_atom refl refl say.Login user password rest (pair_regroup is_atom user password rest q)
-command_again (say.Authenticate a) rest q = absurd q.first
-command_again say.Id rest q = absurd q.first
-command_again say.Enable rest q = absurd q.first
+command_again (say.Authenticate a) rest q = authenticate_again a rest (authenticate_regroup a rest q)
 command_again say.StartTls rest q = refl
 command_again (say.Select name) rest q = name_again say.Select name rest (regroup Gap (Name name) Spaces rest q)
 command_again (say.Examine name) rest q = name_again say.Examine name rest (regroup Gap (Name name) Spaces rest q)
@@ -541,6 +541,8 @@ command_again (say.Search s) rest q = search_verb s.by_uid rest ∙ search_again
 command_again (say.Lsub reference pattern) rest q = pair_again is_pattern refl refl say.Lsub reference pattern rest (pair_regroup is_pattern reference pattern rest q)
 command_again (say.Subscribe name) rest q = name_again say.Subscribe name rest (regroup Gap (Name name) Spaces rest q)
 command_again (say.Unsubscribe name) rest q = name_again say.Unsubscribe name rest (regroup Gap (Name name) Spaces rest q)
+command_again say.Enable rest q = enable_again rest (regroup Gap CapabilityNames Spaces rest q)
+command_again say.Id rest q = id_again rest (regroup Gap IdParameters Spaces rest q)
 command_again c rest q = nothing_again c rest q
 
 -- a command of this verb, and what it is spelled with
@@ -618,6 +620,9 @@ unfolding PairIs StatusIs fetch_made store_made
 command_sound verbs.Login c rest s e =
     let k = pair_sound is_atom refl say.Login c rest e in
     subst (λ y. Fits verbs.Login y rest) k.2 (record { verb = refl; is = pair_ungroup is_atom k.0 k.1 rest k.3 })
+command_sound verbs.Authenticate c rest s e =
+    let k = authenticate_sound c rest e in
+    subst (λ y. Fits verbs.Authenticate y rest) k.1 (record { verb = refl; is = authenticate_ungroup k.0 rest k.2 })
 command_sound verbs.StartTls c rest s e = subst (λ y. Fits verbs.StartTls y rest) (inside say.StartTls c e) (record { verb = refl; is = any_rest rest s })
 command_sound verbs.Select c rest s e = named verbs.Select say.Select c rest (λ name q. record { verb = refl; is = ungroup Gap (Name name) Spaces rest q }) e
 command_sound verbs.Examine c rest s e = named verbs.Examine say.Examine c rest (λ name q. record { verb = refl; is = ungroup Gap (Name name) Spaces rest q }) e
@@ -635,6 +640,12 @@ command_sound verbs.Lsub c rest s e =
     subst (λ y. Fits verbs.Lsub y rest) k.2 (record { verb = refl; is = pair_ungroup is_pattern k.0 k.1 rest k.3 })
 command_sound verbs.Subscribe c rest s e = named verbs.Subscribe say.Subscribe c rest (λ name q. record { verb = refl; is = ungroup Gap (Name name) Spaces rest q }) e
 command_sound verbs.Unsubscribe c rest s e = named verbs.Unsubscribe say.Unsubscribe c rest (λ name q. record { verb = refl; is = ungroup Gap (Name name) Spaces rest q }) e
+command_sound verbs.Enable c rest s e =
+    let k = enable_sound c rest e in
+    subst (λ y. Fits verbs.Enable y rest) k.0 (record { verb = refl; is = ungroup Gap CapabilityNames Spaces rest k.1 })
+command_sound verbs.Id c rest s e =
+    let k = id_sound c rest e in
+    subst (λ y. Fits verbs.Id y rest) k.0 (record { verb = refl; is = ungroup Gap IdParameters Spaces rest k.1 })
 command_sound verbs.UidExpunge c rest s e =
     let k = expunge_sound c rest e in
     subst (λ y. Fits verbs.UidExpunge y rest) k.1 (record { verb = refl; is = ungroup Gap (SetIs k.0) Spaces rest k.2 })

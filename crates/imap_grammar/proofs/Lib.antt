@@ -1,4 +1,5 @@
 pub mod Steps
+pub mod FieldSteps
 pub mod Spelling
 pub mod Numbers
 pub mod Classes
@@ -22,6 +23,9 @@ pub mod ItemLaw
 pub mod ListLaw
 pub mod Chains
 pub mod AppendLaw
+pub mod NamedWords
+pub mod IdLaw
+pub mod LiteralLaw
 pub mod CommandLaw
 pub mod VerbLaw
 pub mod DateLaw

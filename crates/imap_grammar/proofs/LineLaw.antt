@@ -66,9 +66,7 @@ any_first l front back e (inr q) s = gap_stops q.front (q.back ++ back) l (e ∙
 
 arguments_first : (c : Command) (l : List ℕ) → Joined (ArgumentsOf c) Spaces l → Stops is_not_space l
 arguments_first (say.Login user password) l q = gap_first _ l q
-arguments_first (say.Authenticate a) l q = absurd q.first
-arguments_first say.Id l q = absurd q.first
-arguments_first say.Enable l q = absurd q.first
+arguments_first (say.Authenticate a) l q = gap_first _ l q
 arguments_first say.StartTls l q = any_first l q.front q.back q.parts q.first q.second
 arguments_first (say.Select name) l q = gap_first _ l q
 arguments_first (say.Examine name) l q = gap_first _ l q
@@ -82,6 +80,8 @@ arguments_first (say.Lsub reference pattern) l q = gap_first _ l q
 arguments_first (say.Subscribe name) l q = gap_first _ l q
 arguments_first (say.Unsubscribe name) l q = gap_first _ l q
 arguments_first (say.Search s) l q = gap_first _ l q
+arguments_first say.Enable l q = gap_first _ l q
+arguments_first say.Id l q = gap_first _ l q
 arguments_first _ l q = none_first l q
 
 kept_fetch : (by_uid : Bool) → is_left_out (cond by_uid verbs.UidFetch verbs.Fetch) ≡ false

@@ -53,7 +53,7 @@ space_open b e = excludes is_space 41 refl b e
 abbrev pub list_in : {A : Type 0} → (List ℕ → Option A) → List ℕ → Option (List A)
 list_in f text = cond (are_items f (words text)) (Some (filter_map f (words text))) None
 
-some_parts : {A : Type 0} (f : List ℕ → Option A) (ws : List (List ℕ)) (x : A) (xs : List A) → filter_map f ws ≡ x ∷ xs → not (length ws == 0) ≡ true
+pub some_parts : {A : Type 0} (f : List ℕ → Option A) (ws : List (List ℕ)) (x : A) (xs : List A) → filter_map f ws ≡ x ∷ xs → not (length ws == 0) ≡ true
 some_parts f [] x xs e = absurd cc
 some_parts f (w ∷ ws) x xs e = ap not (decides_false (length (w ∷ ws) == 0) (Decides-eqb (length (w ∷ ws)) 0) (λ k. omega (arith, k)))
 
@@ -99,7 +99,7 @@ listed_again f P again bare unclosed (x ∷ xs) text sp q s =
       read = read_list f k.0 x xs all;
     }
 
-none_empty : (text : List ℕ) → not (length (words text) == 0) ≡ true → 0 < length text
+pub none_empty : (text : List ℕ) → not (length (words text) == 0) ≡ true → 0 < length text
 none_empty [] e = absurd cc
 none_empty (x ∷ xs) e = omega arith
 
@@ -120,7 +120,7 @@ listed_sound f P sound bytes inner xs e g =
 
 -- ---- items of FETCH
 
-first_other : (c : ℕ) (text rest : List ℕ) → 0 < length text → Many (is_other c) text → first_is c (text ++ rest) ≡ false
+pub first_other : (c : ℕ) (text rest : List ℕ) → 0 < length text → Many (is_other c) text → first_is c (text ++ rest) ≡ false
 first_other c [] rest h m = absurd (omega (arith, h))
 first_other c (x ∷ xs) rest h m = not_true (x == c) m.0
 

@@ -5,6 +5,7 @@ use Rattle.std.specs.Option.{option_map}
 use Rattle.std.proofs.lemmas.Bool.Decides.{Decides-eqb}
 use Rattle.std.specs.Bool.{Decides}
 use Rattle.envelope.specs.Directory.{unquoted}
+use Rattle.std.proofs.lemmas.List.{length-append}
 use Rattle.envelope.proofs.Steps.{drop_step}
 use Rattle.imap_grammar.specs.Bytes.{is_special, is_quotable}
 use Rattle.imap_grammar.specs.Brackets.{in_bracket, outside_len}
@@ -14,6 +15,8 @@ use Rattle.imap_grammar.specs.inner.Letters.{past_letter}
 use Rattle.std.specs.Str.{bytes_eq, str_eq_ignore_ascii_case as is_same}
 use Rattle.envelope.specs.Reading.{past_byte}
 use Rattle.std.specs.Prelude.{Option}
+use Rattle.std.proofs.Common.{◌++◌, ◌∙◌, arith, append_assoc}
+use Rattle.imap_grammar.specs.Literals.{backslashed, last_position, position_or, quoted}
 
 pub quoted_step : (e : Bool) (xs : List ℕ) (i : ℕ) → i < length xs
     → quoted_len e (drop i xs) ≡ cond e (cond (is_special (get_or xs i 0)) (option_map suc (quoted_len false (drop (i + 1) xs))) None)
@@ -58,3 +61,44 @@ letter_step b xs (y ∷ ys) = by (to_ascii_lowercase b == to_ascii_lowercase y)
     by : (t : Bool) → t && is_same xs ys ≡ same_letters (cond t (Some ys) None) xs
     by true = refl
     by false = refl
+
+-- where the last such byte stands from here on, or else before here
+abbrev pub last_from : ℕ → Option ℕ → Option ℕ → Option ℕ
+last_from i (Some n) last = Some (i + n)
+last_from i None last = last
+
+pub last_at_first : (o : Option ℕ) → last_from 0 o None ≡ o
+last_at_first (Some n) = ap (λ (k : ℕ). Some k) (omega arith)
+last_at_first None = refl
+
+pub last_step : (b : ℕ) (xs : List ℕ) (i : ℕ) (last : Option ℕ) → i < length xs
+    → last_from i (last_position b (drop i xs)) last ≡ last_from (i + 1) (last_position b (drop (i + 1) xs)) (cond (get_or xs i 0 == b) (Some i) last)
+last_step b xs i last h = ap (λ l. last_from i (last_position b l) last) (drop_step xs i h) ∙ by (last_position b (drop (i + 1) xs)) (get_or xs i 0 == b)
+  where
+    by : (o : Option ℕ) (t : Bool) → last_from i (position_or o t) last ≡ last_from (i + 1) o (cond t (Some i) last)
+    by (Some n) t = ap (λ (k : ℕ). Some k) (omega arith)
+    by None true = ap (λ (k : ℕ). Some k) (omega arith)
+    by None false = refl
+
+-- a byte, and a backslash before it where it has to have one
+abbrev pub one_backslashed : ℕ → List ℕ
+one_backslashed b = cond (is_special b) (92 ∷ b ∷ []) (b ∷ [])
+
+pub backslashed_step : (out xs : List ℕ) (i : ℕ) → i < length xs
+    → (out ++ one_backslashed (get_or xs i 0)) ++ backslashed (drop (i + 1) xs) ≡ out ++ backslashed (drop i xs)
+backslashed_step out xs i h =
+    append_assoc out (one_backslashed (get_or xs i 0)) (backslashed (drop (i + 1) xs))
+    ∙ ap (λ l. out ++ l) (by (is_special (get_or xs i 0)) ∙ sym (ap backslashed (drop_step xs i h)))
+  where
+    by : (t : Bool) → cond t (92 ∷ get_or xs i 0 ∷ []) (get_or xs i 0 ∷ []) ++ backslashed (drop (i + 1) xs)
+        ≡ cond t (92 ∷ get_or xs i 0 ∷ backslashed (drop (i + 1) xs)) (get_or xs i 0 ∷ backslashed (drop (i + 1) xs))
+    by true = refl
+    by false = refl
+
+pub quoted_parts : (out text : List ℕ) → ((out ++ 34 ∷ []) ++ backslashed text) ++ 34 ∷ [] ≡ out ++ quoted text
+quoted_parts out text = append_assoc (out ++ 34 ∷ []) (backslashed text) (34 ∷ []) ∙ append_assoc out (34 ∷ []) (backslashed text ++ 34 ∷ [])
+
+-- the length of what is left, a byte further
+pub backslashed_len_step : (xs : List ℕ) (i : ℕ) → i < length xs → length (one_backslashed (get_or xs i 0)) + length (backslashed (drop (i + 1) xs)) ≡ length (backslashed (drop i xs))
+backslashed_len_step xs i h =
+    sym (length-append (one_backslashed (get_or xs i 0)) (backslashed (drop (i + 1) xs))) ∙ ap length (backslashed_step [] xs i h)

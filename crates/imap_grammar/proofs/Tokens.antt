@@ -230,7 +230,7 @@ bare_value class text out h = ap (λ (t : Bool). cond t (unquoted false (drop 1 
         let both : class x ≡ class 34 = ap class e in
         cc)
 
-quoted_whole : (class : ℕ → Bool) (content value rest : List ℕ) → Quoted value content → string_at class ((34 ∷ (content ++ 34 ∷ [])) ++ rest) ≡ Some (value, rest)
+pub quoted_whole : (class : ℕ → Bool) (content value rest : List ℕ) → Quoted value content → string_at class ((34 ∷ (content ++ 34 ∷ [])) ++ rest) ≡ Some (value, rest)
 quoted_whole class content value rest q =
     let text = 34 ∷ (content ++ 34 ∷ []) in
     let len : string_len class (text ++ rest) ≡ Some (length text) =

@@ -1,6 +1,6 @@
 -- Classes of bytes, as tests (RFC 9051, 9).
-use Rattle.std.specs.Prelude.{ℕ, Bool, codes, ◌==◌, ◌&&◌, nat_le, not}
-use Rattle.envelope.specs.Bytes.{is_in, is_graphic}
+use Rattle.std.specs.Prelude.{ℕ, Bool, codes, ◌==◌, ◌&&◌, ◌||◌, nat_le, not}
+use Rattle.envelope.specs.Bytes.{is_in, is_alphanumeric, is_graphic}
 
 abbrev pub is_tag : ℕ → Bool
 is_tag b = is_graphic b && not (is_in (codes "(){%*\"\\+") b)
@@ -33,3 +33,7 @@ is_field_byte b = is_atom b && not (b == 93)
 -- of a word among the keys of a search: a space ends it, and so does a parenthesis
 abbrev pub is_key_byte : ℕ → Bool
 is_key_byte b = not (is_in (codes " ()") b)
+
+-- of base64 (RFC 4648, 4). A lone `=` stands for an empty response
+abbrev pub is_base64 : ℕ → Bool
+is_base64 b = is_alphanumeric b || is_in (codes "+/=") b

@@ -9,7 +9,7 @@ use Rattle.change_ring.specs.declared.flag_op.FlagOp.{FlagOp}
 use Rattle.change_ring.specs.declared.flag_op.FlagOp.TheVariants.{Set, Insert, Remove}
 use Rattle.envelope.specs.Grammar.{Rule, ◌⨾◌, Exactly, Keyword, Some1, Spaces, Gap, AfterGap, Anything}
 use Rattle.mail_date.specs.Grammar as dates
-use Rattle.imap_grammar.specs.Bytes.{is_tag, is_atom, is_pattern, is_digit, is_quotable, is_special, is_field_byte}
+use Rattle.imap_grammar.specs.Bytes.{is_tag, is_atom, is_pattern, is_digit, is_quotable, is_special, is_field_byte, is_base64}
 use Rattle.imap_grammar.specs.Numbers.{most_size, number_of}
 use Rattle.imap_grammar.specs.declared.command.Literal.{Literal}
 use Rattle.imap_grammar.specs.declared.dates.Day.{Day}
@@ -203,6 +203,41 @@ SizeIs size text = Some1 is_digit text × (size ≡ min (number_of text) most_si
 abbrev pub LiteralIs : Literal → Rule
 LiteralIs literal = Exactly (codes "{") ⨾ SizeIs literal.size ⨾ Exactly (if literal.waits then codes "}" else codes "+}")
 
+-- ---- AUTHENTICATE, ENABLE and ID
+
+-- this text, of one or more bytes of the class
+abbrev pub WordOf : (ℕ → Bool) → List ℕ → Rule
+WordOf class word text = Exactly word text × Some1 class text
+
+-- what a client responds before it is asked: nothing, or a word of base64 (RFC 9051, 6.2.2)
+abbrev pub InitialIs : Option (List ℕ) → Rule
+InitialIs None = Exactly []
+InitialIs (Some response) = Gap ⨾ WordOf is_base64 response
+
+-- names of capabilities, one or more (RFC 9051, 6.3.1)
+abbrev pub CapabilityNames : Rule
+CapabilityNames text = (names : List (List ℕ)) × Separated Gap (WordOf is_atom) names text
+
+-- a quoted string that says this
+abbrev pub InQuotes : List ℕ → Rule
+InQuotes value = Exactly (codes "\"") ⨾ Quoted value ⨾ Exactly (codes "\"")
+
+-- what a client says in a field of itself: NIL is nothing
+abbrev pub IdValue : Option (List ℕ) → Rule
+IdValue None = Keyword (codes "NIL")
+IdValue (Some value) = InQuotes value
+
+-- the field's name, and what is said in it
+abbrev pub IdField : List ℕ × Option (List ℕ) → Rule
+IdField field = InQuotes field.0 ⨾ Gap ⨾ IdValue field.1
+
+-- NIL, or fields in parentheses, and none of them too (RFC 2971, 3.1)
+abbrev pub IdParameters : Rule
+IdParameters text =
+    Keyword (codes "NIL") text
+    ⊎ Parenthesized (Exactly []) text
+    ⊎ ((fields : List (List ℕ × Option (List ℕ))) × Parenthesized (Separated Gap IdField fields) text)
+
 -- ---- searches
 
 -- `1-Feb-1994`: a day by one digit or two, the name of a month in upper or lower case, and a year by four digits
@@ -274,9 +309,7 @@ VerbIs verb = VerbWords (stands_behind_uid verb) (word_of verb)
 -- what follows the verb. A command that isn't here stands alone
 abbrev pub ArgumentsOf : Command → Rule
 ArgumentsOf (say.Login user password) = Gap ⨾ Name user ⨾ Gap ⨾ Name password
-ArgumentsOf (say.Authenticate a) = λ _. ⊥
-ArgumentsOf say.Id = λ _. ⊥
-ArgumentsOf say.Enable = λ _. ⊥
+ArgumentsOf (say.Authenticate authenticate) = Gap ⨾ WordOf is_atom authenticate.mechanism ⨾ InitialIs authenticate.initial
 ArgumentsOf say.StartTls = AfterGap Anything
 ArgumentsOf (say.Select name) = Gap ⨾ Name name
 ArgumentsOf (say.Examine name) = Gap ⨾ Name name
@@ -290,6 +323,8 @@ ArgumentsOf (say.Search search) = Gap ⨾ CharsetIs search.known_charset ⨾ Key
 ArgumentsOf (say.Lsub reference pattern) = Gap ⨾ Name reference ⨾ Gap ⨾ Pattern pattern
 ArgumentsOf (say.Subscribe name) = Gap ⨾ Name name
 ArgumentsOf (say.Unsubscribe name) = Gap ⨾ Name name
+ArgumentsOf say.Enable = Gap ⨾ CapabilityNames
+ArgumentsOf say.Id = Gap ⨾ IdParameters
 ArgumentsOf _ = Exactly []
 
 -- a line that is this command under this tag. Spaces at its end say nothing

@@ -10,6 +10,6 @@ pub mod Verbs
 pub mod Grammar
 pub mod SearchReading
 pub mod Reading
+pub mod Literals
 pub mod inner
 pub mod rows
-pub mod Literals

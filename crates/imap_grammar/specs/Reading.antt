@@ -1,6 +1,6 @@
 -- Reading a line from left to right. The contract of `read_line` says that this is the one reading that the
 -- grammar allows; nobody has to believe this file.
-use Rattle.std.specs.Prelude.{ℕ, suc, Bool, true, false, codes, List, [], ◌∷◌, length, take, drop, Option, Some, None, is_some, Result, Ok, Err, ◌==◌, ◌&&◌, ◌||◌, not, if◌then◌else◌, ◌-◌, slice_index, min}
+use Rattle.std.specs.Prelude.{ℕ, zero, suc, Bool, true, false, codes, List, [], ◌∷◌, length, take, drop, Option, Some, None, is_some, Result, Ok, Err, ◌==◌, ◌&&◌, ◌||◌, not, if◌then◌else◌, ◌-◌, slice_index, min}
 use Rattle.std.specs.List.{list_all, prefix_len}
 use Rattle.std.specs.Option.{option_map}
 use Rattle.std.specs.Str.{str_eq_ignore_ascii_case as is_same}
@@ -9,8 +9,8 @@ use Rattle.change_ring.specs.declared.flag_op.FlagOp.{FlagOp}
 use Rattle.change_ring.specs.declared.flag_op.FlagOp.TheVariants.{Set, Insert, Remove}
 use Rattle.envelope.specs.Bytes.{is_not_space}
 use Rattle.envelope.specs.Directory.{value_of}
-use Rattle.envelope.specs.Reading.{◌>>=◌, first_is, some_len, words, after_spaces, past_byte}
-use Rattle.imap_grammar.specs.Bytes.{is_tag, is_atom, is_pattern, is_quotable, is_special, is_digit, is_field_byte, is_key_byte}
+use Rattle.envelope.specs.Reading.{◌>>=◌, first_is, some_len, words, after_spaces, past_byte, past_keyword}
+use Rattle.imap_grammar.specs.Bytes.{is_tag, is_atom, is_pattern, is_quotable, is_special, is_digit, is_field_byte, is_key_byte, is_base64}
 use Rattle.change_ring.specs.Log.{no_flags}
 use Rattle.imap_grammar.specs.Cuts.{cut_at}
 use Rattle.imap_grammar.specs.Brackets.{outside_len, item_word_at, item_words}
@@ -46,6 +46,7 @@ is_of classes.Pattern = is_pattern
 is_of classes.Digit = is_digit
 is_of classes.Field = is_field_byte
 is_of classes.Key = is_key_byte
+is_of classes.Base64 = is_base64
 
 -- ---- parts at the front, and the bytes after them
 
@@ -263,9 +264,78 @@ search_at by_uid bytes = do
   keys ← keys_in charset.1
   Some (say.Search (record { by_uid = by_uid; known_charset = charset.0; keys = keys }))
 
+-- the word, if it is of this class
+abbrev pub word_if : (ℕ → Bool) → List ℕ → Option (List ℕ)
+word_if class word = if is_word_of class word then Some word else None
+
+-- what a client responds before it is asked
+abbrev pub initial_at : List ℕ → Option (Option (List ℕ))
+initial_at bytes =
+    if is_blank bytes
+    then Some None
+    else (past_gap bytes >>= λ start. word_if is_base64 (word_at start).0 >>= λ word. if_end (Some word) (word_at start).1)
+
+abbrev pub authenticate_at : List ℕ → Option Command
+authenticate_at bytes = do
+  start ← past_gap bytes
+  mechanism ← word_if is_atom (word_at start).0
+  initial ← initial_at (word_at start).1
+  Some (say.Authenticate (record { mechanism = mechanism; initial = initial }))
+
+-- words that are all atoms, and one at least
+abbrev pub are_atoms : List ℕ → Bool
+are_atoms text = list_all (is_word_of is_atom) (words text) && not (length (words text) == 0)
+
+abbrev pub enable_at : List ℕ → Option Command
+enable_at bytes = do
+  start ← past_gap bytes
+  if are_atoms start then Some say.Enable else None
+
+-- past a quoted string
+abbrev pub past_string : List ℕ → Option (List ℕ)
+past_string bytes = if first_is 34 bytes then (string_at is_atom bytes >>= λ read. Some read.1) else None
+
+-- past what is said in a field
+abbrev pub past_value : List ℕ → Option (List ℕ)
+past_value bytes = if first_is 34 bytes then past_string bytes else past_keyword (codes "NIL") bytes
+
+abbrev pub past_field : List ℕ → Option (List ℕ)
+past_field bytes = do
+  rest ← past_string bytes
+  start ← past_gap rest
+  past_value start
+
+abbrev pub next_field : Option (List ℕ) → (List ℕ → Option (List ℕ)) → List ℕ → Option (List ℕ)
+next_field None others bytes = Some bytes
+next_field (Some start) others bytes = past_field start >>= others
+
+-- past fields, each behind a gap, at most so many times
+unfoldable pub past_fields : ℕ → List ℕ → Option (List ℕ)
+past_fields zero bytes = None
+past_fields (suc n) bytes = next_field (past_gap bytes) (past_fields n) bytes
+
+-- past one field, and as many others as there are
+abbrev pub past_all_fields : List ℕ → Option (List ℕ)
+past_all_fields bytes = past_field bytes >>= λ rest. past_fields (suc (length rest)) rest
+
+-- from behind the parenthesis that opens, past the one that closes
+abbrev pub past_list : List ℕ → Option (List ℕ)
+past_list bytes = if first_is 41 bytes then Some (drop 1 bytes) else (past_all_fields bytes >>= past_byte 41)
+
+-- past the parameters of an ID
+abbrev pub past_parameters : List ℕ → Option (List ℕ)
+past_parameters bytes = if first_is 40 bytes then past_list (drop 1 bytes) else past_keyword (codes "NIL") bytes
+
+abbrev pub id_at : List ℕ → Option Command
+id_at bytes = do
+  start ← past_gap bytes
+  rest ← past_parameters start
+  if_end say.Id rest
+
 -- what a verb says with what comes after it. What is left out says nothing
 abbrev pub command_at : Verb → List ℕ → Option Command
 command_at verbs.Login rest = pair_at is_atom say.Login rest
+command_at verbs.Authenticate rest = authenticate_at rest
 command_at verbs.StartTls rest = Some say.StartTls
 command_at verbs.Select rest = name_alone say.Select rest
 command_at verbs.Examine rest = name_alone say.Examine rest
@@ -282,6 +352,8 @@ command_at verbs.Subscribe rest = name_alone say.Subscribe rest
 command_at verbs.Unsubscribe rest = name_alone say.Unsubscribe rest
 command_at verbs.Search rest = search_at false rest
 command_at verbs.UidSearch rest = search_at true rest
+command_at verbs.Enable rest = enable_at rest
+command_at verbs.Id rest = id_at rest
 command_at verb rest = alone verb >>= λ command. if_end command rest
 
 -- ---- the line

@@ -69,7 +69,8 @@ is_left_out _ = false
 abbrev pub offered : List Verb
 offered =
     Capability ∷ Noop ∷ Logout ∷ Namespace ∷ Idle ∷ Login ∷ Authenticate ∷ StartTls ∷ Select ∷ Examine
-    ∷ ListNames ∷ Status ∷ Close ∷ Unselect ∷ Expunge ∷ Fetch ∷ Store ∷ Append ∷ Check ∷ Lsub ∷ Subscribe ∷ Unsubscribe ∷ Search ∷ Enable ∷ Id ∷ []
+    ∷ ListNames ∷ Status ∷ Close ∷ Unselect ∷ Expunge ∷ Fetch ∷ Store ∷ Append ∷ Check ∷ Lsub ∷ Subscribe ∷ Unsubscribe ∷ Search
+    ∷ Enable ∷ Id ∷ []
 
 -- those of one word that aren't
 abbrev pub left_out : List Verb
@@ -101,9 +102,7 @@ verb_of say.Logout = Logout
 verb_of say.Namespace = Namespace
 verb_of say.Idle = Idle
 verb_of (say.Login user password) = Login
-verb_of (say.Authenticate a) = Authenticate
-verb_of say.Id = Id
-verb_of say.Enable = Enable
+verb_of (say.Authenticate authenticate) = Authenticate
 verb_of say.StartTls = StartTls
 verb_of (say.Select name) = Select
 verb_of (say.Examine name) = Examine
@@ -121,3 +120,5 @@ verb_of (say.Lsub reference pattern) = Lsub
 verb_of (say.Subscribe name) = Subscribe
 verb_of (say.Unsubscribe name) = Unsubscribe
 verb_of (say.Search search) = if search.by_uid then UidSearch else Search
+verb_of say.Enable = Enable
+verb_of say.Id = Id

@@ -6,12 +6,12 @@ ghost use Rattle.std.specs.List.{list_all};
 ghost use Rattle.std.specs.Option.{option_copied, option_map};
 ghost use Rattle.envelope.specs.Reading.{first_is, some_len};
 ghost use Rattle.imap_grammar.specs.Grammar.{is_known_charset};
-ghost use Rattle.imap_grammar.specs.Reading.{is_of, quoted_len, string_len, string_at, in_parentheses, items_in_parentheses, fetch_items_at, flags_at, operation_of, change_with, name_alone, pair_at, status_at, fetch_at, store_at, set_alone, if_end, parens_at, flag_list_at, given_flags_at, past_quoted, past_date, literal_end, literal_at, append_at, charset_named, charset_at, search_at};
+ghost use Rattle.imap_grammar.specs.Reading.{is_of, quoted_len, string_len, string_at, in_parentheses, items_in_parentheses, fetch_items_at, flags_at, operation_of, change_with, name_alone, pair_at, status_at, fetch_at, store_at, set_alone, if_end, parens_at, flag_list_at, given_flags_at, past_quoted, past_date, literal_end, literal_at, append_at, charset_named, charset_at, search_at, word_if, initial_at, authenticate_at, enable_at, past_string, past_value, past_field, past_all_fields, past_list, past_parameters, id_at};
 ghost use Rattle.imap_grammar.specs.Bytes.{is_atom, is_pattern, is_special, is_quotable, is_digit};
 ghost use Rattle.imap_grammar.specs.declared.command.Command.TheVariants as say;
 
 use crate::bytes::{Class, is_blank, is_tight, past_gap, run_len, word_at};
-use crate::command::{Append, Command, Fetch, Literal, Search, Store};
+use crate::command::{Append, Authenticate, Command, Fetch, Literal, Search, Store, Word};
 use crate::cut::cut_at;
 use crate::item_words::{item_word_at, outside_len};
 use crate::items::{FetchItems, StatusItems};
@@ -20,11 +20,11 @@ use crate::keys::SearchKeys;
 use crate::name::Name;
 use crate::number::capped_number;
 use crate::set::SeqSet;
-use crate::words::flags_in;
+use crate::words::{are_atoms, flags_in, is_word_of};
 use change_ring::{FlagOp, Flags};
-use envelope::past_byte;
+use envelope::{past_byte, past_keyword};
 
-fn is_special(b: u8) -> bool
+pub(crate) fn is_special(b: u8) -> bool
     ensures { result ≡ is_special b }
 {
     b == b'"' || b == b'\\'
@@ -413,7 +413,7 @@ fn digits_len(bytes: &[u8]) -> Option<usize>
 }
 
 /// The literal that is to come, and what follows its size.
-fn literal_at(bytes: &[u8]) -> Option<(Literal, &[u8])>
+pub(crate) fn literal_at(bytes: &[u8]) -> Option<(Literal, &[u8])>
     ensures { option_map (λ x. (x.0, x.1.now)) result ≡ literal_at bytes.now }
 {
     let start = past_byte(b'{', bytes)?;
@@ -486,4 +486,130 @@ pub fn search(by_uid: bool, bytes: &[u8]) -> Option<Command<'_>>
         known_charset,
         keys,
     }))
+}
+
+/// The word, if all its bytes are of this class.
+fn word_if(class: Class, word: &[u8]) -> Option<Word<'_>>
+    ensures { result ≡ word_if (is_of class) word.now }
+{
+    if is_word_of(class, word) {
+        Some(Word::of(word))
+    } else {
+        None
+    }
+}
+
+/// What a client responds before it is asked, which may be nothing.
+fn initial_at(bytes: &[u8]) -> Option<Option<Word<'_>>>
+    ensures { result ≡ initial_at bytes.now }
+{
+    if is_blank(bytes) {
+        return Some(None);
+    }
+    let start = past_gap(bytes)?;
+    let (word, rest) = word_at(start);
+    let response = word_if(Class::Base64, word)?;
+    if is_blank(rest) {
+        Some(Some(response))
+    } else {
+        None
+    }
+}
+
+/// What follows AUTHENTICATE.
+pub fn authenticate(bytes: &[u8]) -> Option<Command<'_>>
+    ensures { result ≡ authenticate_at bytes.now }
+{
+    let start = past_gap(bytes)?;
+    let (word, rest) = word_at(start);
+    let mechanism = word_if(Class::Atom, word)?;
+    let initial = initial_at(rest)?;
+    Some(Command::Authenticate(Authenticate { mechanism, initial }))
+}
+
+/// What follows ENABLE.
+pub fn enable(bytes: &[u8]) -> Option<Command<'_>>
+    ensures { result ≡ enable_at bytes.now }
+{
+    let start = past_gap(bytes)?;
+    if are_atoms(start) {
+        Some(Command::Enable)
+    } else {
+        None
+    }
+}
+
+/// What follows a quoted string.
+fn past_string(bytes: &[u8]) -> Option<&[u8]>
+    ensures { option_copied result ≡ past_string bytes.now }
+{
+    if !begins_quoted(bytes) {
+        return None;
+    }
+    let (_said, rest) = string_at(Class::Atom, bytes)?;
+    Some(rest)
+}
+
+/// What follows a quoted string or NIL.
+fn past_value(bytes: &[u8]) -> Option<&[u8]>
+    ensures { option_copied result ≡ past_value bytes.now }
+{
+    if begins_quoted(bytes) {
+        past_string(bytes)
+    } else {
+        past_keyword(b"NIL", bytes)
+    }
+}
+
+/// What follows a field of an ID, and what is said in it.
+fn past_field(bytes: &[u8]) -> Option<&[u8]>
+    ensures { option_copied result ≡ past_field bytes.now }
+{
+    let rest = past_string(bytes)?;
+    let start = past_gap(rest)?;
+    past_value(start)
+}
+
+/// What follows one field of an ID and all others.
+#[tactic(auto, using(crate::proofs::FieldSteps::field_smaller))]
+fn past_all_fields(bytes: &[u8]) -> Option<&[u8]>
+    ensures { option_copied result ≡ past_all_fields bytes.now }
+{
+    let mut rest = past_field(bytes)?;
+    while let Some(start) = past_gap(rest) {
+        rest = past_field(start)?;
+    }
+    Some(rest)
+}
+
+/// What follows the fields of an ID and the parenthesis that closes, from behind the one that opens.
+fn past_list(bytes: &[u8]) -> Option<&[u8]>
+    ensures { option_copied result ≡ past_list bytes.now }
+{
+    match bytes {
+        [b')', rest @ ..] => Some(rest),
+        _ => {
+            let rest = past_all_fields(bytes)?;
+            past_byte(b')', rest)
+        }
+    }
+}
+
+/// What follows the parameters of an ID.
+fn past_parameters(bytes: &[u8]) -> Option<&[u8]>
+    ensures { option_copied result ≡ past_parameters bytes.now }
+{
+    match bytes {
+        [b'(', start @ ..] => past_list(start),
+        _ => past_keyword(b"NIL", bytes),
+    }
+}
+
+/// What follows ID.
+pub fn id(bytes: &[u8]) -> Option<Command<'_>>
+    ensures { result ≡ id_at bytes.now }
+{
+    let start = past_gap(bytes)?;
+    let rest = past_parameters(start)?;
+    if_end(Command::Id, rest)
 }

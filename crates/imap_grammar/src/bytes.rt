@@ -19,6 +19,7 @@ pub enum Class {
     Digit,
     Field,
     Key,
+    Base64,
 }
 
 /// Whether a byte is of the class.
@@ -38,6 +39,7 @@ pub fn is_of(class: Class, b: u8) -> bool
             graphic && !matches!(b, b'(' | b')' | b'{' | b'%' | b'*' | b'"' | b'\\' | b']')
         }
         Class::Key => !matches!(b, b' ' | b'(' | b')'),
+        Class::Base64 => matches!(b, b'0'..=b'9' | b'A'..=b'Z' | b'a'..=b'z' | b'+' | b'/' | b'='),
     }
 }
 

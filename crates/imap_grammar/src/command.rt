@@ -41,6 +41,35 @@ impl<'a> Tag<'a> {
     }
 }
 
+/// A word of a line: in contracts its bytes.
+#[derive(Drop)]
+pub struct Word<'a> {
+    spelled: &'a [u8],
+}
+
+impl<'a> Model for Word<'a> {
+    ghost use Rattle.std.specs.Prelude.{List, ℕ};
+
+    ghost Value = { List ℕ };
+
+    ghost view = { λ w. w.spelled.now };
+}
+
+impl<'a> Word<'a> {
+    pub(crate) fn of(spelled: &'a [u8]) -> Word<'a>
+        ensures { result ≡ spelled.now }
+    {
+        Word { spelled }
+    }
+
+    /// The word as the client wrote it.
+    pub fn as_bytes(&self) -> &[u8]
+        ensures { result.now ≡ self.now }
+    {
+        self.spelled
+    }
+}
+
 /// The verbs of IMAP, those of two words among them.
 #[derive(Clone, Copy, Debug, PartialEq, Eq)]
 pub enum Verb {
@@ -81,8 +110,17 @@ pub enum Verb {
     Check,
     /// RFC 3501, 6.3.9.
     Lsub,
-    /// RFC 2971.
+    /// RFC 2971, 3.1.
     Id,
+}
+
+/// AUTHENTICATE (RFC 9051, 6.2.2).
+#[derive(Drop)]
+pub struct Authenticate<'a> {
+    /// The name of the mechanism that the client wants.
+    pub mechanism: Word<'a>,
+    /// The client's first response, where it stands in the line: base64, or `=` for an empty one.
+    pub initial: Option<Word<'a>>,
 }
 
 /// FETCH and UID FETCH (RFC 9051, 6.4.5 and 6.4.9).
@@ -182,38 +220,6 @@ impl<'a> Search<'a> {
     }
 }
 
-/// A word of a line: in contracts its bytes.
-#[derive(Drop)]
-pub struct Word<'a> {
-    bytes: &'a [u8],
-}
-
-impl<'a> Model for Word<'a> {
-    ghost use Rattle.std.specs.Prelude.{List, ℕ};
-
-    ghost Value = { List ℕ };
-
-    ghost view = { λ w. w.bytes.now };
-}
-
-impl<'a> Word<'a> {
-    ghost use Rattle.std.specs.Prelude.{◌≡◌};
-
-    /// The word as the client wrote it.
-    pub fn as_bytes(&self) -> &[u8]
-        ensures { result.now ≡ self.now }
-    {
-        self.bytes
-    }
-}
-
-/// AUTHENTICATE (RFC 9051, 6.2.2).
-#[derive(Drop)]
-pub struct Authenticate<'a> {
-    pub mechanism: Word<'a>,
-    pub initial: Option<Word<'a>>,
-}
-
 /// A command (RFC 9051, 6). What follows STARTTLS is dropped.
 #[derive(Drop)]
 pub enum Command<'a> {
@@ -257,8 +263,10 @@ pub enum Command<'a> {
     Subscribe(Name<'a>),
     Unsubscribe(Name<'a>),
     Search(Search<'a>),
-    Id,
+    /// RFC 9051, 6.3.1. The names of what is to be enabled are read and dropped.
     Enable,
+    /// RFC 2971, 3.1. What the client says of itself is read and dropped.
+    Id,
 }
 
 impl<'a> Command<'a> {
@@ -277,8 +285,6 @@ impl<'a> Command<'a> {
             Command::Idle => Verb::Idle,
             Command::Login { .. } => Verb::Login,
             Command::Authenticate(_) => Verb::Authenticate,
-            Command::Id => Verb::Id,
-            Command::Enable => Verb::Enable,
             Command::StartTls => Verb::StartTls,
             Command::Select(_) => Verb::Select,
             Command::Examine(_) => Verb::Examine,
@@ -296,6 +302,8 @@ impl<'a> Command<'a> {
             Command::Subscribe(_) => Verb::Subscribe,
             Command::Unsubscribe(_) => Verb::Unsubscribe,
             Command::Search(search) => search.verb(),
+            Command::Enable => Verb::Enable,
+            Command::Id => Verb::Id,
         }
     }
 }

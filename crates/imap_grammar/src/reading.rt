@@ -9,8 +9,8 @@ ghost use Rattle.imap_grammar.specs.declared.command.ImapFault.{ImapFault};
 ghost use Rattle.imap_grammar.specs.Reading.{verb_alone, alone_at, second_at, verb_at, command_at, read, is_done};
 
 use crate::arguments::{
-    append, examine, fetch, if_end, list, login, lsub, search, select, status, store, subscribe,
-    uid_expunge, unsubscribe,
+    append, authenticate, enable, examine, fetch, id, if_end, list, login, lsub, search, select,
+    status, store, subscribe, uid_expunge, unsubscribe,
 };
 use crate::bytes::{Class, is_blank, word_at};
 use crate::command::{
@@ -65,6 +65,7 @@ fn command_at(verb: Verb, rest: &[u8]) -> Option<Command<'_>>
 {
     match verb {
         Verb::Login => login(rest),
+        Verb::Authenticate => authenticate(rest),
         Verb::StartTls => Some(Command::StartTls),
         Verb::Select => select(rest),
         Verb::Examine => examine(rest),
@@ -81,6 +82,8 @@ fn command_at(verb: Verb, rest: &[u8]) -> Option<Command<'_>>
         Verb::Unsubscribe => unsubscribe(rest),
         Verb::Search => search(false, rest),
         Verb::UidSearch => search(true, rest),
+        Verb::Enable => enable(rest),
+        Verb::Id => id(rest),
         _ => if_end(alone(verb)?, rest),
     }
 }

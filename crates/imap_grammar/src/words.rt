@@ -5,7 +5,8 @@ ghost use Rattle.std.specs.Prelude.{◌≡◌, ◌<◌, ◌∷◌, [], IfSome, I
 ghost use Rattle.std.specs.List.{list_all};
 ghost use Rattle.envelope.specs.Reading.{words};
 ghost use Rattle.imap_grammar.specs.Items.{is_word_of, is_flag, has_word};
-ghost use Rattle.imap_grammar.specs.Reading.{is_of, flags_in};
+ghost use Rattle.imap_grammar.specs.Bytes.{is_atom};
+ghost use Rattle.imap_grammar.specs.Reading.{is_of, are_atoms, flags_in};
 
 use crate::bytes::{Class, run_len, word_at};
 use change_ring::Flags;
@@ -41,6 +42,21 @@ pub fn is_word_of(class: Class, word: &[u8]) -> bool
     ensures { result ≡ is_word_of (is_of class) word.now }
 {
     !word.is_empty() && run_len(class, word) == word.len()
+}
+
+fn each_is_atom(text: &[u8]) -> bool
+    ensures { result ≡ list_all (is_word_of is_atom) (words text.now) }
+{
+    text.split(|b| *b == b' ')
+        .filter(|word| !word.is_empty())
+        .all(|word| is_word_of(Class::Atom, word))
+}
+
+/// Whether all words are atoms, and there is one.
+pub fn are_atoms(text: &[u8]) -> bool
+    ensures { result ≡ are_atoms text.now }
+{
+    each_is_atom(text) && count_words(text) != 0
 }
 
 fn is_flag(word: &[u8]) -> bool

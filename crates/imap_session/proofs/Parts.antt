@@ -127,7 +127,7 @@ unfinished_shows_none profile login line tag x e = by (read line) e
     in_profile Standard fault h = absurd cc
     in_profile Compatible fault h = literal (fault_tag fault) (announced line) h
 
-    response : (b : Bool) (t : List ℕ) → (if b then Some (t, awaiting_response line) else None) ≡ Some (tag, x) → PartShowsNone x
+    response : (b : Bool) (t : List ℕ) → ◌≡◌ {A = Option (List ℕ × Exchange)} (if b then Some (t, awaiting_response line) else None) (Some (tag, x)) → PartShowsNone x
     response true t h = right t tag _ (challenges line refl) h
     response false t h = absurd cc
 

@@ -9,7 +9,7 @@ ghost use Rattle.imap_session.specs.Commands.{awaiting_argument, comes_unasked, 
 
 use crate::plain::is_plain;
 use crate::standing::Profile;
-use imap_grammar::{Command, ImapFault, Literal, announced, put_quoted};
+use imap_grammar::{Command, ImapFault, Literal, announced, put_quoted, quoted_len};
 use std::alloc::{AllocError, Global};
 
 /// The most bytes of a command's line with its literals in it.
@@ -90,11 +90,17 @@ pub(crate) fn with_argument(before: Vec<u8>, text: &[u8], rest: &[u8]) -> Option
     ensures fits { IfSome result (λ line. length line.items ≤ most_line) }
     ensures too_long { IfNone result (most_line < length (before.items ++ quoted text.now ++ rest.now)) }
 {
-    let mut line = before;
-    if put_quoted(text, &mut line).is_err() || line.extend_from_slice(rest).is_err() {
+    let quoted = quoted_len(text);
+    if quoted > MOST_LINE as u128 {
         return None;
     }
-    if line.len() > MOST_LINE { None } else { Some(line) }
+    if before.len() as u128 + quoted + rest.len() as u128 > MOST_LINE as u128 {
+        return None;
+    }
+    let mut line = before;
+    put_quoted(text, &mut line);
+    let _ = line.extend_from_slice(rest);
+    Some(line)
 }
 
 /// The line with a response behind it; None where that is too long.

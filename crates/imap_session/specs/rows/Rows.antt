@@ -8,6 +8,7 @@ use Rattle.mailbox.specs.declared.clients.MailFault.TheVariants.{Lapped, Spent}
 use Rattle.delivery_token.specs.declared.Verdict.{Verdict}
 use Rattle.delivery_token.specs.declared.Verdict.TheVariants as verdicts
 use Rattle.delivery_token.specs.declared.Refusal.TheVariants.{Full, MailboxFull}
+use Rattle.imap_grammar.specs.Literals.{announced}
 use Rattle.imap_grammar.specs.Reading.{read}
 use Rattle.imap_session.specs.Exchange.{Answer, Entered, Looked, Found, Counted, Altered, Expunged, Fed, Left, Refused, Starved, Turn, Sent, Standing, begun_with, may_send, nothing_sent}
 use Rattle.imap_grammar.specs.declared.command.Command.TheVariants as commands
@@ -552,11 +553,46 @@ lacking = refl
 -- ---- a client that is to log in (RFC 9051, 6.1 and 6.2)
 
 logs_in_first : written at_the_door
-    (Line (codes "a1 CAPABILITY") [] ∷ Line (codes "a2 NOOP") [] ∷ Line (codes "a3 SELECT INBOX") [] ∷ Line (codes "a4 AUTHENTICATE PLAIN") [] ∷ Line (codes "a5 LOGIN smith SESAME") [] ∷ Line (codes "a6 LOGIN SMITH") []
+    (Line (codes "a1 CAPABILITY") [] ∷ Line (codes "a2 NOOP") [] ∷ Line (codes "a3 SELECT INBOX") [] ∷ Line (codes "a4 AUTHENTICATE GSSAPI") [] ∷ Line (codes "a5 LOGIN smith SESAME") [] ∷ Line (codes "a6 LOGIN SMITH") []
     ∷ Line (codes "a7 LOGIN \"SMITH\" \"\"") [] ∷ Line (codes "a8 LOGIN SMITH SESAME") [] ∷ [])
-    ≡ Some (codes "* CAPABILITY IMAP4rev2 IMAP4rev1 IDLE NAMESPACE UIDPLUS UNSELECT\r\na1 OK CAPABILITY completed\r\na2 OK NOOP completed\r\na3 BAD Wrong state\r\na4 NO [CANNOT] Not offered here\r\na5 NO [AUTHENTICATIONFAILED] Another user's port\r\na6 BAD Invalid arguments\r\na7 OK LOGIN completed\r\na8 BAD Wrong state\r\n")
-unfolding read digits
+    ≡ Some (codes "* CAPABILITY IMAP4rev2 IMAP4rev1 AUTH=PLAIN ENABLE ID IDLE LITERAL- NAMESPACE SASL-IR UIDPLUS UNSELECT\r\na1 OK CAPABILITY completed\r\na2 OK NOOP completed\r\na3 BAD Wrong state\r\na4 NO [CANNOT] Not offered here\r\na5 NO [AUTHENTICATIONFAILED] Another user's port\r\na6 BAD Invalid arguments\r\na7 OK LOGIN completed\r\na8 BAD Wrong state\r\n")
+unfolding read digits announced
 logs_in_first = refl
+
+-- literals as arguments (RFC 9051, 4.3 and 6.2.3; RFC 7888): asked for, and not
+logs_in_by_literals : written at_the_door
+    (Line (codes "a1 LOGIN {5}") [] ∷ Literal true (codes "SMITH") ∷ Line (codes " {8+}") [] ∷ Literal true (codes "a \"b\" \\c") ∷ Line [] [] ∷ [])
+    ≡ Some (codes "+ ready\r\na1 OK LOGIN completed\r\n")
+unfolding read digits announced
+logs_in_by_literals = refl
+
+-- Another user's name; a literal that is no argument of this command; one for which a line has no room; and one that comes unasked and is too big.
+takes_no_other_literal : written at_the_door
+    (Line (codes "a1 LOGIN {5+}") [] ∷ Literal true (codes "smith") ∷ Line (codes " x") [] ∷ Line (codes "a2 NOOP {1}") [] ∷ Literal true (codes "x") ∷ Line [] [] ∷ Line (codes "a3 LOGIN {8182}") [] ∷ Line (codes "a4 LOGIN {4097+}") [] ∷ [])
+    ≡ Some (codes "a1 NO [AUTHENTICATIONFAILED] Another user's port\r\n+ ready\r\na2 BAD Invalid arguments\r\na3 BAD Line too long\r\n* BYE Literal too big\r\n")
+unfolding read digits announced
+takes_no_other_literal = refl
+
+-- AUTHENTICATE (RFC 9051, 6.2.2): an empty challenge, which the client cancels; and a mechanism that isn't offered
+is_challenged : written at_the_door
+    (Line (codes "a1 AUTHENTICATE PLAIN") [] ∷ Line (codes "*") [] ∷ Line (codes "a2 AUTHENTICATE LOGIN") [] ∷ [])
+    ≡ Some (codes "+ \r\na1 BAD Invalid arguments\r\na2 NO [CANNOT] Not offered here\r\n")
+unfolding read digits announced
+is_challenged = refl
+
+-- the standard profile has literals in APPEND alone, and doesn't have ID, ENABLE and AUTHENTICATE
+lacks_literals : written awake
+    (Line (codes "a1 SELECT {5}") [] ∷ Line (codes "a2 ID NIL") [] ∷ Line (codes "a3 ID x") [] ∷ Line (codes "a4 ENABLE CONDSTORE") [] ∷ Line (codes "a5 ENABLE") [] ∷ Line (codes "a6 AUTHENTICATE PLAIN") [] ∷ Line (codes "a7 AUTHENTICATE") [] ∷ [])
+    ≡ Some (codes "a1 BAD Invalid arguments\r\na2 BAD Unknown command\r\na3 BAD Unknown command\r\na4 NO [CANNOT] Not offered here\r\na5 NO [CANNOT] Not offered here\r\na6 BAD Wrong state\r\na7 BAD Wrong state\r\n")
+unfolding read digits announced
+lacks_literals = refl
+
+-- RFC 2971, 3.1, before the client has logged in; and RFC 9051, 6.3.1, behind that
+tells_who_it_is : written at_the_door
+    (Line (codes "a1 ID NIL") [] ∷ Line (codes "a2 ENABLE CONDSTORE") [] ∷ Line (codes "a3 LOGIN SMITH x") [] ∷ Line (codes "a4 ENABLE CONDSTORE QRESYNC") [] ∷ Line (codes "a5 ENABLE") [] ∷ [])
+    ≡ Some (codes "* ID (\"name\" \"post_house\" \"version\" \"0.2.0\")\r\na1 OK ID completed\r\na2 BAD Wrong state\r\na3 OK LOGIN completed\r\n* ENABLED\r\na4 OK ENABLE completed\r\na5 BAD Invalid arguments\r\n")
+unfolding read digits announced
+tells_who_it_is = refl
 
 leaves_at_once : written at_the_door (Line (codes "a1 LOGOUT") [] ∷ []) ≡ Some (codes "* BYE Logging out\r\na1 OK LOGOUT completed\r\n")
 unfolding read digits
