@@ -3,9 +3,9 @@
 
     tests/searches.py PROGRAM [SEARCHES] [SEED]
 
-A mailbox has messages of several sizes, dates and flags, and gaps between their UIDs. Keys are made at random, nested as deep as five, and sent as SEARCH and as
-UID SEARCH, in upper and lower case. What each of them means of each message is what RFC 9051, 6.4.4 says, worked out here over plain values. It prints each
-search that was answered otherwise with the seed by which it comes again, and last how many there were.
+A mailbox has messages of several sizes, dates and flags, of several fields and words, and gaps between their UIDs. Keys are made at random, nested as deep as
+five, and sent as SEARCH and as UID SEARCH, in upper and lower case. What each of them means of each message is what RFC 9051, 6.4.4 says, worked out here over
+plain values. It prints each search that was answered otherwise with the seed by which it comes again, and last how many there were.
 """
 
 import imaplib
@@ -22,10 +22,23 @@ PATIENCE = 20
 
 MONTHS = "Jan Feb Mar Apr May Jun Jul Aug Sep Oct Nov Dec".split()
 
+# Fields with a key of their own, others, and of what their bodies and those of messages are made. Bytes of a quoted string that an atom can't have are among them.
+NAMED = ("Subject", "From", "To", "Cc", "Bcc")
+OTHERS = ("X-Tag", "Received", "Return-Path", "X-None", "Sub")
+WORDS = ("Lunch", "dinner", "at noon", "Subject: dinner", 'say "hi"', "a\\b", "(yes)", "100%", "[b]", "{3}", "ann@a.example", "")
+
+
+def fields_of(header):
+    """The name of each field, and what stands behind its colon without the ends of its lines, in lower case."""
+    lines = re.sub(rb"\r\n(?=[ \t])", b"", header.lower()).split(b"\r\n")
+    return [(name.rstrip(b" \t"), body) for name, colon, body in (line.partition(b":") for line in lines) if colon]
+
 
 class Message:
-    def __init__(self, position, uid, size, date, flags):
-        self.position, self.uid, self.size, self.date, self.flags = position, uid, size, date, flags
+    def __init__(self, position, uid, size, date, flags, text):
+        self.position, self.uid, self.size, self.date, self.flags, self.text = position, uid, size, date, flags, text
+        header, _, self.body = text.partition(b"\r\n\r\n")
+        self.fields = fields_of(header)
 
 
 def a_date(chance):
@@ -39,12 +52,27 @@ def received(date, chance):
     return f"Received: by a.example; {day} {MONTHS[month - 1]} {year} {chance.choice(('00:10:00 +1400', '23:50:59 -1200', '12:00:00 +0000'))}"
 
 
+def a_field(name, chance):
+    """A field with a few words, which may be folded between them, as its lines."""
+    words = "".join(chance.choice((" ", " ", "\r\n ", "\r\n\t")) + chance.choice(WORDS) for _ in range(chance.randint(0, 4)))
+    return f"{name}{chance.choice(('', '', ' '))}:{words}".split("\r\n")
+
+
+def a_message(size, chance):
+    """The lines of a message of about this size."""
+    relays = [received(a_date(chance), chance)] if chance.random() < 0.9 else []
+    names = [name for name in (*NAMED, "X-Tag", "X-Tag") if chance.random() < 0.6]
+    fields = [line for name in names for line in a_field(chance.choice((name, name.upper())), chance)]
+    words = [" ".join(chance.choice(WORDS) for _ in range(3)) for _ in range(chance.randint(0, 2))]
+    return [*relays, *fields, "", *words, "x" * size]
+
+
 def deliver(house, sizes, chance):
     """A message of about each size, over LMTP, with a date or without."""
     with house.connect_lmtp() as relay:
         lines = ["LHLO c.example"]
         for size in sizes:
-            lines += ["MAIL FROM:<s@a.example>", "RCPT TO:<alice@example.org>", "DATA", *([received(a_date(chance), chance)] if chance.random() < 0.9 else []), "Subject: sized", "", "x" * size, "."]
+            lines += ["MAIL FROM:<s@a.example>", "RCPT TO:<alice@example.org>", "DATA", *a_message(size, chance), "."]
         relay.sendall("".join(f"{line}\r\n" for line in [*lines, "QUIT"]).encode())
         replies = b"".join(iter(lambda: relay.recv(65536), b""))
     if replies.count(b"250 2.1.5 Delivered") != len(sizes):
@@ -59,12 +87,13 @@ def messages_of(client, chance):
     client.uid("STORE", "1,4:5,11", "+FLAGS.SILENT", r"(\Deleted)")
     client.uid("EXPUNGE", "1,4:5,11")
     client.noop()
+    texts = {int(part[0].split()[0]): part[1] for part in client.fetch("1:*", "(BODY.PEEK[])")[1] if isinstance(part, tuple)}
     found = []
     for line in client.uid("FETCH", "1:*", "FAST")[1]:
         told = line.decode()
         position, uid, size = (int(re.search(pattern, told)[1]) for pattern in (r"^(\d+) ", r"UID (\d+)", r"SIZE (\d+)"))
         day, month, year = re.search(r'INTERNALDATE "(\d+)-(\w+)-(\d+) ', told).groups()
-        found.append(Message(position, uid, size, (int(year), MONTHS.index(month) + 1, int(day)), {flag for flag in FLAGS if f"\\{flag}" in told}))
+        found.append(Message(position, uid, size, (int(year), MONTHS.index(month) + 1, int(day)), {flag for flag in FLAGS if f"\\{flag}" in told}, texts[position]))
     return found
 
 
@@ -86,9 +115,43 @@ def a_set(chance, greatest):
     return spelled, names
 
 
+def in_any_case(chance, words):
+    return "".join(chance.choice((char.lower(), char.upper())) for char in words)
+
+
+def spelled(chance, words):
+    """Words as a line has them: an atom, where they can be one, or within quotes."""
+    if words and not set(words) & set('(){%*"\\ ') and chance.random() < 0.5:
+        return words
+    return '"' + re.sub(r'(["\\])', r"\\\1", words) + '"'
+
+
+def some_words(chance, messages):
+    """A part of a line of some message, or other words, in any case."""
+    line = chance.choice((*chance.choice(messages).text.decode("ascii").split("\r\n"), *WORDS, "nowhere")).strip("\t")
+    start = chance.randint(0, len(line))
+    return in_any_case(chance, line[start : start + chance.choice((0, 1, 2, 4, 8, 16))])
+
+
+def a_key_of_words(chance, messages):
+    """A key that asks for words in a field, behind the header or in all of a message, and what it means."""
+    words = some_words(chance, messages)
+    wanted = words.lower().encode()
+    kind = chance.randrange(4)
+    if kind == 0:
+        return f"BODY {spelled(chance, words)}", lambda m: wanted in m.body.lower()
+    if kind == 1:
+        return f"TEXT {spelled(chance, words)}", lambda m: wanted in m.text.lower()
+    name = chance.choice(NAMED if kind == 2 else NAMED + OTHERS)
+    key = name.upper() if kind == 2 else f"HEADER {spelled(chance, in_any_case(chance, name))}"
+    return f"{key} {spelled(chance, words)}", lambda m: any(field == name.lower().encode() and wanted in body for field, body in m.fields)
+
+
 def a_plain_key(chance, messages):
     """A key without others in it: its words, and what it means of a message."""
-    kind = chance.randrange(8)
+    kind = chance.randrange(11)
+    if kind > 7:
+        return a_key_of_words(chance, messages)
     if kind < 2:
         flag = chance.choice(FLAGS)
         has = kind == 0

@@ -1,4 +1,5 @@
 pub mod Steps
+pub mod Searching
 pub mod FieldSteps
 pub mod Spelling
 pub mod Numbers

@@ -57,6 +57,11 @@ begun_single (keys.Smaller n) text q = begun_word text q.front q.back q.parts (k
 begun_single (keys.Before day) text q = begun_word text q.front q.back q.parts (key_front words.Before q.front q.first)
 begun_single (keys.On day) text q = begun_word text q.front q.back q.parts (key_front words.On q.front q.first)
 begun_single (keys.Since day) text q = begun_word text q.front q.back q.parts (key_front words.Since q.front q.first)
+begun_single (keys.InField name sought) text (inl q) = begun_word text q.front q.back q.parts (key_front words.Header q.front q.first)
+begun_single (keys.InField name sought) text (inr (field, e, q)) =
+    begun_word text q.front q.back q.parts (key_front (words.Field field) q.front q.first)
+begun_single (keys.InBody sought) text q = begun_word text q.front q.back q.parts (key_front words.Body q.front q.first)
+begun_single (keys.InText sought) text q = begun_word text q.front q.back q.parts (key_front words.Text q.front q.first)
 begun_single (keys.Positions set) text h = begun_word text text [] (sym (append_none text)) (set_front set text h)
 begun_single (keys.Uids set) text q = begun_word text q.front q.back q.parts (key_front words.Uid q.front q.first)
 begun_single (keys.Not key) text h = absurd h

@@ -18,15 +18,17 @@ use Rattle.envelope.specs.Grammar.{Many, Some1, Gap, Keyword, Joined}
 use Rattle.envelope.specs.Reading.{◌>>=◌, past_byte}
 use Rattle.imap_grammar.specs.Bytes.{is_atom, is_digit, is_key_byte}
 use Rattle.imap_grammar.specs.Front.{past_gap}
-use Rattle.imap_grammar.specs.Grammar.{DateIs, Number63, SetIs, SingleIs}
+use Rattle.imap_grammar.specs.Grammar.{DateIs, Name, Number63, SetIs, SingleIs}
 use Rattle.imap_grammar.specs.Items.{greatest_span, is_word_of}
-use Rattle.imap_grammar.specs.Keys.{Key}
+use Rattle.imap_grammar.specs.Keys.{Key, field_name}
 use Rattle.imap_grammar.specs.Keys as keys
 use Rattle.imap_grammar.specs.Numbers.{number_up_to}
 use Rattle.imap_grammar.specs.Sets.{set_at}
-use Rattle.imap_grammar.specs.SearchReading.{Reader, spelling, flag_words, other_words, word_among, or_word, key_word_of, key_word_at, argument_key}
-use Rattle.imap_grammar.specs.SearchReading.{date_in, argument_at, single_at, key_of, with_key, either_at, worded_at}
+use Rattle.imap_grammar.specs.SearchReading.{Reader, spelling, flag_words, other_words, text_words, word_among, or_word, key_word_of, key_word_at, argument_key}
+use Rattle.imap_grammar.specs.SearchReading.{date_in, argument_at, string_behind, words_at, header_at, single_at, key_of, with_key, either_at, worded_at}
+use Rattle.imap_grammar.specs.Strings.{string_at}
 use Rattle.imap_grammar.specs.declared.dates.Day.{Day}
+use Rattle.imap_grammar.specs.declared.key_words.HeaderField.TheVariants as fields
 use Rattle.imap_grammar.specs.declared.key_words.SystemFlag.TheVariants.{Answered}
 use Rattle.imap_grammar.specs.declared.key_words.KeyWord.{KeyWord}
 use Rattle.imap_grammar.specs.declared.key_words.KeyWord.TheVariants as words
@@ -38,7 +40,7 @@ use Rattle.imap_grammar.proofs.Chains.{inside}
 use Rattle.imap_grammar.proofs.Fields.{word_of_again, word_of_sound}
 use Rattle.imap_grammar.proofs.Keywords.{word_length, other_case, same_sound}
 use Rattle.imap_grammar.proofs.SetLaw.{is_set, set_all, set_again, set_sound, number_again, number_sound}
-use Rattle.imap_grammar.proofs.Tokens.{excludes, many_map, not_true, starts, gap_again, gap_sound}
+use Rattle.imap_grammar.proofs.Tokens.{excludes, many_map, not_true, starts, gap_again, gap_sound, string_again, string_sound, string_starts}
 
 -- ---- bytes of words
 
@@ -77,6 +79,8 @@ known (words.Has Answered) = refl
 known (words.Has _) = refl
 known (words.Lacks Answered) = refl
 known (words.Lacks _) = refl
+known (words.Field fields.Subject) = refl
+known (words.Field _) = refl
 known words.All = refl
 known _ = refl
 
@@ -85,6 +89,8 @@ some_spelled (words.Has Answered) = omega arith
 some_spelled (words.Has _) = omega arith
 some_spelled (words.Lacks Answered) = omega arith
 some_spelled (words.Lacks _) = omega arith
+some_spelled (words.Field fields.Subject) = omega arith
+some_spelled (words.Field _) = omega arith
 some_spelled words.All = omega arith
 some_spelled _ = omega arith
 
@@ -93,6 +99,8 @@ clean_spelled (words.Has Answered) = refl
 clean_spelled (words.Has _) = refl
 clean_spelled (words.Lacks Answered) = refl
 clean_spelled (words.Lacks _) = refl
+clean_spelled (words.Field fields.Subject) = refl
+clean_spelled (words.Field _) = refl
 clean_spelled words.All = refl
 clean_spelled _ = refl
 
@@ -108,8 +116,9 @@ same_among (w ∷ ws) a b h =
 
 pub word_again : (w : KeyWord) (text : List ℕ) → Keyword (spelling w) text → key_word_of text ≡ Some w
 word_again w text h =
-    ap (λ o. or_word o (word_among other_words text)) (same_among flag_words text (spelling w) h)
-    ∙ ap (or_word (word_among flag_words (spelling w))) (same_among other_words text (spelling w) h)
+    ap (λ o. or_word o (or_word (word_among other_words text) (word_among text_words text))) (same_among flag_words text (spelling w) h)
+    ∙ ap (λ o. or_word (word_among flag_words (spelling w)) (or_word o (word_among text_words text))) (same_among other_words text (spelling w) h)
+    ∙ ap (λ o. or_word (word_among flag_words (spelling w)) (or_word (word_among other_words (spelling w)) o)) (same_among text_words text (spelling w) h)
     ∙ known w
 
 among_case : (t : Bool) (v w : KeyWord) (ws : List KeyWord) (text : List ℕ) → is_same text (spelling v) ≡ t
@@ -128,8 +137,10 @@ or_sound None p w P e f g = g e
 
 pub word_sound : (w : KeyWord) (text : List ℕ) → key_word_of text ≡ Some w → Keyword (spelling w) text
 word_sound w text e =
-    or_sound (word_among flag_words text) (word_among other_words text) w (Keyword (spelling w) text) e (λ h. among_sound flag_words w text h)
-    (λ h. among_sound other_words w text h)
+    or_sound (word_among flag_words text) (or_word (word_among other_words text) (word_among text_words text)) w (Keyword (spelling w) text) e
+    (λ h. among_sound flag_words w text h)
+    (λ h. or_sound (word_among other_words text) (word_among text_words text) w (Keyword (spelling w) text) h (λ k. among_sound other_words w text k)
+    (λ k. among_sound text_words w text k))
 
 -- a set is no word
 
@@ -163,8 +174,9 @@ pub set_no_word : (text : List ℕ) → Some1 is_set text → key_word_of text �
 unfolding apart
 set_no_word [] h = absurd (omega (arith, h.0))
 set_no_word (x ∷ xs) h =
-    ap (λ o. or_word o (word_among other_words (x ∷ xs))) (none_among x xs flag_words h.1.0 refl)
-    ∙ none_among x xs other_words h.1.0 refl
+    ap (λ o. or_word o (or_word (word_among other_words (x ∷ xs)) (word_among text_words (x ∷ xs)))) (none_among x xs flag_words h.1.0 refl)
+    ∙ ap (λ o. or_word o (word_among text_words (x ∷ xs))) (none_among x xs other_words h.1.0 refl)
+    ∙ none_among x xs text_words h.1.0 refl
 
 pub set_front : (s : List SeqRange) (text : List ℕ) → SetIs s text → Some1 is_key_byte text
 set_front s text h = let k = set_all s text h in (k.0, many_map is_set is_key_byte (key_byte is_set refl refl refl) text k.1)
@@ -247,6 +259,68 @@ plain_again each w key worded text rest h s = begins_word each (Some w) text res
 atom_read : {A : Type 0} (x : A) (t : List ℕ) → Some1 is_atom t → cond (is_word_of is_atom t) (Some x) None ≡ Some x
 atom_read x t h = ap (λ (b : Bool). cond b (Some x) None) (word_of_again is_atom t h)
 
+-- ---- strings behind words
+
+-- what ends a word among keys ends an atom
+atom_stops : (rest : List ℕ) → Stops is_key_byte rest → Stops is_atom rest
+atom_stops [] s = tt
+atom_stops (x ∷ xs) s = by (is_atom x) refl
+  where
+    by : (t : Bool) → is_atom x ≡ t → t ≡ false
+    by false e = refl
+    by true e = absurd (let bad : is_key_byte x ≡ true = key_byte is_atom refl refl refl x e in cc)
+
+atom_bare : (b : ℕ) → is_atom b ≡ true → is_space b ≡ false
+atom_bare b h = no_space b (key_byte is_atom refl refl refl b h)
+
+abbrev some_string : List ℕ → List ℕ → Option (List ℕ × List ℕ)
+some_string value rest = Some (value, rest)
+
+-- a gap, a string and what follows
+behind_again : (gap value text rest : List ℕ) → Gap gap → Name value text → Stops is_key_byte rest
+    → string_behind (gap ++ (text ++ rest)) ≡ some_string value rest
+behind_again gap value text rest g n s =
+    ap (λ o. o >>= (λ start. string_at is_atom start)) (gap_again gap (text ++ rest) g (string_starts is_atom atom_bare value text rest n))
+    ∙ string_again is_atom value text rest refl n (atom_stops rest s)
+
+abbrev words_made : (List ℕ → SingleKey) → List ℕ × List ℕ → Option (SingleKey × List ℕ)
+words_made make words = Some (make words.0, words.1)
+
+words_again : (each : Reader) (w : KeyWord) (make : List ℕ → SingleKey) (sought text rest : List ℕ)
+    → ((cut : List ℕ × List ℕ) → worded_at each (Some w) cut ≡ option_map with_key (words_at make cut.1))
+    → Joined (Keyword (spelling w)) (Joined Gap (Name sought)) text → Stops is_key_byte rest
+    → around_at each (text ++ rest) ≡ Some (key_of (make sought), rest)
+words_again each w make sought text rest worded q s =
+    let g = q.second.front in
+    let t = q.second.back in
+    ap (around_at each) (three_parts (Keyword (spelling w)) Gap (Name sought) text rest q)
+    ∙ begins_word each (Some w) q.front (g ++ (t ++ rest)) (key_front w q.front q.first) (gap_ends g (t ++ rest) q.second.first)
+    (word_again w q.front q.first)
+    ∙ worded (q.front, g ++ (t ++ rest))
+    ∙ ap (λ o. option_map with_key (o >>= words_made make)) (behind_again g sought t rest q.second.first q.second.second s)
+
+abbrev header_made : List ℕ × List ℕ → Option (SingleKey × List ℕ)
+header_made name = words_at (single.InField name.0) name.1
+
+header_again : (each : Reader) (name sought text rest : List ℕ)
+    → Joined (Keyword (spelling words.Header)) (Joined Gap (Joined (Name name) (Joined Gap (Name sought)))) text → Stops is_key_byte rest
+    → around_at each (text ++ rest) ≡ Some (keys.InField name sought, rest)
+header_again each name sought text rest q s =
+    let g = q.second.front in
+    let n = q.second.second in
+    let h = n.second.front in
+    let t = n.second.back in
+    let more = h ++ (t ++ rest) in
+    let inner : n.back ++ rest ≡ more = ap (λ l. l ++ rest) n.second.parts ∙ append_assoc h t rest in
+    let back : q.second.back ++ rest ≡ n.front ++ more =
+    ap (λ l. l ++ rest) n.parts ∙ append_assoc n.front n.back rest ∙ ap (λ l. n.front ++ l) inner in
+    ap (around_at each) (three_parts (Keyword (spelling words.Header)) Gap (Joined (Name name) (Joined Gap (Name sought))) text rest q)
+    ∙ ap (λ l. around_at each (q.front ++ (g ++ l))) back
+    ∙ begins_word each (Some words.Header) q.front (g ++ (n.front ++ more)) (key_front words.Header q.front q.first)
+    (gap_ends g (n.front ++ more) q.second.first) (word_again words.Header q.front q.first)
+    ∙ ap (λ o. option_map with_key (o >>= header_made)) (behind_again g name n.front more q.second.first n.first (gap_ends h (t ++ rest) n.second.first))
+    ∙ ap (λ o. option_map with_key (o >>= words_made (single.InField name))) (behind_again h sought t rest n.second.first n.second.second s)
+
 pub single_again : (each : Reader) (key : Key) (text rest : List ℕ) → SingleIs key text → Stops is_key_byte rest
     → around_at each (text ++ rest) ≡ Some (key, rest)
 single_again each keys.Always text rest (inl h) s = plain_again each words.All keys.Always (λ cut. refl) text rest h s
@@ -274,6 +348,12 @@ single_again each (keys.On day) text rest q s =
 single_again each (keys.Since day) text rest q s =
     argument_again each words.Since (single.Since day) (DateIs day) (λ cut. refl)
     (λ t h. ap (λ o. o >>= (λ k. Some (single.Since k))) (date_again day t h)) (date_front day) text rest q s
+single_again each (keys.InField name sought) text rest (inl q) s = header_again each name sought text rest q s
+single_again each (keys.InField name sought) text rest (inr (field, e, q)) s =
+    words_again each (words.Field field) (single.InField (field_name field)) sought text rest (λ cut. refl) q s
+    ∙ ap (λ n. Some (keys.InField n sought, rest)) e
+single_again each (keys.InBody sought) text rest q s = words_again each words.Body single.InBody sought text rest (λ cut. refl) q s
+single_again each (keys.InText sought) text rest q s = words_again each words.Text single.InText sought text rest (λ cut. refl) q s
 single_again each (keys.Positions set) text rest h s =
     begins_word each None text rest (set_front set text h) s (set_no_word text (set_all set text h))
     ∙ ap (λ o. option_map with_key (o >>= (λ x. Some (single.Positions x, rest)))) (set_again set text h)
@@ -355,6 +435,94 @@ made w x key bytes word r f e h = record {
   is = subst (λ y. SingleIs y (word ++ (f.gap ++ f.argument))) (ap key_of e ∙ f.said) h;
 }
 
+-- a string that was read behind a gap
+record FoundWords (value bytes rest : List ℕ) : Type 0 where
+  text : List ℕ
+  parts : bytes ≡ text ++ rest
+  is : Joined Gap (Name value) text
+
+behind_sound : (bytes value rest : List ℕ) → string_behind bytes ≡ some_string value rest → FoundWords value bytes rest
+behind_sound bytes value rest e =
+    let b : List ℕ × List ℕ = (value, rest) in
+    let g = bind_some (past_gap bytes) (λ start. string_at is_atom start) b e in
+    let s = gap_sound bytes g.0 g.1 in
+    let f = string_sound is_atom refl g.0 value rest g.2 in
+    record {
+      text = s.gap ++ f.text;
+      parts = s.parts ∙ ap (λ l. s.gap ++ l) f.parts ∙ sym (append_assoc s.gap f.text rest);
+      is = record { front = s.gap; back = f.text; parts = refl; first = s.is; second = f.is };
+    }
+
+-- a key that was made of such a string
+record FoundMade (make : List ℕ → SingleKey) (key : Key) (bytes rest : List ℕ) : Type 0 where
+  value : List ℕ
+  said : key_of (make value) ≡ key
+  found : FoundWords value bytes rest
+
+made_sound : (make : List ℕ → SingleKey) (key : Key) (bytes rest : List ℕ) → option_map with_key (words_at make bytes) ≡ some_key key rest
+    → FoundMade make key bytes rest
+made_sound make key bytes rest e =
+    let b : Key × List ℕ = (key, rest) in
+    let k = map_some with_key (words_at make bytes) b e in
+    let i = bind_some (string_behind bytes) (words_made make) k.0 k.1 in
+    let pair : SingleKey × List ℕ = (make i.0.0, i.0.1) in
+    let same : with_key pair ≡ b = ap with_key (inside pair k.0 i.2) ∙ k.2 in
+    let end : i.0.1 ≡ rest = ap (λ (p : Key × List ℕ). p.1) same in
+    record {
+      value = i.0.0;
+      said = ap (λ (p : Key × List ℕ). p.0) same;
+      found = behind_sound bytes i.0.0 rest (i.1 ∙ ap (λ l. some_string i.0.0 l) end);
+    }
+
+words_sound : (w : KeyWord) (make : List ℕ → SingleKey) (key : Key) (bytes word after rest : List ℕ)
+    → ((sought text : List ℕ) → Joined (Keyword (spelling w)) (Joined Gap (Name sought)) text → SingleIs (key_of (make sought)) text)
+    → bytes ≡ word ++ after → Keyword (spelling w) word → option_map with_key (words_at make after) ≡ some_key key rest → FoundKey SingleIs key bytes rest
+words_sound w make key bytes word after rest is e h k =
+    let f = made_sound make key after rest k in
+    let text : List ℕ = word ++ f.found.text in
+    record {
+      text = text;
+      parts = e ∙ ap (λ l. word ++ l) f.found.parts ∙ sym (append_assoc word f.found.text rest);
+      is = subst (λ y. SingleIs y text) f.said
+          (is f.value text (record { front = word; back = f.found.text; parts = refl; first = h; second = f.found.is }));
+    }
+
+header_sound : (key : Key) (bytes word after rest : List ℕ) → bytes ≡ word ++ after → Keyword (spelling words.Header) word
+    → option_map with_key (header_at after) ≡ some_key key rest → FoundKey SingleIs key bytes rest
+header_sound key bytes word after rest e h k =
+    let b : Key × List ℕ = (key, rest) in
+    let m = map_some with_key (header_at after) b k in
+    let i = bind_some (string_behind after) header_made m.0 m.1 in
+    let n = behind_sound after i.0.0 i.0.1 i.1 in
+    let last : option_map with_key (words_at (single.InField i.0.0) i.0.1) ≡ some_key key rest =
+    ap (option_map with_key) i.2 ∙ ap (λ (p : Key × List ℕ). Some p) m.2 in
+    let f = made_sound (single.InField i.0.0) key i.0.1 rest last in
+    let back : List ℕ = n.is.back ++ f.found.text in
+    let text : List ℕ = word ++ (n.is.front ++ back) in
+    let middle : after ≡ (n.is.front ++ back) ++ rest =
+    n.parts ∙ ap (λ l. l ++ i.0.1) n.is.parts ∙ append_assoc n.is.front n.is.back i.0.1
+    ∙ ap (λ l. n.is.front ++ (n.is.back ++ l)) f.found.parts
+    ∙ ap (λ l. n.is.front ++ l) (sym (append_assoc n.is.back f.found.text rest))
+    ∙ sym (append_assoc n.is.front back rest) in
+    let spelled : Joined (Keyword (spelling words.Header)) (Joined Gap (Joined (Name i.0.0) (Joined Gap (Name f.value)))) text = record {
+      front = word;
+      back = n.is.front ++ back;
+      parts = refl;
+      first = h;
+      second = record {
+        front = n.is.front;
+        back = back;
+        parts = refl;
+        first = n.is.first;
+        second = record { front = n.is.back; back = f.found.text; parts = refl; first = n.is.second; second = f.found.is };
+      };
+    } in
+    record {
+      text = text;
+      parts = e ∙ ap (λ l. word ++ l) middle ∙ sym (append_assoc word (n.is.front ++ back) rest);
+      is = subst (λ y. SingleIs y text) f.said (inl spelled);
+    }
+
 pub single_sound : (w : KeyWord) (key : Key) (bytes text rest r : List ℕ) → bytes ≡ text ++ rest → Keyword (spelling w) text
     → option_map with_key (single_at (Some w) (text, rest)) ≡ Some (key, r) → FoundKey SingleIs key bytes r
 single_sound words.All key bytes text rest r e h k = found SingleIs keys.Always key bytes text rest r e (inl h) k
@@ -398,6 +566,11 @@ single_sound words.Since key bytes text rest r e h k =
     let g = bind_some (date_in f.argument) (λ d. Some (single.Since d)) f.single f.read in
     made words.Since (single.Since g.0) key bytes text r f (inside (single.Since g.0) f.single g.2)
     (argument_is words.Since (DateIs g.0) text f.gap f.argument h f.is_gap (date_sound g.0 f.argument g.1))
+single_sound words.Header key bytes text rest r e h k = header_sound key bytes text rest r e h k
+single_sound (words.Field field) key bytes text rest r e h k =
+    words_sound (words.Field field) (single.InField (field_name field)) key bytes text rest r (λ l t q. inr (field, refl, q)) e h k
+single_sound words.Body key bytes text rest r e h k = words_sound words.Body single.InBody key bytes text rest r (λ l t q. q) e h k
+single_sound words.Text key bytes text rest r e h k = words_sound words.Text single.InText key bytes text rest r (λ l t q. q) e h k
 single_sound words.Uid key bytes text rest r e h k =
     let f = argument_sound words.Uid key bytes text rest r e k in
     let g = bind_some (set_at f.argument) (λ s. Some (single.Uids s)) f.single f.read in

@@ -15,7 +15,8 @@ use Rattle.imap_grammar.specs.declared.command.Literal.{Literal}
 use Rattle.imap_grammar.specs.declared.dates.Day.{Day}
 use Rattle.imap_grammar.specs.Items.{fast_items, flags_among}
 use Rattle.imap_grammar.specs.Keys.{Key, Always, Never, Has, Lacks, Larger, Smaller, Before, On, Since}
-use Rattle.imap_grammar.specs.Keys.{Positions, Uids, Not, Or, all_of, flag_word}
+use Rattle.imap_grammar.specs.Keys.{InField, InBody, InText, Positions, Uids, Not, Or, all_of, flag_word, field_name}
+use Rattle.imap_grammar.specs.declared.key_words.HeaderField.{HeaderField}
 use Rattle.imap_grammar.specs.Verbs.{word_of, stands_behind_uid, is_left_out, verb_of}
 use Rattle.imap_grammar.specs.declared.set.SeqNumber.{SeqNumber}
 use Rattle.imap_grammar.specs.declared.set.SeqNumber.TheVariants.{Number, Star}
@@ -259,6 +260,11 @@ SingleIs (Smaller n) text = (Keyword (codes "SMALLER") ⨾ Gap ⨾ Number63 n) t
 SingleIs (Before day) text = (Keyword (codes "BEFORE") ⨾ Gap ⨾ DateIs day) text
 SingleIs (On day) text = (Keyword (codes "ON") ⨾ Gap ⨾ DateIs day) text
 SingleIs (Since day) text = (Keyword (codes "SINCE") ⨾ Gap ⨾ DateIs day) text
+SingleIs (InField name words) text =
+    (Keyword (codes "HEADER") ⨾ Gap ⨾ Name name ⨾ Gap ⨾ Name words) text
+    ⊎ ((field : HeaderField) × (field_name field ≡ name) × (Keyword (field_name field) ⨾ Gap ⨾ Name words) text)
+SingleIs (InBody words) text = (Keyword (codes "BODY") ⨾ Gap ⨾ Name words) text
+SingleIs (InText words) text = (Keyword (codes "TEXT") ⨾ Gap ⨾ Name words) text
 SingleIs (Positions set) text = SetIs set text
 SingleIs (Uids set) text = (Keyword (codes "UID") ⨾ Gap ⨾ SetIs set) text
 SingleIs _ text = ⊥

@@ -3,11 +3,14 @@ use Rattle.std.specs.Prelude.{ℕ, Bool, true, false, codes, List, [], ◌∷◌
 use Rattle.change_ring.specs.declared.change.Flags.{Flags}
 use Rattle.mail_date.specs.declared.stamp.Stamp.{Stamp}
 use Rattle.mail_date.specs.Fields.{message_date}
+use Rattle.imap_grammar.specs.Contains.{body, contains, in_field}
 use Rattle.imap_grammar.specs.Sets.{is_named}
 use Rattle.imap_grammar.specs.declared.dates.Day.{Day}
 use Rattle.imap_grammar.specs.declared.set.SeqNumber.TheVariants.{Number, Star}
 use Rattle.imap_grammar.specs.declared.set.SeqRange.{SeqRange}
 use Rattle.imap_grammar.specs.declared.view.Named.{Named}
+use Rattle.imap_grammar.specs.declared.key_words.HeaderField.{HeaderField}
+use Rattle.imap_grammar.specs.declared.key_words.HeaderField.TheVariants.{Subject, From, To, Cc, Bcc}
 use Rattle.imap_grammar.specs.declared.key_words.SystemFlag.{SystemFlag}
 use Rattle.imap_grammar.specs.declared.key_words.SystemFlag.TheVariants.{Answered, Deleted, Draft, Flagged, Seen}
 
@@ -25,6 +28,10 @@ pub data Key : Type 0 where
   Before : Day → Key
   On : Day → Key
   Since : Day → Key
+  -- a field of this name has these words in its body, unfolded; the text behind the header has them; or all of the text, the header too
+  InField : (name words : List ℕ) → Key
+  InBody : (words : List ℕ) → Key
+  InText : (words : List ℕ) → Key
   -- a set of positions in the view, or of UIDs
   Positions : List SeqRange → Key
   Uids : List SeqRange → Key
@@ -39,6 +46,14 @@ flag_word Deleted = codes "DELETED"
 flag_word Draft = codes "DRAFT"
 flag_word Flagged = codes "FLAGGED"
 flag_word Seen = codes "SEEN"
+
+-- the name of a field that has a key of its own, which is the word of that key too
+abbrev pub field_name : HeaderField → List ℕ
+field_name Subject = codes "Subject"
+field_name From = codes "From"
+field_name To = codes "To"
+field_name Cc = codes "Cc"
+field_name Bcc = codes "Bcc"
 
 abbrev pub has_flag : SystemFlag → Flags → Bool
 has_flag Answered flags = flags.answered
@@ -69,6 +84,9 @@ matches (Smaller n) last message flags text = nat_lt (length text) n
 matches (Before day) last message flags text = is_before (day_of (message_date text)) day
 matches (On day) last message flags text = is_same_day (day_of (message_date text)) day
 matches (Since day) last message flags text = not (is_before (day_of (message_date text)) day)
+matches (InField name words) last message flags text = in_field name words text
+matches (InBody words) last message flags text = contains words (body text)
+matches (InText words) last message flags text = contains words text
 matches (Positions set) last message flags text = is_named set last.position message.position
 matches (Uids set) last message flags text = is_named set last.uid message.uid
 matches (Not key) last message flags text = not (matches key last message flags text)

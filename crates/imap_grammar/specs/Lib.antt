@@ -4,6 +4,8 @@ pub mod Cuts
 pub mod Front
 pub mod Brackets
 pub mod Sets
+pub mod Strings
+pub mod Contains
 pub mod Keys
 pub mod Items
 pub mod Verbs

@@ -2,7 +2,6 @@
 -- grammar allows; nobody has to believe this file.
 use Rattle.std.specs.Prelude.{ℕ, zero, suc, Bool, true, false, codes, List, [], ◌∷◌, length, take, drop, Option, Some, None, is_some, Result, Ok, Err, ◌==◌, ◌&&◌, ◌||◌, not, if◌then◌else◌, ◌-◌, slice_index, min}
 use Rattle.std.specs.List.{list_all, prefix_len}
-use Rattle.std.specs.Option.{option_map}
 use Rattle.std.specs.Str.{str_eq_ignore_ascii_case as is_same}
 use Rattle.change_ring.specs.declared.change.Flags.{Flags}
 use Rattle.change_ring.specs.declared.flag_op.FlagOp.{FlagOp}
@@ -22,6 +21,7 @@ use Rattle.imap_grammar.specs.SearchReading.{key_word_at, key_word_of, keys_in}
 use Rattle.imap_grammar.specs.declared.key_words.KeyWord.{KeyWord}
 use Rattle.imap_grammar.specs.declared.key_words.KeyWord.TheVariants.{Charset}
 use Rattle.imap_grammar.specs.Sets.{set_at}
+pub use Rattle.imap_grammar.specs.Strings.{quoted_len, string_len, string_at}
 use Rattle.imap_grammar.specs.Items.{fetch_item_of, fetch_items_of, fast_items, status_item_of, status_items_of, is_flag, is_word_of, flags_among}
 use Rattle.imap_grammar.specs.Verbs.{word_of, is_left_out, offered, left_out, behind_uid, alone}
 use Rattle.imap_grammar.specs.declared.items.FetchItem.{FetchItem}
@@ -52,24 +52,6 @@ is_of classes.Base64 = is_base64
 
 abbrev pub word_at : List ℕ → List ℕ × List ℕ
 word_at bytes = (take (prefix_len is_not_space bytes) bytes, drop (prefix_len is_not_space bytes) bytes)
-
--- a quoted string from behind its first quote, and with its last; after a backslash is `escaped`
-abbrev pub quoted_len : Bool → List ℕ → Option ℕ
-quoted_len escaped [] = None
-quoted_len escaped (b ∷ bs) =
-    if escaped then (if is_special b then option_map suc (quoted_len false bs) else None)
-    else if b == 34 then Some 1
-    else if (b == 92) || is_quotable b then option_map suc (quoted_len (b == 92) bs)
-    else None
-
-abbrev pub string_len : (ℕ → Bool) → List ℕ → Option ℕ
-string_len class bytes = if first_is 34 bytes then option_map suc (quoted_len false (drop 1 bytes)) else some_len class bytes
-
--- a name or a pattern
-abbrev pub string_at : (ℕ → Bool) → List ℕ → Option (List ℕ × List ℕ)
-string_at class bytes = do
-  n ← string_len class bytes
-  Some (value_of (take n bytes), drop n bytes)
 
 abbrev pub if_end : {A : Type 0} → A → List ℕ → Option A
 if_end x bytes = if is_blank bytes then Some x else None

@@ -9,16 +9,18 @@ use Rattle.mail_date.specs.Reading.{day_at, month_at}
 use Rattle.imap_grammar.specs.Bytes.{is_atom, is_key_byte}
 use Rattle.imap_grammar.specs.Front.{past_gap, is_blank}
 use Rattle.imap_grammar.specs.Items.{greatest_span, is_word_of}
-use Rattle.imap_grammar.specs.Keys.{Key, all_of, flag_word}
+use Rattle.imap_grammar.specs.Keys.{Key, all_of, field_name, flag_word}
 use Rattle.imap_grammar.specs.Keys as keys
 use Rattle.imap_grammar.specs.Numbers.{number_up_to}
 use Rattle.imap_grammar.specs.Sets.{set_at}
+use Rattle.imap_grammar.specs.Strings.{string_at}
 use Rattle.imap_grammar.specs.declared.dates.Day.{Day}
+use Rattle.imap_grammar.specs.declared.key_words.HeaderField.TheVariants.{Subject, From, To, Cc, Bcc}
 use Rattle.imap_grammar.specs.declared.key_words.SystemFlag.TheVariants.{Answered, Deleted, Draft, Flagged, Seen}
 use Rattle.imap_grammar.specs.declared.key_words.KeyWord.{KeyWord}
 use Rattle.imap_grammar.specs.declared.key_words.KeyWord.TheVariants.{All, Old, New, Recent, Has, Lacks, Keyword, Unkeyword}
 use Rattle.imap_grammar.specs.declared.key_words.KeyWord.TheVariants.{Larger, Smaller, Before, On, Since, Uid}
-use Rattle.imap_grammar.specs.declared.key_words.KeyWord.TheVariants.{Not, Or, Charset}
+use Rattle.imap_grammar.specs.declared.key_words.KeyWord.TheVariants.{Header, Field, Body, Text, Not, Or, Charset}
 use Rattle.imap_grammar.specs.declared.key_words.SingleKey.{SingleKey}
 use Rattle.imap_grammar.specs.declared.key_words.SingleKey.TheVariants as single
 
@@ -38,6 +40,10 @@ spelling Smaller = codes "SMALLER"
 spelling Before = codes "BEFORE"
 spelling On = codes "ON"
 spelling Since = codes "SINCE"
+spelling Header = codes "HEADER"
+spelling (Field field) = field_name field
+spelling Body = codes "BODY"
+spelling Text = codes "TEXT"
 spelling Uid = codes "UID"
 spelling Not = codes "NOT"
 spelling Or = codes "OR"
@@ -51,6 +57,9 @@ flag_words =
 abbrev pub other_words : List KeyWord
 other_words = All ∷ Old ∷ New ∷ Recent ∷ Keyword ∷ Unkeyword ∷ Larger ∷ Smaller ∷ Before ∷ On ∷ Since ∷ Uid ∷ Not ∷ Or ∷ Charset ∷ []
 
+abbrev pub text_words : List KeyWord
+text_words = Header ∷ Field Subject ∷ Field From ∷ Field To ∷ Field Cc ∷ Field Bcc ∷ Body ∷ Text ∷ []
+
 abbrev pub word_among : List KeyWord → List ℕ → Option KeyWord
 word_among [] word = None
 word_among (w ∷ ws) word = if is_same word (spelling w) then Some w else word_among ws word
@@ -60,7 +69,7 @@ or_word (Some w) other = Some w
 or_word None other = other
 
 abbrev pub key_word_of : List ℕ → Option KeyWord
-key_word_of word = or_word (word_among flag_words word) (word_among other_words word)
+key_word_of word = or_word (word_among flag_words word) (or_word (word_among other_words word) (word_among text_words word))
 
 -- what stands before the first space or parenthesis, and the rest
 abbrev pub key_word_at : List ℕ → List ℕ × List ℕ
@@ -127,9 +136,34 @@ argument_at word bytes = do
   key ← argument_key word (key_word_at start).0
   Some (key, (key_word_at start).1)
 
+-- a string behind a gap, and what comes after it
+abbrev pub string_behind : List ℕ → Option (List ℕ × List ℕ)
+string_behind bytes = do
+  start ← past_gap bytes
+  string_at is_atom start
+
+-- the key that is made of such a string
+abbrev pub words_at : (List ℕ → SingleKey) → List ℕ → Option (SingleKey × List ℕ)
+words_at make bytes = do
+  words ← string_behind bytes
+  Some (make words.0, words.1)
+
+abbrev pub header_at : List ℕ → Option (SingleKey × List ℕ)
+header_at bytes = do
+  name ← string_behind bytes
+  words_at (single.InField name.0) name.1
+
+-- those of a word, and of what stands behind it
+abbrev pub key_behind : KeyWord → List ℕ → Option (SingleKey × List ℕ)
+key_behind Header bytes = header_at bytes
+key_behind (Field field) bytes = words_at (single.InField (field_name field)) bytes
+key_behind Body bytes = words_at single.InBody bytes
+key_behind Text bytes = words_at single.InText bytes
+key_behind word bytes = argument_at word bytes
+
 abbrev pub single_or : Option SingleKey → KeyWord → List ℕ → Option (SingleKey × List ℕ)
 single_or (Some key) word rest = Some (key, rest)
-single_or None word rest = argument_at word rest
+single_or None word rest = key_behind word rest
 
 -- a key that begins with this word, and what comes after it: where it is no word of a key it is a set
 abbrev pub single_at : Option KeyWord → List ℕ × List ℕ → Option (SingleKey × List ℕ)
@@ -146,6 +180,9 @@ key_of (single.Smaller n) = keys.Smaller n
 key_of (single.Before day) = keys.Before day
 key_of (single.On day) = keys.On day
 key_of (single.Since day) = keys.Since day
+key_of (single.InField name words) = keys.InField name words
+key_of (single.InBody words) = keys.InBody words
+key_of (single.InText words) = keys.InText words
 key_of (single.Positions set) = keys.Positions set
 key_of (single.Uids set) = keys.Uids set
 

@@ -3,3 +3,4 @@ pub mod KeyCode
 pub mod KeysSaid
 pub mod Asking
 pub mod Letters
+pub mod Searching

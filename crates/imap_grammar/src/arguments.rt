@@ -6,8 +6,8 @@ ghost use Rattle.std.specs.List.{list_all};
 ghost use Rattle.std.specs.Option.{option_copied, option_map};
 ghost use Rattle.envelope.specs.Reading.{first_is, some_len};
 ghost use Rattle.imap_grammar.specs.Grammar.{is_known_charset};
-ghost use Rattle.imap_grammar.specs.Reading.{is_of, quoted_len, string_len, string_at, in_parentheses, items_in_parentheses, fetch_items_at, flags_at, operation_of, change_with, name_alone, pair_at, status_at, fetch_at, store_at, set_alone, if_end, parens_at, flag_list_at, given_flags_at, past_quoted, past_date, literal_end, literal_at, append_at, charset_named, charset_at, search_at, word_if, initial_at, authenticate_at, enable_at, past_string, past_value, past_field, past_all_fields, past_list, past_parameters, id_at};
-ghost use Rattle.imap_grammar.specs.Bytes.{is_atom, is_pattern, is_special, is_quotable, is_digit};
+ghost use Rattle.imap_grammar.specs.Reading.{is_of, in_parentheses, items_in_parentheses, fetch_items_at, flags_at, operation_of, change_with, name_alone, pair_at, status_at, fetch_at, store_at, set_alone, if_end, parens_at, flag_list_at, given_flags_at, past_quoted, past_date, literal_end, literal_at, append_at, charset_named, charset_at, search_at, word_if, initial_at, authenticate_at, enable_at, past_string, past_value, past_field, past_all_fields, past_list, past_parameters, id_at};
+ghost use Rattle.imap_grammar.specs.Bytes.{is_atom, is_pattern, is_digit};
 ghost use Rattle.imap_grammar.specs.declared.command.Command.TheVariants as say;
 
 use crate::bytes::{Class, is_blank, is_tight, past_gap, run_len, word_at};
@@ -20,72 +20,10 @@ use crate::keys::SearchKeys;
 use crate::name::Name;
 use crate::number::capped_number;
 use crate::set::SeqSet;
+use crate::strings::string_at;
 use crate::words::{are_atoms, flags_in, is_word_of};
 use change_ring::{FlagOp, Flags};
 use envelope::{past_byte, past_keyword};
-
-pub(crate) fn is_special(b: u8) -> bool
-    ensures { result ≡ is_special b }
-{
-    b == b'"' || b == b'\\'
-}
-
-fn is_quotable(b: u8) -> bool
-    ensures { result ≡ is_quotable b }
-{
-    32 <= b && b != 127 && !is_special(b)
-}
-
-/// How many bytes a quoted string has from behind its first quote on.
-#[tactic(auto, using(crate::proofs::Steps::quoted_step))]
-fn quoted_len(bytes: &[u8]) -> Option<usize>
-    ensures value { result ≡ quoted_len false bytes.now }
-    ensures bound { IfSome result (λ n. n ≤ length bytes.now) }
-{
-    let mut escaped = false;
-    for (i, b) in bytes.iter().enumerate() {
-        if escaped {
-            if !is_special(*b) {
-                return None;
-            }
-            escaped = false;
-        } else {
-            if *b == b'"' {
-                return Some(i + 1);
-            }
-            if *b != b'\\' && !is_quotable(*b) {
-                return None;
-            }
-            escaped = *b == b'\\';
-        }
-    }
-    None
-}
-
-/// How many bytes a name or a pattern has.
-fn string_len(class: Class, bytes: &[u8]) -> Option<usize>
-    ensures value { result ≡ string_len (is_of class) bytes.now }
-    ensures bound { IfSome result (λ n. n ≤ length bytes.now) }
-{
-    match bytes {
-        [b'"', rest @ ..] => {
-            let n = quoted_len(rest)?;
-            Some(n + 1)
-        }
-        _ => {
-            let n = run_len(class, bytes);
-            if n == 0 { None } else { Some(n) }
-        }
-    }
-}
-
-/// A name or a pattern, and what follows it.
-fn string_at(class: Class, bytes: &[u8]) -> Option<(Name<'_>, &[u8])>
-    ensures { option_map (λ x. (x.0, x.1.now)) result ≡ string_at (is_of class) bytes.now }
-{
-    let (spelled, rest) = bytes.split_at(string_len(class, bytes)?);
-    Some((Name::of(spelled), rest))
-}
 
 /// What stands in parentheses, if nothing but spaces comes after them.
 fn in_parentheses(bytes: &[u8]) -> Option<&[u8]>

@@ -3,12 +3,16 @@
 
 ghost use Rattle.std.specs.Prelude.{◌≡◌};
 ghost use Rattle.std.specs.Option.{option_map};
-ghost use Rattle.imap_grammar.specs.SearchReading.{argument_at, argument_key, flag_words, key_word_at, key_word_of, other_words, single_at, single_or, word_among, word_key};
+ghost use Rattle.imap_grammar.specs.Keys.{field_name};
+ghost use Rattle.imap_grammar.specs.SearchReading.{argument_at, argument_key, flag_words, header_at, key_behind, key_word_at, key_word_of, other_words, single_at, single_or, string_behind, text_words, word_among, word_key, words_at};
+ghost use Rattle.imap_grammar.specs.declared.key_words.SingleKey.TheVariants as single;
 
 use crate::bytes::{Class, past_gap, run_len};
 use crate::dates::{Day, date_in};
+use crate::name::Name;
 use crate::number::number_up_to;
 use crate::set::SeqSet;
+use crate::strings::string_at;
 use crate::words::is_word_of;
 
 /// The flags that a search may ask for (RFC 9051, 2.3.2).
@@ -19,6 +23,16 @@ pub enum SystemFlag {
     Draft,
     Flagged,
     Seen,
+}
+
+/// The header fields that have a key of their own.
+#[derive(Clone, Copy)]
+pub(crate) enum HeaderField {
+    Subject,
+    From,
+    To,
+    Cc,
+    Bcc,
 }
 
 /// The words with which keys begin, and that with which a charset does.
@@ -37,6 +51,10 @@ pub(crate) enum KeyWord {
     Before,
     On,
     Since,
+    Header,
+    Field(HeaderField),
+    Body,
+    Text,
     Uid,
     Not,
     Or,
@@ -55,6 +73,9 @@ pub(crate) enum SingleKey<'a> {
     Before(Day),
     On(Day),
     Since(Day),
+    InField(Name<'a>, Name<'a>),
+    InBody(Name<'a>),
+    InText(Name<'a>),
     Positions(SeqSet<'a>),
     Uids(SeqSet<'a>),
 }
@@ -125,13 +146,40 @@ fn other_word(word: &[u8]) -> Option<KeyWord>
     }
 }
 
+fn text_word(word: &[u8]) -> Option<KeyWord>
+    ensures { result ≡ word_among text_words word.now }
+{
+    if word.eq_ignore_ascii_case(b"HEADER") {
+        Some(KeyWord::Header)
+    } else if word.eq_ignore_ascii_case(b"SUBJECT") {
+        Some(KeyWord::Field(HeaderField::Subject))
+    } else if word.eq_ignore_ascii_case(b"FROM") {
+        Some(KeyWord::Field(HeaderField::From))
+    } else if word.eq_ignore_ascii_case(b"TO") {
+        Some(KeyWord::Field(HeaderField::To))
+    } else if word.eq_ignore_ascii_case(b"CC") {
+        Some(KeyWord::Field(HeaderField::Cc))
+    } else if word.eq_ignore_ascii_case(b"BCC") {
+        Some(KeyWord::Field(HeaderField::Bcc))
+    } else if word.eq_ignore_ascii_case(b"BODY") {
+        Some(KeyWord::Body)
+    } else if word.eq_ignore_ascii_case(b"TEXT") {
+        Some(KeyWord::Text)
+    } else {
+        None
+    }
+}
+
 /// The word that this is, in upper or lower case.
 pub(crate) fn key_word(word: &[u8]) -> Option<KeyWord>
     ensures { result ≡ key_word_of word.now }
 {
-    match flag_word(word) {
+    if let Some(found) = flag_word(word) {
+        return Some(found);
+    }
+    match other_word(word) {
         Some(found) => Some(found),
-        None => other_word(word),
+        None => text_word(word),
     }
 }
 
@@ -186,12 +234,75 @@ fn argument_at(word: KeyWord, bytes: &[u8]) -> Option<(SingleKey<'_>, &[u8])>
     Some((key, rest))
 }
 
+/// The string behind a gap, and what follows it.
+fn string_behind(bytes: &[u8]) -> Option<(Name<'_>, &[u8])>
+    ensures { option_map (λ x. (x.0, x.1.now)) result ≡ string_behind bytes.now }
+{
+    let start = past_gap(bytes)?;
+    string_at(Class::Atom, start)
+}
+
+fn field_name(field: HeaderField) -> Name<'static>
+    ensures { result ≡ field_name field }
+{
+    match field {
+        HeaderField::Subject => Name::of(b"Subject"),
+        HeaderField::From => Name::of(b"From"),
+        HeaderField::To => Name::of(b"To"),
+        HeaderField::Cc => Name::of(b"Cc"),
+        HeaderField::Bcc => Name::of(b"Bcc"),
+    }
+}
+
+fn field_at(field: HeaderField, bytes: &[u8]) -> Option<(SingleKey<'_>, &[u8])>
+    ensures { option_map (λ x. (x.0, x.1.now)) result
+        ≡ words_at (single.InField (field_name field)) bytes.now }
+{
+    let (words, rest) = string_behind(bytes)?;
+    Some((SingleKey::InField(field_name(field), words), rest))
+}
+
+fn header_at(bytes: &[u8]) -> Option<(SingleKey<'_>, &[u8])>
+    ensures { option_map (λ x. (x.0, x.1.now)) result ≡ header_at bytes.now }
+{
+    let (name, rest) = string_behind(bytes)?;
+    let (words, rest) = string_behind(rest)?;
+    Some((SingleKey::InField(name, words), rest))
+}
+
+fn body_at(bytes: &[u8]) -> Option<(SingleKey<'_>, &[u8])>
+    ensures { option_map (λ x. (x.0, x.1.now)) result ≡ words_at single.InBody bytes.now }
+{
+    let (words, rest) = string_behind(bytes)?;
+    Some((SingleKey::InBody(words), rest))
+}
+
+fn text_at(bytes: &[u8]) -> Option<(SingleKey<'_>, &[u8])>
+    ensures { option_map (λ x. (x.0, x.1.now)) result ≡ words_at single.InText bytes.now }
+{
+    let (words, rest) = string_behind(bytes)?;
+    Some((SingleKey::InText(words), rest))
+}
+
+/// The key that the word is with what stands behind it, and what follows that.
+fn key_behind(word: KeyWord, bytes: &[u8]) -> Option<(SingleKey<'_>, &[u8])>
+    ensures { option_map (λ x. (x.0, x.1.now)) result ≡ key_behind word bytes.now }
+{
+    match word {
+        KeyWord::Header => header_at(bytes),
+        KeyWord::Field(field) => field_at(field, bytes),
+        KeyWord::Body => body_at(bytes),
+        KeyWord::Text => text_at(bytes),
+        _ => argument_at(word, bytes),
+    }
+}
+
 fn single_or(word: KeyWord, rest: &[u8]) -> Option<(SingleKey<'_>, &[u8])>
     ensures { option_map (λ x. (x.0, x.1.now)) result ≡ single_or (word_key word) word rest.now }
 {
     match word_key(word) {
         Some(key) => Some((key, rest)),
-        None => argument_at(word, rest),
+        None => key_behind(word, rest),
     }
 }
 

@@ -8,8 +8,10 @@ ghost use Rattle.imap_grammar.specs.SearchReading.{group_at, key_at, key_of, key
 ghost use Rattle.imap_grammar.specs.inner.Asking.{so, single_and_rest, so_and_rest, all_and_rest};
 
 use crate::bytes::{is_blank, past_gap};
+use crate::containing::{body, contains, in_field};
 use crate::dates::{day_of_message, is_before, is_same_day};
 use crate::key_words::{KeyWord, SingleKey, SystemFlag, key_word, key_word_at, single_at};
+use crate::letters::Folds;
 use crate::view::Named;
 use change_ring::Flags;
 use envelope::past_byte;
@@ -49,6 +51,9 @@ fn is_so(key: &SingleKey<'_>, asked: Asked<'_>) -> bool
         SingleKey::Before(day) => is_before(day_of_message(asked.text), *day),
         SingleKey::On(day) => is_same_day(day_of_message(asked.text), *day),
         SingleKey::Since(day) => !is_before(day_of_message(asked.text), *day),
+        SingleKey::InField(name, words) => in_field(name, words, asked.text),
+        SingleKey::InBody(words) => contains(Folds::Kept, words, body(asked.text)),
+        SingleKey::InText(words) => contains(Folds::Kept, words, asked.text),
         SingleKey::Positions(set) => set.names(asked.last.position, asked.message.position),
         SingleKey::Uids(set) => set.names(asked.last.uid as usize, asked.message.uid as usize),
     }
@@ -245,7 +250,8 @@ impl<'a> SearchKeys<'a> {
     }
 
     /// Whether the keys are so of a message with these flags and this text, where `last` is the last message of the view.
-    /// It takes no memory, and the time that it takes to read the keys; each BEFORE, ON and SINCE among them reads the date of the message anew.
+    /// It takes no memory, and the time that it takes to read the keys. Each BEFORE, ON and SINCE among them reads the date of the message anew, and each
+    /// key that asks for words the message's fields or its text: at worst as many steps as the words and the text have bytes, multiplied.
     pub fn matches(&self, last: Named, message: Named, flags: Flags, text: &[u8]) -> bool
         ensures { result ≡ matches self.now last message flags text.now }
     {

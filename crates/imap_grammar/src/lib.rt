@@ -6,6 +6,7 @@
 mod arguments;
 mod bytes;
 mod command;
+mod containing;
 mod cut;
 mod dates;
 mod item_words;
@@ -13,6 +14,7 @@ mod items;
 mod key_words;
 mod keys;
 mod laws;
+mod letters;
 mod literal;
 mod name;
 mod number;
@@ -20,6 +22,7 @@ mod positions;
 mod ranges;
 mod reading;
 mod set;
+mod strings;
 mod view;
 mod words;
 

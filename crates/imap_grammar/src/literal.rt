@@ -6,8 +6,9 @@ ghost use Rattle.std.specs.Vec.{vec_capacity};
 ghost use Rattle.imap_grammar.specs.Bytes.{is_special};
 ghost use Rattle.imap_grammar.specs.Literals.{last_position, literal_alone, announced, backslashed, quoted};
 
-use crate::arguments::{is_special, literal_at};
+use crate::arguments::literal_at;
 use crate::command::Literal;
+use crate::strings::is_special;
 
 /// Where the last such byte stands.
 #[tactic(auto, using(crate::proofs::Steps::last_at_first, crate::proofs::Steps::last_step))]

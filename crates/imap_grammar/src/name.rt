@@ -1,12 +1,14 @@
-//! Names of mailboxes, and patterns of names, as they stand in a line and as what they say.
-//! Whether a mailbox has that name is told above.
+//! Names of mailboxes, patterns of names, and words that are searched, as they stand in a line and as what they say.
+//! Whether a mailbox has that name is told above, and where words are looked for in `containing`.
 
 ghost use Rattle.std.specs.Prelude.{◌≡◌, IfOk, false};
-ghost use Rattle.std.specs.Option.{option_copied};
+ghost use Rattle.std.specs.Option.{option_copied, option_map};
 ghost use Rattle.std.specs.Str.{bytes_eq, str_eq_ignore_ascii_case as is_same};
-ghost use Rattle.imap_grammar.specs.inner.Letters.{past_letter};
+ghost use Rattle.mail_date.specs.Fields.{past_word};
+ghost use Rattle.imap_grammar.specs.inner.Searching.{searched, first_letter};
 ghost use Rattle.envelope.specs.Directory.{value_of, unquoted};
 
+use crate::letters::{Folds, past_letter, past_letter_of};
 use envelope::past_byte;
 use std::alloc::{AllocError, Global};
 use std::marker::Model;
@@ -56,16 +58,6 @@ fn is_unquoted(text: &[u8], bytes: &[u8]) -> bool
     rest.is_empty()
 }
 
-// What follows a byte, which may be of the other case.
-fn past_letter(b: u8, text: &[u8]) -> Option<&[u8]>
-    ensures { option_copied result ≡ past_letter b text.now }
-{
-    match text {
-        [first, rest @ ..] if b.to_ascii_lowercase() == first.to_ascii_lowercase() => Some(rest),
-        _ => None,
-    }
-}
-
 // Whether what stands in a quoted string, from behind its first quote, says these bytes in upper or lower case.
 #[tactic(auto, using(crate::proofs::Steps::unquoted_step, crate::proofs::Steps::letter_step))]
 fn is_unquoted_word(text: &[u8], word: &[u8]) -> bool
@@ -90,6 +82,51 @@ fn is_unquoted_word(text: &[u8], word: &[u8]) -> bool
     rest.is_empty()
 }
 
+// What follows these words in a text that begins with them, in upper or lower case.
+#[tactic(auto, using(crate::proofs::Searching::past_step, crate::proofs::Searching::word_step))]
+fn past_plain<'t>(folds: Folds, words: &[u8], text: &'t [u8]) -> Option<&'t [u8]>
+    ensures { option_map (searched folds) (option_copied result)
+        ≡ past_word words.now (searched folds text.now) }
+{
+    let mut rest = text;
+    for b in words {
+        rest = past_letter_of(folds, *b, rest)?;
+    }
+    Some(rest)
+}
+
+// The same of what stands in a quoted string, from behind its first quote.
+#[tactic(auto, using(crate::proofs::Steps::unquoted_step, crate::proofs::Searching::past_step))]
+fn past_unquoted<'t>(folds: Folds, spelled: &[u8], text: &'t [u8]) -> Option<&'t [u8]>
+    ensures { option_map (searched folds) (option_copied result)
+        ≡ past_word (unquoted false spelled.now) (searched folds text.now) }
+{
+    let mut rest = text;
+    let mut escaped = false;
+    for b in spelled {
+        if !escaped && *b == b'"' {
+            return Some(rest);
+        }
+        if !escaped && *b == b'\\' {
+            escaped = true;
+        } else {
+            rest = past_letter_of(folds, *b, rest)?;
+            escaped = false;
+        }
+    }
+    Some(rest)
+}
+
+// The first byte that stands in a quoted string, from behind its first quote, in lower case.
+fn first_unquoted(spelled: &[u8]) -> Option<u8>
+    ensures { result ≡ first_letter (unquoted false spelled.now) }
+{
+    match spelled {
+        [b'"', ..] | [b'\\'] | [] => None,
+        [b'\\', b, ..] | [b, ..] => Some(b.to_ascii_lowercase()),
+    }
+}
+
 /// A name or a pattern, as it stands in a line, plain or within quotes: in contracts the bytes that it says.
 #[derive(Drop)]
 pub struct Name<'a> {
@@ -107,7 +144,10 @@ impl<'a> Model for Name<'a> {
 
 impl<'a> Name<'a> {
     ghost use Rattle.std.specs.Prelude.{◌≡◌, IfOk};
+    ghost use Rattle.std.specs.Option.{option_copied, option_map};
     ghost use Rattle.std.specs.Str.{bytes_eq, str_eq_ignore_ascii_case as is_same};
+    ghost use Rattle.mail_date.specs.Fields.{past_word};
+    ghost use Rattle.imap_grammar.specs.inner.Searching.{searched, first_letter};
 
     /// The name that is spelled so.
     pub(crate) fn of(spelled: &'a [u8]) -> Name<'a>
@@ -133,6 +173,28 @@ impl<'a> Name<'a> {
         match self.spelled {
             [b'"', rest @ ..] => is_unquoted_word(rest, word),
             _ => self.spelled.eq_ignore_ascii_case(word),
+        }
+    }
+
+    /// The first byte that it says, in lower case, or None where it says none.
+    pub(crate) fn first_letter(&self) -> Option<u8>
+        ensures { result ≡ first_letter self.now }
+    {
+        match self.spelled {
+            [b'"', rest @ ..] => first_unquoted(rest),
+            [b, ..] => Some(b.to_ascii_lowercase()),
+            [] => None,
+        }
+    }
+
+    /// What follows the bytes that it says in a text that begins with them, in upper or lower case. It takes no memory.
+    pub(crate) fn past<'t>(&self, folds: Folds, text: &'t [u8]) -> Option<&'t [u8]>
+        ensures { option_map (searched folds) (option_copied result)
+            ≡ past_word self.now (searched folds text.now) }
+    {
+        match self.spelled {
+            [b'"', rest @ ..] => past_unquoted(folds, rest, text),
+            _ => past_plain(folds, self.spelled, text),
         }
     }
 

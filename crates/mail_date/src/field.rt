@@ -14,16 +14,16 @@ use crate::parts::read_date_time;
 use crate::place::{behind, is_outside, outside};
 use crate::stamp::{Stamp, Zone};
 
-/// Whether this byte, before these, is the LF that ends a field.
-fn ends_field(b: u8, rest: &[u8]) -> bool
+/// Whether this byte, before these, is the LF that ends a field: no space or tab behind it folds the line (RFC 5322, section 2.2.3).
+pub fn ends_field(b: u8, rest: &[u8]) -> bool
     ensures { result ≡ ends_field b rest.now }
 {
     b == b'\n' && !matches!(rest, [b' ' | b'\t', ..])
 }
 
-/// How many bytes a field has before the LF that ends it.
+/// How many bytes a field has before the LF that ends it, from wherever in the field the text begins.
 #[tactic(auto, using(crate::proofs::Steps::field_step))]
-fn field_len(bytes: &[u8]) -> usize
+pub fn field_len(bytes: &[u8]) -> usize
     ensures value { result ≡ field_len bytes.now }
     ensures bound { result ≤ length bytes.now }
 {
@@ -35,7 +35,8 @@ fn field_len(bytes: &[u8]) -> usize
     bytes.len()
 }
 
-fn is_empty_line(bytes: &[u8]) -> bool
+/// Whether a text begins with an empty line, by CRLF or LF. Such a line ends a header (RFC 5322, section 2.1).
+pub fn is_empty_line(bytes: &[u8]) -> bool
     ensures { result ≡ is_empty_line bytes.now }
 {
     matches!(bytes, [b'\n', ..] | [b'\r', b'\n', ..])
@@ -70,8 +71,8 @@ fn past_word<'a>(word: &[u8], bytes: &'a [u8]) -> Option<&'a [u8]>
     }
 }
 
-/// What follows a colon, with spaces and tabs before it.
-fn past_colon(bytes: &[u8]) -> Option<&[u8]>
+/// What follows a colon, with spaces and tabs before it or none (RFC 5322, section 4.5.3).
+pub fn past_colon(bytes: &[u8]) -> Option<&[u8]>
     ensures value { option_copied result ≡ past_colon bytes.now }
 {
     past_byte(b':', &bytes[blanks_len(bytes)..])

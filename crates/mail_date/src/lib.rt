@@ -13,7 +13,7 @@ mod stamp;
 #[cfg(test)]
 mod tests;
 
-pub use field::{begins_field, message_date};
+pub use field::{begins_field, ends_field, field_len, is_empty_line, message_date, past_colon};
 pub use front::{day_at, month_at, two_at};
 pub use internal::{INTERNAL_LEN, write_internal_date};
 pub use laws::{

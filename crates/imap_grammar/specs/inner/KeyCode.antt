@@ -1,9 +1,11 @@
 -- How a key of a SEARCH is stored, which proofs want of what a type's values are: as a list of its parts, each behind
 -- those that it stands over. No public clause speaks of it.
-use Rattle.std.specs.Prelude.{◌≡◌, ℕ, zero, suc, List, [], ◌∷◌, ◌++◌, map, ◌==◌, if◌then◌else◌}
+use Rattle.std.specs.Prelude.{◌≡◌, ℕ, zero, suc, List, [], ◌∷◌, ◌++◌, length, take, drop, map, ◌==◌, if◌then◌else◌}
 use Rattle.std.proofs.Common.{refl, ap, ◌∙◌, append_assoc, append-nil, sym}
+use Rattle.std.proofs.lemmas.List.{take_at, drop_at}
 use Rattle.std.specs.Coded.{Coded, code_by, coded×, coded_list, coded_ℕ}
-use Rattle.imap_grammar.specs.Keys.{Key, Always, Never, Has, Lacks, Larger, Smaller, Before, On, Since, Positions, Uids, Not, Or, And}
+use Rattle.imap_grammar.specs.Keys.{Key, Always, Never, Has, Lacks, Larger, Smaller, Before, On, Since, InField, InBody, InText}
+use Rattle.imap_grammar.specs.Keys.{Positions, Uids, Not, Or, And}
 use Rattle.imap_grammar.specs.declared.dates.Day.{Day}
 use Rattle.imap_grammar.specs.declared.key_words.SystemFlag.{SystemFlag}
 use Rattle.imap_grammar.specs.declared.key_words.SystemFlag.TheVariants.{Answered, Deleted, Draft, Flagged, Seen}
@@ -53,6 +55,16 @@ part kind n set = (kind, (n, map range_code set)) ∷ []
 abbrev pub day_part : ℕ → Day → List Part
 day_part kind day = (kind, (day.year, (day.month, day.day) ∷ [])) ∷ []
 
+abbrev pub byte_code : ℕ → ℕ × ℕ
+byte_code b = (b, 0)
+
+abbrev pub byte_back : ℕ × ℕ → ℕ
+byte_back p = p.0
+
+-- two texts side by side, the first of so many bytes
+abbrev pub text_part : ℕ → ℕ → List ℕ → List Part
+text_part kind n text = (kind, (n, map byte_code text)) ∷ []
+
 abbrev pub parts_of : Key → List Part
 parts_of Always = part 0 0 []
 parts_of Never = part 1 0 []
@@ -63,6 +75,9 @@ parts_of (Smaller n) = part 5 n []
 parts_of (Before day) = day_part 11 day
 parts_of (On day) = day_part 12 day
 parts_of (Since day) = day_part 13 day
+parts_of (InField name words) = text_part 14 (length name) (name ++ words)
+parts_of (InBody words) = text_part 15 0 words
+parts_of (InText words) = text_part 16 0 words
 parts_of (Positions set) = part 6 0 set
 parts_of (Uids set) = part 7 0 set
 parts_of (Not key) = parts_of key ++ part 8 0 []
@@ -93,7 +108,10 @@ pushed kind n set keys =
     else if kind == 10 then joined And keys
     else if kind == 11 then Before (day_back n set) ∷ keys
     else if kind == 12 then On (day_back n set) ∷ keys
-    else Since (day_back n set) ∷ keys
+    else if kind == 13 then Since (day_back n set) ∷ keys
+    else if kind == 14 then InField (take n (map byte_back set)) (drop n (map byte_back set)) ∷ keys
+    else if kind == 15 then InBody (map byte_back set) ∷ keys
+    else InText (map byte_back set) ∷ keys
 
 abbrev pub keys_back : List Part → List Key → List Key
 keys_back [] keys = keys
@@ -123,6 +141,15 @@ set_again : (set : List SeqRange) → map range_back (map range_code set) ≡ se
 set_again [] = refl
 set_again (range ∷ set) = ap (λ x. x ∷ map range_back (map range_code set)) (range_again range) ∙ ap (λ x. range ∷ x) (set_again set)
 
+text_again : (text : List ℕ) → map byte_back (map byte_code text) ≡ text
+text_again [] = refl
+text_again (b ∷ bs) = ap (λ x. b ∷ x) (text_again bs)
+
+fields_again : (name words : List ℕ) (n : ℕ) → length name ≡ n → (both : List ℕ) → both ≡ name ++ words → InField (take n both) (drop n both) ≡ InField name words
+fields_again name words n e both h =
+    ap (λ x. InField (take n x) (drop n x)) h ∙ ap (λ x. InField x (drop n (name ++ words))) (take_at name words n e)
+    ∙ ap (InField name) (drop_at name words n e)
+
 flag_again : (flag : SystemFlag) → flag_back (flag_code flag) ≡ flag
 flag_again Answered = refl
 flag_again Deleted = refl
@@ -140,6 +167,10 @@ again (Smaller n) rest keys = refl
 again (Before day) rest keys = refl
 again (On day) rest keys = refl
 again (Since day) rest keys = refl
+again (InField name words) rest keys =
+    ap (λ x. keys_back rest (x ∷ keys)) (fields_again name words (length name) refl (map byte_back (map byte_code (name ++ words))) (text_again (name ++ words)))
+again (InBody words) rest keys = ap (λ x. keys_back rest (InBody x ∷ keys)) (text_again words)
+again (InText words) rest keys = ap (λ x. keys_back rest (InText x ∷ keys)) (text_again words)
 again (Positions set) rest keys = ap (λ x. keys_back rest (Positions x ∷ keys)) (set_again set)
 again (Uids set) rest keys = ap (λ x. keys_back rest (Uids x ∷ keys)) (set_again set)
 again (Not key) rest keys = ap (λ x. keys_back x keys) (append_assoc (parts_of key) (part 8 0 []) rest) ∙ again key (part 8 0 [] ++ rest) keys

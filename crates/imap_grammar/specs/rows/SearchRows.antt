@@ -3,7 +3,8 @@ use Rattle.std.specs.Prelude.{◌≡◌, ℕ, Bool, codes, List, [], ◌∷◌, 
 use Rattle.change_ring.specs.declared.change.Flags.{Flags}
 use Rattle.mail_date.specs.Fields.{message_date, received_date}
 use Rattle.mail_date.specs.Reading.{date_time}
-use Rattle.imap_grammar.specs.Keys.{Key, Always, Never, Has, Lacks, Larger, Smaller, Before, On, Since, Positions, Uids, Not, Or, And, matches}
+use Rattle.imap_grammar.specs.Keys.{Key, Always, Never, Has, Lacks, Larger, Smaller, Before, On, Since, InField, InBody, InText, Positions, Uids, Not, Or, And}
+use Rattle.imap_grammar.specs.Keys.{matches}
 use Rattle.imap_grammar.specs.Keys as Keys
 use Rattle.imap_grammar.specs.Reading.{read}
 use Rattle.imap_grammar.specs.SearchReading.{date_in, keys_in, key_at}
@@ -80,7 +81,7 @@ unclosed : read (codes "a1 SEARCH (SEEN") ≡ Err (Arguments (codes "a1") verbs.
 unfolding read keys_in key_at
 unclosed = refl
 
-another_key : read (codes "a1 SEARCH SEEN SUBJECT x") ≡ Err (Arguments (codes "a1") verbs.Search)
+another_key : read (codes "a1 SEARCH SEEN SENTSINCE 1-Feb-1994") ≡ Err (Arguments (codes "a1") verbs.Search)
 unfolding read keys_in key_at
 another_key = refl
 
@@ -141,9 +142,9 @@ one_not_more = refl
 abbrev date : (year month day : ℕ) → Day
 date year month day = record { year = year; month = month; day = day }
 
--- RFC 3501, 6.4.4, with another key behind NOT
-of_the_standard : read (codes "A282 SEARCH FLAGGED SINCE 1-Feb-1994 NOT DELETED") ≡ Ok
-    (codes "A282", search false true (And (Has Flagged) (And (Since (date 1994 2 1)) (Not (Has Deleted)))))
+-- RFC 3501, 6.4.4
+of_the_standard : read (codes "A282 SEARCH FLAGGED SINCE 1-Feb-1994 NOT FROM \"Smith\"") ≡ Ok
+    (codes "A282", search false true (And (Has Flagged) (And (Since (date 1994 2 1)) (Not (InField (codes "From") (codes "Smith"))))))
 unfolding read keys_in key_at date_in
 of_the_standard = refl
 
@@ -228,6 +229,78 @@ on_alone = refl
 since_alone : read (codes "a1 SEARCH SINCE") ≡ Err (Arguments (codes "a1") verbs.Search)
 unfolding read keys_in key_at date_in
 since_alone = refl
+
+-- ---- words
+
+-- RFC 3501, 6.4.4
+text_of_the_standard : read (codes "A283 SEARCH TEXT \"string not in mailbox\"") ≡ Ok (codes "A283", search false true (InText (codes "string not in mailbox")))
+unfolding read keys_in key_at
+text_of_the_standard = refl
+
+header_by_name : read (codes "a1 UID SEARCH HEADER Message-ID \"<1@a.example>\"") ≡ Ok (codes "a1", search true true (InField (codes "Message-ID") (codes "<1@a.example>")))
+unfolding read keys_in key_at
+header_by_name = refl
+
+quoted_field_name : read (codes "a1 search header \"X-Spam\" yes") ≡ Ok (codes "a1", search false true (InField (codes "X-Spam") (codes "yes")))
+unfolding read keys_in key_at
+quoted_field_name = refl
+
+each_named_field : read (codes "a1 SEARCH SUBJECT a FROM b TO c CC d BCC e") ≡ Ok (codes "a1", search false true (And (InField (codes "Subject") (codes "a")) (And (InField (codes "From") (codes "b")) (And (InField (codes "To") (codes "c")) (And (InField (codes "Cc") (codes "d")) (InField (codes "Bcc") (codes "e")))))))
+unfolding read keys_in key_at
+each_named_field = refl
+
+body_and_text : read (codes "a1 SEARCH OR BODY a NOT (TEXT b)") ≡ Ok (codes "a1", search false true (Or (InBody (codes "a")) (Not (InText (codes "b")))))
+unfolding read keys_in key_at
+body_and_text = refl
+
+quoted_with_backslashes : read (codes "a1 SEARCH SUBJECT \"a\\\"b\\\\\" seen") ≡ Ok (codes "a1", search false true (And (InField (codes "Subject") (codes "a\"b\\")) (Has Seen)))
+unfolding read keys_in key_at
+quoted_with_backslashes = refl
+
+parentheses_and_spaces_in_quotes : read (codes "a1 SEARCH (BODY \"(a) b\")") ≡ Ok (codes "a1", search false true (InBody (codes "(a) b")))
+unfolding read keys_in key_at
+parentheses_and_spaces_in_quotes = refl
+
+empty_words : read (codes "a1 SEARCH HEADER Cc \"\"") ≡ Ok (codes "a1", search false true (InField (codes "Cc") []))
+unfolding read keys_in key_at
+empty_words = refl
+
+-- RFC 9051, 9: a bracket that closes is one of an astring
+bracket_in_words : read (codes "a1 SEARCH SUBJECT [b]") ≡ Ok (codes "a1", search false true (InField (codes "Subject") (codes "[b]")))
+unfolding read keys_in key_at
+bracket_in_words = refl
+
+words_missing : read (codes "a1 SEARCH SUBJECT") ≡ Err (Arguments (codes "a1") verbs.Search)
+unfolding read keys_in key_at
+words_missing = refl
+
+words_of_a_field_missing : read (codes "a1 SEARCH HEADER Subject") ≡ Err (Arguments (codes "a1") verbs.Search)
+unfolding read keys_in key_at
+words_of_a_field_missing = refl
+
+no_atom : read (codes "a1 SEARCH SUBJECT a*") ≡ Err (Arguments (codes "a1") verbs.Search)
+unfolding read keys_in key_at
+no_atom = refl
+
+unclosed_words : read (codes "a1 UID SEARCH TEXT \"a") ≡ Err (Arguments (codes "a1") verbs.UidSearch)
+unfolding read keys_in key_at
+unclosed_words = refl
+
+words_behind_a_quote : read (codes "a1 SEARCH TEXT \"a\"b") ≡ Err (Arguments (codes "a1") verbs.Search)
+unfolding read keys_in key_at
+words_behind_a_quote = refl
+
+words_in_parentheses : read (codes "a1 SEARCH BODY (a)") ≡ Err (Arguments (codes "a1") verbs.Search)
+unfolding read keys_in key_at
+words_in_parentheses = refl
+
+words_side_by_side : read (codes "a1 SEARCH BODY \"a\"TEXT \"b\"") ≡ Err (Arguments (codes "a1") verbs.Search)
+unfolding read keys_in key_at
+words_side_by_side = refl
+
+sent_on : read (codes "a1 SEARCH SENTON 1-Feb-1994") ≡ Err (Arguments (codes "a1") verbs.Search)
+unfolding read keys_in key_at
+sent_on = refl
 
 -- ---- messages
 
@@ -383,3 +456,126 @@ on_no_date = refl
 not_before_no_date : is_so (Before (date 1970 1 1)) five ≡ false
 unfolding message_date received_date date_time
 not_before_no_date = refl
+
+-- ---- words of messages
+
+abbrev letter : List ℕ
+letter =
+    codes "Subject: Lunch at\r\n noon today\r\nFROM : Ann <ann@a.example>\r\nTo: bob@b.example\r\nX-Tag: one\r\n"
+    ++ codes "X-Tag: two\r\nComments: x\r\n\tBcc: eve\r\n\r\nDear Bob,\r\nSubject: dinner\r\n"
+
+in_a_field : is_so (InField (codes "Subject") (codes "Lunch")) letter ≡ true
+in_a_field = refl
+
+in_another_case : is_so (InField (codes "subject") (codes "lUNCH")) letter ≡ true
+in_another_case = refl
+
+last_word_of_a_field : is_so (InField (codes "Subject") (codes "today")) letter ≡ true
+last_word_of_a_field = refl
+
+-- its folds don't count
+over_a_fold : is_so (InField (codes "Subject") (codes "at noon")) letter ≡ true
+over_a_fold = refl
+
+over_the_end_of_a_field : is_so (InField (codes "Subject") (codes "todayFrom")) letter ≡ false
+over_the_end_of_a_field = refl
+
+blank_before_the_colon : is_so (InField (codes "From") (codes "ann@")) letter ≡ true
+blank_before_the_colon = refl
+
+of_another_field : is_so (InField (codes "Subject") (codes "ann")) letter ≡ false
+of_another_field = refl
+
+-- the field's name is no part of it
+no_part_of_the_body : is_so (InField (codes "Subject") (codes "Subject")) letter ≡ false
+no_part_of_the_body = refl
+
+front_of_a_name : is_so (InField (codes "Sub") []) letter ≡ false
+front_of_a_name = refl
+
+end_of_a_name : is_so (InField (codes "ject") []) letter ≡ false
+end_of_a_name = refl
+
+field_missing : is_so (InField (codes "Cc") (codes "a")) letter ≡ false
+field_missing = refl
+
+empty_words_of_a_missing_field : is_so (InField (codes "Cc") []) letter ≡ false
+empty_words_of_a_missing_field = refl
+
+empty_words_of_a_field : is_so (InField (codes "To") []) letter ≡ true
+empty_words_of_a_field = refl
+
+second_of_a_name : is_so (InField (codes "X-Tag") (codes "two")) letter ≡ true
+second_of_a_name = refl
+
+over_two_fields : is_so (InField (codes "X-Tag") (codes "one two")) letter ≡ false
+over_two_fields = refl
+
+folded_line_is_no_field : is_so (InField (codes "Bcc") []) letter ≡ false
+folded_line_is_no_field = refl
+
+in_a_folded_line : is_so (InField (codes "Comments") (codes "bcc: eve")) letter ≡ true
+in_a_folded_line = refl
+
+no_field_behind_the_header : is_so (InField (codes "Subject") (codes "dinner")) letter ≡ false
+no_field_behind_the_header = refl
+
+body_has_it : is_so (InBody (codes "dinner")) letter ≡ true
+body_has_it = refl
+
+body_in_another_case : is_so (InBody (codes "dEAR bOB")) letter ≡ true
+body_in_another_case = refl
+
+header_alone_has_it : is_so (InBody (codes "lunch")) letter ≡ false
+header_alone_has_it = refl
+
+text_of_the_header : is_so (InText (codes "lunch")) letter ≡ true
+text_of_the_header = refl
+
+text_of_the_body : is_so (InText (codes "DINNER")) letter ≡ true
+text_of_the_body = refl
+
+text_over_both : is_so (InText (codes "eve\r\n\r\ndear")) letter ≡ true
+text_over_both = refl
+
+text_with_its_folds : is_so (InText (codes "at noon")) letter ≡ false
+text_with_its_folds = refl
+
+last_bytes : is_so (InText (codes "ner\r\n")) letter ≡ true
+last_bytes = refl
+
+nowhere : is_so (InText (codes "breakfast")) letter ≡ false
+nowhere = refl
+
+empty_words_of_a_body : is_so (InBody []) letter ≡ true
+empty_words_of_a_body = refl
+
+empty_words_of_no_text : is_so (InText []) [] ≡ true
+empty_words_of_no_text = refl
+
+words_of_no_text : is_so (InText (codes "a")) [] ≡ false
+words_of_no_text = refl
+
+body_without_an_empty_line : is_so (InBody (codes "a")) (codes "Subject: a\r\n") ≡ false
+body_without_an_empty_line = refl
+
+empty_words_without_an_empty_line : is_so (InBody []) (codes "Subject: a\r\n") ≡ true
+empty_words_without_an_empty_line = refl
+
+field_without_an_end : is_so (InField (codes "Subject") (codes "a")) (codes "Subject: a") ≡ true
+field_without_an_end = refl
+
+empty_line_by_lf : is_so (InBody (codes "b")) (codes "Subject: a\n\nb") ≡ true
+empty_line_by_lf = refl
+
+header_of_an_empty_line : is_so (InField (codes "Subject") []) (codes "\r\nSubject: a\r\n\r\nb") ≡ false
+header_of_an_empty_line = refl
+
+body_from_the_first_line : is_so (InBody (codes "subject")) (codes "\r\nSubject: a\r\n\r\nb") ≡ true
+body_from_the_first_line = refl
+
+begins_again : is_so (InText (codes "aab")) (codes "aaab") ≡ true
+begins_again = refl
+
+quote_and_backslash : is_so (InText (codes "\"b\\")) (codes "a\"b\\c") ≡ true
+quote_and_backslash = refl
