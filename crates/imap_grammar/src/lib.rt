@@ -29,6 +29,7 @@ mod words;
 pub use command::{
     Append, Authenticate, Command, Fetch, ImapFault, Literal, Search, Store, Tag, Verb, Word,
 };
+pub use cut::cut_at;
 pub use dates::Day;
 pub use items::{
     BodyPart, FetchItem, FetchItems, FieldNames, Section, Span, StatusItem, StatusItems,
@@ -36,7 +37,6 @@ pub use items::{
 pub use key_words::SystemFlag;
 pub use keys::SearchKeys;
 pub use laws::{literals_are_announced, quoted_texts_are_read};
-pub use cut::cut_at;
 pub use literal::{announced, put_quoted, quoted_len};
 pub use name::Name;
 pub use reading::{is_done, read_line};

@@ -178,6 +178,6 @@ leads_parting_argument tag line size now next x before text e long w same =
       Starved 1 ∷ [],
       bye (response_text texts.ByeOutOfMemory) ++ [],
       ap (λ y. played tag now y (Starved 1 ∷ [])) e
-      ∙ ap (λ (b : Bool). if b then Some (record { events = []; bytes = bye (response_text texts.ByeOutOfMemory) ++ []; after = Bye; standing = record now { ended = true } }) else None) (less_true most_in_place (length tag) long),
+          ∙ ap (λ (b : Bool). if b then Some (record { events = []; bytes = bye (response_text texts.ByeOutOfMemory) ++ []; after = Bye; standing = record now { ended = true } }) else None) (less_true most_in_place (length tag) long),
       w ∙ ap (λ t. before ++ t) (sym (append-nil (bye (response_text texts.ByeOutOfMemory)))),
     )

@@ -22,7 +22,11 @@ impl Session {
     ghost use Rattle.imap_session.specs.inner.Appends.{Leads};
 
     // What a literal that is an argument is kept in: the front of its line, and room for its text.
-    fn begin_argument(alloc: Global, before: &[u8], size: usize) -> Result<(Vec<u8>, Vec<u8>), AllocError>
+    fn begin_argument(
+        alloc: Global,
+        before: &[u8],
+        size: usize,
+    ) -> Result<(Vec<u8>, Vec<u8>), AllocError>
         ensures line { IfOk result (λ kept. kept.0.items ≡ before.now) }
         ensures line_room { IfOk result (λ kept. most_line ≤ vec_capacity kept.0) }
         ensures empty { IfOk result (λ kept. kept.1.items ≡ []) }
@@ -34,7 +38,12 @@ impl Session {
     }
 
     // Asks for a literal that is an argument, and waits for its bytes. Where memory for what it is kept in is refused, that is told.
-    fn ask_for_argument(&mut self, alloc: Global, found: DueArgument<'_>, out: &mut Vec<u8>) -> After
+    fn ask_for_argument(
+        &mut self,
+        alloc: Global,
+        found: DueArgument<'_>,
+        out: &mut Vec<u8>,
+    ) -> After
         requires going { self.old.ended ≡ false }
         requires awake { self.old.idling ≡ None }
         requires alone { self.old.mailing.begun ≡ None }
@@ -103,7 +112,12 @@ impl Session {
     }
 
     // Takes a line that announces a literal, which is an argument of it.
-    pub(crate) fn await_argument(&mut self, alloc: Global, found: DueArgument<'_>, out: &mut Vec<u8>) -> After
+    pub(crate) fn await_argument(
+        &mut self,
+        alloc: Global,
+        found: DueArgument<'_>,
+        out: &mut Vec<u8>,
+    ) -> After
         requires going { self.old.ended ≡ false }
         requires awake { self.old.idling ≡ None }
         requires alone { self.old.mailing.begun ≡ None }
@@ -127,7 +141,13 @@ impl Session {
     }
 
     // Asks for the response to AUTHENTICATE, by an empty challenge.
-    pub(crate) fn await_response(&mut self, alloc: Global, tag: &[u8], line: &[u8], out: &mut Vec<u8>) -> After
+    pub(crate) fn await_response(
+        &mut self,
+        alloc: Global,
+        tag: &[u8],
+        line: &[u8],
+        out: &mut Vec<u8>,
+    ) -> After
         requires going { self.old.ended ≡ false }
         requires awake { self.old.idling ≡ None }
         requires alone { self.old.mailing.begun ≡ None }

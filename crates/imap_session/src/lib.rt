@@ -11,9 +11,9 @@ mod count;
 mod expunge;
 mod fetch;
 mod folders;
+mod joining;
 mod laws;
 mod mailing;
-mod joining;
 mod plain;
 mod response;
 mod say;
@@ -34,7 +34,8 @@ mod users;
 pub use connection::{ImapConnection, Progress};
 pub use laws::{
     changes_are_shown_in_order, done_shows_in_order, literals_may_be_cut,
-    only_a_stored_verdict_tells_a_uid, parts_show_none, rest_shows_none, texts_go_on_a_line, verdicts_show_in_order,
+    only_a_stored_verdict_tells_a_uid, parts_show_none, rest_shows_none, texts_go_on_a_line,
+    verdicts_show_in_order,
 };
 pub use session::Session;
 pub use standing::{Admission, After, Append, Folder, Profile, Selected, SessionFault};

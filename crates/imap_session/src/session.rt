@@ -304,7 +304,13 @@ impl Session {
     }
 
     // Answers a line that is no command as it stands.
-    fn answer_fault(&mut self, alloc: Global, line: &[u8], fault: &ImapFault<'_>, out: &mut Vec<u8>) -> After
+    fn answer_fault(
+        &mut self,
+        alloc: Global,
+        line: &[u8],
+        fault: &ImapFault<'_>,
+        out: &mut Vec<u8>,
+    ) -> After
         requires going { self.old.ended ≡ false }
         requires awake { self.old.idling ≡ None }
         requires alone { self.old.mailing.begun ≡ None }
@@ -662,7 +668,10 @@ impl Session {
         ensures folders { self.new.folders ≡ self.old.folders }
         ensures sends { IfOk result (λ after. after ≡ may_send self.new) }
     {
-        if out.reserve(begun.tag.as_slice().len() + begun.purpose.room()).is_err() {
+        if out
+            .reserve(begun.tag.as_slice().len() + begun.purpose.room())
+            .is_err()
+        {
             self.mailing.begun = Some(begun);
             return Err(SessionFault::NoMemory);
         }

@@ -37,7 +37,11 @@ pub(crate) struct DueArgument<'a> {
 }
 
 /// Whether a line that is no command as it stands announces a literal.
-pub(crate) fn argument_due<'a>(profile: Profile, line: &'a [u8], fault: &'a ImapFault<'_>) -> Option<DueArgument<'a>>
+pub(crate) fn argument_due<'a>(
+    profile: Profile,
+    line: &'a [u8],
+    fault: &'a ImapFault<'_>,
+) -> Option<DueArgument<'a>>
     ensures some { IfSome result (λ found. literal_in profile line.now fault.now
         ≡ Some (found.tag.now, awaiting_argument found.before.now found.literal)) }
     ensures tag { IfSome result (λ found. fault_tag fault.now ≡ Some found.tag.now) }
@@ -48,7 +52,11 @@ pub(crate) fn argument_due<'a>(profile: Profile, line: &'a [u8], fault: &'a Imap
         Profile::Compatible => {
             let tag = fault_tag(fault)?;
             let (end, literal) = announced(line)?;
-            Some(DueArgument { tag, before: &line[..end], literal })
+            Some(DueArgument {
+                tag,
+                before: &line[..end],
+                literal,
+            })
         }
     }
 }
@@ -58,7 +66,8 @@ pub(crate) fn wants_response(login: Option<&[u8]>, command: &Command<'_>) -> boo
     ensures { result ≡ wants_response (option_copied login.entry) command.now }
 {
     match (login, command) {
-        (Some(_), Command::Authenticate(asked)) => is_plain(asked.mechanism.as_bytes()) && asked.initial.is_none(),
+        (Some(_), Command::Authenticate(asked)) => is_plain(asked.mechanism.as_bytes())
+            && asked.initial.is_none(),
         _ => false,
     }
 }
@@ -115,5 +124,9 @@ pub(crate) fn with_response(before: Vec<u8>, response: &[u8]) -> Option<Vec<u8>>
     if line.push(b' ').is_err() || line.extend_from_slice(response).is_err() {
         return None;
     }
-    if line.len() > MOST_LINE { None } else { Some(line) }
+    if line.len() > MOST_LINE {
+        None
+    } else {
+        Some(line)
+    }
 }
