@@ -51,6 +51,7 @@ use Rattle.imap_session.specs.declared.texts.ServerText.TheVariants as server
 use Rattle.imap_session.specs.declared.standing.Profile.{Profile}
 use Rattle.imap_session.specs.declared.standing.Profile.TheVariants.{Standard, Compatible}
 use Rattle.imap_session.proofs.Barring.{line_has}
+use Rattle.imap_session.proofs.Parts.{IsPart, asks_part, challenge_part, comes_part, ends_part, rest_has, tells_part, text_line_has}
 use Rattle.imap_answers.specs.declared.list.Listing.{Listing}
 use Rattle.imap_answers.specs.declared.list.Listing.TheVariants.{All, Subscribed}
 
@@ -386,12 +387,12 @@ in_text : (mailing : Mailing) (a : PendingLiteral) (text : List ℕ) (mailbox : 
 in_text mailing a text mailbox =
     in_either (is_over mailing.most a.size) (over mailing.most) _ (in_over mailing.most)
     (in_either (list_any (λ b. b == 0) text) (says (response_text texts.NulByte)) _ tt
-    (in_either (nat_le last_number mailing.number) (says (response_text texts.MailboxSpent)) (wanting (ex.Wait [] (ForVerdict mailbox a.flags text))) tt (inl refl, inl refl)))
+    (in_either (nat_le last_number mailing.number) (says (response_text texts.MailboxSpent)) (wanting (ex.Wait [] (ForVerdict mailbox (commands_of.flags_for a.purpose) text))) tt (inl refl, inl refl)))
 
 in_rest : (mailing : Mailing) (a : PendingLiteral) (empty : Bool) → SaysWhole (on_rest mailing a empty)
 in_rest mailing a empty =
     in_found _ (says (response_text texts.OutOfMemory))
-    (λ (text : List ℕ). in_either empty (on_found (on_text mailing a text) nowhere a.mailbox) (says (response_text texts.InvalidArguments)) (in_found (on_text mailing a text) nowhere (in_text mailing a text) tt a.mailbox) tt) tt a.text
+    (λ (text : List ℕ). in_either empty (on_found (on_text mailing a text) nowhere (commands_of.mailbox_for a.purpose)) (says (response_text texts.InvalidArguments)) (in_found (on_text mailing a text) nowhere (in_text mailing a text) tt (commands_of.mailbox_for a.purpose)) tt) tt a.text
 
 in_notice : (said : Option (List ℕ)) (x : Exchange) → SaysWhole x → SaysWhole (noticing said x)
 in_notice None x whole = whole
@@ -402,7 +403,7 @@ command_whole now commands.Noop = in_showing now.selected _ tt
 command_whole now commands.Logout = (bye_whole (response_text texts.LoggingOut), tt)
 command_whole now commands.Idle = ends (codes "+ ") (response_text texts.Idling)
 command_whole now (commands.Login user password) = tt
-command_whole now commands.Authenticate = tt
+command_whole now (commands.Authenticate a) = tt
 command_whole now commands.StartTls = tt
 command_whole now (commands.Select name) = in_closing now.selected _ (inl refl, in_folder (entering now.profile false) (in_entering now.profile false) (folder_of name now.folders))
 command_whole now (commands.Examine name) = in_closing now.selected _ (inl refl, in_folder (entering now.profile true) (in_entering now.profile true) (folder_of name now.folders))
@@ -447,19 +448,34 @@ fault_whole fault now (answer ∷ more) = tt
 read_whole : (now : Standing) (line : Result (List ℕ × Command) ImapFault) (answers : List Answer) → TurnWhole (commands_of.on_read now line answers)
 read_whole now (Ok line) answers =
     line_has TurnWhole now line.0 line.1 answers
-    (λ right. played_whole line.0 (commands_of.logged_in now) commands_of.login_completed answers tt)
+    (λ right. played_whole line.0 (commands_of.logged_in now) (completed line.1) answers tt)
     (λ text refused. played_whole line.0 now (says (response_text text)) answers tt)
     (played_whole line.0 now (on_command now line.1) answers (command_whole now line.1))
 read_whole now (Err fault) answers = fault_whole fault now answers
 
+-- a line that isn't whole yet, and one that is given up
+part_whole : (x : Exchange) → IsPart x → SaysWhole x
+part_whole x (tells_part text h e) = subst SaysWhole (sym e) tt
+part_whole x (ends_part text h e) = subst SaysWhole (sym e) (bye_whole (response_text text))
+part_whole x (asks_part line size e) = subst SaysWhole (sym e) (inl refl, ends (codes "+ ") (response_text texts.Ready))
+part_whole x (comes_part line size e) = subst SaysWhole (sym e) (inl refl)
+part_whole x (challenge_part line e) = subst SaysWhole (sym e) (inl refl, ends (codes "+ ") [])
+
+text_whole : (now : Standing) (line : List ℕ) (answers : List Answer) → TurnWhole (commands_of.on_text_line now line answers)
+text_whole now line answers = text_line_has TurnWhole now line answers (λ tag x part. played_whole tag now x answers (part_whole x part)) (read_whole now (read line) answers)
+
 while_whole : (idling : Option (List ℕ)) (now : Standing) (line : List ℕ) (answers : List Answer) → TurnWhole (commands_of.turn_while idling now line answers)
-while_whole None now line answers = read_whole now (read line) answers
+while_whole None now line answers = text_whole now line answers
 while_whole (Some tag) now line answers =
     played_whole tag (record now { idling = None }) (on_idle_line now.selected line) answers (in_either (is_done line) _ _ (in_showing now.selected _ tt) tt)
 
 behind_whole : (begun : Option PendingLiteral) (now : Standing) (line : List ℕ) (answers : List Answer) → TurnWhole (commands_of.turn_behind begun now line answers)
 behind_whole None now line answers = while_whole now.idling now line answers
-behind_whole (Some a) now line answers = played_whole a.tag (commands_of.without_begun now) (on_rest now.mailing a (length line == 0)) answers (in_rest now.mailing a (length line == 0))
+behind_whole (Some a) now line answers =
+    rest_has TurnWhole a now line answers
+    (played_whole a.tag (commands_of.without_begun now) (on_rest now.mailing a (length line == 0)) answers (in_rest now.mailing a (length line == 0)))
+    (λ x part. played_whole a.tag (commands_of.without_begun now) x answers (part_whole x part))
+    (λ whole. text_whole (commands_of.without_begun now) whole answers)
 
 some_whole : (o : Option Turn) (turn : Turn) → TurnWhole o → o ≡ Some turn → IsWhole turn.bytes
 some_whole o turn p e = subst TurnWhole e p

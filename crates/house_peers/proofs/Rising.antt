@@ -18,6 +18,7 @@ use Rattle.imap_session.specs.Exchange as ex
 use Rattle.imap_session.specs.Exchange.{Answer, PendingLiteral, Call, Entered, Looked, Found, Counted, Altered, Expunged, Fed, ForDone, ForLiteral, ForNothing, ForVerdict, Left, Mailing, Refused, Sent, Starved, Exchange, Standing, Turn, Waiting, closed, having, is_idling, played, refusal_after, refused, saying, waiting, Dropped}
 use Rattle.imap_session.specs.Commands as commands_of
 use Rattle.imap_session.proofs.Barring.{line_has}
+use Rattle.imap_session.proofs.Parts.{rest_has, text_line_has}
 use Rattle.imap_session.specs.Texts.{response_text}
 use Rattle.imap_session.proofs.Unkept.{unkept_by}
 use Rattle.imap_session.specs.Commands.{on_idle_line, on_rest, on_verdict, without_begun, without_sent}
@@ -102,7 +103,7 @@ played_rises tag now (ex.Wait bytes waits) ((Fed a b) ∷ more) = tt
 played_rises tag now (ex.Wait bytes waits) ((Left a) ∷ more) = tt
 played_rises tag now (ex.Wait bytes waits) ((Refused a) ∷ more) = tt
 played_rises tag now (ex.Wait bytes waits) (Starved n ∷ []) =
-    unkept_by (TurnRises now.mailing) tt tag now (closed_rises now (refusal_after NoMemory)) (λ flags size. waiting_rises tag (ForLiteral Dropped None flags size) now) (waiting_rises tag ForNothing now) waits n
+    unkept_by (TurnRises now.mailing) tt tag now (closed_rises now (refusal_after NoMemory)) (λ purpose size. waiting_rises tag (ForLiteral Dropped purpose size) now) (waiting_rises tag ForNothing now) waits n
 played_rises tag now (ex.Wait bytes waits) (Starved n ∷ d ∷ more) = tt
 played_rises tag now (ex.Write bytes x) [] = then_saying now.mailing bytes (played tag now x []) (played_rises tag now x [])
 played_rises tag now (ex.Write bytes x) ((Entered a) ∷ more) = then_saying now.mailing bytes (played tag now x ((Entered a) ∷ more)) (played_rises tag now x ((Entered a) ∷ more))
@@ -237,19 +238,26 @@ fault_rises fault now (answer ∷ more) = tt
 read_rises : (now : Standing) (line : Result (List ℕ × Command) ImapFault) (answers : List Answer) → TurnRises now.mailing (commands_of.on_read now line answers)
 read_rises now (Ok line) answers =
     line_has (TurnRises now.mailing) now line.0 line.1 answers
-    (λ right. again (commands_of.logged_in now).mailing now.mailing _ (same_rises now.mailing (commands_of.logged_in now).mailing refl refl) (played_rises line.0 (commands_of.logged_in now) commands_of.login_completed answers))
+    (λ right. again (commands_of.logged_in now).mailing now.mailing _ (same_rises now.mailing (commands_of.logged_in now).mailing refl refl) (played_rises line.0 (commands_of.logged_in now) (commands_of.completed line.1) answers))
     (λ text refused. played_rises line.0 now (commands_of.says (response_text text)) answers)
     (played_rises line.0 now (commands_of.on_command now line.1) answers)
 read_rises now (Err fault) answers = fault_rises fault now answers
 
+text_rises : (now : Standing) (line : List ℕ) (answers : List Answer) → TurnRises now.mailing (commands_of.on_text_line now line answers)
+text_rises now line answers = text_line_has (TurnRises now.mailing) now line answers (λ tag x part. played_rises tag now x answers) (read_rises now (read line) answers)
+
 while_rises : (idling : Option (List ℕ)) (now : Standing) (line : List ℕ) (answers : List Answer) → TurnRises now.mailing (commands_of.turn_while idling now line answers)
-while_rises None now line answers = read_rises now (read line) answers
+while_rises None now line answers = text_rises now line answers
 while_rises (Some tag) now line answers = played_rises tag (record now { idling = None }) (on_idle_line now.selected line) answers
 
 behind_rises : (begun : Option PendingLiteral) (now : Standing) (line : List ℕ) (answers : List Answer) → TurnRises now.mailing (commands_of.turn_behind begun now line answers)
 behind_rises None now line answers = while_rises now.idling now line answers
 behind_rises (Some a) now line answers =
-    again (without_begun now).mailing now.mailing _ (same_rises now.mailing (without_begun now).mailing refl refl) (played_rises a.tag (without_begun now) (on_rest now.mailing a (length line == 0)) answers)
+    let before = same_rises now.mailing (without_begun now).mailing refl refl in
+    rest_has (TurnRises now.mailing) a now line answers
+    (again (without_begun now).mailing now.mailing _ before (played_rises a.tag (without_begun now) (on_rest now.mailing a (length line == 0)) answers))
+    (λ x part. again (without_begun now).mailing now.mailing _ before (played_rises a.tag (without_begun now) x answers))
+    (λ whole. again (without_begun now).mailing now.mailing _ before (text_rises (without_begun now) whole answers))
 
 line_rises : {S : Type 0} (step : S → Call → Answer → S → Type 0) (now : Standing) (line : List ℕ) (old new : S) (before after : List ℕ) (how : After) (next : Standing) → AnswersLine step now line old new before after how next → NumbersRise now.mailing next.mailing
 line_rises step now line old new before after how next (reads few a) = some_rises now.mailing _ _ (behind_rises now.mailing.begun now line a.answers) a.played

@@ -28,11 +28,11 @@ is_parting texts.ByeOutOfMemory = true
 is_parting _ = false
 
 pub data IsPart (x : Exchange) : Type 0 where
-  tells : (text : ResponseText) → is_told text ≡ true → x ≡ says (response_text text) → IsPart x
-  ends : (text : ResponseText) → is_parting text ≡ true → x ≡ Wait (bye (response_text text)) ForNothing → IsPart x
-  asks : (line : List ℕ) (size : ℕ) → x ≡ wanting (Wait (continuing (response_text texts.Ready)) (ForLiteral Asked (Argument line) size)) → IsPart x
-  comes : (line : List ℕ) (size : ℕ) → x ≡ Wait [] (ForLiteral Unasked (Argument line) size) → IsPart x
-  challenges : (line : List ℕ) → x ≡ wanting (Wait (continuing []) (ForLiteral Asked (Response line) 0)) → IsPart x
+  tells_part : (text : ResponseText) → is_told text ≡ true → x ≡ says (response_text text) → IsPart x
+  ends_part : (text : ResponseText) → is_parting text ≡ true → x ≡ Wait (bye (response_text text)) ForNothing → IsPart x
+  asks_part : (line : List ℕ) (size : ℕ) → x ≡ wanting (Wait (continuing (response_text texts.Ready)) (ForLiteral Asked (Argument line) size)) → IsPart x
+  comes_part : (line : List ℕ) (size : ℕ) → x ≡ Wait [] (ForLiteral Unasked (Argument line) size) → IsPart x
+  challenge_part : (line : List ℕ) → x ≡ wanting (Wait (continuing []) (ForLiteral Asked (Response line) 0)) → IsPart x
 
 either_part : (b : Bool) (x y : Exchange) → IsPart x → IsPart y → IsPart (if b then x else y)
 either_part true x y p q = p
@@ -41,11 +41,11 @@ either_part false x y p q = q
 pub argument_part : (before : List ℕ) (literal : Literal) → IsPart (awaiting_argument before literal)
 argument_part before literal =
     either_part literal.waits _ _
-    (either_part (nat_lt most_line (length before + literal.size)) _ _ (tells texts.LineTooLong refl refl) (asks before literal.size refl))
-    (either_part (nat_lt most_unasked literal.size) _ _ (ends texts.LiteralTooBig refl refl) (comes before literal.size refl))
+    (either_part (nat_lt most_line (length before + literal.size)) _ _ (tells_part texts.LineTooLong refl refl) (asks_part before literal.size refl))
+    (either_part (nat_lt most_unasked literal.size) _ _ (ends_part texts.LiteralTooBig refl refl) (comes_part before literal.size refl))
 
 pub given_part : (rest : List ℕ) (told parting : ResponseText) → is_told told ≡ true → is_parting parting ≡ true → IsPart (given_up rest told parting)
-given_part rest told parting t p = either_part (comes_unasked (announced rest)) _ _ (ends parting p refl) (tells told t refl)
+given_part rest told parting t p = either_part (comes_unasked (announced rest)) _ _ (ends_part parting p refl) (tells_part told t refl)
 
 -- what holds of each part, and of a line that is whole, holds of a line
 pub text_line_has : (Q : Option Turn → Type 0) (now : Standing) (line : List ℕ) (answers : List Answer)
@@ -62,7 +62,7 @@ text_line_has Q now line answers part whole = by (read line) refl
     in_profile Compatible fault = literal fault (fault_tag fault) (announced line) whole
 
     response : (b : Bool) (tag : List ℕ) → Q (on_part (if b then Some (tag, awaiting_response line) else None) now line answers)
-    response true tag = part tag _ (challenges line refl)
+    response true tag = part tag _ (challenge_part line refl)
     response false tag = whole
 
     by : (r : Result (List ℕ × Command) ImapFault) → r ≡ read line → Q (on_part (lacks_part now.profile now.login line r) now line answers)
@@ -102,11 +102,11 @@ starts_no_ok texts.OutOfMemory h = refl
 starts_no_ok _ h = cc
 
 pub part_shows_none : (x : Exchange) → IsPart x → PartShowsNone x
-part_shows_none x (tells text h e) = subst PartShowsNone (sym e) (starts_no_ok text h)
-part_shows_none x (ends text h e) = subst PartShowsNone (sym e) tt
-part_shows_none x (asks line size e) = subst PartShowsNone (sym e) (refl, tt)
-part_shows_none x (comes line size e) = subst PartShowsNone (sym e) tt
-part_shows_none x (challenges line e) = subst PartShowsNone (sym e) (refl, tt)
+part_shows_none x (tells_part text h e) = subst PartShowsNone (sym e) (starts_no_ok text h)
+part_shows_none x (ends_part text h e) = subst PartShowsNone (sym e) tt
+part_shows_none x (asks_part line size e) = subst PartShowsNone (sym e) (refl, tt)
+part_shows_none x (comes_part line size e) = subst PartShowsNone (sym e) tt
+part_shows_none x (challenge_part line e) = subst PartShowsNone (sym e) (refl, tt)
 
 pub unfinished_shows_none : (profile : Profile) (login : Option (List ℕ)) (line tag : List ℕ) (x : Exchange) → unfinished profile login line ≡ Some (tag, x) → PartShowsNone x
 unfinished_shows_none profile login line tag x e = by (read line) e
@@ -128,7 +128,7 @@ unfinished_shows_none profile login line tag x e = by (read line) e
     in_profile Compatible fault h = literal (fault_tag fault) (announced line) h
 
     response : (b : Bool) (t : List ℕ) → ◌≡◌ {A = Option (List ℕ × Exchange)} (if b then Some (t, awaiting_response line) else None) (Some (tag, x)) → PartShowsNone x
-    response true t h = right t tag _ (challenges line refl) h
+    response true t h = right t tag _ (challenge_part line refl) h
     response false t h = absurd cc
 
     by : (r : Result (List ℕ × Command) ImapFault) → lacks_part profile login line r ≡ Some (tag, x) → PartShowsNone x
