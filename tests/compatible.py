@@ -3,12 +3,13 @@
 
     tests/compatible.py PROGRAM
 
-Python's own imaplib is the client, which refuses a server that doesn't say IMAP4rev1. It logs in, is refused under another name, reads what came over LMTP,
-subscribes, appends, changes flags, removes, checks, and hears of mail while it idles. Without the option imaplib gets no further than the greeting's
-capabilities. What each command answers is compared with what RFC 3501 and RFC 9051 say. It prints a line for each check that fails, and last how many of how
+Python's own imaplib is the client, which refuses a server that doesn't say IMAP4rev1. It logs in by each way that there is, is refused under another name,
+asks who the server is, reads what came over LMTP, subscribes, appends, changes flags, removes, checks, and hears of mail while it idles. Without the option
+imaplib gets no further than the greeting's capabilities. What each command answers is compared with what RFC 3501 and RFC 9051 say. It prints a line for each check that fails, and last how many of how
 many passed.
 """
 
+import base64
 import calendar
 import imaplib
 import os
@@ -22,7 +23,7 @@ import time
 from serving_house import House
 
 USERS = ("alice", "bob")
-CAPABILITIES = ("IMAP4REV2", "IMAP4REV1", "IDLE", "NAMESPACE", "UIDPLUS", "UNSELECT")
+CAPABILITIES = ("IMAP4REV2", "IMAP4REV1", "AUTH=PLAIN", "ENABLE", "ID", "IDLE", "LITERAL-", "NAMESPACE", "SASL-IR", "UIDPLUS", "UNSELECT")
 PATIENCE = 20
 MOST_SESSIONS = 16
 
@@ -45,6 +46,12 @@ def deliver(house, text, *recipients):
     expect("copies that were delivered", replies.count(b"250 2.1.5 Delivered"), len(recipients))
 
 
+def version_of(program):
+    """What `--version` says: `post_house 0.2.0, proved with ..`."""
+    said = subprocess.run((program, "--version"), capture_output=True, text=True, check=True).stdout
+    return said.split()[1].rstrip(",")
+
+
 def connect(port):
     return imaplib.IMAP4("127.0.0.1", port, timeout=PATIENCE)
 
@@ -64,6 +71,42 @@ def before_login(house):
     refused("another user's name", lambda: client.login("bob", "secret"))
     expect("LOGIN", client.login("alice", 'my "secret"'), ("OK", [b"LOGIN completed"]))
     return client
+
+
+def who_it_is(client, version):
+    """ID tells the version that the program has, and ENABLE that there is nothing to enable. imaplib knows ID and ENABLE by no call of its own."""
+    imaplib.Commands.setdefault("ID", ("NONAUTH", "AUTH", "SELECTED"))
+    expect("ID", client._simple_command("ID", '("name" "imaplib")')[0], "OK")
+    expect("who it is", client.response("ID"), ("ID", [f'("name" "post_house" "version" "{version}")'.encode()]))
+    expect("ENABLE", client.enable("CONDSTORE"), ("OK", [b"ENABLE completed"]))
+    expect("what is enabled", client.response("ENABLED"), ("ENABLED", [b""]))
+
+
+def authenticating(house):
+    """AUTHENTICATE PLAIN, asked for its response and not; and a LOGIN whose arguments are literals, as imaplib sends none."""
+    client = connect(house.imap_ports[0])
+    refused("another user's response", lambda: client.authenticate("PLAIN", lambda challenge: b"\0bob\0x"))
+    expect("the challenge and its response", client.authenticate("PLAIN", lambda challenge: b"\0alice\0x"), ("OK", [b"AUTHENTICATE completed"]))
+    expect("SELECT by a literal", by_literal(client, "SELECT", b"INBOX"), "OK")
+    client.logout()
+    with socket.create_connection(("127.0.0.1", house.imap_ports[0]), timeout=PATIENCE) as peer, peer.makefile("rb") as told:
+        told.readline()
+        response = base64.b64encode(b"alice\0alice\0" + b"p" * 300)
+        peer.sendall(b"a1 AUTHENTICATE PLAIN " + response + b"\r\n")
+        expect("a response at once", told.readline(), b"a1 OK AUTHENTICATE completed\r\n")
+        peer.sendall(b"a2 STATUS {5+}\r\nINBOX (UIDNEXT)\r\na3 NOOP\r\n")
+        expect("what is behind a literal", [told.readline() for _ in range(3)][1:], [b"a2 OK STATUS completed\r\n", b"a3 OK NOOP completed\r\n"])
+    with socket.create_connection(("127.0.0.1", house.imap_ports[0]), timeout=PATIENCE) as peer, peer.makefile("rb") as told:
+        told.readline()
+        for sent, answer in ((b"a1 LOGIN {5}\r\n", b"+ ready\r\n"), (b"alice {8}\r\n", b"+ ready\r\n"), (b'a "b" \\c\r\n', b"a1 OK LOGIN completed\r\n")):
+            peer.sendall(sent)
+            expect("LOGIN by literals", told.readline(), answer)
+
+
+def by_literal(client, command, argument):
+    """What a command is answered whose argument is a literal that the server asks for."""
+    client.literal = argument
+    return client._simple_command(command)[0]
 
 
 def folders(client):
@@ -157,6 +200,8 @@ def main():
     house = House(program, USERS, ("--uidvalidity", "7", "--compatible", "--sessions", str(MOST_SESSIONS)))
     deliver(house, ("Subject: one", "", "hi"), "alice", "bob")
     client = before_login(house)
+    who_it_is(client, version_of(program))
+    authenticating(house)
     folders(client)
     dates(client, house)
     reading(client, house)

@@ -290,12 +290,12 @@ const TAKES_NONE: &[Step] = &[
 const IS_COMPATIBLE: &[Step] = &[
     Step::Greets,
     Step::Said(
-        b"* OK [CAPABILITY IMAP4rev2 IMAP4rev1 IDLE NAMESPACE UIDPLUS UNSELECT] \
+        b"* OK [CAPABILITY IMAP4rev2 IMAP4rev1 AUTH=PLAIN ENABLE ID IDLE LITERAL- NAMESPACE SASL-IR UIDPLUS UNSELECT] \
 IMAP4rev2 server ready\r\n",
     ),
     Step::Line(b"a1 CAPABILITY", Ok(After::Go)),
     Step::Said(
-        b"* CAPABILITY IMAP4rev2 IMAP4rev1 IDLE NAMESPACE UIDPLUS UNSELECT\r\n\
+        b"* CAPABILITY IMAP4rev2 IMAP4rev1 AUTH=PLAIN ENABLE ID IDLE LITERAL- NAMESPACE SASL-IR UIDPLUS UNSELECT\r\n\
 a1 OK CAPABILITY completed\r\n",
     ),
     Step::Line(b"a2 SELECT INBOX", Ok(After::Go)),
