@@ -9,7 +9,7 @@ use Rattle.imap_session.specs.declared.texts.ResponseText.{ResponseText}
 use Rattle.imap_session.specs.declared.texts.ResponseText.TheVariants as texts
 use Rattle.imap_session.specs.Texts.{response_text}
 use Rattle.imap_session.specs.Exchange.{Answer, Standing, Turn, played, tagged}
-use Rattle.imap_session.specs.Commands.{logged_in, login_completed, logs_in_as, on_command, on_line, says}
+use Rattle.imap_session.specs.Commands.{completed, logged_in, logs_in_as, on_command, on_line, says}
 use Rattle.imap_session.proofs.Barring.{line_has, refuses}
 use Rattle.laws_client.specs.Clients.{Asked, Entering, Leaving, Neither, asked_by, has_ok}
 use Rattle.laws_client.specs.Current.{shows_all}
@@ -18,7 +18,7 @@ use Rattle.laws_client.proofs.RecordEntering.{only_done, tagged_has}
 
 -- the turn of a line that is a command: it logs the client in, or the command is refused, or carried out
 pub line_case : (P : Type 0) (now : Standing) (tag : List ℕ) (command : Command) (answers : List Answer) (turn : Turn)
-    → (logs_in_as now.login command ≡ true → played tag (logged_in now) login_completed answers ≡ Some turn → P)
+    → (logs_in_as now.login command ≡ true → played tag (logged_in now) (completed command) answers ≡ Some turn → P)
     → ((text : ResponseText) → refuses text ≡ true → played tag now (says (response_text text)) answers ≡ Some turn → P)
     → (played tag now (on_command now command) answers ≡ Some turn → P)
     → on_line (logs_in_as now.login command) now tag command answers ≡ Some turn → P
@@ -34,15 +34,17 @@ asked_has P tag commands.Close enters leaves neither = leaves
 asked_has P tag commands.Unselect enters leaves neither = leaves
 asked_has P tag _ enters leaves neither = neither
 
--- LOGIN asks for no mailbox, leaves none and shows nothing of one
+-- LOGIN and AUTHENTICATE ask for no mailbox, leave none and show nothing of one
 pub login_asks : (login : Option (List ℕ)) (tag : List ℕ) (command : Command) → logs_in_as login command ≡ true → asked_by tag command ≡ Neither
 login_asks None tag command e = absurd (false≢true e)
 login_asks (Some user) tag (commands.Login name password) e = refl
+login_asks (Some user) tag (commands.Authenticate a) e = refl
 login_asks (Some user) tag _ e = absurd (false≢true e)
 
 pub login_shows_none : (login : Option (List ℕ)) (command : Command) → logs_in_as login command ≡ true → shows_all command ≡ false
 login_shows_none None command e = absurd (false≢true e)
 login_shows_none (Some user) (commands.Login name password) e = refl
+login_shows_none (Some user) (commands.Authenticate a) e = refl
 login_shows_none (Some user) _ e = absurd (false≢true e)
 
 -- ---- what is said

@@ -1,5 +1,5 @@
 -- The answers to lines that a client sends.
-use Rattle.std.proofs.Common.{◌≡◌, ℕ, ◌<◌, ◌^◌, ◌==◌, length, map, append_assoc, sym, Bool, true, false, List, [], ◌∷◌, ◌++◌, refl}
+use Rattle.std.proofs.Common.{◌≡◌, ℕ, ◌<◌, ◌^◌, ◌==◌, length, map, append_assoc, sym, Bool, true, false, List, [], ◌∷◌, ◌++◌, refl, subst, ap, ◌∙◌}
 use Rattle.std.specs.Prelude.{Option, Some, None, Result, Ok, Err, IfSome, codes, decimal, nat_le, nat_lt, ◌&&◌, not, if◌then◌else◌}
 use Rattle.std.specs.List.{list_all, list_any}
 use Rattle.std.proofs.lemmas.Bool.{false≢true}
@@ -25,14 +25,14 @@ use Rattle.imap_grammar.specs.declared.command.ImapFault.TheVariants.{NoTag, Unk
 use Rattle.imap_session.specs.declared.standing.After.TheVariants.{Go}
 use Rattle.imap_session.specs.declared.standing.Selected.{Selected}
 use Rattle.imap_session.specs.Exchange.{Answer, PendingLiteral, Exchange, Expunge, Feed, Folder, ForNothing, ForVerdict, Mailing, Sent, Standing, Turn, Wait, Write, bye, kept_behind, tagged, untagged}
-use Rattle.imap_session.specs.Commands.{appended_words, appending, last_number, long_idle_text, long_rest_text, long_text, most_unasked, nowhere, number_named, on_rest, on_text, on_verdict, is_over, over, turn_behind, turn_with, wanting, wanting_for, without_begun, without_sent, completed, counting, expunge_set, fault_text, fetch_messages, fetched, fetching, folder_of, in_selected, in_writable, messages_done, on_chosen, on_command, on_found, on_idle_line, on_read, on_set, only_says, says, showing, store_messages, stored, storing, subscribing, turn_while, unlimited, wrong_state, arguments_text, asking, coming, logged_in, login_completed, refused_text, found_in, search_done, search_known, search_messages, searching}
+use Rattle.imap_session.specs.Commands.{appended_words, appending, last_number, long_idle_text, long_rest_text, long_text, most_unasked, nowhere, number_named, on_rest, on_text, on_verdict, is_over, over, turn_behind, turn_with, wanting, wanting_for, without_begun, without_sent, completed, counting, expunge_set, fault_text, fetch_messages, fetched, fetching, folder_of, in_selected, in_writable, messages_done, on_chosen, on_command, on_found, on_idle_line, on_read, on_set, only_says, says, showing, store_messages, stored, storing, subscribing, turn_while, unlimited, wrong_state, arguments_text, asking, coming, logged_in, refused_text, found_in, search_done, search_known, search_messages, searching, on_text_line, flags_for, mailbox_for}
 use Rattle.imap_answers.specs.Answers.{flags_answer, list_answer}
 use Rattle.imap_answers.specs.declared.list.Listing.{Listing}
 use Rattle.imap_answers.specs.declared.list.Listing.TheVariants.{All, Subscribed}
 use Rattle.laws_client.specs.Beliefs.{Leads, Leaves, TellsNothing}
 use Rattle.laws_client.specs.ListTurns.{is_inner, IsPlain, IsRowOf, IsTag, Says, SeesAll}
 use Rattle.laws_client.specs.Fetches.{AreToldParts, IsNumbered}
-use Rattle.laws_client.specs.Commands.{AreNames, IsFollowed, IsPrinted, MayAnswer, MayAsk}
+use Rattle.laws_client.specs.Commands.{AreNames, IsFollowed, IsPrinted, MayAnswer, MayAsk, MayCome}
 use Rattle.laws_client.specs.ListLaws.{AnswerIsFollowed, LongLineTellsNothing, VerdictIsFollowed}
 use Rattle.laws_client.proofs.Ends.{leaves, refusals, tagged_tells_nothing}
 use Rattle.laws_client.proofs.Chosen.{AreIn, named_are_in, small_in}
@@ -55,6 +55,8 @@ use Rattle.imap_grammar.specs.declared.command.Search.{Search}
 use Rattle.imap_grammar.specs.declared.view.Named.{Named}
 use Rattle.imap_grammar.specs.Keys.{all_messages}
 use Rattle.laws_client.proofs.Sought.{found_tells_nothing}
+use Rattle.imap_session.proofs.Parts.{IsPart, tells_part, ends_part, asks_part, comes_part, challenge_part, is_parting}
+use Rattle.laws_client.proofs.WholeLines.{turn_has, text_has}
 
 -- a last line with a text of the table
 last : (tag view : List ℕ) (text : ResponseText) → IsTag tag → Says tag view (says (response_text text))
@@ -248,7 +250,7 @@ rest_says : (tag view : List ℕ) (mailing : Mailing) (a : PendingLiteral) (empt
 rest_says tag view mailing a empty t = kept a.text
   where
     text_says : (big nul spent : Bool) (text : List ℕ) (mailbox : ℕ)
-        → Says tag view (if big then over mailing.most else if nul then says (response_text texts.NulByte) else if spent then says (response_text texts.MailboxSpent) else wanting (Wait [] (ForVerdict mailbox a.flags text)))
+        → Says tag view (if big then over mailing.most else if nul then says (response_text texts.NulByte) else if spent then says (response_text texts.MailboxSpent) else wanting (Wait [] (ForVerdict mailbox (flags_for a.purpose) text)))
     text_says true nul spent text mailbox = over_says tag view mailing.most t
     text_says false true spent text mailbox = last tag view texts.NulByte t
     text_says false false true text mailbox = last tag view texts.MailboxSpent t
@@ -258,12 +260,12 @@ rest_says tag view mailing a empty t = kept a.text
     named text None = nowhere_says tag view t
     named text (Some mailbox) = text_says (is_over mailing.most a.size) (list_any (λ b. b == 0) text) (nat_le last_number mailing.number) text mailbox
 
-    ended : (b : Bool) (text : List ℕ) → Says tag view (if b then on_found (on_text mailing a text) nowhere a.mailbox else says (response_text texts.InvalidArguments))
-    ended true text = named text a.mailbox
+    ended : (b : Bool) (text : List ℕ) → Says tag view (if b then on_found (on_text mailing a text) nowhere (mailbox_for a.purpose) else says (response_text texts.InvalidArguments))
+    ended true text = named text (mailbox_for a.purpose)
     ended false text = last tag view texts.InvalidArguments t
 
     kept : (text : Option (List ℕ))
-        → Says tag view (on_found (λ text. if empty then on_found (on_text mailing a text) nowhere a.mailbox else says (response_text texts.InvalidArguments)) (says (response_text texts.OutOfMemory)) text)
+        → Says tag view (on_found (λ text. if empty then on_found (on_text mailing a text) nowhere (mailbox_for a.purpose) else says (response_text texts.InvalidArguments)) (says (response_text texts.OutOfMemory)) text)
     kept None = last tag view texts.OutOfMemory t
     kept (Some text) = ended empty text
 
@@ -304,7 +306,7 @@ command_says tag view now commands.Logout t may =
     (leaves view _ (λ messages. refl), leaves view _ (tagged_tells_nothing tag (response_text (texts.Completed verbs.Logout)) t (text_plain (texts.Completed verbs.Logout))))
 command_says tag view now commands.Idle t may = leaves view _ (λ messages. refl)
 command_says tag view now (commands.Login user password) t may = wrong tag view t
-command_says tag view now commands.Authenticate t may = wrong tag view t
+command_says tag view now (commands.Authenticate a) t may = wrong tag view t
 command_says tag view now commands.StartTls t may = wrong tag view t
 command_says tag view now (commands.Select name) t may = absurd (false≢true may.stays)
 command_says tag view now (commands.Examine name) t may = absurd (false≢true may.stays)
@@ -324,6 +326,8 @@ command_says tag view now (commands.Search search) t may = selected_says tag vie
 command_says tag view now (commands.Append append) t may = append_says tag view now.mailing.most now.folders append t
 command_says tag view now commands.Capability t may = (leaves view _ (capable_tells_nothing now.profile), last tag view (texts.Completed verbs.Capability) t)
 command_says tag view now commands.Namespace t may = (leaves view _ (λ messages. refl), last tag view (texts.Completed verbs.Namespace) t)
+command_says tag view now commands.Id t may = (leaves view _ (λ messages. refl), last tag view (texts.Completed verbs.Id) t)
+command_says tag view now commands.Enable t may = (leaves view _ (λ messages. refl), last tag view (texts.Completed verbs.Enable) t)
 
 -- ---- lines that are no commands
 
@@ -342,7 +346,7 @@ read_follows : (now : Standing) (r : Result (List ℕ × Command) ImapFault) (vi
     → Tagged r → MayAnswer now view r → on_read now r answers ≡ Some turn → SeesAll view turn.events new → Leads view turn.bytes new
 read_follows now (Ok line) view answers turn new t h e sees =
     line_case (Leads view turn.bytes new) now line.0 line.1 answers turn
-    (λ logs d. turn_follows line.0 (refusals line.0 t) view (logged_in now) login_completed answers turn new d (last line.0 view (texts.Completed verbs.Login) t) sees)
+    (λ logs d. turn_follows line.0 (refusals line.0 t) view (logged_in now) (completed line.1) answers turn new d (last line.0 view (texts.Completed (verb_of line.1)) t) sees)
     (λ text is d. turn_follows line.0 (refusals line.0 t) view now (says (response_text text)) answers turn new d (last line.0 view text t) sees)
     (λ d. turn_follows line.0 (refusals line.0 t) view now (on_command now line.1) answers turn new d (command_says line.0 view now line.1 t h) sees) e
 read_follows now (Err fault) view answers turn new t h e sees = fault_follows now fault view answers turn new t e sees
@@ -359,20 +363,45 @@ idle_line_says tag view selected line t = by (is_done line)
     by true = shows_then tag view selected (completed commands.Idle) done
     by false = last tag view texts.ExpectedDone t
 
-while_follows : (idling : Option (List ℕ)) (now : Standing) (line view : List ℕ) (answers : List Answer) (turn : Turn) (new : List ℕ)
-    → IsFollowed idling now view line → turn_while idling now line answers ≡ Some turn → SeesAll view turn.events new → Leads view turn.bytes new
-while_follows None now line view answers turn new h e sees = read_follows now (read line) view answers turn new (read_tagged line) h e sees
-while_follows (Some tag) now line view answers turn new t e sees =
-    turn_follows tag (refusals tag t) view (record now { idling = None }) (on_idle_line now.selected line) answers turn new e (idle_line_says tag view now.selected line t) sees
+-- ---- lines that aren't whole yet, and those that are given up
 
-behind_follows : (begun : Option PendingLiteral) (now : Standing) (line view : List ℕ) (answers : List Answer) (turn : Turn) (new : List ℕ)
-    → IsFollowed (kept_behind begun now.idling) now view line → turn_behind begun now line answers ≡ Some turn → SeesAll view turn.events new → Leads view turn.bytes new
-behind_follows None now line view answers turn new h e sees = while_follows now.idling now line view answers turn new h e sees
-behind_follows (Some a) now line view answers turn new t e sees =
-    turn_follows a.tag (refusals a.tag t) view (without_begun now) (on_rest now.mailing a (length line == 0)) answers turn new e (rest_says a.tag view now.mailing a (length line == 0) t) sees
+parting_says : (tag view : List ℕ) (text : ResponseText) → is_parting text ≡ true → Says tag view (Wait (bye (response_text text)) ForNothing)
+parting_says tag view texts.LiteralTooBig h = leaves view _ (λ messages. refl)
+parting_says tag view texts.ByeOutOfMemory h = leaves view _ (λ messages. refl)
+parting_says tag view _ h = absurd (false≢true h)
+
+part_says : (tag view : List ℕ) (x : Exchange) → IsTag tag → IsPart x → Says tag view x
+part_says tag view x t (tells_part text h e) = subst (Says tag view) (sym e) (last tag view text t)
+part_says tag view x t (ends_part text h e) = subst (Says tag view) (sym e) (parting_says tag view text h)
+part_says tag view x t (asks_part line size e) = subst (Says tag view) (sym e) (nothing_leaves view, leaves view _ (λ messages. refl))
+part_says tag view x t (comes_part line size e) = subst (Says tag view) (sym e) (nothing_leaves view)
+part_says tag view x t (challenge_part line e) = subst (Says tag view) (sym e) (nothing_leaves view, leaves view _ (λ messages. refl))
+
+-- what may be asked of a session may be asked of one with the same mailboxes
+pub may_answer : (now other : Standing) (view : List ℕ) (r : Result (List ℕ × Command) ImapFault) → now.folders ≡ other.folders → MayAnswer now view r → MayAnswer other view r
+may_answer now other view (Ok line) e may = record { stays = may.stays; numbered = may.numbered; names = subst AreNames e may.names; parts = may.parts }
+may_answer now other view (Err fault) e may = tt
+
+text_follows : (now : Standing) (line view : List ℕ) (answers : List Answer) (turn : Turn) (new : List ℕ)
+    → MayAnswer now view (read line) → on_text_line now line answers ≡ Some turn → SeesAll view turn.events new → Leads view turn.bytes new
+text_follows now line view answers turn new may e sees =
+    text_has IsTag (λ o. o ≡ Some turn → Leads view turn.bytes new) now line answers (read_tagged line)
+    (λ tag x t part lacks d. turn_follows tag (refusals tag t) view now x answers turn new d (part_says tag view x t part) sees)
+    (λ d. read_follows now (read line) view answers turn new (read_tagged line) may d sees) e
 
 pub answer_is_followed : AnswerIsFollowed
-answer_is_followed now line view answers turn new h e sees = behind_follows now.mailing.begun now line view answers turn new h e sees
+answer_is_followed now line view answers turn new h e sees =
+    turn_has (λ whole o. MayCome whole now view → o ≡ Some turn → Leads view turn.bytes new) now line answers
+    (λ tag b i may d. let t = idle_tag tag b i in turn_follows tag (refusals tag t) view (record now { idling = None }) (on_idle_line now.selected line) answers turn new d (idle_line_says tag view now.selected line t) sees)
+    (λ a mailbox flags b p may d. let t = begun_tag a b in turn_follows a.tag (refusals a.tag t) view (without_begun now) (on_rest now.mailing a (length line == 0)) answers turn new d (rest_says a.tag view now.mailing a (length line == 0) t) sees)
+    (λ a x b part may d. let t = begun_tag a b in turn_follows a.tag (refusals a.tag t) view (without_begun now) x answers turn new d (part_says a.tag view x t part) sees)
+    (λ whole w may d. text_follows (without_begun now) whole view answers turn new (may_answer now (without_begun now) view (read whole) refl may) d sees) h.1 e
+  where
+    idle_tag : (tag : List ℕ) → now.mailing.begun ≡ None → now.idling ≡ Some tag → IsTag tag
+    idle_tag tag b i = subst (λ (o : Option (List ℕ)). IfSome o IsTag) (ap (λ (o : Option PendingLiteral). kept_behind o now.idling) b ∙ i) h.0
+
+    begun_tag : (a : PendingLiteral) → now.mailing.begun ≡ Some a → IsTag a.tag
+    begun_tag a b = subst (λ (o : Option (List ℕ)). IfSome o IsTag) (ap (λ (o : Option PendingLiteral). kept_behind o now.idling) b) h.0
 
 long_idle_tells_nothing : (idling : Option (List ℕ)) → IfSome idling IsTag → TellsNothing (long_idle_text idling)
 long_idle_tells_nothing None t messages = refl

@@ -171,7 +171,7 @@ played_cut tag t o now (ex.Wait bytes waits) ((Fed a b) ∷ more) p = tt
 played_cut tag t o now (ex.Wait bytes waits) ((Left a) ∷ more) p = tt
 played_cut tag t o now (ex.Wait bytes waits) ((Refused a) ∷ more) p = tt
 played_cut tag t o now (ex.Wait bytes waits) (Starved n ∷ []) p =
-    unkept_by (TurnCut tag o) tt tag now (λ short. refused_one tag t o now NoMemory) (λ flags size short. kept_open passes_none (inl p.0)) (λ short. subst (OneOf tag o) (sym (append-nil (bye (response_text texts.ByeOutOfMemory)))) (bye_of tag texts.ByeOutOfMemory o)) waits n
+    unkept_by (TurnCut tag o) tt tag now (λ short. refused_one tag t o now NoMemory) (λ purpose size short. kept_open passes_none (inl p.0)) (λ short. subst (OneOf tag o) (sym (append-nil (bye (response_text texts.ByeOutOfMemory)))) (bye_of tag texts.ByeOutOfMemory o)) waits n
 played_cut tag t o now (ex.Wait bytes waits) (Starved n ∷ d ∷ more) p = tt
 played_cut tag t o now (ex.Write bytes x) [] p = then_saying tag o bytes (played tag now x []) p.0 (played_cut tag t o now x [] p.1)
 played_cut tag t o now (ex.Write bytes x) ((Entered a) ∷ more) p = then_saying tag o bytes (played tag now x ((Entered a) ∷ more)) p.0 (played_cut tag t o now x ((Entered a) ∷ more) p.1)
@@ -391,7 +391,7 @@ command_cut now commands.Noop told names = in_showing false now.selected (comple
 command_cut now commands.Logout told names = (bye_passes texts.LoggingOut, (refl, refl))
 command_cut now commands.Idle told names = (refl, continuing_passes texts.Idling)
 command_cut now (commands.Login user password) told names = (refl, refl)
-command_cut now commands.Authenticate told names = (refl, refl)
+command_cut now (commands.Authenticate a) told names = (refl, refl)
 command_cut now commands.StartTls told names = (refl, refl)
 command_cut now commands.Capability told names = (server_passes (server.Capabilities now.profile), (refl, refl))
 command_cut now commands.Namespace told names = (server_passes server.Namespaces, (refl, refl))
@@ -446,12 +446,12 @@ text_cut : (mailing : Mailing) (a : PendingLiteral) (text : List ℕ) (mailbox :
 text_cut mailing a text mailbox =
     in_either true (is_over mailing.most a.size) (over mailing.most) _ (in_over true mailing.most)
     (in_either true (list_any (λ b. b == 0) text) (says (response_text texts.NulByte)) _ (refl, refl)
-    (in_either true (nat_le last_number mailing.number) (says (response_text texts.MailboxSpent)) (wanting (ex.Wait [] (ForVerdict mailbox a.flags text))) (refl, refl) (passes_none, (refl, passes_none))))
+    (in_either true (nat_le last_number mailing.number) (says (response_text texts.MailboxSpent)) (wanting (ex.Wait [] (ForVerdict mailbox (flags_for a.purpose) text))) (refl, refl) (passes_none, (refl, passes_none))))
 
 rest_cut : (mailing : Mailing) (a : PendingLiteral) (empty : Bool) → SaysCut true (on_rest mailing a empty)
 rest_cut mailing a empty =
-    in_found true (λ text. if empty then on_found (on_text mailing a text) nowhere a.mailbox else says (response_text texts.InvalidArguments)) (says (response_text texts.OutOfMemory))
-    (λ (text : List ℕ). in_either true empty (on_found (on_text mailing a text) nowhere a.mailbox) (says (response_text texts.InvalidArguments)) (in_found true (on_text mailing a text) nowhere (text_cut mailing a text) (refl, refl) a.mailbox) (refl, refl))
+    in_found true (λ text. if empty then on_found (on_text mailing a text) nowhere (mailbox_for a.purpose) else says (response_text texts.InvalidArguments)) (says (response_text texts.OutOfMemory))
+    (λ (text : List ℕ). in_either true empty (on_found (on_text mailing a text) nowhere (mailbox_for a.purpose)) (says (response_text texts.InvalidArguments)) (in_found true (on_text mailing a text) nowhere (text_cut mailing a text) (refl, refl) (mailbox_for a.purpose)) (refl, refl))
     (refl, refl) a.text
 
 idling_cut : (selected : Option Selected) (line : List ℕ) → SaysCut true (on_idle_line selected line)

@@ -12,11 +12,11 @@ use Rattle.imap_session.specs.Store.{Met}
 use Rattle.laws_client.specs.Client.{Client}
 use Rattle.laws_client.specs.Commands.{MayAnswer, stays}
 use Rattle.laws_client.specs.Fetches.{IsNumbered}
-use Rattle.laws_client.specs.Talks.{Happening, Line, LongLine, Turned, Literal, Heard, MayCome, MayHappen, leads_to}
+use Rattle.laws_client.specs.Talks.{Happening, Line, LongLine, Turned, Literal, Heard, MayHappen, leads_to}
 use Rattle.laws_client.specs.ListTurns.{AreTags, IsTag}
 use Rattle.laws_client.proofs.Commands.{long_line_tells_nothing}
 use Rattle.laws_client.proofs.Tags.{Tagged, read_tagged}
-use Rattle.laws_client.proofs.Talking.{kept_is_tag, may_follow}
+use Rattle.laws_client.proofs.Talking.{kept_is_tag}
 use Rattle.laws_client.proofs.Turns.{the_turn}
 use Rattle.imap_session.proofs.Barring.{refuses}
 use Rattle.imap_session.specs.declared.texts.ResponseText.{ResponseText}
@@ -59,7 +59,7 @@ long_tells now p turn q k e sees =
 
 happening_tells : (now : Standing) (p : Point) (happening : Happening) (turn : Turn) (q : Point) → AreTags now → MayHappen now (counted p) happening → leads_to now happening ≡ Some turn
     → SeesAllMoments p turn.events q → LeadsFlags p turn.bytes q
-happening_tells now p (Line line answers) turn q k may e sees = answer_tells now line p answers turn q (may_follow (kept_tag now) now (counted p) line (kept_is_tag now.mailing.begun now.idling k.1 k.0) may) e sees
+happening_tells now p (Line line answers) turn q k may e sees = answer_tells now line p answers turn q (kept_is_tag now.mailing.begun now.idling k.1 k.0, may) e sees
 happening_tells now p LongLine turn q k may e sees = long_tells now p turn q k e sees
 happening_tells now p (Turned answers) turn q k may e sees = idle_tells now p answers turn q e sees
 happening_tells now p (Literal kept bytes) turn q k may e sees = rests_in p (may_send (with_bytes kept bytes now)) (with_bytes kept bytes now) turn q e sees
@@ -91,7 +91,7 @@ read_flags : (now : Standing) (p : Point) (r : Result (List ℕ × Command) Imap
 read_flags now p (Ok line) answers turn q client stands numbered t told e sees met right more =
     line_case (IsRightOnFlags q (answered (asked_by line.0 line.1) turn.bytes client)) now line.0 line.1 answers turn
     (λ logs d. subst (λ (a : Asked). IsRightOnFlags q (answered a turn.bytes client)) (sym (login_asks now.login line.0 line.1 logs))
-    (still_right line.0 (texts.Completed verbs.Login) (logged_in now) p answers turn q client t d sees right))
+    (still_right line.0 (texts.Completed (verb_of line.1)) (logged_in now) p answers turn q client t d sees right))
     (λ text is d. refused_flags now p line.0 line.1 text answers turn q client t is d sees right)
     (λ d. command_flags now p line.0 line.1 answers turn q client stands t d sees met right (λ stay. more (may_ask now (counted p) line.1 stands numbered told stay))) e
 read_flags now p (Err fault) answers turn q client stands numbered t told e sees met right more = more tt
@@ -103,21 +103,21 @@ happening_flags : (now : Standing) (p : Point) (happening : Happening) (turn : T
 happening_flags now p happening turn q client stands e sees met right may =
     reads_right p turn.bytes q client (happening_tells now p happening turn q stands.tags may e sees) right
 
-line_flags : (now : Standing) (p : Point) (line : List ℕ) (answers : List StoreAnswer) (turn : Turn) (q : Point) (client : Option Client) → Stands now → IsNumbered (counted p)
-    → turn_of now line answers ≡ Some turn → SeesAllMoments p turn.events q → HearsAll (counted p) turn.events (counted q) → IsRightOnFlags p client → IsRightOnFlags q (hears client (told_line (kept_tag now) line turn.bytes))
-line_flags now p line answers turn q client stands numbered e sees met right = by now.mailing.begun now.idling refl refl
-  where
-    more : MayCome (kept_tag now) now (counted p) line → IsRightOnFlags q (reads_on turn.bytes client)
-    more may = happening_flags now p (Line line answers) turn q client stands e sees met right may
+text_flags : (now : Standing) (p : Point) (line : List ℕ) (answers : List StoreAnswer) (turn : Turn) (q : Point) (client : Option Client) → Stands now → IsNumbered (counted p)
+    → on_text_line now line answers ≡ Some turn → SeesAllMoments p turn.events q → HearsAll (counted p) turn.events (counted q) → IsRightOnFlags p client
+    → (MayAnswer now (counted p) (read line) → IsRightOnFlags q (reads_on turn.bytes client)) → IsRightOnFlags q (answered (asked (read line)) turn.bytes client)
+text_flags now p line answers turn q client stands numbered e sees met right more =
+    text_has IsTag (λ o. o ≡ Some turn → IsRightOnFlags q (answered (asked (read line)) turn.bytes client)) now line answers (read_tagged line)
+    (λ tag x t part lacks d. subst (λ (a : Asked). IsRightOnFlags q (answered a turn.bytes client)) (sym (unfinished_asks now.login (read line) lacks)) (more (unfinished_may now (counted p) (read line) stands numbered (read_told line) lacks)))
+    (λ d. read_flags now p (read line) answers turn q client stands numbered (read_tagged line) (read_told line) d sees met right more) e
 
-    by : (begun : Option PendingLiteral) (idling : Option (List ℕ)) → begun ≡ now.mailing.begun → idling ≡ now.idling → IsRightOnFlags q (hears client (told_line (kept_behind begun idling) line turn.bytes))
-    by (Some a) idling b i = more (subst (λ (o : Option (List ℕ)). MayCome o now (counted p) line) (ap₂ kept_behind b i) tt)
-    by None (Some tag) b i = more (subst (λ (o : Option (List ℕ)). MayCome o now (counted p) line) (ap₂ kept_behind b i) tt)
-    by None None b i =
-        let first : turn_while now.idling now line answers ≡ Some turn = subst (λ (o : Option PendingLiteral). turn_behind o now line answers ≡ Some turn) (sym b) e in
-        let second : on_read now (read line) answers ≡ Some turn = subst (λ (o : Option (List ℕ)). turn_while o now line answers ≡ Some turn) (sym i) first in
-        read_flags now p (read line) answers turn q client stands numbered (read_tagged line) (read_told line) second sees met right
-        (λ may. more (subst (λ (o : Option (List ℕ)). MayCome o now (counted p) line) (ap₂ kept_behind b i) may))
+line_flags : (now : Standing) (p : Point) (line : List ℕ) (answers : List StoreAnswer) (turn : Turn) (q : Point) (client : Option Client) → Stands now → IsNumbered (counted p)
+    → turn_of now line answers ≡ Some turn → SeesAllMoments p turn.events q → HearsAll (counted p) turn.events (counted q) → IsRightOnFlags p client → IsRightOnFlags q (hears client (told_line (whole_line now line) turn.bytes))
+line_flags now p line answers turn q client stands numbered e sees met right =
+    turn_has (λ whole o. o ≡ Some turn → (MayCome whole now (counted p) → IsRightOnFlags q (reads_on turn.bytes client)) → IsRightOnFlags q (hears client (told_line whole turn.bytes))) now line answers
+    (λ tag b i d more. more tt) (λ a mailbox flags b m d more. more tt) (λ a x b part d more. more tt)
+    (λ whole w d more. text_flags (without_begun now) p whole answers turn q client (bare_stands now stands) numbered d sees met right (λ may. more (may_answer (without_begun now) now (counted p) (read whole) refl may)))
+    e (λ may. happening_flags now p (Line line answers) turn q client stands e sees met right may)
 
 pub turn_moments : (now : Standing) (p : Point) (happening : Happening) (turn : Turn) (q : Point) (client : Option Client) → Stands now → IsNumbered (counted p)
     → VerdictsArePrinted happening → leads_to now happening ≡ Some turn → SeesAllMoments p turn.events q → HearsAll (counted p) turn.events (counted q) → IsRightOnFlags p client → IsRightOnFlags q (hears client (told_of now happening turn.bytes))

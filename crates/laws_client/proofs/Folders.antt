@@ -15,10 +15,12 @@ use Rattle.imap_session.specs.declared.standing.After.TheVariants as afters
 use Rattle.imap_session.specs.declared.standing.Selected.{Selected}
 use Rattle.imap_session.specs.Exchange.{Answer, Entered, Looked, Found, Counted, Altered, Expunged, Fed, Left, Refused, Starved, Exchange, ForDone, ForLiteral, ForVerdict, ForNothing, Done, Wait, Write, Put, Enter, Look, Read, Count, Alter, Expunge, Feed, Leave, Standing, Turn, PendingLiteral, Sent, Waiting, closed, having, played, refusal_after, refusal_text, refused, saying, tagged, waiting, unkept}
 use Rattle.imap_session.proofs.Unkept.{unkept_by}
-use Rattle.imap_session.specs.Commands.{idle_turn_in, turn_of, fault_text, on_command, on_idle_line, on_read, on_rest, on_verdict, only_says, turn_behind, turn_of_verdict, turn_while, turn_with, without_begun, without_sent, logged_in, login_completed, says}
+use Rattle.imap_session.specs.Commands.{idle_turn_in, turn_of, fault_text, on_command, on_idle_line, on_read, on_rest, on_verdict, only_says, turn_behind, turn_of_verdict, turn_while, turn_with, without_begun, without_sent, logged_in, completed, says, on_text_line}
 use Rattle.delivery_token.specs.declared.Verdict.{Verdict}
 use Rattle.laws_client.proofs.Barred.{line_case}
 use Rattle.imap_session.specs.Texts.{response_text}
+use Rattle.imap_session.proofs.Parts.{text_line_has}
+use Rattle.laws_client.proofs.WholeLines.{turn_has}
 
 abbrev pub the_turn : Turn → Option Turn → Turn
 the_turn d None = d
@@ -54,7 +56,7 @@ waiting_keeps tag now ForNothing = refl
 goes_without : (tag : List ℕ) (now : Standing) (w : Waiting) (n : ℕ) (turn : Turn) → unkept tag w now n ≡ Some turn → turn.standing.folders ≡ now.folders
 goes_without tag now w n turn e =
     let P : Option Turn → Type 0 = λ o. o ≡ Some turn → turn.standing.folders ≡ now.folders in
-    unkept_by P (λ d. absurd (none-some turn d)) tag now (λ d. given_up tag now NoMemory turn d) (λ flags size d. ap (λ (s : Turn). s.standing.folders) (sym (ap (the_turn turn) d)))
+    unkept_by P (λ d. absurd (none-some turn d)) tag now (λ d. given_up tag now NoMemory turn d) (λ purpose size d. ap (λ (s : Turn). s.standing.folders) (sym (ap (the_turn turn) d)))
     (λ d. ap (λ (s : Turn). s.standing.folders) (sym (ap (the_turn turn) d))) w n e
 
 pub folders_stay : (tag : List ℕ) (now : Standing) (x : Exchange) (answers : List Answer) (turn : Turn) → played tag now x answers ≡ Some turn → turn.standing.folders ≡ now.folders
@@ -109,20 +111,20 @@ fault_keeps now text (answer ∷ more) turn e = absurd (none-some turn e)
 
 read_keeps : (now : Standing) (r : Result (List ℕ × Command) ImapFault) (answers : List Answer) (turn : Turn) → on_read now r answers ≡ Some turn → turn.standing.folders ≡ now.folders
 read_keeps now (Ok line) answers turn e =
-    line_case (turn.standing.folders ≡ now.folders) now line.0 line.1 answers turn (λ logs d. folders_stay line.0 (logged_in now) login_completed answers turn d)
+    line_case (turn.standing.folders ≡ now.folders) now line.0 line.1 answers turn (λ logs d. folders_stay line.0 (logged_in now) (completed line.1) answers turn d)
     (λ text is d. folders_stay line.0 now (says (response_text text)) answers turn d) (λ d. folders_stay line.0 now (on_command now line.1) answers turn d) e
 read_keeps now (Err fault) answers turn e = fault_keeps now (fault_text now.profile fault) answers turn e
 
-while_keeps : (idling : Option (List ℕ)) (now : Standing) (line : List ℕ) (answers : List Answer) (turn : Turn) → turn_while idling now line answers ≡ Some turn → turn.standing.folders ≡ now.folders
-while_keeps None now line answers turn e = read_keeps now (read line) answers turn e
-while_keeps (Some tag) now line answers turn e = folders_stay tag (record now { idling = None }) (on_idle_line now.selected line) answers turn e
-
-behind_keeps : (begun : Option PendingLiteral) (now : Standing) (line : List ℕ) (answers : List Answer) (turn : Turn) → turn_behind begun now line answers ≡ Some turn → turn.standing.folders ≡ now.folders
-behind_keeps None now line answers turn e = while_keeps now.idling now line answers turn e
-behind_keeps (Some a) now line answers turn e = folders_stay a.tag (without_begun now) (on_rest now.mailing a (length line == 0)) answers turn e
+text_keeps : (now : Standing) (line : List ℕ) (answers : List Answer) (turn : Turn) → on_text_line now line answers ≡ Some turn → turn.standing.folders ≡ now.folders
+text_keeps now line answers turn e =
+    text_line_has (λ o. o ≡ Some turn → turn.standing.folders ≡ now.folders) now line answers (λ tag x part d. folders_stay tag now x answers turn d) (λ d. read_keeps now (read line) answers turn d) e
 
 pub line_folders : (now : Standing) (line : List ℕ) (answers : List Answer) (turn : Turn) → turn_of now line answers ≡ Some turn → turn.standing.folders ≡ now.folders
-line_folders now line answers turn e = behind_keeps now.mailing.begun now line answers turn e
+line_folders now line answers turn e =
+    turn_has (λ whole o. o ≡ Some turn → turn.standing.folders ≡ now.folders) now line answers
+    (λ tag b i d. folders_stay tag (record now { idling = None }) (on_idle_line now.selected line) answers turn d)
+    (λ a mailbox flags b p d. folders_stay a.tag (without_begun now) (on_rest now.mailing a (length line == 0)) answers turn d)
+    (λ a x b part d. folders_stay a.tag (without_begun now) x answers turn d) (λ whole w d. text_keeps (without_begun now) whole answers turn d) e
 
 heard_keeps : (sent : Option Sent) (now : Standing) (verdict : Verdict) (answers : List Answer) (turn : Turn) → turn_with sent now verdict answers ≡ Some turn → turn.standing.folders ≡ now.folders
 heard_keeps None now verdict answers turn e = absurd (none-some turn e)

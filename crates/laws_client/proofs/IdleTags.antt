@@ -17,7 +17,7 @@ use Rattle.imap_session.specs.declared.standing.After.TheVariants as afters
 use Rattle.imap_session.specs.declared.standing.Selected.{Selected}
 use Rattle.imap_session.specs.Exchange.{Answer, Entered, Looked, Found, Counted, Altered, Expunged, Fed, Left, Refused, Starved, Exchange, ForDone, ForLiteral, ForVerdict, ForNothing, Done, Wait, Write, Put, Enter, Look, Read, Count, Alter, Expunge, Feed, Leave, Standing, Turn, PendingLiteral, Sent, Waiting, closed, having, played, refusal_after, refusal_text, refused, saying, tagged, waiting, Dropped, unkept}
 use Rattle.imap_session.proofs.Unkept.{unkept_by}
-use Rattle.imap_session.specs.Commands.{fault_text, on_command, on_idle_line, on_read, on_rest, on_verdict, only_says, taking, turn_behind, turn_of, turn_of_verdict, turn_while, turn_with, with_bytes, without_begun, without_sent, logged_in, login_completed, says}
+use Rattle.imap_session.specs.Commands.{fault_text, on_command, on_idle_line, on_read, on_rest, on_verdict, only_says, taking, turn_of, turn_of_verdict, turn_with, with_bytes, without_begun, without_sent, logged_in, completed, on_text_line, says}
 use Rattle.delivery_token.specs.declared.Verdict.{Verdict}
 use Rattle.laws_client.specs.ListTurns.{IsTag}
 use Rattle.laws_client.specs.ListLaws.{KeptTagsAreTags}
@@ -25,6 +25,7 @@ use Rattle.laws_client.proofs.Tags.{TaggedOf, read_tagged_so, word_is_tag}
 use Rattle.laws_client.proofs.Turns.{the_turn}
 use Rattle.imap_session.specs.Texts.{response_text}
 use Rattle.laws_client.proofs.Barred.{line_case}
+use Rattle.laws_client.proofs.WholeLines.{text_has, turn_has}
 
 -- what a session stands for stays so while it answers under a tag: where it ends, where it enters or leaves a mailbox, and where it waits
 pub record Keeps (Q : Standing → Type 0) (tag : List ℕ) : Type 0 where
@@ -60,7 +61,7 @@ goes_without : (Q : Standing → Type 0) (tag : List ℕ) → Keeps Q tag → (n
 goes_without Q tag K now w n turn k e =
     let R : Option Turn → Type 0 = λ o. o ≡ Some turn → Kept Q turn in
     unkept_by R (λ d. absurd (none-some turn d)) tag now (λ d. given_up Q tag K now NoMemory turn k d)
-    (λ flags size d. subst (λ (s : Turn). Kept Q s) (ap (the_turn turn) d) (K.waits now (ForLiteral Dropped None flags size) k))
+    (λ purpose size d. subst (λ (s : Turn). Kept Q s) (ap (the_turn turn) d) (K.waits now (ForLiteral Dropped purpose size) k))
     (λ d. subst (λ (s : Turn). Kept Q s) (ap (the_turn turn) d) (K.waits now ForNothing k)) w n e
 
 pub played_keeps : (Q : Standing → Type 0) (tag : List ℕ) → Keeps Q tag → (now : Standing) (x : Exchange) (answers : List Answer) (turn : Turn) → Q now → played tag now x answers ≡ Some turn → Kept Q turn
@@ -128,22 +129,28 @@ fault_keeps P now text (answer ∷ more) turn k e = absurd (none-some turn e)
 
 read_keeps : (P : List ℕ → Type 0) → (now : Standing) (r : Result (List ℕ × Command) ImapFault) (answers : List Answer) (turn : Turn) → TaggedOf P r → AreTagsOf P now → on_read now r answers ≡ Some turn → Kept (AreTagsOf P) turn
 read_keeps P now (Ok line) answers turn t k e =
-    line_case (Kept (AreTagsOf P) turn) now line.0 line.1 answers turn (λ logs d. played_keeps (AreTagsOf P) line.0 (tags_keep P line.0 t) (logged_in now) login_completed answers turn k d)
+    line_case (Kept (AreTagsOf P) turn) now line.0 line.1 answers turn (λ logs d. played_keeps (AreTagsOf P) line.0 (tags_keep P line.0 t) (logged_in now) (completed line.1) answers turn k d)
     (λ text is d. played_keeps (AreTagsOf P) line.0 (tags_keep P line.0 t) now (says (response_text text)) answers turn k d)
     (λ d. played_keeps (AreTagsOf P) line.0 (tags_keep P line.0 t) now (on_command now line.1) answers turn k d) e
 read_keeps P now (Err fault) answers turn t k e = fault_keeps P now (fault_text now.profile fault) answers turn k e
 
-while_keeps : (P : List ℕ → Type 0) → ((tag : List ℕ) → is_word_of is_tag tag ≡ true → P tag) → (idling : Option (List ℕ)) (now : Standing) (line : List ℕ) (answers : List Answer) (turn : Turn) → IfSome idling P → AreTagsOf P now → turn_while idling now line answers ≡ Some turn → Kept (AreTagsOf P) turn
-while_keeps P make None now line answers turn t k e = read_keeps P now (read line) answers turn (read_tagged_so P make line) k e
-while_keeps P make (Some tag) now line answers turn t k e = played_keeps (AreTagsOf P) tag (tags_keep P tag t) (record now { idling = None }) (on_idle_line now.selected line) answers turn (tt, k.1, k.2) e
-
-behind_keeps : (P : List ℕ → Type 0) → ((tag : List ℕ) → is_word_of is_tag tag ≡ true → P tag) → (begun : Option PendingLiteral) (now : Standing) (line : List ℕ) (answers : List Answer) (turn : Turn) → IfSome begun (λ a. P a.tag) → AreTagsOf P now → turn_behind begun now line answers ≡ Some turn → Kept (AreTagsOf P) turn
-behind_keeps P make None now line answers turn t k e = while_keeps P make now.idling now line answers turn k.0 k e
-behind_keeps P make (Some a) now line answers turn t k e = played_keeps (AreTagsOf P) a.tag (tags_keep P a.tag t) (without_begun now) (on_rest now.mailing a (length line == 0)) answers turn (tt, tt, k.2) e
+text_keeps : (P : List ℕ → Type 0) → ((tag : List ℕ) → is_word_of is_tag tag ≡ true → P tag) → (now : Standing) (line : List ℕ) (answers : List Answer) (turn : Turn) → AreTagsOf P now → on_text_line now line answers ≡ Some turn → Kept (AreTagsOf P) turn
+text_keeps P make now line answers turn k e =
+    let tagged : TaggedOf P (read line) = read_tagged_so P make line in
+    text_has P (λ o. o ≡ Some turn → Kept (AreTagsOf P) turn) now line answers tagged (λ tag x t part lacks d. played_keeps (AreTagsOf P) tag (tags_keep P tag t) now x answers turn k d)
+    (λ d. read_keeps P now (read line) answers turn tagged k d) e
 
 -- whatever holds of all words of tags: it holds of the tags that a session keeps, if it did before
 pub line_keeps : (P : List ℕ → Type 0) → ((tag : List ℕ) → is_word_of is_tag tag ≡ true → P tag) → (now : Standing) (line : List ℕ) (answers : List Answer) (turn : Turn) → AreTagsOf P now → turn_of now line answers ≡ Some turn → Kept (AreTagsOf P) turn
-line_keeps P make now line answers turn k e = behind_keeps P make now.mailing.begun now line answers turn k.1 k e
+line_keeps P make now line answers turn k e =
+    turn_has (λ whole o. o ≡ Some turn → Kept (AreTagsOf P) turn) now line answers
+    (λ tag b i d. played_keeps (AreTagsOf P) tag (tags_keep P tag (subst (λ (o : Option (List ℕ)). IfSome o P) i k.0)) (record now { idling = None }) (on_idle_line now.selected line) answers turn (tt, k.1, k.2) d)
+    (λ a mailbox flags b p d. played_keeps (AreTagsOf P) a.tag (tags_keep P a.tag (begun_tag a b)) (without_begun now) (on_rest now.mailing a (length line == 0)) answers turn (tt, tt, k.2) d)
+    (λ a x b part d. played_keeps (AreTagsOf P) a.tag (tags_keep P a.tag (begun_tag a b)) (without_begun now) x answers turn (tt, tt, k.2) d)
+    (λ whole w d. text_keeps P make (without_begun now) whole answers turn (tt, tt, k.2) d) e
+  where
+    begun_tag : (a : PendingLiteral) → now.mailing.begun ≡ Some a → P a.tag
+    begun_tag a b = subst (λ (o : Option PendingLiteral). IfSome o (λ x. P x.tag)) b k.1
 
 pub kept_tags_are_tags : KeptTagsAreTags
 kept_tags_are_tags = line_keeps IsTag word_is_tag

@@ -20,7 +20,7 @@ goes_without : (tag : List ℕ) (refusals : Refusals tag) (view : List ℕ) (now
 goes_without tag refusals view now waits n turn new e sees =
     let P : Option Turn → Type 0 = λ o. o ≡ Some turn → Leads view turn.bytes new in
     unkept_by P (λ d. absurd (none-some turn d)) tag now (λ d. gives_up tag refusals view now NoMemory turn new d sees)
-    (λ flags size d. waits_on view [] (afters.Literal size) (waiting tag (ForLiteral Dropped None flags size) now) turn new d (leaves view [] (λ messages. refl)) sees)
+    (λ purpose size d. waits_on view [] (afters.Literal size) (waiting tag (ForLiteral Dropped purpose size) now) turn new d (leaves view [] (λ messages. refl)) sees)
     (λ d. waits_on view (bye (response_text texts.ByeOutOfMemory)) Bye (waiting tag ForNothing now) turn new d (leaves view _ (λ messages. refl)) sees) waits n e
 
 pub turn_follows : (tag : List ℕ) (refusals : Refusals tag) (view : List ℕ) (now : Standing) (x : Exchange) (answers : List Answer) (turn : Turn) (new : List ℕ)

@@ -12,14 +12,14 @@ use Rattle.imap_grammar.specs.declared.command.Command.TheVariants as commands
 use Rattle.imap_grammar.specs.declared.command.ImapFault.{ImapFault}
 use Rattle.imap_session.specs.declared.standing.Selected.{Selected}
 use Rattle.imap_session.specs.Exchange.{Answer, Fed, Refused, PendingLiteral, ForDone, ForLiteral, ForNothing, ForVerdict, Sent, Standing, Turn, Waiting, is_idling, played, waiting}
-use Rattle.imap_session.specs.Commands.{barred_at, before_login, fault_text, idle_turn_in, logged_in, login_completed, logs_in_as, on_command, on_found, on_idle_line, on_line, on_read, on_rest, on_verdict, says, turn_behind, turn_while, turn_with, without_begun, without_sent}
+use Rattle.imap_session.specs.Commands.{barred_at, fault_text, idle_turn_in, logged_in, without_login, logs_in_as, on_command, on_found, on_idle_line, on_line, on_read, on_rest, on_verdict, says, turn_behind, turn_while, turn_with, without_begun, without_sent}
 use Rattle.imap_session.specs.Texts.{response_text}
 use Rattle.laws_client.specs.Clients.{Told}
 use Rattle.laws_client.specs.Lives.{Lives, comes, turns, others}
 use Rattle.laws_client.specs.Selecting.{HasLoggedIn, LoginComesFirst}
 use Rattle.laws_client.specs.Talks.{Happening, Line, LongLine, Turned, Literal, Heard, leads_to}
 use Rattle.laws_client.proofs.IdleTags.{Keeps, played_keeps}
-use Rattle.laws_client.proofs.Selecting.{StaysIn, fault_sel, idle_selected, in_command, in_found, in_idle_line, in_rest, selected_stays, verdict_sel}
+use Rattle.laws_client.proofs.Selecting.{StaysIn, fault_sel, idle_selected, in_command, in_found, in_idle_line, in_part, in_rest, selected_stays, verdict_sel}
 use Rattle.laws_client.proofs.Submitted.{line_stays}
 use Rattle.laws_client.proofs.Turns.{the_turn}
 
@@ -68,35 +68,40 @@ none_asked now (Heard verdict answers) turn none e = heard_login now.mailing.sen
 -- ---- who is still to log in
 
 -- what it may ask enters no mailbox
-early_stays : (now : Standing) (command : Command) → StaysIn (on_found (λ text. says (response_text text)) (on_command now command) (before_login (verb_of command)))
+early_stays : (now : Standing) (command : Command) → StaysIn (on_found (λ text. says (response_text text)) (on_command now command) (without_login command))
 early_stays now (commands.Select name) = tt
 early_stays now (commands.Examine name) = tt
 early_stays now commands.Close = tt
 early_stays now commands.Unselect = tt
-early_stays now command = in_found (λ text. says (response_text text)) (on_command now command) (before_login (verb_of command)) (λ text. tt) (in_command now command refl)
+early_stays now (commands.Authenticate a) = tt
+early_stays now command = in_found (λ text. says (response_text text)) (on_command now command) (without_login command) (λ text. tt) (in_command now command refl)
 
 line_early : (now : Standing) (tag user : List ℕ) (command : Command) (answers : List Answer) (turn : Turn) → now.login ≡ Some user → on_line (logs_in_as now.login command) now tag command answers ≡ Some turn → turn.standing.selected ≡ now.selected
 line_early now tag user command answers turn early e = by (logs_in_as now.login command) e
   where
     by : (b : Bool) → on_line b now tag command answers ≡ Some turn → turn.standing.selected ≡ now.selected
-    by true d = selected_stays tag (logged_in now) login_completed answers turn tt d
-    by false d = selected_stays tag now (on_found (λ text. says (response_text text)) (on_command now command) (before_login (verb_of command))) answers turn (early_stays now command)
+    by true d = selected_stays tag (logged_in now) (completed command) answers turn tt d
+    by false d = selected_stays tag now (on_found (λ text. says (response_text text)) (on_command now command) (without_login command)) answers turn (early_stays now command)
         (subst (λ (login : Option (List ℕ)). played tag now (on_found (λ text. says (response_text text)) (on_command now command) (barred_at login now.profile command)) answers ≡ Some turn) early d)
 
 read_early : (now : Standing) (user : List ℕ) (r : Result (List ℕ × Command) ImapFault) (answers : List Answer) (turn : Turn) → now.login ≡ Some user → on_read now r answers ≡ Some turn → turn.standing.selected ≡ now.selected
 read_early now user (Ok line) answers turn early e = line_early now line.0 user line.1 answers turn early e
 read_early now user (Err fault) answers turn early e = fault_sel now (fault_text now.profile fault) answers turn e
 
-while_early : (idling : Option (List ℕ)) (now : Standing) (user line : List ℕ) (answers : List Answer) (turn : Turn) → now.login ≡ Some user → turn_while idling now line answers ≡ Some turn → turn.standing.selected ≡ now.selected
-while_early None now user line answers turn early e = read_early now user (read line) answers turn early e
-while_early (Some tag) now user line answers turn early e = selected_stays tag (record now { idling = None }) (on_idle_line now.selected line) answers turn (in_idle_line now.selected line) e
+text_early : (now : Standing) (user line : List ℕ) (answers : List Answer) (turn : Turn) → now.login ≡ Some user → on_text_line now line answers ≡ Some turn → turn.standing.selected ≡ now.selected
+text_early now user line answers turn early e =
+    text_line_has (λ o. o ≡ Some turn → turn.standing.selected ≡ now.selected) now line answers (λ tag x part d. selected_stays tag now x answers turn (in_part x part) d)
+    (λ d. read_early now user (read line) answers turn early d) e
 
-behind_early : (begun : Option PendingLiteral) (now : Standing) (user line : List ℕ) (answers : List Answer) (turn : Turn) → now.login ≡ Some user → turn_behind begun now line answers ≡ Some turn → turn.standing.selected ≡ now.selected
-behind_early None now user line answers turn early e = while_early now.idling now user line answers turn early e
-behind_early (Some a) now user line answers turn early e = selected_stays a.tag (without_begun now) (on_rest now.mailing a (length line == 0)) answers turn (in_rest now.mailing a (length line == 0)) e
+line_in_early : (now : Standing) (user line : List ℕ) (answers : List Answer) (turn : Turn) → now.login ≡ Some user → turn_of now line answers ≡ Some turn → turn.standing.selected ≡ now.selected
+line_in_early now user line answers turn early e =
+    turn_has (λ whole o. o ≡ Some turn → turn.standing.selected ≡ now.selected) now line answers
+    (λ tag b i d. selected_stays tag (record now { idling = None }) (on_idle_line now.selected line) answers turn (in_idle_line now.selected line) d)
+    (λ a mailbox flags b p d. selected_stays a.tag (without_begun now) (on_rest now.mailing a (length line == 0)) answers turn (in_rest now.mailing a (length line == 0)) d)
+    (λ a x b part d. selected_stays a.tag (without_begun now) x answers turn (in_part x part) d) (λ whole w d. text_early (without_begun now) user whole answers turn early d) e
 
 happens_early : (now : Standing) (user : List ℕ) (happening : Happening) (turn : Turn) → now.login ≡ Some user → leads_to now happening ≡ Some turn → turn.standing.selected ≡ now.selected
-happens_early now user (Line line answers) turn early e = behind_early now.mailing.begun now user line answers turn early e
+happens_early now user (Line line answers) turn early e = line_in_early now user line answers turn early e
 happens_early now user LongLine turn early e = ap (λ (t : Turn). t.standing.selected) (sym (ap (the_turn turn) e))
 happens_early now user (Turned answers) turn early e = idle_selected now.selected (is_idling now) now answers turn e
 happens_early now user (Literal kept bytes) turn early e = ap (λ (t : Turn). t.standing.selected) (sym (ap (the_turn turn) e))

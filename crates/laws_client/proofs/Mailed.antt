@@ -102,7 +102,7 @@ goes_without : (most : ℕ) (tag : List ℕ) (now : Standing) (w : Waiting) (n :
 goes_without most tag now w n turn k e =
     let P : Option Turn → Type 0 = λ o. o ≡ Some turn → Kept most turn in
     unkept_by P (λ d. absurd (none-some turn d)) tag now (λ d. given_up most tag now NoMemory turn k d)
-    (λ flags size d. subst (λ (s : Turn). Kept most s) (ap (the_turn turn) d) (waiting_keeps most tag now (ForLiteral Dropped None flags size) tt k))
+    (λ purpose size d. subst (λ (s : Turn). Kept most s) (ap (the_turn turn) d) (waiting_keeps most tag now (ForLiteral Dropped purpose size) tt k))
     (λ d. subst (λ (s : Turn). Kept most s) (ap (the_turn turn) d) (waiting_keeps most tag now ForNothing tt k)) w n e
 
 mail_stays : (most : ℕ) (tag : List ℕ) (now : Standing) (x : Exchange) (answers : List Answer) (turn : Turn) → TextsFit most x → IsMailShort most now.mailing → played tag now x answers ≡ Some turn → Kept most turn
@@ -264,7 +264,7 @@ fit_rest : (most : ℕ) (mailing : Mailing) (a : PendingLiteral) (empty : Bool) 
 fit_rest most mailing a empty takes short = kept a.text short
   where
     by : (text : List ℕ) (mailbox : ℕ) (x y z : Bool) → is_over mailing.most a.size ≡ x → length text + a.due ≤ a.size
-        → TextsFit most (if x then over mailing.most else if y then says (response_text texts.NulByte) else if z then says (response_text texts.MailboxSpent) else wanting (Wait [] (ForVerdict mailbox a.flags text)))
+        → TextsFit most (if x then over mailing.most else if y then says (response_text texts.NulByte) else if z then says (response_text texts.MailboxSpent) else wanting (Wait [] (ForVerdict mailbox (flags_for a.purpose) text)))
     by text mailbox true y z e few = fit_over most mailing.most
     by text mailbox false true z e few = tt
     by text mailbox false false true e few = tt
@@ -274,12 +274,12 @@ fit_rest most mailing a empty takes short = kept a.text short
     named text None few = tt
     named text (Some mailbox) few = by text mailbox (is_over mailing.most a.size) (list_any (λ b. b == 0) text) (nat_le last_number mailing.number) refl few
 
-    ended : (b : Bool) (text : List ℕ) → length text + a.due ≤ a.size → TextsFit most (if b then on_found (on_text mailing a text) nowhere a.mailbox else says (response_text texts.InvalidArguments))
-    ended true text few = named text a.mailbox few
+    ended : (b : Bool) (text : List ℕ) → length text + a.due ≤ a.size → TextsFit most (if b then on_found (on_text mailing a text) nowhere (mailbox_for a.purpose) else says (response_text texts.InvalidArguments))
+    ended true text few = named text (mailbox_for a.purpose) few
     ended false text few = tt
 
     kept : (text : Option (List ℕ)) → IfSome text (λ t. length t + a.due ≤ a.size)
-        → TextsFit most (on_found (λ t. if empty then on_found (on_text mailing a t) nowhere a.mailbox else says (response_text texts.InvalidArguments)) (says (response_text texts.OutOfMemory)) text)
+        → TextsFit most (on_found (λ t. if empty then on_found (on_text mailing a t) nowhere (mailbox_for a.purpose) else says (response_text texts.InvalidArguments)) (says (response_text texts.OutOfMemory)) text)
     kept None few = tt
     kept (Some text) few = ended empty text few
 

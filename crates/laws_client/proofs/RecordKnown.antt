@@ -7,12 +7,12 @@ use Rattle.imap_grammar.specs.declared.command.Command.{Command}
 use Rattle.imap_grammar.specs.declared.command.Command.TheVariants as commands
 use Rattle.imap_grammar.specs.declared.command.ImapFault.{ImapFault}
 use Rattle.imap_session.specs.Exchange.{Answer as StoreAnswer, PendingLiteral, Standing, Folder, Turn, is_idling, kept_tag, kept_behind, played}
-use Rattle.imap_session.specs.Commands.{logged_in, on_command, on_read, says, turn_behind, turn_of, turn_while}
+use Rattle.imap_session.specs.Commands.{logged_in, on_command, on_read, says, turn_behind, turn_of, turn_while, on_text_line, wants_response, without_begun}
 use Rattle.imap_session.specs.Store.{Met}
 use Rattle.laws_client.specs.Client.{Client}
-use Rattle.laws_client.specs.Commands.{AreNames, HasToldParts, MayAnswer, MayAsk, stays}
+use Rattle.laws_client.specs.Commands.{AreNames, HasToldParts, MayAnswer, MayAsk, stays, whole_line, MayCome}
 use Rattle.laws_client.specs.Fetches.{IsNumbered}
-use Rattle.laws_client.specs.Talks.{Happening, Line, LongLine, Turned, Literal, Heard, MayCome, MayHappen, leads_to}
+use Rattle.laws_client.specs.Talks.{Happening, Line, LongLine, Turned, Literal, Heard, MayHappen, leads_to}
 use Rattle.laws_client.specs.ListTurns.{IsTag}
 use Rattle.laws_client.proofs.Tags.{Tagged, read_tagged}
 use Rattle.laws_client.proofs.Talking.{happening_follows, happening_keeps}
@@ -32,6 +32,10 @@ use Rattle.laws_client.proofs.RecordWorlds.{Sound, numbered_view, sound_always}
 use Rattle.imap_session.specs.declared.texts.ResponseText.TheVariants as texts
 use Rattle.imap_session.specs.Texts.{response_text}
 use Rattle.imap_grammar.specs.declared.command.Verb.TheVariants as verbs
+use Rattle.std.proofs.lemmas.Bool.{false≢true}
+use Rattle.imap_grammar.specs.Verbs.{verb_of}
+use Rattle.laws_client.proofs.Commands.{may_answer}
+use Rattle.laws_client.proofs.WholeLines.{unfinished_asks, IsUnfinished, turn_has, text_has}
 
 -- ---- lines that are commands
 
@@ -64,7 +68,7 @@ read_known : (now : Standing) (old : List ℕ) (r : Result (List ℕ × Command)
 read_known now old (Ok line) answers turn new client stands numbered t told e met right more =
     line_case (IsRightAbout new (answered (asked_by line.0 line.1) turn.bytes client)) now line.0 line.1 answers turn
     (λ logs d. subst (λ (a : Asked). IsRightAbout new (answered a turn.bytes client)) (sym (login_asks now.login line.0 line.1 logs))
-    (still_right line.0 (texts.Completed verbs.Login) (logged_in now) old answers turn new client t d met right))
+    (still_right line.0 (texts.Completed (verb_of line.1)) (logged_in now) old answers turn new client t d met right))
     (λ text is d. refused_known now old line.0 line.1 text answers turn new client t is d met right)
     (λ d. command_known now old line.0 line.1 answers turn new client stands t d met right (λ stay. more (may_ask now old line.1 stands numbered told stay))) e
 read_known now old (Err fault) answers turn new client stands numbered t told e met right more = more tt
@@ -76,21 +80,35 @@ happening_known : (now : Standing) (old : List ℕ) (happening : Happening) (tur
 happening_known now old happening turn new client stands e met right may =
     reads_right old turn.bytes new client (happening_follows now old happening turn new stands.tags may e (sees_of old turn.events new met)) right
 
-line_known : (now : Standing) (old : List ℕ) (line : List ℕ) (answers : List StoreAnswer) (turn : Turn) (new : List ℕ) (client : Option Client) → Stands now → IsNumbered old
-    → turn_of now line answers ≡ Some turn → HearsAll old turn.events new → IsRightAbout old client → IsRightAbout new (hears client (told_line (kept_tag now) line turn.bytes))
-line_known now old line answers turn new client stands numbered e met right = by now.mailing.begun now.idling refl refl
-  where
-    more : MayCome (kept_tag now) now old line → IsRightAbout new (reads_on turn.bytes client)
-    more may = happening_known now old (Line line answers) turn new client stands e met right may
+-- it stands so where it waits for no rest of a line
+pub bare_stands : (now : Standing) → Stands now → Stands (without_begun now)
+bare_stands now stands = record { tags = (tt, tt, stands.tags.2); names = stands.names }
 
-    by : (begun : Option PendingLiteral) (idling : Option (List ℕ)) → begun ≡ now.mailing.begun → idling ≡ now.idling → IsRightAbout new (hears client (told_line (kept_behind begun idling) line turn.bytes))
-    by (Some a) idling b i = more (subst (λ (o : Option (List ℕ)). MayCome o now old line) (ap₂ kept_behind b i) tt)
-    by None (Some tag) b i = more (subst (λ (o : Option (List ℕ)). MayCome o now old line) (ap₂ kept_behind b i) tt)
-    by None None b i =
-        let first : turn_while now.idling now line answers ≡ Some turn = subst (λ (o : Option PendingLiteral). turn_behind o now line answers ≡ Some turn) (sym b) e in
-        let second : on_read now (read line) answers ≡ Some turn = subst (λ (o : Option (List ℕ)). turn_while o now line answers ≡ Some turn) (sym i) first in
-        read_known now old (read line) answers turn new client stands numbered (read_tagged line) (read_told line) second met right
-        (λ may. more (subst (λ (o : Option (List ℕ)). MayCome o now old line) (ap₂ kept_behind b i) may))
+-- what isn't whole yet may be answered
+pub unfinished_may : (now : Standing) (view : List ℕ) (r : Result (List ℕ × Command) ImapFault) → Stands now → IsNumbered view → HasTold r → IsUnfinished now.login r → MayAnswer now view r
+unfinished_may now view (Err fault) stands numbered told u = tt
+unfinished_may now view (Ok said) stands numbered told u = may_ask now view said.1 stands numbered told (by now.login said.1 u)
+  where
+    by : (login : Option (List ℕ)) (command : Command) → wants_response login command ≡ true → stays command ≡ true
+    by None command u = absurd (false≢true u)
+    by (Some user) (commands.Authenticate a) u = refl
+    by (Some user) _ u = absurd (false≢true u)
+
+text_known : (now : Standing) (old : List ℕ) (line : List ℕ) (answers : List StoreAnswer) (turn : Turn) (new : List ℕ) (client : Option Client) → Stands now → IsNumbered old
+    → on_text_line now line answers ≡ Some turn → HearsAll old turn.events new → IsRightAbout old client → (MayAnswer now old (read line) → IsRightAbout new (reads_on turn.bytes client))
+    → IsRightAbout new (answered (asked (read line)) turn.bytes client)
+text_known now old line answers turn new client stands numbered e met right more =
+    text_has IsTag (λ o. o ≡ Some turn → IsRightAbout new (answered (asked (read line)) turn.bytes client)) now line answers (read_tagged line)
+    (λ tag x t part lacks d. subst (λ (a : Asked). IsRightAbout new (answered a turn.bytes client)) (sym (unfinished_asks now.login (read line) lacks)) (more (unfinished_may now old (read line) stands numbered (read_told line) lacks)))
+    (λ d. read_known now old (read line) answers turn new client stands numbered (read_tagged line) (read_told line) d met right more) e
+
+line_known : (now : Standing) (old : List ℕ) (line : List ℕ) (answers : List StoreAnswer) (turn : Turn) (new : List ℕ) (client : Option Client) → Stands now → IsNumbered old
+    → turn_of now line answers ≡ Some turn → HearsAll old turn.events new → IsRightAbout old client → IsRightAbout new (hears client (told_line (whole_line now line) turn.bytes))
+line_known now old line answers turn new client stands numbered e met right =
+    turn_has (λ whole o. o ≡ Some turn → (MayCome whole now old → IsRightAbout new (reads_on turn.bytes client)) → IsRightAbout new (hears client (told_line whole turn.bytes))) now line answers
+    (λ tag b i d more. more tt) (λ a mailbox flags b p d more. more tt) (λ a x b part d more. more tt)
+    (λ whole w d more. text_known (without_begun now) old whole answers turn new client (bare_stands now stands) numbered d met right (λ may. more (may_answer (without_begun now) now old (read whole) refl may)))
+    e (λ may. happening_known now old (Line line answers) turn new client stands e met right may)
 
 pub turn_heard : (now : Standing) (old : List ℕ) (happening : Happening) (turn : Turn) (new : List ℕ) (client : Option Client) → Stands now → IsNumbered old
     → VerdictsArePrinted happening → leads_to now happening ≡ Some turn → HearsAll old turn.events new → IsRightAbout old client → IsRightAbout new (hears client (told_of now happening turn.bytes))

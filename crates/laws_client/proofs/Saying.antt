@@ -1,5 +1,5 @@
 -- The answers to lines that a client sends, and what they tell of flags.
-use Rattle.std.proofs.Common.{◌≡◌, ℕ, ◌+◌, ◌<◌, ◌^◌, ◌==◌, length, map, sym, subst, ◌∙◌, Bool, true, false, List, [], ◌∷◌, refl, ◌++◌}
+use Rattle.std.proofs.Common.{◌≡◌, ℕ, ◌+◌, ◌<◌, ◌^◌, ◌==◌, length, map, sym, subst, ◌∙◌, Bool, true, false, List, [], ◌∷◌, refl, ◌++◌, ap}
 use Rattle.std.specs.Prelude.{Option, Some, None, Result, Ok, Err, IfSome, nat_le, nat_lt, ◌&&◌, not, if◌then◌else◌}
 use Rattle.std.specs.List.{list_any}
 use Rattle.std.proofs.lemmas.Bool.{false≢true}
@@ -27,10 +27,10 @@ use Rattle.imap_grammar.specs.declared.command.ImapFault.{ImapFault}
 use Rattle.imap_session.specs.declared.standing.After.TheVariants.{Go}
 use Rattle.imap_session.specs.declared.standing.Selected.{Selected}
 use Rattle.imap_session.specs.Exchange.{Alter, Altered, Answer, PendingLiteral, Exchange, Expunge, Feed, Folder, ForNothing, ForVerdict, Found, Mailing, Read, Sent, Standing, Turn, Wait, Write, bye, kept_behind, kept_tag}
-use Rattle.imap_session.specs.Commands.{turn_of, turn_of_verdict, appended_words, appending, last_number, most_unasked, nowhere, number_named, on_rest, on_text, on_verdict, is_over, over, turn_behind, turn_with, wanting, wanting_for, without_begun, without_sent, completed, counting, expunge_set, fault_text, fetch_messages, fetched, fetching, folder_of, in_selected, in_writable, messages_done, on_chosen, on_command, on_found, on_idle_line, on_read, on_set, only_says, says, showing, store_messages, stored, storing, subscribing, turn_while, unlimited, wrong_state, asking, coming, logged_in, login_completed, refused_text, found_in, search_done, search_known, search_messages, searching}
+use Rattle.imap_session.specs.Commands.{turn_of, turn_of_verdict, appended_words, appending, last_number, most_unasked, nowhere, number_named, on_rest, on_text, on_verdict, is_over, over, turn_behind, turn_with, wanting, wanting_for, without_begun, without_sent, completed, counting, expunge_set, fault_text, fetch_messages, fetched, fetching, folder_of, in_selected, in_writable, messages_done, on_chosen, on_command, on_found, on_idle_line, on_read, on_set, only_says, says, showing, store_messages, stored, storing, subscribing, turn_while, unlimited, wrong_state, asking, coming, logged_in, refused_text, found_in, search_done, search_known, search_messages, searching, on_text_line, flags_for, mailbox_for}
 use Rattle.laws_client.specs.ListTurns.{IsPlain, IsTag}
 use Rattle.laws_client.specs.Fetches.{AreToldParts, IsNumbered}
-use Rattle.laws_client.specs.Commands.{AreNames, IsFollowed, IsPrinted, MayAnswer, MayAsk}
+use Rattle.laws_client.specs.Commands.{AreNames, IsFollowed, IsPrinted, MayAnswer, MayAsk, MayCome}
 use Rattle.laws_client.proofs.Commands.{capable_tells_nothing, fault_tells_nothing, stored_plain}
 use Rattle.laws_client.proofs.Each.{IsIn}
 use Rattle.laws_client.proofs.Ends.{refusal_tells_nothing, tagged_tells_nothing}
@@ -54,6 +54,8 @@ use Rattle.imap_grammar.specs.declared.command.Search.{Search}
 use Rattle.imap_grammar.specs.declared.view.Named.{Named}
 use Rattle.imap_grammar.specs.Keys.{all_messages}
 use Rattle.laws_client.proofs.Sought.{found_tells_nothing}
+use Rattle.imap_session.proofs.Parts.{IsPart, tells_part, ends_part, asks_part, comes_part, challenge_part, is_parting}
+use Rattle.laws_client.proofs.WholeLines.{turn_has, text_has}
 
 pub refusals : (tag : List ℕ) → IsTag tag → Refusals tag
 refusals tag t p fault = leaves p _ (refusal_tells_nothing tag fault t)
@@ -269,7 +271,7 @@ rest_says : (tag : List ℕ) (p : Point) (mailing : Mailing) (a : PendingLiteral
 rest_says tag p mailing a empty t = kept a.text
   where
     text_says : (big nul spent : Bool) (text : List ℕ) (mailbox : ℕ)
-        → SaysFlags tag p (if big then over mailing.most else if nul then says (response_text texts.NulByte) else if spent then says (response_text texts.MailboxSpent) else wanting (Wait [] (ForVerdict mailbox a.flags text)))
+        → SaysFlags tag p (if big then over mailing.most else if nul then says (response_text texts.NulByte) else if spent then says (response_text texts.MailboxSpent) else wanting (Wait [] (ForVerdict mailbox (flags_for a.purpose) text)))
     text_says true nul spent text mailbox = over_says tag p mailing.most t
     text_says false true spent text mailbox = last tag p texts.NulByte t
     text_says false false true text mailbox = last tag p texts.MailboxSpent t
@@ -279,12 +281,12 @@ rest_says tag p mailing a empty t = kept a.text
     named text None = nowhere_says tag p t
     named text (Some mailbox) = text_says (is_over mailing.most a.size) (list_any (λ b. b == 0) text) (nat_le last_number mailing.number) text mailbox
 
-    ended : (b : Bool) (text : List ℕ) → SaysFlags tag p (if b then on_found (on_text mailing a text) nowhere a.mailbox else says (response_text texts.InvalidArguments))
-    ended true text = named text a.mailbox
+    ended : (b : Bool) (text : List ℕ) → SaysFlags tag p (if b then on_found (on_text mailing a text) nowhere (mailbox_for a.purpose) else says (response_text texts.InvalidArguments))
+    ended true text = named text (mailbox_for a.purpose)
     ended false text = last tag p texts.InvalidArguments t
 
     kept : (text : Option (List ℕ))
-        → SaysFlags tag p (on_found (λ text. if empty then on_found (on_text mailing a text) nowhere a.mailbox else says (response_text texts.InvalidArguments)) (says (response_text texts.OutOfMemory)) text)
+        → SaysFlags tag p (on_found (λ text. if empty then on_found (on_text mailing a text) nowhere (mailbox_for a.purpose) else says (response_text texts.InvalidArguments)) (says (response_text texts.OutOfMemory)) text)
     kept None = last tag p texts.OutOfMemory t
     kept (Some text) = ended empty text
 
@@ -303,7 +305,7 @@ command_says tag p now commands.Logout t may =
     (leaves p _ (λ messages. refl), leaves p _ (tagged_tells_nothing tag (response_text (texts.Completed verbs.Logout)) t (text_plain (texts.Completed verbs.Logout))))
 command_says tag p now commands.Idle t may = leaves p _ (λ messages. refl)
 command_says tag p now (commands.Login user password) t may = wrong tag p t
-command_says tag p now commands.Authenticate t may = wrong tag p t
+command_says tag p now (commands.Authenticate a) t may = wrong tag p t
 command_says tag p now commands.StartTls t may = wrong tag p t
 command_says tag p now (commands.Select name) t may = absurd (false≢true may.stays)
 command_says tag p now (commands.Examine name) t may = absurd (false≢true may.stays)
@@ -323,6 +325,8 @@ command_says tag p now (commands.Search search) t may = selected_says tag p now.
 command_says tag p now (commands.Append append) t may = append_says tag p now.mailing.most now.folders append t
 command_says tag p now commands.Capability t may = (leaves p _ (capable_tells_nothing now.profile), last tag p (texts.Completed verbs.Capability) t)
 command_says tag p now commands.Namespace t may = (leaves p _ (λ messages. refl), last tag p (texts.Completed verbs.Namespace) t)
+command_says tag p now commands.Id t may = (leaves p _ (λ messages. refl), last tag p (texts.Completed verbs.Id) t)
+command_says tag p now commands.Enable t may = (leaves p _ (λ messages. refl), last tag p (texts.Completed verbs.Enable) t)
 
 -- ---- lines that are no commands
 
@@ -335,7 +339,7 @@ read_follows : (now : Standing) (r : Result (List ℕ × Command) ImapFault) (p 
     → Tagged r → MayAnswer now (counted p) r → on_read now r answers ≡ Some turn → SeesAllMoments p turn.events q → LeadsFlags p turn.bytes q
 read_follows now (Ok line) p answers turn q t h e sees =
     line_case (LeadsFlags p turn.bytes q) now line.0 line.1 answers turn
-    (λ logs d. turn_tells line.0 (refusals line.0 t) p (logged_in now) login_completed answers turn q d (last line.0 p (texts.Completed verbs.Login) t) sees)
+    (λ logs d. turn_tells line.0 (refusals line.0 t) p (logged_in now) (completed line.1) answers turn q d (last line.0 p (texts.Completed (verb_of line.1)) t) sees)
     (λ text is d. turn_tells line.0 (refusals line.0 t) p now (says (response_text text)) answers turn q d (last line.0 p text t) sees)
     (λ d. turn_tells line.0 (refusals line.0 t) p now (on_command now line.1) answers turn q d (command_says line.0 p now line.1 t h) sees) e
 read_follows now (Err fault) p answers turn q t h e sees = fault_follows now fault p answers turn q t e sees
@@ -352,21 +356,41 @@ idle_line_says tag p selected line t = by (is_done line)
     by true = shows_then tag p selected (completed commands.Idle) done
     by false = last tag p texts.ExpectedDone t
 
-while_follows : (idling : Option (List ℕ)) (now : Standing) (line : List ℕ) (p : Point) (answers : List Answer) (turn : Turn) (q : Point)
-    → IsFollowed idling now (counted p) line → turn_while idling now line answers ≡ Some turn → SeesAllMoments p turn.events q → LeadsFlags p turn.bytes q
-while_follows None now line p answers turn q h e sees = read_follows now (read line) p answers turn q (read_tagged line) h e sees
-while_follows (Some tag) now line p answers turn q t e sees =
-    turn_tells tag (refusals tag t) p (record now { idling = None }) (on_idle_line now.selected line) answers turn q e (idle_line_says tag p now.selected line t) sees
+-- ---- lines that aren't whole yet, and those that are given up
 
-behind_follows : (begun : Option PendingLiteral) (now : Standing) (line : List ℕ) (p : Point) (answers : List Answer) (turn : Turn) (q : Point)
-    → IsFollowed (kept_behind begun now.idling) now (counted p) line → turn_behind begun now line answers ≡ Some turn → SeesAllMoments p turn.events q → LeadsFlags p turn.bytes q
-behind_follows None now line p answers turn q h e sees = while_follows now.idling now line p answers turn q h e sees
-behind_follows (Some a) now line p answers turn q t e sees =
-    turn_tells a.tag (refusals a.tag t) p (without_begun now) (on_rest now.mailing a (length line == 0)) answers turn q e (rest_says a.tag p now.mailing a (length line == 0) t) sees
+parting_says : (tag : List ℕ) (p : Point) (text : ResponseText) → is_parting text ≡ true → SaysFlags tag p (Wait (bye (response_text text)) ForNothing)
+parting_says tag p texts.LiteralTooBig h = leaves p _ (λ messages. refl)
+parting_says tag p texts.ByeOutOfMemory h = leaves p _ (λ messages. refl)
+parting_says tag p _ h = absurd (false≢true h)
+
+part_says : (tag : List ℕ) (p : Point) (x : Exchange) → IsTag tag → IsPart x → SaysFlags tag p x
+part_says tag p x t (tells_part text h e) = subst (SaysFlags tag p) (sym e) (last tag p text t)
+part_says tag p x t (ends_part text h e) = subst (SaysFlags tag p) (sym e) (parting_says tag p text h)
+part_says tag p x t (asks_part line size e) = subst (SaysFlags tag p) (sym e) (nothing_leaves p, leaves p _ (λ messages. refl))
+part_says tag p x t (comes_part line size e) = subst (SaysFlags tag p) (sym e) (nothing_leaves p)
+part_says tag p x t (challenge_part line e) = subst (SaysFlags tag p) (sym e) (nothing_leaves p, leaves p _ (λ messages. refl))
+
+text_tells : (now : Standing) (line : List ℕ) (p : Point) (answers : List Answer) (turn : Turn) (q : Point)
+    → MayAnswer now (counted p) (read line) → on_text_line now line answers ≡ Some turn → SeesAllMoments p turn.events q → LeadsFlags p turn.bytes q
+text_tells now line p answers turn q may e sees =
+    text_has IsTag (λ o. o ≡ Some turn → LeadsFlags p turn.bytes q) now line answers (read_tagged line)
+    (λ tag x t part lacks d. turn_tells tag (refusals tag t) p now x answers turn q d (part_says tag p x t part) sees)
+    (λ d. read_follows now (read line) p answers turn q (read_tagged line) may d sees) e
 
 pub answer_tells : (now : Standing) (line : List ℕ) (p : Point) (answers : List Answer) (turn : Turn) (q : Point)
-    → IsFollowed (kept_tag now) now (counted p) line → turn_of now line answers ≡ Some turn → SeesAllMoments p turn.events q → LeadsFlags p turn.bytes q
-answer_tells now line p answers turn q h e sees = behind_follows now.mailing.begun now line p answers turn q h e sees
+    → IsFollowed now (counted p) line → turn_of now line answers ≡ Some turn → SeesAllMoments p turn.events q → LeadsFlags p turn.bytes q
+answer_tells now line p answers turn q h e sees =
+    turn_has (λ whole o. MayCome whole now (counted p) → o ≡ Some turn → LeadsFlags p turn.bytes q) now line answers
+    (λ tag b i may d. let t = idle_tag tag b i in turn_tells tag (refusals tag t) p (record now { idling = None }) (on_idle_line now.selected line) answers turn q d (idle_line_says tag p now.selected line t) sees)
+    (λ a mailbox flags b m may d. let t = begun_tag a b in turn_tells a.tag (refusals a.tag t) p (without_begun now) (on_rest now.mailing a (length line == 0)) answers turn q d (rest_says a.tag p now.mailing a (length line == 0) t) sees)
+    (λ a x b part may d. let t = begun_tag a b in turn_tells a.tag (refusals a.tag t) p (without_begun now) x answers turn q d (part_says a.tag p x t part) sees)
+    (λ whole w may d. text_tells (without_begun now) whole p answers turn q (may_answer now (without_begun now) (counted p) (read whole) refl may) d sees) h.1 e
+  where
+    idle_tag : (tag : List ℕ) → now.mailing.begun ≡ None → now.idling ≡ Some tag → IsTag tag
+    idle_tag tag b i = subst (λ (o : Option (List ℕ)). IfSome o IsTag) (ap (λ (o : Option PendingLiteral). kept_behind o now.idling) b ∙ i) h.0
+
+    begun_tag : (a : PendingLiteral) → now.mailing.begun ≡ Some a → IsTag a.tag
+    begun_tag a b = subst (λ (o : Option (List ℕ)). IfSome o IsTag) (ap (λ (o : Option PendingLiteral). kept_behind o now.idling) b) h.0
 
 pub answer_tells_flags : AnswerTellsFlags
 answer_tells_flags now line p answers turn q h e sees = answer_tells now line p answers turn q h e (at_moments p turn.events q sees)

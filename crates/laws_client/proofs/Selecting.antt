@@ -15,7 +15,7 @@ use Rattle.imap_session.specs.declared.standing.After.TheVariants as afters
 use Rattle.imap_session.specs.declared.standing.Selected.{Selected}
 use Rattle.imap_session.specs.Exchange.{Answer, Entered, Looked, Found, Counted, Altered, Expunged, Fed, Left, Refused, Starved, Exchange, ForDone, ForLiteral, ForVerdict, ForNothing, Done, Wait, Write, Put, Enter, Look, Read, Count, Alter, Expunge, Feed, Leave, Standing, Turn, PendingLiteral, Sent, Waiting, closed, having, played, refusal_after, refusal_text, refused, saying, tagged, waiting, Folder, Mailing, kept_behind, kept_tag, is_idling, unkept, bye}
 use Rattle.imap_session.proofs.Unkept.{unkept_by}
-use Rattle.imap_session.specs.Commands.{idle_turn_in, turn_of, fault_text, on_command, on_idle_line, on_read, on_rest, on_verdict, only_says, turn_behind, turn_while, turn_with, without_begun, without_sent, appending, closing, completed, counting, entering, expunge_set, fetch_messages, fetched, fetching, folder_of, if_writable, in_writable, is_over, last_number, messages_done, most_unasked, nowhere, number_named, on_chosen, on_folder, on_found, on_set, on_text, over, says, selecting, showing, store_messages, stored, storing, unlimited, wanting, wanting_for, wrong_state, opened, asking, coming, logged_in, login_completed, subscribing, telling_recent, entered_text, found_in, search_done, search_known, search_messages, searching}
+use Rattle.imap_session.specs.Commands.{idle_turn_in, turn_of, fault_text, on_command, on_idle_line, on_read, on_rest, on_verdict, only_says, turn_behind, turn_while, turn_with, without_begun, without_sent, appending, closing, completed, counting, entering, expunge_set, fetch_messages, fetched, fetching, folder_of, if_writable, in_writable, is_over, last_number, messages_done, most_unasked, nowhere, number_named, on_chosen, on_folder, on_found, on_set, on_text, over, says, selecting, showing, store_messages, stored, storing, unlimited, wanting, wanting_for, wrong_state, opened, asking, coming, logged_in, subscribing, telling_recent, entered_text, found_in, search_done, search_known, search_messages, searching, on_text_line, flags_for, mailbox_for}
 use Rattle.delivery_token.specs.declared.Verdict.{Verdict}
 use Rattle.std.specs.List.{list_any}
 use Rattle.change_ring.specs.declared.change.Flags.{Flags}
@@ -31,7 +31,7 @@ use Rattle.imap_grammar.specs.declared.command.Store.{Store}
 use Rattle.delivery_token.specs.declared.Verdict.TheVariants as verdicts
 use Rattle.std.proofs.lemmas.Bool.{false≢true}
 use Rattle.laws_client.specs.Client.{Client, fresh, reads}
-use Rattle.laws_client.specs.Commands.{stays}
+use Rattle.laws_client.specs.Commands.{stays, whole_line}
 use Rattle.laws_client.specs.ListTurns.{IsTag}
 use Rattle.laws_client.specs.Talks.{Happening, Line, LongLine, Turned, Literal, Heard, leads_to}
 use Rattle.laws_client.proofs.Tags.{Tagged, read_tagged}
@@ -53,6 +53,8 @@ use Rattle.laws_client.proofs.Barred.{asked_has, line_case, login_asks, refused_
 use Rattle.imap_grammar.specs.declared.command.Search.{Search}
 use Rattle.imap_grammar.specs.declared.view.Named.{Named}
 use Rattle.imap_grammar.specs.Keys.{all_messages}
+use Rattle.imap_session.proofs.Parts.{IsPart, tells_part, ends_part, asks_part, comes_part, challenge_part}
+use Rattle.laws_client.proofs.WholeLines.{unfinished_asks, turn_has, text_has}
 
 -- no mailbox is entered or left
 abbrev pub StaysIn : Exchange → Type 0
@@ -103,7 +105,7 @@ waiting_keeps tag now ForNothing = refl
 goes_without : (tag : List ℕ) (now : Standing) (w : Waiting) (n : ℕ) (turn : Turn) → unkept tag w now n ≡ Some turn → turn.standing.selected ≡ now.selected
 goes_without tag now w n turn e =
     let P : Option Turn → Type 0 = λ o. o ≡ Some turn → turn.standing.selected ≡ now.selected in
-    unkept_by P (λ d. absurd (none-some turn d)) tag now (λ d. given_up tag now NoMemory turn d) (λ flags size d. ap (λ (s : Turn). s.standing.selected) (sym (ap (the_turn turn) d)))
+    unkept_by P (λ d. absurd (none-some turn d)) tag now (λ d. given_up tag now NoMemory turn d) (λ purpose size d. ap (λ (s : Turn). s.standing.selected) (sym (ap (the_turn turn) d)))
     (λ d. ap (λ (s : Turn). s.standing.selected) (sym (ap (the_turn turn) d))) w n e
 
 pub selected_stays : (tag : List ℕ) (now : Standing) (x : Exchange) (answers : List Answer) (turn : Turn) → StaysIn x → played tag now x answers ≡ Some turn → turn.standing.selected ≡ now.selected
@@ -243,13 +245,13 @@ in_command now _ e = tt
 
 pub in_rest : (mailing : Mailing) (a : PendingLiteral) (empty : Bool) → StaysIn (on_rest mailing a empty)
 in_rest mailing a empty =
-    in_found (λ text. if empty then on_found (on_text mailing a text) nowhere a.mailbox else says (response_text texts.InvalidArguments)) (says (response_text texts.OutOfMemory)) a.text
-    (λ text. in_if empty (on_found (on_text mailing a text) nowhere a.mailbox) (says (response_text texts.InvalidArguments)) (in_found (on_text mailing a text) nowhere a.mailbox (λ mailbox. submits text mailbox) tt) tt) tt
+    in_found (λ text. if empty then on_found (on_text mailing a text) nowhere (mailbox_for a.purpose) else says (response_text texts.InvalidArguments)) (says (response_text texts.OutOfMemory)) a.text
+    (λ text. in_if empty (on_found (on_text mailing a text) nowhere (mailbox_for a.purpose)) (says (response_text texts.InvalidArguments)) (in_found (on_text mailing a text) nowhere (mailbox_for a.purpose) (λ mailbox. submits text mailbox) tt) tt) tt
   where
     submits : (text : List ℕ) (mailbox : ℕ) → StaysIn (on_text mailing a text mailbox)
     submits text mailbox = by (is_over mailing.most a.size) (list_any (λ b. b == 0) text) (nat_le last_number mailing.number)
       where
-        by : (x y z : Bool) → StaysIn (if x then over mailing.most else if y then says (response_text texts.NulByte) else if z then says (response_text texts.MailboxSpent) else wanting (Wait [] (ForVerdict mailbox a.flags text)))
+        by : (x y z : Bool) → StaysIn (if x then over mailing.most else if y then says (response_text texts.NulByte) else if z then says (response_text texts.MailboxSpent) else wanting (Wait [] (ForVerdict mailbox (flags_for a.purpose) text)))
         by true y z = in_over mailing.most
         by false true z = tt
         by false false true = tt
@@ -395,26 +397,33 @@ read_sel : (now : Standing) (r : Result (List ℕ × Command) ImapFault) (answer
 read_sel now (Ok line) answers turn client t e k =
     line_case (Known_selected (answered (asked_by line.0 line.1) turn.bytes client) turn.standing) now line.0 line.1 answers turn
     (λ logs d. subst (λ (a : Asked). Known_selected (answered a turn.bytes client) turn.standing) (sym (login_asks now.login line.0 line.1 logs))
-    (reads_sel turn.bytes client now turn.standing k (selected_stays line.0 (logged_in now) login_completed answers turn tt d)))
+    (reads_sel turn.bytes client now turn.standing k (selected_stays line.0 (logged_in now) (completed line.1) answers turn tt d)))
     (λ text is d. told_sel now line.0 line.1 text answers turn client t is d k)
     (λ d. command_sel now line.0 line.1 answers turn client t d k (λ stay. reads_sel turn.bytes client now turn.standing k (selected_stays line.0 now (on_command now line.1) answers turn (in_command now line.1 stay) d))) e
 read_sel now (Err fault) answers turn client t e k = reads_sel turn.bytes client now turn.standing k (fault_sel now (fault_text now.profile fault) answers turn e)
 
-line_sel : (now : Standing) (line : List ℕ) (answers : List Answer) (turn : Turn) (client : Option Client) → turn_of now line answers ≡ Some turn → Known_selected client now → Known_selected (hears client (told_line (kept_tag now) line turn.bytes)) turn.standing
-line_sel now line answers turn client e k = by now.mailing.begun now.idling refl refl
-  where
-    by : (begun : Option PendingLiteral) (idling : Option (List ℕ)) → begun ≡ now.mailing.begun → idling ≡ now.idling → Known_selected (hears client (told_line (kept_behind begun idling) line turn.bytes)) turn.standing
-    by (Some a) idling p q =
-        let d : played a.tag (without_begun now) (on_rest now.mailing a (length line == 0)) answers ≡ Some turn = subst (λ (o : Option PendingLiteral). turn_behind o now line answers ≡ Some turn) (sym p) e in
-        reads_sel turn.bytes client now turn.standing k (selected_stays a.tag (without_begun now) (on_rest now.mailing a (length line == 0)) answers turn (in_rest now.mailing a (length line == 0)) d)
-    by None (Some tag) p q =
-        let first : turn_while now.idling now line answers ≡ Some turn = subst (λ (o : Option PendingLiteral). turn_behind o now line answers ≡ Some turn) (sym p) e in
-        let d : played tag (record now { idling = None }) (on_idle_line now.selected line) answers ≡ Some turn = subst (λ (o : Option (List ℕ)). turn_while o now line answers ≡ Some turn) (sym q) first in
-        reads_sel turn.bytes client now turn.standing k (selected_stays tag (record now { idling = None }) (on_idle_line now.selected line) answers turn (in_idle_line now.selected line) d)
-    by None None p q =
-        let first : turn_while now.idling now line answers ≡ Some turn = subst (λ (o : Option PendingLiteral). turn_behind o now line answers ≡ Some turn) (sym p) e in
-        let second : on_read now (read line) answers ≡ Some turn = subst (λ (o : Option (List ℕ)). turn_while o now line answers ≡ Some turn) (sym q) first in
-        read_sel now (read line) answers turn client (read_tagged line) second k
+-- a line that isn't whole yet, or is given up
+pub in_part : (x : Exchange) → IsPart x → StaysIn x
+in_part x (tells_part text h e) = subst StaysIn (sym e) tt
+in_part x (ends_part text h e) = subst StaysIn (sym e) tt
+in_part x (asks_part line size e) = subst StaysIn (sym e) tt
+in_part x (comes_part line size e) = subst StaysIn (sym e) tt
+in_part x (challenge_part line e) = subst StaysIn (sym e) tt
+
+text_sel : (now : Standing) (line : List ℕ) (answers : List Answer) (turn : Turn) (client : Option Client) → on_text_line now line answers ≡ Some turn → Known_selected client now → Known_selected (answered (asked (read line)) turn.bytes client) turn.standing
+text_sel now line answers turn client e k =
+    text_has IsTag (λ o. o ≡ Some turn → Known_selected (answered (asked (read line)) turn.bytes client) turn.standing) now line answers (read_tagged line)
+    (λ tag x t part lacks d. subst (λ (a : Asked). Known_selected (answered a turn.bytes client) turn.standing) (sym (unfinished_asks now.login (read line) lacks))
+    (reads_sel turn.bytes client now turn.standing k (selected_stays tag now x answers turn (in_part x part) d)))
+    (λ d. read_sel now (read line) answers turn client (read_tagged line) d k) e
+
+line_sel : (now : Standing) (line : List ℕ) (answers : List Answer) (turn : Turn) (client : Option Client) → turn_of now line answers ≡ Some turn → Known_selected client now → Known_selected (hears client (told_line (whole_line now line) turn.bytes)) turn.standing
+line_sel now line answers turn client e k =
+    turn_has (λ whole o. o ≡ Some turn → Known_selected (hears client (told_line whole turn.bytes)) turn.standing) now line answers
+    (λ tag b i d. reads_sel turn.bytes client now turn.standing k (selected_stays tag (record now { idling = None }) (on_idle_line now.selected line) answers turn (in_idle_line now.selected line) d))
+    (λ a mailbox flags b p d. reads_sel turn.bytes client now turn.standing k (selected_stays a.tag (without_begun now) (on_rest now.mailing a (length line == 0)) answers turn (in_rest now.mailing a (length line == 0)) d))
+    (λ a x b part d. reads_sel turn.bytes client now turn.standing k (selected_stays a.tag (without_begun now) x answers turn (in_part x part) d))
+    (λ whole w d. text_sel (without_begun now) whole answers turn client d k) e
 
 pub verdict_sel : (sent : Option Sent) (now : Standing) (verdict : Verdict) (answers : List Answer) (turn : Turn) → turn_with sent now verdict answers ≡ Some turn → turn.standing.selected ≡ now.selected
 verdict_sel None now verdict answers turn e = absurd (none-some turn e)

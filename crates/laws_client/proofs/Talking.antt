@@ -9,7 +9,7 @@ use Rattle.imap_session.specs.Commands.{idle_turn_in, turn_of_long_line, with_by
 use Rattle.laws_client.specs.Beliefs.{IsOf, Follows, Leads}
 use Rattle.laws_client.specs.Commands.{IsFollowed}
 use Rattle.laws_client.specs.ListLaws.{TalkIsFollowed}
-use Rattle.laws_client.specs.Talks.{Happening, Line, LongLine, Turned, Literal, Heard, MayCome, MayHappen, leads_to}
+use Rattle.laws_client.specs.Talks.{Happening, Line, LongLine, Turned, Literal, Heard, MayHappen, leads_to}
 use Rattle.laws_client.specs.ListTurns.{AreTags, IsTag, SeesAll}
 use Rattle.laws_client.proofs.Commands.{answer_is_followed, long_line_tells_nothing, verdict_is_followed}
 use Rattle.laws_client.proofs.Ends.{leaves}
@@ -48,10 +48,6 @@ pub kept_is_tag : (begun : Option PendingLiteral) (idling : Option (List ℕ)) �
 kept_is_tag None idling b i = i
 kept_is_tag (Some a) idling b i = b
 
-pub may_follow : (idling : Option (List ℕ)) (now : Standing) (view line : List ℕ) → IfSome idling IsTag → MayCome idling now view line → IsFollowed idling now view line
-may_follow None now view line k may = may
-may_follow (Some tag) now view line k may = k
-
 long_follows : (now : Standing) (view : List ℕ) (turn : Turn) (new : List ℕ) → AreTags now → Some (turn_of_long_line now) ≡ Some turn → SeesAll view turn.events new → Leads view turn.bytes new
 long_follows now view turn new k e sees =
     let same : turn_of_long_line now ≡ turn = ap (the_turn turn) e in
@@ -60,7 +56,7 @@ long_follows now view turn new k e sees =
 
 pub happening_follows : (now : Standing) (view : List ℕ) (happening : Happening) (turn : Turn) (new : List ℕ) → AreTags now → MayHappen now view happening → leads_to now happening ≡ Some turn
     → SeesAll view turn.events new → Leads view turn.bytes new
-happening_follows now view (Line line answers) turn new k may e sees = answer_is_followed now line view answers turn new (may_follow (kept_tag now) now view line (kept_is_tag now.mailing.begun now.idling k.1 k.0) may) e sees
+happening_follows now view (Line line answers) turn new k may e sees = answer_is_followed now line view answers turn new (kept_is_tag now.mailing.begun now.idling k.1 k.0, may) e sees
 happening_follows now view LongLine turn new k may e sees = long_follows now view turn new k e sees
 happening_follows now view (Turned answers) turn new k may e sees = idle_turn_is_followed view now answers turn new e sees
 happening_follows now view (Literal kept bytes) turn new k may e sees = rests_in view (may_send (with_bytes kept bytes now)) (with_bytes kept bytes now) turn new e sees

@@ -180,7 +180,7 @@ pub goes_without : (tag : List ℕ) (refusals : Refusals tag) (p : Point) (now :
 goes_without tag refusals p now waits n turn q e sees =
     let P : Option Turn → Type 0 = λ o. o ≡ Some turn → LeadsFlags p turn.bytes q in
     unkept_by P (λ d. absurd (none-some turn d)) tag now (λ d. gives_up tag refusals p now NoMemory turn q d sees)
-    (λ flags size d. waits_on p [] (afters.Literal size) (waiting tag (ForLiteral Dropped None flags size) now) turn q d (leaves p [] (λ messages. refl)) sees)
+    (λ purpose size d. waits_on p [] (afters.Literal size) (waiting tag (ForLiteral Dropped purpose size) now) turn q d (leaves p [] (λ messages. refl)) sees)
     (λ d. waits_on p (bye (response_text texts.ByeOutOfMemory)) Bye (waiting tag ForNothing now) turn q d (leaves p _ (λ messages. refl)) sees) waits n e
 
 pub is_refused : (tag : List ℕ) (refusals : Refusals tag) (p : Point) (now : Standing) (call : Call) (fault : MailFault) (turn : Turn) (q : Point)

@@ -32,6 +32,7 @@ use Rattle.imap_session.specs.declared.standing.Profile.{Profile}
 use Rattle.imap_session.specs.declared.standing.Profile.TheVariants.{Standard, Compatible}
 use Rattle.imap_session.specs.declared.texts.ResponseText.{ResponseText}
 use Rattle.laws_client.proofs.Barred.{login_asks}
+use Rattle.change_ring.specs.declared.change.Flags.{Flags}
 
 -- ---- the OK behind what is told of a mailbox that was entered
 

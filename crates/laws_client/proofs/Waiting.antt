@@ -54,7 +54,7 @@ WaitsAs A (ex.Leave remove x) = WaitsAs A x
 
 -- who waits for a literal that wasn't asked for may drop its bytes
 abbrev pub Drops : (Waiting → Type 0) → Type 0
-Drops A = (mailbox : Option ℕ) (flags : Flags) (size : ℕ) → A (ForLiteral Unasked purpose size) → A (ForLiteral Dropped None flags size)
+Drops A = (mailbox : Option ℕ) (flags : Flags) (size : ℕ) → A (ForLiteral Unasked purpose size) → A (ForLiteral Dropped purpose size)
 
 -- what is known of messages where it waits so
 abbrev pub waiting_mail : List ℕ → Waiting → Mailing → Mailing
@@ -109,7 +109,7 @@ unkept_mail A drops tag ForDone now zero p = long_mail A tag now.mailing (refuse
 unkept_mail A drops tag ForDone now (suc n) p = tt
 unkept_mail A drops tag (ForLiteral Asked purpose size) now zero p = long_mail A tag now.mailing (refused tag now NoMemory) (closed_mail A tag now (refusal_after NoMemory))
 unkept_mail A drops tag (ForLiteral Asked purpose size) now (suc n) p = tt
-unkept_mail A drops tag (ForLiteral Unasked purpose size) now zero p = inr (ForLiteral Dropped None flags size, drops mailbox flags size p, refl)
+unkept_mail A drops tag (ForLiteral Unasked purpose size) now zero p = inr (ForLiteral Dropped purpose size, drops mailbox flags size p, refl)
 unkept_mail A drops tag (ForLiteral Unasked purpose size) now (suc zero) p = long_mail A tag now.mailing _ (inl refl)
 unkept_mail A drops tag (ForLiteral Unasked purpose size) now (suc (suc n)) p = tt
 unkept_mail A drops tag (ForLiteral Dropped purpose size) now zero p = tt
@@ -453,7 +453,7 @@ text_waits mailing a empty text mailbox m t e =
     let A : Waiting → Type 0 = ForItsVerdict a empty in
     in_either A (is_over mailing.most a.size) (over mailing.most) _ (over_so A mailing.most)
     (in_either A (list_any (λ b. b == 0) text) (says (response_text texts.NulByte)) _ tt
-    (in_either A (nat_le last_number mailing.number) (says (response_text texts.MailboxSpent)) (wanting (ex.Wait [] (ForVerdict mailbox a.flags text))) tt (m, refl, t, e)))
+    (in_either A (nat_le last_number mailing.number) (says (response_text texts.MailboxSpent)) (wanting (ex.Wait [] (ForVerdict mailbox (flags_for a.purpose) text))) tt (m, refl, t, e)))
 
 rest_waits : (mailing : Mailing) (a : PendingLiteral) (empty : Bool) → WaitsAs (ForItsVerdict a empty) (on_rest mailing a empty)
 rest_waits mailing a empty = by_text a.text refl

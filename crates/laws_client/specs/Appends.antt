@@ -1,5 +1,5 @@
 -- What the answers to a client tell of the messages that it appended (RFC 9051, 6.3.12; RFC 4315, 3).
-use Rattle.std.specs.Prelude.{◌≡◌, ◌⊎◌, ◌==◌, ℕ, false, true, codes, drop, length, reverse, List, [], ◌∷◌, ◌++◌, AllPairs, Contains, filter_map, Ok, Option, Some, None, if◌then◌else◌}
+use Rattle.std.specs.Prelude.{◌≡◌, ◌⊎◌, ◌==◌, ℕ, false, true, codes, drop, length, reverse, take, List, [], ◌∷◌, ◌++◌, AllPairs, Contains, filter_map, Ok, Option, Some, None, if◌then◌else◌}
 use Rattle.delivery_token.specs.Keys.{Below}
 use Rattle.delivery_token.specs.declared.CopyKey.{CopyKey}
 use Rattle.delivery_token.specs.declared.Job.{Job}
@@ -11,9 +11,12 @@ use Rattle.imap_grammar.specs.Bytes.{is_tag}
 use Rattle.imap_grammar.specs.Items.{is_word_of}
 use Rattle.line_io.specs.Wire.{crlf}
 use Rattle.imap_grammar.specs.Reading.{read}
+use Rattle.imap_grammar.specs.Literals.{announced, quoted}
 use Rattle.imap_grammar.specs.declared.command.Append.{Append}
+use Rattle.imap_grammar.specs.declared.command.Authenticate.{Authenticate}
+use Rattle.imap_grammar.specs.declared.command.Literal.{Literal}
 use Rattle.imap_grammar.specs.declared.command.Command.TheVariants as commands
-use Rattle.imap_session.specs.Commands.{appended_words, number_named, refused_text}
+use Rattle.imap_session.specs.Commands.{appended_words, number_named, refused_text, response_in}
 use Rattle.imap_session.specs.Exchange.{Folder, Sent, refusal_text, tagged}
 use Rattle.imap_session.specs.Telling.{tells_uid}
 use Rattle.world.specs.Law.{StandsOnce, pairs}
@@ -49,18 +52,29 @@ TellsOfNone bytes = (tag words : List ℕ) → EndsWith tag words bytes → tell
 
 -- ---- which message it was
 
+-- With these bytes, and a CRLF behind them, a client sends this as the line of a command: they are it; or behind the line so far, which announces a literal, comes that, which stands in its
+-- place as the quoted string that says the same, and the rest of the line (RFC 9051, 4.3); or behind AUTHENTICATE comes its response (6.2.2).
+pub data IsSpelled : (bytes line : List ℕ) → Type 0 where
+  as_it_stands : (line : List ℕ) → IsSpelled line line
+  with_literal : (bytes line : List ℕ) (found : ℕ × Literal) (text rest : List ℕ) → IsSpelled bytes line → announced line ≡ Some found → length text ≡ found.1.size
+      → IsSpelled (bytes ++ crlf ++ text ++ rest) (take found.0 line ++ quoted text ++ rest)
+  with_response : (bytes line tag : List ℕ) (a : Authenticate) (response : List ℕ) → IsSpelled bytes line → read line ≡ Ok (tag, commands.Authenticate a)
+      → IsSpelled (bytes ++ crlf ++ response) (line ++ codes " " ++ response_in response)
+
 -- A client sent this message so, to a session with these mailboxes (RFC 9051, 6.3.12): an APPEND under its tag, which names its mailbox, with its flags; its text, as the literal that was
 -- announced; and the CRLF behind that.
 pub record IsSentAs (folders : List Folder) (sent : List ℕ) (message : Sent) : Type 0 where
   pub front : List ℕ
+  pub bytes : List ℕ
   pub line : List ℕ
   pub behind : List ℕ
   pub append : Append
+  pub spelled : IsSpelled bytes line
   pub reads : read line ≡ Ok (message.tag, commands.Append append)
   pub named : number_named append.name folders ≡ Some message.append.mailbox
   pub flags : message.append.flags ≡ append.flags
   pub size : length message.append.text ≡ append.literal.size
-  pub whole : sent ≡ front ++ (line ++ crlf) ++ message.append.text ++ crlf ++ behind
+  pub whole : sent ≡ front ++ (bytes ++ crlf) ++ message.append.text ++ crlf ++ behind
 
 -- ---- what is said to a verdict
 

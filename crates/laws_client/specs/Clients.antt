@@ -53,7 +53,7 @@ answered (Entering tag) bytes client = if has_ok true tag bytes then Some (reads
 answered (Leaving tag) bytes client = if has_ok true tag bytes then None else reads_on bytes client
 answered Neither bytes client = reads_on bytes client
 
--- what it is told: the answer to a line that it sent as a command, or words that come without one, as in an IDLE or behind a literal
+-- what it is told: the answer to a line that it sent as a command, with its literals in it, or words that come without one, as in an IDLE or behind a message
 pub data Told : Type 0 where
   Answer : (line : List ℕ) → (bytes : List ℕ) → Told
   Words : (bytes : List ℕ) → Told

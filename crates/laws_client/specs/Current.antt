@@ -8,13 +8,14 @@ use Rattle.imap_grammar.specs.declared.command.Command.TheVariants as commands
 use Rattle.imap_grammar.specs.declared.command.Command.{Command}
 use Rattle.imap_grammar.specs.Verbs.{verb_of}
 use Rattle.imap_session.specs.declared.standing.Selected.{Selected}
-use Rattle.imap_session.specs.Exchange.{Call, Answer, Event as Happened, Fed, Feed, Standing, Turn, kept_tag, tagged}
+use Rattle.imap_session.specs.Exchange.{Call, Answer, Event as Happened, Fed, Feed, Standing, Turn, tagged}
 use Rattle.imap_session.specs.Commands.{turn_of, unlimited}
 use Rattle.imap_session.specs.Store.{Met}
 use Rattle.house.specs.Meets.{Meets}
 use Rattle.laws_client.specs.Beliefs.{IsRight}
 use Rattle.laws_client.specs.Client.{Client, Known, knowing}
 use Rattle.laws_client.specs.Clients.{Answer as Answer_to, Told, has_ok, hears_all}
+use Rattle.laws_client.specs.Commands.{whole_line}
 use Rattle.laws_client.specs.Lives.{Lives}
 use Rattle.laws_client.specs.Sizes.{HasShortTexts, HasSmallNumbers}
 use Rattle.laws_client.specs.RecordTurns.{Stands}
@@ -37,8 +38,8 @@ pub record IsAnswered (k : Config) (n : ℕ) (now : Standing) (line : List ℕ) 
 
 -- a NOOP that is answered OK (RFC 9051, 6.1.2)
 abbrev pub NoopMakesCurrent : Type 0
-NoopMakesCurrent = (k : Config) (events : List Event) (n : ℕ) (now : Standing) (line tag : List ℕ) (w : World) (turn : Turn) (v : World) → IsWorld k events w → IsAnswered k n now line w turn v
-    → kept_tag now ≡ None → read line ≡ Ok (tag, Noop) → has_ok true tag turn.bytes ≡ true → IsCurrent v n
+NoopMakesCurrent = (k : Config) (events : List Event) (n : ℕ) (now : Standing) (line whole tag : List ℕ) (w : World) (turn : Turn) (v : World) → IsWorld k events w → IsAnswered k n now line w turn v
+    → whole_line now line ≡ Some whole → read whole ≡ Ok (tag, Noop) → has_ok true tag turn.bytes ≡ true → IsCurrent v n
 
 -- DONE, where the IDLE that it ends is answered OK (RFC 2177)
 abbrev pub DoneMakesCurrent : Type 0
@@ -66,14 +67,14 @@ shows_all command = false
 
 -- Such a command whose answer's last line says that it is done
 abbrev pub DoneCommandsMakeCurrent : Type 0
-DoneCommandsMakeCurrent = (k : Config) (events : List Event) (n : ℕ) (now : Standing) (line tag : List ℕ) (command : Command) (w : World) (turn : Turn) (v : World) (front : List ℕ) → IsWorld k events w → IsAnswered k n now line w turn v
-    → kept_tag now ≡ None → read line ≡ Ok (tag, command) → shows_all command ≡ true → turn.bytes ≡ front ++ tagged tag (response_text (texts.Completed (verb_of command))) → IsCurrent v n
+DoneCommandsMakeCurrent = (k : Config) (events : List Event) (n : ℕ) (now : Standing) (line whole tag : List ℕ) (command : Command) (w : World) (turn : Turn) (v : World) (front : List ℕ) → IsWorld k events w → IsAnswered k n now line w turn v
+    → whole_line now line ≡ Some whole → read whole ≡ Ok (tag, command) → shows_all command ≡ true → turn.bytes ≡ front ++ tagged tag (response_text (texts.Completed (verb_of command))) → IsCurrent v n
 
 -- In a session's life: a client that knows where it is sends such a line. When it has read the answer to its end it still knows, and its list is the mailbox as it is.
 abbrev pub ListsAreCurrent : Type 0
 ListsAreCurrent = (k : Config) (events : List Event) (n : ℕ) (first : Standing) (began : World) (sent : List ℕ) (told : List Told) (now : Standing) (w : World) (client : Client)
-    (line tag : List ℕ) (command : Command) (answers : List Answer) (turn : Turn) (v : World) (front : List ℕ) (s : Session)
+    (line whole tag : List ℕ) (command : Command) (answers : List Answer) (turn : Turn) (v : World) (front : List ℕ) (s : Session)
     → HasSmallNumbers k → IsWorld k events began → HasShortTexts v → Stands first → Lives k n first began sent told now w → hears_all None told ≡ Some client
     → turn_of now line answers ≡ Some turn → Met (λ (w : World) (call : Call) (answer : Answer) (v : World). Meets k n w call answer v) w turn.events v
-    → kept_tag now ≡ None → read line ≡ Ok (tag, command) → shows_all command ≡ true → turn.bytes ≡ front ++ tagged tag (response_text (texts.Completed (verb_of command)))
-    → v.session n ≡ Some s → (list : List Known) × (hears_all None (told ++ Answer_to line turn.bytes ∷ []) ≡ Some (knowing (Some list))) × IsRight (messages_of (v.box s.mailbox)) list
+    → whole_line now line ≡ Some whole → read whole ≡ Ok (tag, command) → shows_all command ≡ true → turn.bytes ≡ front ++ tagged tag (response_text (texts.Completed (verb_of command)))
+    → v.session n ≡ Some s → (list : List Known) × (hears_all None (told ++ Answer_to whole turn.bytes ∷ []) ≡ Some (knowing (Some list))) × IsRight (messages_of (v.box s.mailbox)) list

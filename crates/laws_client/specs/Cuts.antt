@@ -1,11 +1,12 @@
 -- How a client cuts what it reads into answers: behind each tagged line. What stands in literals is passed over (RFC 9051, 2.2.2, 4.3 and 7).
-use Rattle.std.specs.Prelude.{◌≡◌, ◌⊎◌, ◌==◌, ◌&&◌, ◌||◌, ℕ, zero, suc, Bool, false, true, codes, not, reverse, List, [], ◌∷◌, ◌++◌, Ok, Option, Some, None, if◌then◌else◌}
+use Rattle.std.specs.Prelude.{◌≡◌, ◌⊎◌, ◌==◌, ◌&&◌, ◌||◌, ℕ, zero, suc, Bool, false, true, codes, is_some, not, reverse, List, [], ◌∷◌, ◌++◌, Ok, Option, Some, None, if◌then◌else◌}
 use Rattle.imap_grammar.specs.Reading.{read}
 use Rattle.imap_grammar.specs.declared.command.Command.{Command}
 use Rattle.imap_grammar.specs.declared.command.Command.TheVariants as commands
 use Rattle.imap_session.specs.declared.standing.Profile.{Profile}
 use Rattle.imap_session.specs.Exchange.{bye, tagged}
 use Rattle.imap_session.specs.Commands.{greeting}
+use Rattle.imap_session.specs.Plain.{is_plain}
 use Rattle.house_peers.specs.SeatedVisitor.{SeatedVisitor}
 use Rattle.house.specs.Scene.{Scene, empty_scene}
 use Rattle.house.specs.Setup.{Setup}
@@ -91,13 +92,14 @@ EndsItself tag bytes = (front : List ℕ) × (words : List ℕ) × (bytes ≡ fr
 abbrev pub SaysBye : List ℕ → Type 0
 SaysBye bytes = (front : List ℕ) × (words : List ℕ) × (bytes ≡ front ++ bye words)
 
--- behind these commands the client goes on before the tagged line comes: with DONE, or with its literal
+-- behind these commands the client goes on before the tagged line comes: with DONE, with its message, or with its response
 abbrev pub leaves_open : Command → Bool
 leaves_open commands.Idle = true
 leaves_open (commands.Append append) = true
+leaves_open (commands.Authenticate a) = is_plain a.mechanism && not (is_some a.initial)
 leaves_open command = false
 
--- The answer to a command ends with the tagged line of the command's own tag. Where it has no tagged line the session has said BYE, or it is IDLE or APPEND.
+-- The answer to a command ends with the tagged line of the command's own tag. Where it has no tagged line the session has said BYE, or it is IDLE, APPEND, or AUTHENTICATE PLAIN without a response.
 abbrev pub IsAnswered : (tag : List ℕ) → Command → List ℕ → Type 0
 IsAnswered tag command bytes = ((is_ended bytes ≡ true) × EndsItself tag bytes) ⊎ ((is_ended bytes ≡ false) × ((leaves_open command ≡ true) ⊎ SaysBye bytes))
 

@@ -10,7 +10,7 @@ use Rattle.delivery_token.specs.declared.Verdict.{Verdict}
 use Rattle.mailbox.specs.declared.clients.Row.{Row}
 use Rattle.imap_answers.specs.Answers.{is_flags, row_answer, flags_answer}
 use Rattle.imap_grammar.specs.declared.items.FetchItem.{FetchItem}
-use Rattle.imap_session.specs.Exchange.{Answer, Standing, Turn, kept_tag}
+use Rattle.imap_session.specs.Exchange.{Answer, Standing, Turn}
 use Rattle.imap_session.specs.Commands.{idle_turn, turn_of, turn_of_verdict}
 use Rattle.laws_client.specs.Beliefs.{Follows, IsRight, MayShow}
 use Rattle.laws_client.specs.Client.{Known}
@@ -78,7 +78,7 @@ FetchIsHeard = (p : Point) (uid : ℕ) (by_uid : Bool) (items : List FetchItem) 
 -- Over any store, whatever it answers: after the answer to any line but SELECT, EXAMINE, CLOSE and UNSELECT a client that was right about flags before is right about them then.
 abbrev pub AnswerTellsFlags : Type 0
 AnswerTellsFlags = (now : Standing) (line : List ℕ) (p : Point) (answers : List Answer) (turn : Turn) (q : Point)
-    → IsFollowed (kept_tag now) now (counted p) line → turn_of now line answers ≡ Some turn → SeesAllFlags p turn.events q → LeadsFlags p turn.bytes q
+    → IsFollowed now (counted p) line → turn_of now line answers ≡ Some turn → SeesAllFlags p turn.events q → LeadsFlags p turn.bytes q
 
 -- and so after the answer to the verdict on a message
 abbrev pub VerdictTellsFlags : Type 0

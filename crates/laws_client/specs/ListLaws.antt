@@ -89,7 +89,7 @@ KeptTagsAreTags = (now : Standing) (line : List ℕ) (answers : List Answer) (tu
 -- Over any store, whatever it answers: after the answer to such a line a client is right about the session's view. Of the exchange nothing is asked.
 abbrev pub AnswerIsFollowed : Type 0
 AnswerIsFollowed = (now : Standing) (line view : List ℕ) (answers : List Answer) (turn : Turn) (new : List ℕ)
-    → IsFollowed (kept_tag now) now view line → turn_of now line answers ≡ Some turn → SeesAll view turn.events new → Leads view turn.bytes new
+    → IsFollowed now view line → turn_of now line answers ≡ Some turn → SeesAll view turn.events new → Leads view turn.bytes new
 
 -- and after the answer to a line that is too long
 abbrev pub LongLineTellsNothing : Type 0

@@ -3,12 +3,13 @@ use Rattle.std.specs.Prelude.{◌≡◌, ◌⊎◌, ℕ, true, false, List, IfSo
 use Rattle.world.specs.World.{Config, Event, IsWorld, World}
 use Rattle.imap_grammar.specs.Reading.{read}
 use Rattle.imap_session.specs.declared.standing.Selected.{Selected}
-use Rattle.imap_session.specs.Exchange.{Admission, Answer as StoreAnswer, Call, Folder, Standing, Turn, begun_with, kept_tag}
+use Rattle.imap_session.specs.Exchange.{Admission, Answer as StoreAnswer, Call, Folder, Standing, Turn, begun_with}
 use Rattle.imap_session.specs.Commands.{turn_of}
 use Rattle.imap_session.specs.Store.{Met}
 use Rattle.house.specs.Meets.{Meets}
 use Rattle.laws_client.specs.Client.{Client}
 use Rattle.laws_client.specs.Clients.{Entering, Told, asked, has_ok, hears_all}
+use Rattle.laws_client.specs.Commands.{whole_line}
 use Rattle.laws_client.specs.Lives.{Lives}
 
 abbrev pub Known_selected : Option Client → Standing → Type 0
@@ -28,7 +29,7 @@ LoginComesFirst = (k : Config) (n : ℕ) (admission : Admission) (folders : List
 
 -- Wherever memory is refused: a SELECT or EXAMINE that isn't answered OK leaves no mailbox selected (RFC 9051, 6.3.2), or the session has ended.
 abbrev pub RefusedSelectsNone : Type 0
-RefusedSelectsNone = (k : Config) (events : List Event) (w : World) (n : ℕ) (now : Standing) (line tag : List ℕ) (answers : List StoreAnswer) (turn : Turn) (v : World)
-    → IsWorld k events w → HasLoggedIn now → kept_tag now ≡ None → asked (read line) ≡ Entering tag
+RefusedSelectsNone = (k : Config) (events : List Event) (w : World) (n : ℕ) (now : Standing) (line whole tag : List ℕ) (answers : List StoreAnswer) (turn : Turn) (v : World)
+    → IsWorld k events w → HasLoggedIn now → whole_line now line ≡ Some whole → asked (read whole) ≡ Entering tag
     → turn_of now line answers ≡ Some turn → Met (λ (w : World) (call : Call) (answer : StoreAnswer) (v : World). Meets k n w call answer v) w turn.events v
     → has_ok true tag turn.bytes ≡ false → (turn.standing.selected ≡ None) ⊎ (turn.standing.ended ≡ true)

@@ -13,7 +13,7 @@ use Rattle.imap_grammar.specs.declared.command.Command.{Command}
 use Rattle.imap_grammar.specs.Verbs.{verb_of}
 use Rattle.imap_session.specs.declared.standing.Selected.{Selected}
 use Rattle.imap_session.specs.declared.texts.ResponseText.TheVariants as texts
-use Rattle.imap_session.specs.Exchange.{Answer, Event, Fed, Feed, Standing, Turn, kept_tag, tagged}
+use Rattle.imap_session.specs.Exchange.{Answer, Event, Fed, Feed, Standing, Turn, tagged}
 use Rattle.imap_session.specs.Commands.{turn_of, unlimited}
 use Rattle.imap_session.specs.Texts.{response_text}
 use Rattle.imap_session.specs.Store.{Met}
@@ -25,6 +25,7 @@ use Rattle.laws_client.specs.Client.{Client, Known, knowing}
 use Rattle.laws_client.specs.Clients.{Answer as Answer_to, IsRightAbout, Told, has_ok, hears, hears_all}
 use Rattle.laws_client.specs.Current.{shows_all}
 use Rattle.laws_client.specs.Lives.{IsSentFor}
+use Rattle.laws_client.specs.Commands.{whole_line}
 use Rattle.laws_client.specs.RecordTurns.{Stands, VerdictsArePrinted, told_of}
 use Rattle.laws_client.specs.Talks.{Happening, leads_to}
 
@@ -95,9 +96,9 @@ FeedsReachTheEnd = (old new : LockedStore) (limit : ℕ) (view : List ℕ) (chan
 
 -- So it is behind a command that `shows_all` names whose answer's last line says that it is done.
 abbrev pub ServedCommandsReachTheEnd : Type 0
-ServedCommandsReachTheEnd = (old new : LockedStore) (shown : List Change) (now : Standing) (line tag : List ℕ) (command : Command) (selected : Selected) (answers : List Answer) (turn : Turn) (front : List ℕ)
+ServedCommandsReachTheEnd = (old new : LockedStore) (shown : List Change) (now : Standing) (line whole tag : List ℕ) (command : Command) (selected : Selected) (answers : List Answer) (turn : Turn) (front : List ℕ)
     → WasShown old shown → now.selected ≡ Some selected → turn_of now line answers ≡ Some turn → Met Holds old turn.events new
-    → kept_tag now ≡ None → read line ≡ Ok (tag, command) → shows_all command ≡ true → turn.bytes ≡ front ++ tagged tag (response_text (texts.Completed (verb_of command)))
+    → whole_line now line ≡ Some whole → read whole ≡ Ok (tag, command) → shows_all command ≡ true → turn.bytes ≡ front ++ tagged tag (response_text (texts.Completed (verb_of command)))
     → IfSome new.entered (IsAtEnd new)
 
 -- and behind a DONE, where the IDLE that it ends is answered OK (RFC 2177)
@@ -110,12 +111,12 @@ ServedDoneReachesTheEnd = (old new : LockedStore) (shown : List Change) (now : S
 -- In a session's life: a client that knows where it is sends one of the lines of `shows_all`. When it has read the answer to its end it still knows, and its list is the mailbox as its session found it last.
 abbrev pub ServedCommandsMakeCurrent : Type 0
 ServedCommandsMakeCurrent = (first : Standing) (began : LockedStore) (sent : List ℕ) (told : List Told) (now : Standing) (selection : LockedStore) (client : Client)
-    (line tag : List ℕ) (command : Command) (answers : List Answer) (turn : Turn) (next : LockedStore) (front : List ℕ) (here : Entry)
+    (line whole tag : List ℕ) (command : Command) (answers : List Answer) (turn : Turn) (next : LockedStore) (front : List ℕ) (here : Entry)
     → began.entered ≡ None → Stands first → Legal next.history → ServedLives first began sent told now selection → hears_all None told ≡ Some client
     → turn_of now line answers ≡ Some turn → Met Holds selection turn.events next
-    → kept_tag now ≡ None → read line ≡ Ok (tag, command) → shows_all command ≡ true → turn.bytes ≡ front ++ tagged tag (response_text (texts.Completed (verb_of command)))
+    → whole_line now line ≡ Some whole → read whole ≡ Ok (tag, command) → shows_all command ≡ true → turn.bytes ≡ front ++ tagged tag (response_text (texts.Completed (verb_of command)))
     → next.entered ≡ Some here
-    → (list : List Known) × (hears_all None (told ++ Answer_to line turn.bytes ∷ []) ≡ Some (knowing (Some list))) × IsRight (messages_in here.mailbox next.history) list
+    → (list : List Known) × (hears_all None (told ++ Answer_to whole turn.bytes ∷ []) ≡ Some (knowing (Some list))) × IsRight (messages_in here.mailbox next.history) list
 
 -- ---- texts
 

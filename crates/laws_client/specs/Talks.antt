@@ -1,10 +1,9 @@
 -- A whole talk of a session with its client, in one mailbox: what happens one after the other, and all that is written.
 use Rattle.std.specs.Prelude.{◌≡◌, ℕ, Bool, List, [], ◌∷◌, ◌++◌, Option, Some, None}
-use Rattle.imap_grammar.specs.Reading.{read}
 use Rattle.delivery_token.specs.declared.Verdict.{Verdict}
-use Rattle.imap_session.specs.Exchange.{Answer, Standing, Turn, kept_tag, may_send, nothing_more}
+use Rattle.imap_session.specs.Exchange.{Answer, Standing, Turn, may_send, nothing_more}
 use Rattle.imap_session.specs.Commands.{idle_turn, turn_of, turn_of_long_line, turn_of_verdict, with_bytes}
-use Rattle.laws_client.specs.Commands.{IsPrinted, MayAnswer}
+use Rattle.laws_client.specs.Commands.{IsPrinted, MayCome, whole_line}
 use Rattle.laws_client.specs.ListTurns.{SeesAll}
 
 -- A line came, or one that was too long, or the session had a turn while it idles; or bytes of a literal came, to which memory was refused or not, or the
@@ -23,13 +22,8 @@ leads_to now (Turned answers) = idle_turn now answers
 leads_to now (Literal kept bytes) = Some (nothing_more (may_send (with_bytes kept bytes now)) (with_bytes kept bytes now))
 leads_to now (Heard verdict answers) = turn_of_verdict now verdict answers
 
--- a line that is read as a command may be one of those whose answers are followed
-abbrev pub MayCome : Option (List ℕ) → Standing → List ℕ → List ℕ → Type 0
-MayCome None now view line = MayAnswer now view (read line)
-MayCome (Some tag) now view line = Unit {0}
-
 abbrev pub MayHappen : Standing → List ℕ → Happening → Type 0
-MayHappen now view (Line line answers) = MayCome (kept_tag now) now view line
+MayHappen now view (Line line answers) = MayCome (whole_line now line) now view
 MayHappen now view LongLine = Unit {0}
 MayHappen now view (Turned answers) = Unit {0}
 MayHappen now view (Literal kept bytes) = Unit {0}

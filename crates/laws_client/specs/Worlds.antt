@@ -3,7 +3,7 @@ use Rattle.std.specs.Prelude.{◌≡◌, ℕ, true, List, [], ◌∷◌, ◌++�
 use Rattle.world.specs.World.{Box, Config, Event, IsWorld, Session, Step, World, pending}
 use Rattle.imap_grammar.specs.Reading.{is_done, read}
 use Rattle.imap_grammar.specs.declared.command.Command.TheVariants.{Noop}
-use Rattle.imap_session.specs.Exchange.{Call, Answer as StoreAnswer, Standing, Turn, kept_tag}
+use Rattle.imap_session.specs.Exchange.{Call, Answer as StoreAnswer, Standing, Turn}
 use Rattle.imap_session.specs.Store.{Met}
 use Rattle.house.specs.Meets.{Meets}
 use Rattle.laws_client.specs.Beliefs.{Each}
@@ -13,6 +13,7 @@ use Rattle.laws_client.specs.Clients.{Answer, Told, Words, has_ok, hears, hears_
 use Rattle.laws_client.specs.Current.{IsAnswered}
 use Rattle.laws_client.specs.Lives.{Lives}
 use Rattle.laws_client.specs.Sizes.{HasShortTexts, HasSmallNumbers}
+use Rattle.laws_client.specs.Commands.{whole_line}
 use Rattle.laws_client.specs.RecordTurns.{Stands, VerdictsArePrinted, told_of}
 use Rattle.laws_client.specs.Views.{IsOfOthers, messages_of}
 use Rattle.laws_client.specs.Flags.{BelievesNow, KnowsFlags, Point}
@@ -74,10 +75,10 @@ NothingPendingTellsFlags = (k : Config) (events : List Event) (n : ℕ) (first :
 
 -- When it has read that a NOOP is OK (RFC 9051, 6.1.2), all that it knows of flags is what they are.
 abbrev pub NoopTellsFlags : Type 0
-NoopTellsFlags = (k : Config) (events : List Event) (n : ℕ) (first : Standing) (began : World) (sent : List ℕ) (told : List Told) (now : Standing) (w : World) (line tag : List ℕ) (turn : Turn) (v : World) (s : Session)
+NoopTellsFlags = (k : Config) (events : List Event) (n : ℕ) (first : Standing) (began : World) (sent : List ℕ) (told : List Told) (now : Standing) (w : World) (line whole tag : List ℕ) (turn : Turn) (v : World) (s : Session)
     → HasSmallNumbers k → IsWorld k events began → HasShortTexts v → Stands first → Lives k n first began sent told now w
-    → IsAnswered k n now line w turn v → kept_tag now ≡ None → read line ≡ Ok (tag, Noop) → has_ok true tag turn.bytes ≡ true → v.session n ≡ Some s
-    → HasFlagsNow (v.box s.mailbox) (hears_all None (told ++ Answer line turn.bytes ∷ []))
+    → IsAnswered k n now line w turn v → whole_line now line ≡ Some whole → read whole ≡ Ok (tag, Noop) → has_ok true tag turn.bytes ≡ true → v.session n ≡ Some s
+    → HasFlagsNow (v.box s.mailbox) (hears_all None (told ++ Answer whole turn.bytes ∷ []))
 
 -- and so when it has read that the IDLE is OK that its DONE ends (RFC 2177)
 abbrev pub DoneTellsFlags : Type 0

@@ -11,7 +11,7 @@ use Rattle.imap_session.specs.declared.standing.After.TheVariants.{Go, Submit}
 use Rattle.imap_session.specs.declared.standing.After.TheVariants as afters
 use Rattle.imap_session.specs.Commands.{unlimited, with_bytes, without_begun, without_sent}
 use Rattle.imap_session.specs.declared.standing.Profile.TheVariants.{Standard}
-use Rattle.imap_session.specs.Exchange.{Count, Counted, Fed, Feed, ForLiteral, ForVerdict, Standing, begun_with, waiting, Unasked}
+use Rattle.imap_session.specs.Exchange.{Count, Counted, Fed, Feed, ForLiteral, ForVerdict, Message, Standing, begun_with, waiting, Unasked}
 use Rattle.laws_client.specs.Talks.{Heard, Line, Literal, Talks}
 
 abbrev pub selected : Standing
@@ -34,11 +34,11 @@ a_noop = (
 abbrev pub with_inbox : Standing
 with_inbox = record selected { folders = record { name = codes "INBOX"; mailbox = 0 } ∷ [] }
 
-abbrev pub announced : Standing
-announced = waiting (codes "a1") (ForLiteral Unasked (Some 0) no_flags 1) with_inbox
+abbrev pub due : Standing
+due = waiting (codes "a1") (ForLiteral Unasked (Message (Some 0) no_flags) 1) with_inbox
 
 abbrev pub come : Standing
-come = with_bytes true (codes "x") announced
+come = with_bytes true (codes "x") due
 
 abbrev pub submitted : Standing
 submitted = waiting (codes "a1") (ForVerdict 0 no_flags (codes "x")) (without_begun come)
@@ -51,7 +51,7 @@ an_append : Talks with_inbox []
     (codes "* 1 EXISTS\r\na1 OK [APPENDUID 7 1] APPEND completed\r\n") (1 ∷ [])
 unfolding read digits
 an_append = (
-  record { events = []; bytes = []; after = afters.Literal 1; standing = announced },
+  record { events = []; bytes = []; after = afters.Literal 1; standing = due },
   [],
   codes "* 1 EXISTS\r\na1 OK [APPENDUID 7 1] APPEND completed\r\n",
   record {
