@@ -254,12 +254,12 @@ verdict_turn u first sent bytes told one message verdict now next notes t there 
     by s answered old (inl e) = absurd (none-some s e)
     by s answered old (inr r) = (every_weaker (IsBefore first now.mailing.number) (IsBefore first s.append.message) (lower first now.mailing.number s.append.message r.0) answered old, r.1)
 
-line_bytes : (tag : Option (List ℕ)) (line bytes : List ℕ) → bytes_in (told_line tag line bytes) ≡ bytes
-line_bytes None line bytes = refl
-line_bytes (Some tag) line bytes = refl
+line_bytes : (whole : Option (List ℕ)) (bytes : List ℕ) → bytes_in (told_line whole bytes) ≡ bytes
+line_bytes None bytes = refl
+line_bytes (Some line) bytes = refl
 
 pub told_bytes : (now : Standing) (happening : Happening) (bytes : List ℕ) → bytes_in (told_of now happening bytes) ≡ bytes
-told_bytes now (Line line answers) bytes = line_bytes (kept_tag now) line bytes
+told_bytes now (Line line answers) bytes = line_bytes (whole_line now line) bytes
 told_bytes now LongLine bytes = refl
 told_bytes now (Turned answers) bytes = refl
 told_bytes now (Literal kept bytes) b = refl

@@ -92,26 +92,27 @@ abbrev is_answer : Told → List ℕ → List ℕ → Type 0
 is_answer (Answer line bytes) l b = (line ≡ l) × (bytes ≡ b)
 is_answer (Words bytes) l b = ⊥
 
--- an answer was to a line that was read as a command
-record AnswersLine (now : Standing) (happening : Happening) (turn : Turn) (line bytes : List ℕ) : Type 0 where
+-- an answer was to what came as a command with this line
+record AnswersLine (now : Standing) (happening : Happening) (turn : Turn) (whole bytes : List ℕ) : Type 0 where
+  pub line : List ℕ
   pub answers : List StoreAnswer
   pub is : happening ≡ Line line answers
-  pub kept : kept_tag now ≡ None
+  pub came : whole_line now line ≡ Some whole
   pub wrote : turn.bytes ≡ bytes
 
-line_told : (o : Option (List ℕ)) (l line : List ℕ) (b bytes : List ℕ) → told_line o l b ≡ Answer line bytes → (o ≡ None) × (l ≡ line) × (b ≡ bytes)
-line_told None l line b bytes e =
+line_told : (o : Option (List ℕ)) (line : List ℕ) (b bytes : List ℕ) → told_line o b ≡ Answer line bytes → (o ≡ Some line) × (b ≡ bytes)
+line_told (Some l) line b bytes e =
     let x : is_answer (Answer l b) line bytes = subst (λ (t : Told). is_answer t line bytes) (sym e) (refl, refl) in
-    (refl, x.0, x.1)
-line_told (Some tag) l line b bytes e = absurd (let x : is_answer (Words b) line bytes = subst (λ (t : Told). is_answer t line bytes) (sym e) (refl, refl) in x)
+    (ap (λ (y : List ℕ). Some y) x.0, x.1)
+line_told None line b bytes e = absurd (let x : is_answer (Words b) line bytes = subst (λ (t : Told). is_answer t line bytes) (sym e) (refl, refl) in x)
 
 no_words : (b line bytes : List ℕ) → Words b ≡ Answer line bytes → ⊥
 no_words b line bytes e = let x : is_answer (Words b) line bytes = subst (λ (t : Told). is_answer t line bytes) (sym e) (refl, refl) in x
 
 answers_line : (now : Standing) (happening : Happening) (turn : Turn) (line bytes : List ℕ) → told_of now happening turn.bytes ≡ Answer line bytes → AnswersLine now happening turn line bytes
 answers_line now (Line l answers) turn line bytes e =
-    let x = line_told (kept_tag now) l line turn.bytes bytes e in
-    record { answers = answers; is = ap (λ (y : List ℕ). Line y answers) x.1; kept = x.0; wrote = x.2 }
+    let x = line_told (whole_line now l) line turn.bytes bytes e in
+    record { line = l; answers = answers; is = refl; came = x.0; wrote = x.1 }
 answers_line now LongLine turn line bytes e = absurd (no_words turn.bytes line bytes e)
 answers_line now (Turned answers) turn line bytes e = absurd (no_words turn.bytes line bytes e)
 answers_line now (Literal kept literal) turn line bytes e = absurd (no_words turn.bytes line bytes e)
@@ -128,9 +129,9 @@ fresh_current k events n first began base told more w h is short stands grown (t
     let all : told ≡ (base ++ front) ++ Answer line bytes ∷ [] = grown ∙ ap (λ (x : List Told). base ++ x) last ∙ sym (append_assoc base front (Answer line bytes ∷ [])) in
     let both = last_same (base ++ new) (base ++ front) (told_of now happening turn.bytes) (Answer line bytes) (sym e ∙ all) in
     let a = answers_line now happening turn line bytes both.1 in
-    let answered : turn_of now line a.answers ≡ Some turn = subst (λ (x : Happening). leads_to now x ≡ Some turn) a.is leads in
-    let c = lists_are_current k events n first.standing began sent (base ++ front) now u client line tag command a.answers turn w ending s h is short stands
-    (subst (λ (t : List Told). Lives k n first.standing began sent t now u) both.0 lives) knows answered met a.kept reads shows (a.wrote ∙ wrote) at in
+    let answered : turn_of now a.line a.answers ≡ Some turn = subst (λ (x : Happening). leads_to now x ≡ Some turn) a.is leads in
+    let c = lists_are_current k events n first.standing began sent (base ++ front) now u client a.line line tag command a.answers turn w ending s h is short stands
+    (subst (λ (t : List Told). Lives k n first.standing began sent t now u) both.0 lives) knows answered met a.came reads shows (a.wrote ∙ wrote) at in
     (c.0, ap (hears_all None) (all ∙ ap (λ (b : List ℕ). (base ++ front) ++ Answer line b ∷ []) (sym a.wrote)) ∙ c.1, c.2)
 
 -- and so it is where that came to no command

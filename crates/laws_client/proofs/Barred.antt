@@ -9,7 +9,7 @@ use Rattle.imap_session.specs.declared.texts.ResponseText.{ResponseText}
 use Rattle.imap_session.specs.declared.texts.ResponseText.TheVariants as texts
 use Rattle.imap_session.specs.Texts.{response_text}
 use Rattle.imap_session.specs.Exchange.{Answer, Standing, Turn, played, tagged}
-use Rattle.imap_session.specs.Commands.{completed, logged_in, logs_in_as, on_command, on_line, says}
+use Rattle.imap_session.specs.Commands.{completed, logged_in, logs_in_as, on_command, on_line, says, wants_response}
 use Rattle.imap_session.proofs.Barring.{line_has, refuses}
 use Rattle.laws_client.specs.Clients.{Asked, Entering, Leaving, Neither, asked_by, has_ok}
 use Rattle.laws_client.specs.Current.{shows_all}
@@ -46,6 +46,11 @@ login_shows_none None command e = absurd (false≢true e)
 login_shows_none (Some user) (commands.Login name password) e = refl
 login_shows_none (Some user) (commands.Authenticate a) e = refl
 login_shows_none (Some user) _ e = absurd (false≢true e)
+
+pub shown_waits : (login : Option (List ℕ)) (command : Command) → shows_all command ≡ true → wants_response login command ≡ false
+shown_waits None command e = refl
+shown_waits (Some user) (commands.Authenticate a) e = absurd (false≢true e)
+shown_waits (Some user) _ e = refl
 
 -- ---- what is said
 

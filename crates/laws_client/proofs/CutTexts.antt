@@ -100,6 +100,10 @@ server_passes text = star_passes [] (server_text text) refl (server_inner text) 
 pub bye_passes : (text : ResponseText) → Passes (bye (response_text text))
 bye_passes text = star_passes (codes "BYE ") (response_text text) refl (row_inner text) (text_end text)
 
+-- an empty challenge
+pub challenge_passes : Passes (continuing [])
+challenge_passes begun answers = whole_line (43 ∷ 32 ∷ []) begun answers refl refl
+
 pub continuing_passes : (text : ResponseText) → Passes (continuing (response_text text))
 continuing_passes text = plus_passes (response_text text) (row_inner text) (text_end text)
 

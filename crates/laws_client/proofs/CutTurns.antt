@@ -32,8 +32,8 @@ use Rattle.imap_session.specs.declared.standing.Selected.{Selected}
 use Rattle.imap_session.proofs.Unkept.{unkept_by}
 use Rattle.imap_session.specs.Exchange as ex
 use Rattle.imap_session.specs.Exchange.{Answer, PendingLiteral, Call, Entered, Looked, Found, Counted, Altered, Expunged, Fed, Left, Refused, Starved, Event as Happened, Exchange, Folder, ForVerdict, Mailing, Sent, Standing, Turn, bye, closed, having, is_idling, kept_behind, kept_tag, played, refusal_after, refusal_text, refused, saying, tagged, untagged}
-use Rattle.imap_session.specs.Commands.{appended_words, appending, closing, completed, counting, entering, expunge_set, fetch_messages, fetched, fetching, folder_of, idle_turn_in, if_writable, is_over, last_number, long_rest_text, long_text, messages_done, most_unasked, nowhere, number_named, on_chosen, on_command, on_found, on_idle_line, on_read, on_rest, on_text, on_verdict, over, refused_text, says, showing, store_messages, storing, turn_behind, turn_of, turn_while, turn_with, unlimited, wanting, wanting_for, without_begun, without_sent, wrong_state, arguments_text, entered_text, logged_in, login_completed, logs_in_as, on_line, subscribing, telling_recent, found_in, search_done, search_known, search_messages, searching}
-use Rattle.laws_client.specs.Commands.{AreNames, HasToldParts}
+use Rattle.imap_session.specs.Commands.{appended_words, appending, closing, completed, counting, entering, expunge_set, fetch_messages, fetched, fetching, folder_of, idle_turn_in, if_writable, is_over, last_number, long_rest_text, long_text, messages_done, most_unasked, nowhere, number_named, on_chosen, on_command, on_found, on_idle_line, on_read, on_rest, on_text, on_verdict, over, refused_text, says, showing, store_messages, storing, turn_behind, turn_of, turn_while, turn_with, unlimited, wanting, wanting_for, without_begun, without_sent, wrong_state, arguments_text, entered_text, logged_in, logs_in_as, on_line, subscribing, telling_recent, found_in, search_done, search_known, search_messages, searching, on_text_line, flags_for, mailbox_for, wants_response, awaiting_response}
+use Rattle.laws_client.specs.Commands.{AreNames, HasToldParts, whole_line}
 use Rattle.laws_client.specs.Talks.{Happening, Line, LongLine, Turned, Literal, Heard, leads_to}
 use Rattle.laws_client.specs.ListTurns.{IsPlain, is_inner}
 use Rattle.laws_client.proofs.IdleTags.{AreTagsOf}
@@ -44,7 +44,7 @@ use Rattle.laws_client.specs.Cuts.{EndsItself, IsOneAnswer, SaysBye, ends, leave
 use Rattle.laws_client.proofs.CutBytes.{Ends, Passes, both_pass, passes_none, then_ends}
 use Rattle.laws_client.specs.Fetches.{AreToldParts}
 use Rattle.laws_client.proofs.Parts.{HasTold, read_told}
-use Rattle.laws_client.proofs.CutTexts.{bye_passes, continuing_passes, text_end, untagged_passes, flags_pass, lines_pass, list_passes, opening_passes, plain_end, row_passes, status_passes, tagged_ends, server_passes, found_passes}
+use Rattle.laws_client.proofs.CutTexts.{bye_passes, challenge_passes, continuing_passes, text_end, untagged_passes, flags_pass, lines_pass, list_passes, opening_passes, plain_end, row_passes, status_passes, tagged_ends, server_passes, found_passes}
 use Rattle.laws_client.proofs.LastLines.{IsWord}
 use Rattle.laws_client.proofs.LastTurns.{appended_inner}
 use Rattle.imap_session.specs.declared.texts.ResponseText.TheVariants as texts
@@ -61,6 +61,9 @@ use Rattle.laws_client.proofs.Barred.{line_case}
 use Rattle.imap_grammar.specs.declared.command.Search.{Search}
 use Rattle.imap_grammar.specs.declared.view.Named.{Named}
 use Rattle.imap_grammar.specs.Keys.{all_messages}
+use Rattle.std.proofs.lemmas.Bool.{false≢true}
+use Rattle.imap_session.proofs.Parts.{IsPart, tells_part, ends_part, asks_part, comes_part, challenge_part}
+use Rattle.laws_client.proofs.WholeLines.{turn_has, text_has, whole_turn, said_has}
 
 -- ---- what is read
 
@@ -395,6 +398,8 @@ command_cut now (commands.Authenticate a) told names = (refl, refl)
 command_cut now commands.StartTls told names = (refl, refl)
 command_cut now commands.Capability told names = (server_passes (server.Capabilities now.profile), (refl, refl))
 command_cut now commands.Namespace told names = (server_passes server.Namespaces, (refl, refl))
+command_cut now commands.Id told names = (server_passes server.Identity, (refl, refl))
+command_cut now commands.Enable told names = (server_passes server.NoneEnabled, (refl, refl))
 command_cut now (commands.Select name) told names = in_selecting false now false name names
 command_cut now (commands.Examine name) told names = in_selecting false now true name names
 command_cut now (commands.List reference pattern) told names = (list_passes All reference pattern now.folders names, in_showing false now.selected (completed (commands.List reference pattern)) (refl, refl))
@@ -469,17 +474,32 @@ fault_cut fault now (answer ∷ more) t = tt
 
 read_cut : (now : Standing) (r : Result (List ℕ × Command) ImapFault) (answers : List Answer) → TaggedOf IsWord r → HasTold r → AreNames now.folders → TurnOne (on_read now r answers)
 read_cut now (Ok line) answers t told names =
-    line_has TurnOne now line.0 line.1 answers (λ logs. plain_turn line.0 t false (logged_in now) login_completed answers (says_cut false (texts.Completed verbs.Login)))
+    line_has TurnOne now line.0 line.1 answers (λ logs. plain_turn line.0 t false (logged_in now) (completed line.1) answers (says_cut false (texts.Completed (verb_of line.1))))
     (λ text is. plain_turn line.0 t false now (says (response_text text)) answers (says_cut false text)) (plain_turn line.0 t (leaves_open line.1) now (on_command now line.1) answers (command_cut now line.1 told names))
 read_cut now (Err fault) answers t told names = fault_cut fault now answers t
 
-while_cut : (idling : Option (List ℕ)) (now : Standing) (line : List ℕ) (answers : List Answer) → IfSome idling IsWord → AreNames now.folders → TurnOne (turn_while idling now line answers)
-while_cut None now line answers t names = read_cut now (read line) answers (read_tagged_so IsWord (λ tag word. word) line) (read_told line) names
-while_cut (Some tag) now line answers t names = plain_turn tag t true (record now { idling = None }) (on_idle_line now.selected line) answers (idling_cut now.selected line)
+-- a line that isn't whole yet, or is given up
+part_cut : (x : Exchange) → IsPart x → SaysCut true x
+part_cut x (tells_part text h e) = subst (SaysCut true) (sym e) (says_cut true text)
+part_cut x (ends_part text h e) = subst (SaysCut true) (sym e) (refl, bye_passes text)
+part_cut x (asks_part line size e) = subst (SaysCut true) (sym e) (passes_none, (refl, continuing_passes texts.Ready))
+part_cut x (comes_part line size e) = subst (SaysCut true) (sym e) (refl, passes_none)
+part_cut x (challenge_part line e) = subst (SaysCut true) (sym e) (passes_none, (refl, challenge_passes))
 
-behind_cut : (begun : Option PendingLiteral) (now : Standing) (line : List ℕ) (answers : List Answer) → IfSome begun (λ (a : PendingLiteral). IsWord a.tag) → IfSome now.idling IsWord → AreNames now.folders → TurnOne (turn_behind begun now line answers)
-behind_cut None now line answers t s names = while_cut now.idling now line answers s names
-behind_cut (Some a) now line answers t s names = plain_turn a.tag t true (without_begun now) (on_rest now.mailing a (length line == 0)) answers (rest_cut now.mailing a (length line == 0))
+whole_cut : (now : Standing) (line : List ℕ) (answers : List Answer) → AreNames now.folders → TurnOne (on_text_line now line answers)
+whole_cut now line answers names =
+    let tagged : TaggedOf IsWord (read line) = read_tagged_so IsWord (λ tag word. word) line in
+    text_has IsWord TurnOne now line answers tagged (λ tag x t part lacks. plain_turn tag t true now x answers (part_cut x part)) (read_cut now (read line) answers tagged (read_told line) names)
+
+line_cut : (now : Standing) (line : List ℕ) (answers : List Answer) → AreTagsOf IsWord now → AreNames now.folders → TurnOne (turn_of now line answers)
+line_cut now line answers t names =
+    turn_has (λ whole o. TurnOne o) now line answers
+    (λ tag b i. plain_turn tag (subst (λ (o : Option (List ℕ)). IfSome o IsWord) i t.0) true (record now { idling = None }) (on_idle_line now.selected line) answers (idling_cut now.selected line))
+    (λ a mailbox flags b p. plain_turn a.tag (begun_word a b) true (without_begun now) (on_rest now.mailing a (length line == 0)) answers (rest_cut now.mailing a (length line == 0)))
+    (λ a x b part. plain_turn a.tag (begun_word a b) true (without_begun now) x answers (part_cut x part)) (λ whole w. whole_cut (without_begun now) whole answers names)
+  where
+    begun_word : (a : PendingLiteral) → now.mailing.begun ≡ Some a → IsWord a.tag
+    begun_word a b = subst (λ (o : Option PendingLiteral). IfSome o (λ (x : PendingLiteral). IsWord x.tag)) b t.1
 
 long_cut : (begun : Option PendingLiteral) (idling : Option (List ℕ)) → IfSome begun (λ (a : PendingLiteral). IsWord a.tag) → IfSome idling IsWord → IsOneAnswer (long_text begun idling)
 long_cut None None t s = opens (untagged_passes texts.LineTooLong)
@@ -531,7 +551,7 @@ some_cut : (o : Option Turn) (turn : Turn) → TurnOne o → o ≡ Some turn →
 some_cut o turn p e short = subst TurnOne e p short
 
 pub turn_cut : (now : Standing) (happening : Happening) (turn : Turn) → AreTagsOf IsWord now → AreNames now.folders → leads_to now happening ≡ Some turn → AreShort turn.events → IsOneAnswer turn.bytes
-turn_cut now (Line line answers) turn t names e short = some_cut (turn_of now line answers) turn (behind_cut now.mailing.begun now line answers t.1 t.0 names) e short
+turn_cut now (Line line answers) turn t names e short = some_cut (turn_of now line answers) turn (line_cut now line answers t names) e short
 turn_cut now LongLine turn t names e short = subst (λ (x : Turn). IsOneAnswer x.bytes) (ap (the_turn turn) e) (long_cut now.mailing.begun now.idling t.1 t.0)
 turn_cut now (Turned answers) turn t names e short = some_cut (idle_turn_in now.selected (is_idling now) now answers) turn (idle_cut now.selected (is_idling now) now answers) e short
 turn_cut now (Literal kept bytes) turn t names e short = subst (λ (x : Turn). IsOneAnswer x.bytes) (ap (the_turn turn) e) (opens passes_none)
@@ -541,24 +561,29 @@ turn_cut now (Heard verdict answers) turn t names e short = some_cut (turn_with 
 some_own : (tag : List ℕ) (o : Bool) (found : Option Turn) (turn : Turn) → TurnCut tag o found → found ≡ Some turn → AreShort turn.events → OneOf tag o turn.bytes
 some_own tag o found turn p e short = subst (TurnCut tag o) e p short
 
-pub command_one : (now : Standing) (line tag : List ℕ) (command : Command) (answers : List Answer) (turn : Turn) → AreNames now.folders → kept_tag now ≡ None → read line ≡ Ok (tag, command) → turn_of now line answers ≡ Some turn
+-- AUTHENTICATE that waits for its response may have no tagged line
+wants_opens : (login : Option (List ℕ)) (command : Command) → wants_response login command ≡ true → leaves_open command ≡ true
+wants_opens None command e = absurd (false≢true e)
+wants_opens (Some user) (commands.Authenticate a) e = e
+wants_opens (Some user) _ e = absurd (false≢true e)
+
+pub command_one : (now : Standing) (line whole tag : List ℕ) (command : Command) (answers : List Answer) (turn : Turn) → AreNames now.folders → whole_line now line ≡ Some whole → read whole ≡ Ok (tag, command) → turn_of now line answers ≡ Some turn
     → AreShort turn.events → OneOf tag (leaves_open command) turn.bytes
-command_one now line tag command answers turn names kept reads e short = by now.mailing.begun now.idling refl refl
+command_one now line whole tag command answers turn names came reads e short =
+    said_has (λ o. o ≡ Some turn → OneOf tag (leaves_open command) turn.bytes) bare whole tag command answers reads
+    (λ waits d. subst (λ (b : Bool). OneOf tag b turn.bytes) (sym (wants_opens now.login command waits)) (own true bare (awaiting_response whole) (passes_none, (refl, challenge_passes)) d))
+    (λ d. line_case (OneOf tag (leaves_open command) turn.bytes) bare tag command answers turn (λ logs f. own (leaves_open command) (logged_in bare) (completed command) (says_cut (leaves_open command) (texts.Completed (verb_of command))) f)
+    (λ text is f. own (leaves_open command) bare (says (response_text text)) (says_cut (leaves_open command) text) f) (λ f. own (leaves_open command) bare (on_command bare command) (command_cut bare command told names) f) d)
+    (sym (whole_turn now line whole answers came) ∙ e)
   where
+    bare : Standing
+    bare = without_begun now
+
     word : IsWord tag
-    word = subst (TaggedOf IsWord) reads (read_tagged_so IsWord (λ tag word. word) line)
+    word = subst (TaggedOf IsWord) reads (read_tagged_so IsWord (λ tag word. word) whole)
 
     told : HasToldParts command
-    told = subst HasTold reads (read_told line)
+    told = subst HasTold reads (read_told whole)
 
-    by : (begun : Option PendingLiteral) (idling : Option (List ℕ)) → begun ≡ now.mailing.begun → idling ≡ now.idling → OneOf tag (leaves_open command) turn.bytes
-    by (Some b) idling p q = absurd (none-some b.tag (sym kept ∙ sym (ap (λ (x : Option PendingLiteral). kept_behind x now.idling) p)))
-    by None (Some i) p q = absurd (none-some i (sym kept ∙ sym (ap (λ (x : Option PendingLiteral). kept_behind x now.idling) p) ∙ sym q))
-    by None None p q =
-        let first : turn_while now.idling now line answers ≡ Some turn = subst (λ (o : Option PendingLiteral). turn_behind o now line answers ≡ Some turn) (sym p) e in
-        let second : on_read now (read line) answers ≡ Some turn = subst (λ (o : Option (List ℕ)). turn_while o now line answers ≡ Some turn) (sym q) first in
-        let third : on_line (logs_in_as now.login command) now tag command answers ≡ Some turn = subst (λ (r : Result (List ℕ × Command) ImapFault). on_read now r answers ≡ Some turn) reads second in
-        line_case (OneOf tag (leaves_open command) turn.bytes) now tag command answers turn
-        (λ logs d. some_own tag (leaves_open command) (played tag (logged_in now) login_completed answers) turn (played_cut tag word (leaves_open command) (logged_in now) login_completed answers (says_cut (leaves_open command) (texts.Completed verbs.Login))) d short)
-        (λ text is d. some_own tag (leaves_open command) (played tag now (says (response_text text)) answers) turn (played_cut tag word (leaves_open command) now (says (response_text text)) answers (says_cut (leaves_open command) text)) d short)
-        (λ d. some_own tag (leaves_open command) (played tag now (on_command now command) answers) turn (played_cut tag word (leaves_open command) now (on_command now command) answers (command_cut now command told names)) d short) third
+    own : (o : Bool) (s : Standing) (x : Exchange) → SaysCut o x → played tag s x answers ≡ Some turn → OneOf tag o turn.bytes
+    own o s x p d = some_own tag o (played tag s x answers) turn (played_cut tag word o s x answers p) d short

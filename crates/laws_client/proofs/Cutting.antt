@@ -107,11 +107,11 @@ answered_so tag command bytes (kept_open p why) = inr (ap (λ (c : Cutter). has_
 answered_so tag command bytes (ended p own) = inl (ap (λ (c : Cutter). has_any c.answers) (p [] []), own)
 
 turn_own : (now : Standing) (happening : Happening) (turn : Turn) → AreNames now.folders → leads_to now happening ≡ Some turn → AreShort turn.events → IsOwn (told_of now happening turn.bytes)
-turn_own now (Line line answers) turn names e short = by (kept_tag now) refl
+turn_own now (Line line answers) turn names e short = by (whole_line now line) refl
   where
-    by : (o : Option (List ℕ)) → kept_tag now ≡ o → IsOwn (told_line o line turn.bytes)
-    by None kept = λ tag command reads. answered_so tag command turn.bytes (command_one now line tag command answers turn names kept reads e short)
-    by (Some tag) kept = tt
+    by : (o : Option (List ℕ)) → whole_line now line ≡ o → IsOwn (told_line o turn.bytes)
+    by (Some whole) came = λ tag command reads. answered_so tag command turn.bytes (command_one now line whole tag command answers turn names came reads e short)
+    by None came = tt
 turn_own now LongLine turn names e short = tt
 turn_own now (Turned answers) turn names e short = tt
 turn_own now (Literal kept bytes) turn names e short = tt

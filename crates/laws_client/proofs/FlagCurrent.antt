@@ -125,24 +125,15 @@ shown_at_end k n tag words how now w (Refused fault ∷ []) turn v K t e met ok 
     absurd (false≢true (sym (refusal_has_none tag fault t) ∙ ap (has_ok true tag) (sym only.bytes ∙ ap (λ (x : Turn). x.bytes) m.makes) ∙ ok))
 shown_at_end k n tag words how now w (_ ∷ more) turn v K t e met ok = absurd (none-some turn e)
 
-noop_at_end : (k : Config) (n : ℕ) (now : Standing) (line tag : List ℕ) (w : World) (turn : Turn) (v : World) → Kept k w → IsAnswered k n now line w turn v
-    → kept_tag now ≡ None → read line ≡ Ok (tag, commands.Noop) → has_ok true tag turn.bytes ≡ true → IsAtEnd v n
-noop_at_end k n now line tag w turn v K a kept reads ok = by now.mailing.begun now.idling refl refl
-  where
-    read_current : on_read now (Ok (tag, commands.Noop)) a.answers ≡ Some turn → IsAtEnd v n
-    read_current e =
-        let t : IsTag tag = tags_are_tags line tag commands.Noop reads in
-        line_case (IsAtEnd v n) now tag commands.Noop a.answers turn (λ logs d. absurd (false≢true (sym (login_shows_none now.login commands.Noop logs))))
-        (λ text is d. absurd (false≢true (sym (refused_turn tag text now a.answers turn t is d) ∙ ok)))
-        (λ d. shown_at_end k n tag (response_text (texts.Completed verbs.Noop)) Go now w a.answers turn v K t (subst (λ (o : Option Selected). played tag now (showing o (completed commands.Noop)) a.answers ≡ Some turn) a.there d) a.met ok) e
-
-    by : (begun : Option PendingLiteral) (idling : Option (List ℕ)) → begun ≡ now.mailing.begun → idling ≡ now.idling → IsAtEnd v n
-    by (Some b) idling p q = absurd (none-some b.tag (sym (ap (λ (o : Option (List ℕ)). o) kept) ∙ sym (ap (λ (x : Option PendingLiteral). kept_behind x now.idling) p)))
-    by None (Some i) p q = absurd (none-some i (sym kept ∙ sym (ap (λ (x : Option PendingLiteral). kept_behind x now.idling) p) ∙ sym q))
-    by None None p q =
-        let first : turn_while now.idling now line a.answers ≡ Some turn = subst (λ (o : Option PendingLiteral). turn_behind o now line a.answers ≡ Some turn) (sym p) a.answered in
-        let second : on_read now (read line) a.answers ≡ Some turn = subst (λ (o : Option (List ℕ)). turn_while o now line a.answers ≡ Some turn) (sym q) first in
-        read_current (subst (λ (r : Result (List ℕ × Command) ImapFault). on_read now r a.answers ≡ Some turn) reads second)
+noop_at_end : (k : Config) (n : ℕ) (now : Standing) (line whole tag : List ℕ) (w : World) (turn : Turn) (v : World) → Kept k w → IsAnswered k n now line w turn v
+    → whole_line now line ≡ Some whole → read whole ≡ Ok (tag, commands.Noop) → has_ok true tag turn.bytes ≡ true → IsAtEnd v n
+noop_at_end k n now line whole tag w turn v K a came reads ok =
+    let t : IsTag tag = tags_are_tags whole tag commands.Noop reads in
+    let bare : Standing = without_begun now in
+    line_case (IsAtEnd v n) bare tag commands.Noop a.answers turn (λ logs d. absurd (false≢true (sym (login_shows_none now.login commands.Noop logs))))
+    (λ text is d. absurd (false≢true (sym (refused_turn tag text bare a.answers turn t is d) ∙ ok)))
+    (λ d. shown_at_end k n tag (response_text (texts.Completed verbs.Noop)) Go bare w a.answers turn v K t (subst (λ (o : Option Selected). played tag bare (showing o (completed commands.Noop)) a.answers ≡ Some turn) a.there d) a.met ok)
+    (said_turn now line whole tag commands.Noop a.answers turn came reads (shown_waits now.login commands.Noop refl) a.answered)
 
 done_at_end : (k : Config) (n : ℕ) (now : Standing) (line tag : List ℕ) (w : World) (turn : Turn) (v : World) → Kept k w → IsAnswered k n now line w turn v
     → now.mailing.begun ≡ None → now.idling ≡ Some tag → is_done line ≡ true → has_ok true tag turn.bytes ≡ true → IsAtEnd v n
@@ -161,12 +152,12 @@ done_at_end k n now line tag w turn v K a begun idling done ok =
 -- ---- in a life
 
 pub noop_tells_flags : NoopTellsFlags
-noop_tells_flags k events n first began sent told now w line tag turn v s h is short stands lives a kept reads ok at =
+noop_tells_flags k events n first began sent told now w line whole tag turn v s h is short stands lives a came reads ok at =
     let S = sound_always k events began h is in
     let before = lives_flags k n first began h S stands lives (short_met k n w turn.events v a.met short) in
     let after = lives_flags k n first began h S stands (turns lives (Line line a.answers) (line ++ crlf) turn v refl tt a.answered a.met) short in
-    let told_is : told_of now (Line line a.answers) turn.bytes ≡ Answer_to line turn.bytes = ap (λ (o : Option (List ℕ)). told_line o line turn.bytes) kept in
-    flags_now v n s (hears_all None (told ++ Answer_to line turn.bytes ∷ [])) at (noop_at_end k n now line tag w turn v before.sound.kept a kept reads ok s at)
+    let told_is : told_of now (Line line a.answers) turn.bytes ≡ Answer_to whole turn.bytes = ap (λ (o : Option (List ℕ)). told_line o turn.bytes) came in
+    flags_now v n s (hears_all None (told ++ Answer_to whole turn.bytes ∷ [])) at (noop_at_end k n now line whole tag w turn v before.sound.kept a came reads ok s at)
     (subst (λ (one : Told). IsRightOnFlags (point_of v n) (hears_all None (told ++ one ∷ []))) told_is after.right)
 
 pub done_tells_flags : DoneTellsFlags
@@ -174,7 +165,7 @@ done_tells_flags k events n first began sent told now w line tag turn v s h is s
     let S = sound_always k events began h is in
     let before = lives_flags k n first began h S stands lives (short_met k n w turn.events v a.met short) in
     let after = lives_flags k n first began h S stands (turns lives (Line line a.answers) (line ++ crlf) turn v refl tt a.answered a.met) short in
-    let kept : kept_tag now ≡ Some tag = ap (λ (b : Option PendingLiteral). kept_behind b now.idling) begun ∙ ap (λ (i : Option (List ℕ)). kept_behind None i) idling in
-    let told_is : told_of now (Line line a.answers) turn.bytes ≡ Words turn.bytes = ap (λ (o : Option (List ℕ)). told_line o line turn.bytes) kept in
+    let none : whole_line now line ≡ None = ap (λ (b : Option PendingLiteral). whole_in b now.idling line) begun ∙ ap (λ (i : Option (List ℕ)). whole_in None i line) idling in
+    let told_is : told_of now (Line line a.answers) turn.bytes ≡ Words turn.bytes = ap (λ (o : Option (List ℕ)). told_line o turn.bytes) none in
     flags_now v n s (hears_all None (told ++ Words turn.bytes ∷ [])) at (done_at_end k n now line tag w turn v before.sound.kept a begun idling done ok s at)
     (subst (λ (one : Told). IsRightOnFlags (point_of v n) (hears_all None (told ++ one ∷ []))) told_is after.right)

@@ -440,7 +440,7 @@ fine_wait tells spares tag t now waits (Fed a b ∷ more) = tt
 fine_wait tells spares tag t now waits (Left a ∷ more) = tt
 fine_wait tells spares tag t now waits (Refused a ∷ more) = tt
 fine_wait tells spares tag t now waits (Starved n ∷ []) =
-    unkept_by (TurnFine tells) tt tag now (inr (refused_apart tells spares tag t now NoMemory)) (λ flags size. inl refl)
+    unkept_by (TurnFine tells) tt tag now (inr (refused_apart tells spares tag t now NoMemory)) (λ purpose size. inl refl)
     (inr (subst (Apart tells) (sym (append-nil (bye (response_text texts.ByeOutOfMemory)))) (bye_apart tells texts.ByeOutOfMemory))) waits n
 fine_wait tells spares tag t now waits (Starved n ∷ d ∷ more) = tt
 

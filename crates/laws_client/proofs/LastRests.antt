@@ -1,17 +1,20 @@
 -- How an answer ends that is said behind a literal, or to a line that is too long, or where a message is refused.
-use Rattle.std.proofs.Common.{ℕ, Bool, true, false, List, [], refl, Option, Some, None}
+use Rattle.std.proofs.Common.{◌≡◌, inl, ℕ, Bool, true, false, List, [], refl, Option, Some, None, sym, subst, codes}
 use Rattle.std.specs.Prelude.{IfSome, nat_le, ◌==◌, if◌then◌else◌}
 use Rattle.std.specs.List.{list_any}
 use Rattle.delivery_token.specs.declared.Refusal.{Refusal}
 use Rattle.delivery_token.specs.declared.Refusal.TheVariants as refusals
 use Rattle.imap_session.specs.Exchange as ex
-use Rattle.imap_session.specs.Exchange.{Answer, PendingLiteral, Exchange, ForVerdict, Mailing, Standing, played}
-use Rattle.imap_session.specs.Commands.{is_over, last_number, long_rest_text, long_text, nowhere, on_found, on_rest, on_text, over, refused_text, says, turn_of_long_line, wanting}
+use Rattle.imap_session.specs.Exchange.{Asked, ForLiteral, bye, Answer, PendingLiteral, Exchange, ForVerdict, Mailing, Standing, played, Argument, Response, continuing, ForNothing, Unasked}
+use Rattle.imap_session.specs.Commands.{is_over, last_number, long_rest_text, long_text, nowhere, on_found, on_rest, on_text, over, refused_text, says, turn_of_long_line, wanting, flags_for, mailbox_for}
 use Rattle.laws_client.proofs.IdleTags.{AreTagsOf}
-use Rattle.laws_client.proofs.LastLines.{Apart, IsWord, SaysApart, Spares, TurnFine, fine, fine_wait, fine_wanting, played_apart, star_apart, tagged_apart}
+use Rattle.laws_client.proofs.LastLines.{bye_apart, plus_apart, untagged_apart, Apart, IsWord, SaysApart, Spares, TurnFine, fine, fine_wait, fine_wanting, played_apart, star_apart, tagged_apart}
+use Rattle.imap_session.specs.declared.texts.ResponseText.{ResponseText}
 use Rattle.imap_session.specs.declared.texts.ResponseText.TheVariants as texts
 use Rattle.imap_session.specs.Texts.{response_text}
 use Rattle.laws_client.proofs.TextRows.{behind}
+use Rattle.std.proofs.lemmas.Bool.{false≢true}
+use Rattle.imap_session.proofs.Parts.{IsPart, tells_part, ends_part, asks_part, comes_part, challenge_part, is_told}
 
 -- an exchange that ends so, whatever its tag
 abbrev pub EndsFine : (List ℕ → Bool) → Exchange → Type 0
@@ -49,6 +52,25 @@ rest_fine tells spares mailing a empty =
     (found_fine tells (on_text mailing a text) nowhere (text_fine tells spares mailing a text) (says_fine tells spares nowhere (refl, spares.no (behind 3 texts.TryCreate))) (mailbox_for a.purpose))
     (says_fine tells spares (says (response_text texts.InvalidArguments)) (refl, spares.bad (behind 4 texts.InvalidArguments))))
     (says_fine tells spares (says (response_text texts.OutOfMemory)) (refl, spares.no (behind 3 texts.OutOfMemory))) a.text
+
+-- ---- a line that isn't whole yet, or is given up
+
+told_words : (tells : List ℕ → Bool) → Spares tells → (text : ResponseText) → is_told text ≡ true → SaysApart tells (says (response_text text))
+told_words tells spares texts.LineTooLong h = (refl, spares.bad (behind 4 texts.LineTooLong))
+told_words tells spares texts.OutOfMemory h = (refl, spares.no (behind 3 texts.OutOfMemory))
+told_words tells spares _ h = absurd (false≢true h)
+
+challenge_apart : (tells : List ℕ → Bool) → Apart tells (continuing [])
+challenge_apart tells = untagged_apart tells 43 (codes " ") refl refl
+
+pub part_fine : (tells : List ℕ → Bool) → Spares tells → (x : Exchange) → IsPart x → EndsFine tells x
+part_fine tells spares x (tells_part text h e) = subst (EndsFine tells) (sym e) (says_fine tells spares (says (response_text text)) (told_words tells spares text h))
+part_fine tells spares x (ends_part text h e) = subst (EndsFine tells) (sym e) (says_fine tells spares (ex.Wait (bye (response_text text)) ForNothing) (bye_apart tells text, tt))
+part_fine tells spares x (asks_part line size e) =
+    subst (EndsFine tells) (sym e) (says_fine tells spares (wanting (ex.Wait (continuing (response_text texts.Ready)) (ForLiteral Asked (Argument line) size))) (inl refl, (plus_apart tells texts.Ready, tt)))
+part_fine tells spares x (comes_part line size e) = subst (EndsFine tells) (sym e) (λ tag t now answers. fine_wait tells spares tag t now (ForLiteral Unasked (Argument line) size) answers)
+part_fine tells spares x (challenge_part line e) =
+    subst (EndsFine tells) (sym e) (says_fine tells spares (wanting (ex.Wait (continuing []) (ForLiteral Asked (Response line) 0))) (inl refl, (challenge_apart tells, tt)))
 
 -- ---- a line that is too long
 

@@ -1,5 +1,5 @@
 -- Whatever a client sends but a message that is stored, its answer tells no UID in its last line.
-use Rattle.std.proofs.Common.{inl, inr, ℕ, Bool, true, false, List, [], ◌∷◌, ◌++◌, map, length, refl, sym, subst, append-nil, Option, Some, None, Result, Ok, Err}
+use Rattle.std.proofs.Common.{◌≡◌, inl, inr, ℕ, Bool, true, false, List, [], ◌∷◌, ◌++◌, map, length, refl, sym, subst, append-nil, Option, Some, None, Result, Ok, Err}
 use Rattle.std.specs.Prelude.{codes, IfSome, nat_lt, ◌==◌, if◌then◌else◌}
 use Rattle.cursor_set.specs.Lines.{position, spaced}
 use Rattle.imap_grammar.specs.Reading.{is_done, read}
@@ -15,12 +15,12 @@ use Rattle.imap_grammar.specs.Verbs.{verb_of}
 use Rattle.imap_session.specs.declared.standing.Selected.{Selected}
 use Rattle.imap_session.specs.Exchange as ex
 use Rattle.imap_session.specs.Exchange.{Answer, PendingLiteral, Exchange, Folder, ForVerdict, Mailing, Standing, Turn, bye, played, untagged}
-use Rattle.imap_session.specs.Commands.{appending, asking, closing, completed, counting, entering, expunge_set, fetch_messages, fetching, folder_of, if_writable, is_over, messages_done, most_unasked, notice, noticing, nowhere, number_named, on_chosen, on_command, on_found, on_idle_line, on_read, over, says, showing, store_messages, storing, subscribing, telling_recent, turn_behind, turn_of, turn_while, unlimited, wanting, wanting_for, without_begun, wrong_state, arguments_text, entered_text, logged_in, login_completed, found_in, search_done, search_known, search_messages, searching}
+use Rattle.imap_session.specs.Commands.{appending, asking, closing, completed, counting, entering, expunge_set, fetch_messages, fetching, folder_of, if_writable, is_over, messages_done, most_unasked, notice, noticing, nowhere, number_named, on_chosen, on_command, on_found, on_idle_line, on_read, over, says, showing, store_messages, storing, subscribing, telling_recent, turn_behind, turn_of, turn_while, unlimited, wanting, wanting_for, without_begun, wrong_state, arguments_text, entered_text, logged_in, found_in, search_done, search_known, search_messages, searching, on_text_line}
 use Rattle.imap_session.specs.Telling.{tells_uid}
 use Rattle.exactly_once.proofs.Whole.{IsWhole, bye_whole, ends, fetched_whole, flags_whole, list_whole, opening_whole, found_whole}
 use Rattle.laws_client.proofs.IdleTags.{AreTagsOf}
 use Rattle.laws_client.proofs.Tags.{TaggedOf, read_tagged_so}
-use Rattle.laws_client.proofs.LastRests.{EndsFine, either_fine, rest_fine, says_fine}
+use Rattle.laws_client.proofs.LastRests.{EndsFine, either_fine, part_fine, rest_fine, says_fine}
 use Rattle.laws_client.proofs.LastLines.{Apart, IsWord, SaysApart, Spares, TurnFine, bye_apart, fine_wait, plus_apart, star_apart, tagged_apart}
 use Rattle.imap_session.specs.declared.texts.ResponseText.TheVariants as texts
 use Rattle.imap_session.specs.Texts.{response_text}
@@ -35,6 +35,7 @@ use Rattle.imap_grammar.specs.declared.command.Verb.TheVariants as verbs
 use Rattle.imap_grammar.specs.declared.command.Search.{Search}
 use Rattle.imap_grammar.specs.declared.view.Named.{Named}
 use Rattle.imap_grammar.specs.Keys.{all_messages}
+use Rattle.laws_client.proofs.WholeLines.{turn_has, text_has}
 
 pub uid_spares : Spares tells_uid
 uid_spares = record { no = λ rest. refl; bad = λ rest. refl }
@@ -121,7 +122,7 @@ append_fine most folders a =
     (says_fine tells_uid uid_spares (wanting (on_found (λ mailbox. if is_over most a.literal.size then over most else asking mailbox a.flags a.literal.size) nowhere (number_named a.name folders)))
     (inl refl, in_found _ nowhere (λ (mailbox : ℕ). in_either (is_over most a.literal.size) (over most) _ (in_over most) (plus_apart tells_uid texts.Ready, tt)) (refl, refl) (number_named a.name folders)))
     (either_fine tells_uid (nat_lt most_unasked a.literal.size) _ _ (says_fine tells_uid uid_spares (ex.Wait (bye (response_text texts.LiteralTooBig)) ex.ForNothing) (bye_apart tells_uid texts.LiteralTooBig, tt))
-    (λ tag t now answers. fine_wait tells_uid uid_spares tag t now (ex.ForLiteral ex.Unasked (number_named a.name folders) a.flags a.literal.size) answers))
+    (λ tag t now answers. fine_wait tells_uid uid_spares tag t now (ex.ForLiteral ex.Unasked (ex.Message (number_named a.name folders) a.flags) a.literal.size) answers))
 
 notice_apart : (said : Option (List ℕ)) (x : Exchange) → SaysApart tells_uid x → SaysApart tells_uid (noticing said x)
 notice_apart None x p = p
@@ -132,7 +133,7 @@ command_apart now commands.Noop = says_fine tells_uid uid_spares (on_command now
 command_apart now commands.Logout = says_fine tells_uid uid_spares (on_command now commands.Logout) (bye_whole (response_text texts.LoggingOut), (refl, refl))
 command_apart now commands.Idle = says_fine tells_uid uid_spares (on_command now commands.Idle) (plus_apart tells_uid texts.Idling, tt)
 command_apart now (commands.Login user password) = says_fine tells_uid uid_spares (on_command now (commands.Login user password)) (refl, refl)
-command_apart now commands.Authenticate = says_fine tells_uid uid_spares (on_command now commands.Authenticate) (refl, refl)
+command_apart now (commands.Authenticate a) = says_fine tells_uid uid_spares (on_command now (commands.Authenticate a)) (refl, refl)
 command_apart now commands.StartTls = says_fine tells_uid uid_spares (on_command now commands.StartTls) (refl, refl)
 command_apart now (commands.Select name) = says_fine tells_uid uid_spares (on_command now (commands.Select name)) (in_selecting now false name)
 command_apart now (commands.Examine name) = says_fine tells_uid uid_spares (on_command now (commands.Examine name)) (in_selecting now true name)
@@ -190,17 +191,21 @@ fault_fine fault now (answer ∷ more) t = tt
 
 read_fine : (now : Standing) (r : Result (List ℕ × Command) ImapFault) (answers : List Answer) → TaggedOf IsWord r → TurnFine tells_uid (on_read now r answers)
 read_fine now (Ok line) answers t =
-    line_has (TurnFine tells_uid) now line.0 line.1 answers (λ logs. says_fine tells_uid uid_spares login_completed (says_apart (texts.Completed verbs.Login)) line.0 t (logged_in now) answers)
+    line_has (TurnFine tells_uid) now line.0 line.1 answers (λ logs. says_fine tells_uid uid_spares (completed line.1) (says_apart (texts.Completed (verb_of line.1))) line.0 t (logged_in now) answers)
     (λ text is. says_fine tells_uid uid_spares (says (response_text text)) (says_apart text) line.0 t now answers) (command_apart now line.1 line.0 t now answers)
 read_fine now (Err fault) answers t = fault_fine fault now answers t
 
-while_fine : (idling : Option (List ℕ)) (now : Standing) (line : List ℕ) (answers : List Answer) → IfSome idling IsWord → TurnFine tells_uid (turn_while idling now line answers)
-while_fine None now line answers t = read_fine now (read line) answers (read_tagged_so IsWord (λ tag word. word) line)
-while_fine (Some tag) now line answers t = says_fine tells_uid uid_spares (on_idle_line now.selected line) (idling_apart now.selected line) tag t (record now { idling = None }) answers
-
-behind_fine : (begun : Option PendingLiteral) (now : Standing) (line : List ℕ) (answers : List Answer) → IfSome begun (λ (a : PendingLiteral). IsWord a.tag) → IfSome now.idling IsWord → TurnFine tells_uid (turn_behind begun now line answers)
-behind_fine None now line answers t s = while_fine now.idling now line answers s
-behind_fine (Some a) now line answers t s = rest_fine tells_uid uid_spares now.mailing a (length line == 0) a.tag t (without_begun now) answers
+text_fine : (now : Standing) (line : List ℕ) (answers : List Answer) → TurnFine tells_uid (on_text_line now line answers)
+text_fine now line answers =
+    let tagged : TaggedOf IsWord (read line) = read_tagged_so IsWord (λ tag word. word) line in
+    text_has IsWord (TurnFine tells_uid) now line answers tagged (λ tag x t part lacks. part_fine tells_uid uid_spares x part tag t now answers) (read_fine now (read line) answers tagged)
 
 pub line_fine : (now : Standing) (line : List ℕ) (answers : List Answer) → AreTagsOf IsWord now → TurnFine tells_uid (turn_of now line answers)
-line_fine now line answers k = behind_fine now.mailing.begun now line answers k.1 k.0
+line_fine now line answers k =
+    turn_has (λ whole o. TurnFine tells_uid o) now line answers
+    (λ tag b i. says_fine tells_uid uid_spares (on_idle_line now.selected line) (idling_apart now.selected line) tag (subst (λ (o : Option (List ℕ)). IfSome o IsWord) i k.0) (record now { idling = None }) answers)
+    (λ a mailbox flags b p. rest_fine tells_uid uid_spares now.mailing a (length line == 0) a.tag (begun_word a b) (without_begun now) answers)
+    (λ a x b part. part_fine tells_uid uid_spares x part a.tag (begun_word a b) (without_begun now) answers) (λ whole w. text_fine (without_begun now) whole answers)
+  where
+    begun_word : (a : PendingLiteral) → now.mailing.begun ≡ Some a → IsWord a.tag
+    begun_word a b = subst (λ (o : Option PendingLiteral). IfSome o (λ (x : PendingLiteral). IsWord x.tag)) b k.1

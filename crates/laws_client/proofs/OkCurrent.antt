@@ -28,7 +28,7 @@ use Rattle.imap_grammar.specs.declared.command.Store.{Store}
 use Rattle.imap_session.specs.declared.standing.After.{After}
 use Rattle.imap_session.specs.declared.standing.Selected.{Selected}
 use Rattle.imap_session.specs.Exchange.{PendingLiteral, kept_behind, kept_tag, Call, Answer, Event, Looked, Found, Counted, Altered, Expunged, Fed, Refused, Starved, Exchange, Done, Wait, Write, Put, Enter, Look, Read, Count, Alter, Expunge, Feed, Leave, Standing, Turn, having, played, refusal_text, refused, saying, tagged}
-use Rattle.imap_session.specs.Commands.{completed, counting, expunge_set, fetch_messages, fetched, fetching, folder_of, if_writable, in_writable, messages_done, on_chosen, on_command, on_found, on_read, on_set, turn_behind, turn_of, turn_while, says, showing, store_messages, stored, storing, unlimited, wrong_state, wanting_for, found_in, search_done, search_known, search_messages, searching, wanting}
+use Rattle.imap_session.specs.Commands.{completed, counting, expunge_set, fetch_messages, fetched, fetching, folder_of, if_writable, in_writable, messages_done, on_chosen, on_command, on_found, on_read, on_set, turn_behind, turn_of, turn_while, says, showing, store_messages, stored, storing, unlimited, wrong_state, wanting_for, found_in, search_done, search_known, search_messages, searching, wanting, without_begun}
 use Rattle.laws_client.specs.ListTurns.{IsTag}
 use Rattle.line_io.specs.Wire.{crlf}
 use Rattle.laws_client.specs.Talks.{Line}
@@ -54,10 +54,12 @@ use Rattle.imap_grammar.specs.declared.command.Verb.{Verb}
 use Rattle.imap_grammar.specs.declared.command.Verb.TheVariants as verbs
 use Rattle.std.specs.Str.{bytes_eq}
 use Rattle.imap_session.proofs.Barring.{refuses}
-use Rattle.laws_client.proofs.Barred.{line_case, login_shows_none}
+use Rattle.laws_client.proofs.Barred.{line_case, login_shows_none, shown_waits}
 use Rattle.imap_grammar.specs.declared.command.Search.{Search}
 use Rattle.imap_grammar.specs.declared.view.Named.{Named}
 use Rattle.imap_grammar.specs.Keys.{all_messages}
+use Rattle.laws_client.specs.Commands.{whole_line}
+use Rattle.laws_client.proofs.WholeLines.{said_turn}
 
 -- ---- how bytes end
 
@@ -309,33 +311,24 @@ ends_done front tag verb =
     last_done _ before = refl
 
 -- the last call of its turn was for all that is pending, and was answered
-pub last_was_fed : (now : Standing) (line tag : List ℕ) (command : Command) (selected : Selected) (answers : List Answer) (turn : Turn) (front : List ℕ) → now.selected ≡ Some selected → turn_of now line answers ≡ Some turn
-    → kept_tag now ≡ None → read line ≡ Ok (tag, command) → shows_all command ≡ true → turn.bytes ≡ front ++ tagged tag (response_text (texts.Completed (verb_of command))) → LastFed (false ≡ true) turn.events
-last_was_fed now line tag command selected answers turn front there answered kept reads shows bytes = by now.mailing.begun now.idling refl refl
-  where
-    read_fed : on_read now (Ok (tag, command)) answers ≡ Some turn → LastFed (false ≡ true) turn.events
-    read_fed e =
-        let t : IsTag tag = tags_are_tags line tag command reads in
-        let ends : last_of turn.bytes ≡ the_end = ap last_of bytes ∙ ends_done front tag (verb_of command) in
-        line_case (LastFed (false ≡ true) turn.events) now tag command answers turn (λ logs d. never (sym (login_shows_none now.login command logs) ∙ shows))
-        (λ text is d. ok_current tag [] false now (says (response_text text)) answers turn t (inr (refused_not_done text is)) d ends)
-        (λ d. ok_current tag [] false now (on_command now command) answers turn t (command_last now selected command there shows) d ends) e
+pub last_was_fed : (now : Standing) (line whole tag : List ℕ) (command : Command) (selected : Selected) (answers : List Answer) (turn : Turn) (front : List ℕ) → now.selected ≡ Some selected → turn_of now line answers ≡ Some turn
+    → whole_line now line ≡ Some whole → read whole ≡ Ok (tag, command) → shows_all command ≡ true → turn.bytes ≡ front ++ tagged tag (response_text (texts.Completed (verb_of command))) → LastFed (false ≡ true) turn.events
+last_was_fed now line whole tag command selected answers turn front there answered came reads shows bytes =
+    let t : IsTag tag = tags_are_tags whole tag command reads in
+    let ends : last_of turn.bytes ≡ the_end = ap last_of bytes ∙ ends_done front tag (verb_of command) in
+    let bare : Standing = without_begun now in
+    line_case (LastFed (false ≡ true) turn.events) bare tag command answers turn (λ logs d. never (sym (login_shows_none now.login command logs) ∙ shows))
+    (λ text is d. ok_current tag [] false bare (says (response_text text)) answers turn t (inr (refused_not_done text is)) d ends)
+    (λ d. ok_current tag [] false bare (on_command bare command) answers turn t (command_last bare selected command there shows) d ends)
+    (said_turn now line whole tag command answers turn came reads (shown_waits now.login command shows) answered)
 
-    by : (begun : Option PendingLiteral) (idling : Option (List ℕ)) → begun ≡ now.mailing.begun → idling ≡ now.idling → LastFed (false ≡ true) turn.events
-    by (Some b) idling p q = absurd (none-some b.tag (sym kept ∙ sym (ap (λ (x : Option PendingLiteral). kept_behind x now.idling) p)))
-    by None (Some i) p q = absurd (none-some i (sym kept ∙ sym (ap (λ (x : Option PendingLiteral). kept_behind x now.idling) p) ∙ sym q))
-    by None None p q =
-        let first : turn_while now.idling now line answers ≡ Some turn = subst (λ (o : Option PendingLiteral). turn_behind o now line answers ≡ Some turn) (sym p) answered in
-        let second : on_read now (read line) answers ≡ Some turn = subst (λ (o : Option (List ℕ)). turn_while o now line answers ≡ Some turn) (sym q) first in
-        read_fed (subst (λ (r : Result (List ℕ × Command) ImapFault). on_read now r answers ≡ Some turn) reads second)
-
-done_current_in : (k : Config) (n : ℕ) (now : Standing) (line tag : List ℕ) (command : Command) (w : World) (turn : Turn) (v : World) (front : List ℕ) → Kept k w → IsAnswered k n now line w turn v → kept_tag now ≡ None → read line ≡ Ok (tag, command)
+done_current_in : (k : Config) (n : ℕ) (now : Standing) (line whole tag : List ℕ) (command : Command) (w : World) (turn : Turn) (v : World) (front : List ℕ) → Kept k w → IsAnswered k n now line w turn v → whole_line now line ≡ Some whole → read whole ≡ Ok (tag, command)
     → shows_all command ≡ true → turn.bytes ≡ front ++ tagged tag (response_text (texts.Completed (verb_of command))) → IsCurrent v n
-done_current_in k n now line tag command w turn v front K a kept reads shows bytes =
-    last_current k n w turn.events v (false ≡ true) K never (last_was_fed now line tag command a.selected a.answers turn front a.there a.answered kept reads shows bytes) a.met
+done_current_in k n now line whole tag command w turn v front K a came reads shows bytes =
+    last_current k n w turn.events v (false ≡ true) K never (last_was_fed now line whole tag command a.selected a.answers turn front a.there a.answered came reads shows bytes) a.met
 
 pub done_commands_make_current : DoneCommandsMakeCurrent
-done_commands_make_current k events n now line tag command w turn v front is a kept reads shows bytes = done_current_in k n now line tag command w turn v front (kept_always k events w is) a kept reads shows bytes
+done_commands_make_current k events n now line whole tag command w turn v front is a came reads shows bytes = done_current_in k n now line whole tag command w turn v front (kept_always k events w is) a came reads shows bytes
 
 -- ---- in a life
 
@@ -352,19 +345,19 @@ pub has_list : (view : List ℕ) (client : Client) (heard : Option Client) → h
 has_list view client heard e right = (right.0, e ∙ ap (λ (c : Client). Some c) right.1, right.2)
 
 pub lists_are_current : ListsAreCurrent
-lists_are_current k events n first began sent told now w client line tag command answers turn v front s h is short stands lives knows answer met kept reads_as shows bytes at =
+lists_are_current k events n first began sent told now w client line whole tag command answers turn v front s h is short stands lives knows answer met came reads_as shows bytes at =
     let short_w = short_met k n w turn.events v met short in
     let before = lives_known k n first began h (sound_always k events began h is) stands lives short_w in
     let after = lives_known k n first began h (sound_always k events began h is) stands (turns lives (Line line answers) (line ++ crlf) turn v refl tt answer met) short in
     let chosen : Known_selected (Some client) now = subst (λ (c : Option Client). Known_selected c now) knows (knowing_is_selected k n first began sent told now w lives) in
     let a : IsAnswered k n now line w turn v = record { selected = chosen.0; there = chosen.1; stands = before.stands; answers = answers; answered = answer; met = met } in
-    let told_is : told_of now (Line line answers) turn.bytes ≡ Answer_to line turn.bytes = ap (λ (o : Option (List ℕ)). told_line o line turn.bytes) kept in
-    let heard : hears_all None (told ++ Answer_to line turn.bytes ∷ []) ≡ Some (reads client turn.bytes) =
-    hears_last None told (Answer_to line turn.bytes) ∙ ap (λ (c : Option Client). hears c (Answer_to line turn.bytes)) knows ∙ ap (λ (r : Result (List ℕ × Command) ImapFault). answered (asked r) turn.bytes (Some client)) reads_as
+    let told_is : told_of now (Line line answers) turn.bytes ≡ Answer_to whole turn.bytes = ap (λ (o : Option (List ℕ)). told_line o turn.bytes) came in
+    let heard : hears_all None (told ++ Answer_to whole turn.bytes ∷ []) ≡ Some (reads client turn.bytes) =
+    hears_last None told (Answer_to whole turn.bytes) ∙ ap (λ (c : Option Client). hears c (Answer_to whole turn.bytes)) knows ∙ ap (λ (r : Result (List ℕ × Command) ImapFault). answered (asked r) turn.bytes (Some client)) reads_as
     ∙ ap (λ (x : Asked). answered x turn.bytes (Some client)) (neither_shows tag command shows) in
-    let right : IsRightAbout (view_of v n) (hears_all None (told ++ Answer_to line turn.bytes ∷ [])) =
+    let right : IsRightAbout (view_of v n) (hears_all None (told ++ Answer_to whole turn.bytes ∷ [])) =
     subst (λ (one : Told). IsRightAbout (view_of v n) (hears_all None (told ++ one ∷ []))) told_is after.right in
-    let all : IsRightAbout (messages_of (v.box s.mailbox)) (hears_all None (told ++ Answer_to line turn.bytes ∷ [])) = subst (λ (view : List ℕ). IsRightAbout view (hears_all None (told ++ Answer_to line turn.bytes ∷ [])))
-    (done_current_in k n now line tag command w turn v front before.sound.kept a kept reads_as shows bytes s at) right in
-    has_list (messages_of (v.box s.mailbox)) (reads client turn.bytes) (hears_all None (told ++ Answer_to line turn.bytes ∷ [])) heard
+    let all : IsRightAbout (messages_of (v.box s.mailbox)) (hears_all None (told ++ Answer_to whole turn.bytes ∷ [])) = subst (λ (view : List ℕ). IsRightAbout view (hears_all None (told ++ Answer_to whole turn.bytes ∷ [])))
+    (done_current_in k n now line whole tag command w turn v front before.sound.kept a came reads_as shows bytes s at) right in
+    has_list (messages_of (v.box s.mailbox)) (reads client turn.bytes) (hears_all None (told ++ Answer_to whole turn.bytes ∷ [])) heard
     (subst (λ (c : Option Client). IsRightAbout (messages_of (v.box s.mailbox)) c) heard all)

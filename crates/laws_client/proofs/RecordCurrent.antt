@@ -24,7 +24,7 @@ use Rattle.imap_session.specs.declared.standing.After.{After}
 use Rattle.imap_session.specs.declared.standing.After.TheVariants.{Go}
 use Rattle.imap_session.specs.declared.standing.Selected.{Selected}
 use Rattle.imap_session.specs.Exchange.{Answer, Fed, Refused, PendingLiteral, Event as Happened, Done, Feed, Standing, Turn, having, kept_behind, kept_tag, played, refusal_text, refused, saying}
-use Rattle.imap_session.specs.Commands.{completed, on_idle_line, on_read, says, showing, turn_behind, turn_of, turn_while, unlimited}
+use Rattle.imap_session.specs.Commands.{completed, on_idle_line, on_read, says, showing, turn_behind, turn_of, turn_while, unlimited, without_begun}
 use Rattle.imap_session.specs.Store.{Met}
 use Rattle.house.specs.Meets.{Meets}
 use Rattle.laws_client.specs.ListTurns.{IsTag}
@@ -37,7 +37,9 @@ use Rattle.laws_client.proofs.Moved.{Calls, Moved, moved, rested, stepped}
 use Rattle.imap_session.specs.declared.texts.ResponseText.TheVariants as texts
 use Rattle.imap_session.specs.Texts.{response_text}
 use Rattle.imap_grammar.specs.declared.command.Verb.TheVariants as verbs
-use Rattle.laws_client.proofs.Barred.{line_case, login_shows_none, refused_turn}
+use Rattle.laws_client.proofs.Barred.{line_case, login_shows_none, refused_turn, shown_waits}
+use Rattle.laws_client.specs.Commands.{whole_line}
+use Rattle.laws_client.proofs.WholeLines.{said_turn}
 
 abbrev pub the_session : Session → Option Session → Session
 the_session d None = d
@@ -128,24 +130,14 @@ shown_fed tag words how now answers turn t e ok = by (fed_or_not tag words how n
     by (inl fed) = fed
     by (inr (fault, bytes)) = absurd (false≢true (sym (refusal_has_none tag fault t) ∙ ap (has_ok true tag) (sym bytes) ∙ ok))
 
-noop_fed : (now : Standing) (line tag : List ℕ) (selected : Selected) (answers : List Answer) (turn : Turn) → now.selected ≡ Some selected → turn_of now line answers ≡ Some turn
-    → kept_tag now ≡ None → read line ≡ Ok (tag, commands.Noop) → has_ok true tag turn.bytes ≡ true → LastFed (false ≡ true) turn.events
-noop_fed now line tag selected answers turn there answered kept reads ok = by now.mailing.begun now.idling refl refl
-  where
-    read_fed : on_read now (Ok (tag, commands.Noop)) answers ≡ Some turn → LastFed (false ≡ true) turn.events
-    read_fed e =
-        let t : IsTag tag = tags_are_tags line tag commands.Noop reads in
-        line_case (LastFed (false ≡ true) turn.events) now tag commands.Noop answers turn (λ logs d. absurd (false≢true (sym (login_shows_none now.login commands.Noop logs))))
-        (λ text is d. absurd (false≢true (sym (refused_turn tag text now answers turn t is d) ∙ ok)))
-        (λ d. shown_fed tag (response_text (texts.Completed verbs.Noop)) Go now answers turn t (subst (λ (o : Option Selected). played tag now (showing o (completed commands.Noop)) answers ≡ Some turn) there d) ok) e
-
-    by : (begun : Option PendingLiteral) (idling : Option (List ℕ)) → begun ≡ now.mailing.begun → idling ≡ now.idling → LastFed (false ≡ true) turn.events
-    by (Some b) idling p q = absurd (none-some b.tag (sym (ap (λ (o : Option (List ℕ)). o) kept) ∙ sym (ap (λ (x : Option PendingLiteral). kept_behind x now.idling) p)))
-    by None (Some i) p q = absurd (none-some i (sym kept ∙ sym (ap (λ (x : Option PendingLiteral). kept_behind x now.idling) p) ∙ sym q))
-    by None None p q =
-        let first : turn_while now.idling now line answers ≡ Some turn = subst (λ (o : Option PendingLiteral). turn_behind o now line answers ≡ Some turn) (sym p) answered in
-        let second : on_read now (read line) answers ≡ Some turn = subst (λ (o : Option (List ℕ)). turn_while o now line answers ≡ Some turn) (sym q) first in
-        read_fed (subst (λ (r : Result (List ℕ × Command) ImapFault). on_read now r answers ≡ Some turn) reads second)
+noop_fed : (now : Standing) (line whole tag : List ℕ) (selected : Selected) (answers : List Answer) (turn : Turn) → now.selected ≡ Some selected → turn_of now line answers ≡ Some turn
+    → whole_line now line ≡ Some whole → read whole ≡ Ok (tag, commands.Noop) → has_ok true tag turn.bytes ≡ true → LastFed (false ≡ true) turn.events
+noop_fed now line whole tag selected answers turn there answered came reads ok =
+    let t : IsTag tag = tags_are_tags whole tag commands.Noop reads in
+    line_case (LastFed (false ≡ true) turn.events) (without_begun now) tag commands.Noop answers turn (λ logs d. absurd (false≢true (sym (login_shows_none now.login commands.Noop logs))))
+    (λ text is d. absurd (false≢true (sym (refused_turn tag text (without_begun now) answers turn t is d) ∙ ok)))
+    (λ d. shown_fed tag (response_text (texts.Completed verbs.Noop)) Go (without_begun now) answers turn t (subst (λ (o : Option Selected). played tag (without_begun now) (showing o (completed commands.Noop)) answers ≡ Some turn) there d) ok)
+    (said_turn now line whole tag commands.Noop answers turn came reads (shown_waits now.login commands.Noop refl) answered)
 
 pub done_fed : (now : Standing) (line tag : List ℕ) (selected : Selected) (answers : List Answer) (turn : Turn) → IfSome now.idling IsTag → now.selected ≡ Some selected → turn_of now line answers ≡ Some turn
     → now.mailing.begun ≡ None → now.idling ≡ Some tag → is_done line ≡ true → has_ok true tag turn.bytes ≡ true → LastFed (false ≡ true) turn.events
@@ -184,8 +176,8 @@ fed_or_refused k n tag words how now w answers turn v K e met = by (fed_or_not t
     by (inr refused) = inr refused
 
 pub noop_makes_current : NoopMakesCurrent
-noop_makes_current k events n now line tag w turn v is a kept reads ok =
-    last_current k n w turn.events v (false ≡ true) (kept_always k events w is) (λ h. absurd (false≢true h)) (noop_fed now line tag a.selected a.answers turn a.there a.answered kept reads ok) a.met
+noop_makes_current k events n now line whole tag w turn v is a came reads ok =
+    last_current k n w turn.events v (false ≡ true) (kept_always k events w is) (λ h. absurd (false≢true h)) (noop_fed now line whole tag a.selected a.answers turn a.there a.answered came reads ok) a.met
 
 pub done_makes_current : DoneMakesCurrent
 done_makes_current k events n now line tag w turn v is a begun idling done ok =

@@ -38,8 +38,8 @@ last_at_end old new (event ∷ events) shown P was c h (mid, one, more) =
     last_at_end mid new events (shown_then shown event.answer) (FedAll event) b.2 (λ fed. fed_at_end old mid event shown was fed one) h more
 
 pub served_commands_reach_the_end : ServedCommandsReachTheEnd
-served_commands_reach_the_end old new shown now line tag command selected answers turn front was there answer met kept reads_as shows bytes =
-    last_at_end old new turn.events shown (false ≡ true) was (λ e. absurd (false≢true e)) (last_was_fed now line tag command selected answers turn front there answer kept reads_as shows bytes) met
+served_commands_reach_the_end old new shown now line whole tag command selected answers turn front was there answer met came reads_as shows bytes =
+    last_at_end old new turn.events shown (false ≡ true) was (λ e. absurd (false≢true e)) (last_was_fed now line whole tag command selected answers turn front there answer came reads_as shows bytes) met
 
 pub served_done_reaches_the_end : ServedDoneReachesTheEnd
 served_done_reaches_the_end old new shown now line tag selected answers turn was stands there answer met begun idling done ok =
@@ -53,22 +53,22 @@ knowing_served first began (turns {told = heard} {now = now} lives happening byt
     (turn_sel now happening turn (hears_all None heard) e (knowing_served first began lives))
 
 pub served_commands_make_current : ServedCommandsMakeCurrent
-served_commands_make_current first began sent told now selection client line tag command answers turn next front here none stands legal lives knows answer met kept reads_as shows bytes there =
+served_commands_make_current first began sent told now selection client line whole tag command answers turn next front here none stands legal lives knows answer met came reads_as shows bytes there =
     let K = stands_in first began none stands lives in
     let chosen : Known_selected (Some client) now = subst (λ (c : Option Client). Known_selected c now) knows (knowing_served first began lives) in
     let end : IsAtEnd next here = of_entry (IsAtEnd next) next.entered here there
-    (served_commands_reach_the_end selection next K.shown now line tag command chosen.0 answers turn front K.was chosen.1 answer met kept reads_as shows bytes) in
+    (served_commands_reach_the_end selection next K.shown now line whole tag command chosen.0 answers turn front K.was chosen.1 answer met came reads_as shows bytes) in
     let view : counted_by next ≡ messages_in here.mailbox next.history = served_lists_are_current next here there end in
     let after : IsRightAbout (counted_by next) (hears_all None (told ++ told_of now (Line line answers) turn.bytes ∷ [])) =
     served_lives_are_known first began (sent ++ (line ++ crlf)) (told ++ told_of now (Line line answers) turn.bytes ∷ []) turn.standing next none stands legal
     (turns lives (Line line answers) (line ++ crlf) turn next refl tt answer met) in
-    let told_is : told_of now (Line line answers) turn.bytes ≡ Answer_to line turn.bytes = ap (λ (o : Option (List ℕ)). told_line o line turn.bytes) kept in
-    let heard : hears_all None (told ++ Answer_to line turn.bytes ∷ []) ≡ Some (reads client turn.bytes) =
-    hears_last None told (Answer_to line turn.bytes) ∙ ap (λ (c : Option Client). hears c (Answer_to line turn.bytes)) knows ∙ ap (λ (r : Result (List ℕ × Command) ImapFault). answered (asked r) turn.bytes (Some client)) reads_as
+    let told_is : told_of now (Line line answers) turn.bytes ≡ Answer_to whole turn.bytes = ap (λ (o : Option (List ℕ)). told_line o turn.bytes) came in
+    let heard : hears_all None (told ++ Answer_to whole turn.bytes ∷ []) ≡ Some (reads client turn.bytes) =
+    hears_last None told (Answer_to whole turn.bytes) ∙ ap (λ (c : Option Client). hears c (Answer_to whole turn.bytes)) knows ∙ ap (λ (r : Result (List ℕ × Command) ImapFault). answered (asked r) turn.bytes (Some client)) reads_as
     ∙ ap (λ (x : Asked). answered x turn.bytes (Some client)) (neither_shows tag command shows) in
-    let right : IsRightAbout (counted_by next) (hears_all None (told ++ Answer_to line turn.bytes ∷ [])) =
+    let right : IsRightAbout (counted_by next) (hears_all None (told ++ Answer_to whole turn.bytes ∷ [])) =
     subst (λ (one : Told). IsRightAbout (counted_by next) (hears_all None (told ++ one ∷ []))) told_is after in
-    let all : IsRightAbout (messages_in here.mailbox next.history) (hears_all None (told ++ Answer_to line turn.bytes ∷ [])) =
-    subst (λ (us : List ℕ). IsRightAbout us (hears_all None (told ++ Answer_to line turn.bytes ∷ []))) view right in
-    has_list (messages_in here.mailbox next.history) (reads client turn.bytes) (hears_all None (told ++ Answer_to line turn.bytes ∷ [])) heard
+    let all : IsRightAbout (messages_in here.mailbox next.history) (hears_all None (told ++ Answer_to whole turn.bytes ∷ [])) =
+    subst (λ (us : List ℕ). IsRightAbout us (hears_all None (told ++ Answer_to whole turn.bytes ∷ []))) view right in
+    has_list (messages_in here.mailbox next.history) (reads client turn.bytes) (hears_all None (told ++ Answer_to whole turn.bytes ∷ [])) heard
     (subst (λ (c : Option Client). IsRightAbout (messages_in here.mailbox next.history) c) heard all)

@@ -121,12 +121,12 @@ went_both a b c x y z sent more said further f g = record {
   wrote = ap (λ (l : List ℕ). l ++ further) f.wrote ∙ ap (λ (l : List ℕ). flat_map bytes_in f.told ++ l) g.wrote ∙ sym (flat_map-append bytes_in f.told g.told);
 }
 
-line_bytes : (tag : Option (List ℕ)) (line bytes : List ℕ) → bytes_in (told_line tag line bytes) ≡ bytes
-line_bytes None line bytes = refl
-line_bytes (Some tag) line bytes = refl
+line_bytes : (whole : Option (List ℕ)) (bytes : List ℕ) → bytes_in (told_line whole bytes) ≡ bytes
+line_bytes None bytes = refl
+line_bytes (Some line) bytes = refl
 
 told_bytes : (now : Standing) (happening : Happening) (bytes : List ℕ) → bytes_in (told_of now happening bytes) ≡ bytes
-told_bytes now (talk.Line line answers) bytes = line_bytes _ line bytes
+told_bytes now (talk.Line line answers) bytes = line_bytes _ bytes
 told_bytes now talk.LongLine bytes = refl
 told_bytes now (talk.Turned answers) bytes = refl
 told_bytes now (talk.Literal kept literal) bytes = refl

@@ -15,7 +15,7 @@ use Rattle.delivery_token.specs.declared.Verdict.{Verdict}
 use Rattle.mailbox.specs.declared.clients.MailFault.TheVariants.{Stranger, Lapped}
 use Rattle.imap_session.specs.declared.standing.Selected.{Selected}
 use Rattle.imap_session.specs.Exchange.{Answer, Fed, Refused, is_idling, PendingLiteral, Asked, Dropped, Folder, ForDone, ForLiteral, ForNothing, ForVerdict, Mailing, Sent, Standing, Turn, Unasked, Waiting, waiting}
-use Rattle.imap_session.specs.Commands.{due_of, fault_text, idle_turn_in, kept_text, number_named, on_command, on_idle_line, on_read, on_rest, on_verdict, only_says, taking, turn_behind, turn_of, turn_while, turn_with, with_bytes, without_begun, without_sent, logged_in, login_completed, logs_in_as, on_line, says}
+use Rattle.imap_session.specs.Commands.{due_of, fault_text, idle_turn_in, kept_text, number_named, on_command, on_idle_line, on_read, on_rest, on_verdict, only_says, taking, turn_behind, turn_of, turn_while, turn_with, with_bytes, without_begun, without_sent, logged_in, logs_in_as, on_line, says}
 use Rattle.imap_session.specs.Store.{IdleTurns, Met}
 use Rattle.house_peers.proofs.Rising.{idles_keep}
 use Rattle.laws_client.specs.Talks.{Happening, Line, LongLine, Turned, Literal, Heard, leads_to}

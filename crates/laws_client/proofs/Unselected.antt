@@ -15,7 +15,7 @@ use Rattle.imap_grammar.specs.declared.command.Command.TheVariants as commands
 use Rattle.imap_grammar.specs.declared.command.ImapFault.{ImapFault}
 use Rattle.imap_session.specs.declared.standing.Selected.{Selected}
 use Rattle.imap_session.specs.Exchange.{Answer, PendingLiteral, Entered, Left, Refused, Event, Exchange, Put, Enter, Leave, Folder, Standing, Turn, closed, having, kept_behind, kept_tag, played, refusal_after, refused, saying, tagged}
-use Rattle.imap_session.specs.Commands.{closing, entering, folder_of, on_command, on_folder, on_found, on_read, opened, says, telling_recent, turn_behind, turn_of, turn_while, wanting, entered_text, barred_at, logs_in_as, on_line}
+use Rattle.imap_session.specs.Commands.{closing, entering, folder_of, on_command, on_folder, on_found, on_read, opened, says, telling_recent, turn_behind, turn_of, turn_while, wanting, entered_text, barred_at, logs_in_as, on_line, on_text_line, without_begun}
 use Rattle.imap_session.specs.Store.{Met}
 use Rattle.imap_answers.specs.Answers.{all_flags, opening_text}
 use Rattle.laws_client.specs.ListTurns.{IsTag}
@@ -33,6 +33,7 @@ use Rattle.imap_session.specs.declared.standing.Profile.TheVariants.{Standard, C
 use Rattle.imap_session.specs.declared.texts.ResponseText.{ResponseText}
 use Rattle.laws_client.proofs.Barred.{login_asks}
 use Rattle.change_ring.specs.declared.change.Flags.{Flags}
+use Rattle.laws_client.proofs.WholeLines.{unfinished_asks, text_has, whole_turn}
 
 -- ---- the OK behind what is told of a mailbox that was entered
 
@@ -190,17 +191,12 @@ read_none : (now : Standing) (r : Result (List ℕ × Command) ImapFault) (asks 
 read_none now (Ok line) asks answers turn t h a e unsaid = barred_none now line.0 asks line.1 answers turn t h a e unsaid
 read_none now (Err fault) asks answers turn t h a e unsaid = absurd cc
 
-line_none : (now : Standing) (line asks : List ℕ) (answers : List Answer) (turn : Turn) → HasLoggedIn now → kept_tag now ≡ None → asked (read line) ≡ Entering asks → turn_of now line answers ≡ Some turn
+text_none : (now : Standing) (line asks : List ℕ) (answers : List Answer) (turn : Turn) → HasLoggedIn now → asked (read line) ≡ Entering asks → on_text_line now line answers ≡ Some turn
     → has_ok true asks turn.bytes ≡ false → (turn.standing.selected ≡ None) ⊎ Kept now turn
-line_none now line asks answers turn h awake a e unsaid = by now.mailing.begun now.idling refl refl awake
-  where
-    by : (begun : Option PendingLiteral) (idling : Option (List ℕ)) → begun ≡ now.mailing.begun → idling ≡ now.idling → kept_behind begun idling ≡ None → (turn.standing.selected ≡ None) ⊎ Kept now turn
-    by (Some a) idling p q none = absurd (none-some a.tag (sym none))
-    by None (Some tag) p q none = absurd (none-some tag (sym none))
-    by None None p q none =
-        let first : turn_while now.idling now line answers ≡ Some turn = subst (λ (o : Option PendingLiteral). turn_behind o now line answers ≡ Some turn) (sym p) e in
-        let second : on_read now (read line) answers ≡ Some turn = subst (λ (o : Option (List ℕ)). turn_while o now line answers ≡ Some turn) (sym q) first in
-        read_none now (read line) asks answers turn (read_tagged line) h a second unsaid
+text_none now line asks answers turn h a e unsaid =
+    text_has IsTag (λ o. o ≡ Some turn → (turn.standing.selected ≡ None) ⊎ Kept now turn) now line answers (read_tagged line)
+    (λ tag x t part lacks d. let other : Neither ≡ Entering asks = sym (unfinished_asks now.login (read line) lacks) ∙ a in absurd cc)
+    (λ d. read_none now (read line) asks answers turn (read_tagged line) h a d unsaid) e
 
 -- ---- in a world: there who has selected a mailbox may leave it
 
@@ -217,8 +213,8 @@ kept_ends k events w n now turn v is kept met = by kept.fault kept.standing (sub
     by NoMemory e m = absurd m.1.1.1.2
 
 pub refused_selects_none : RefusedSelectsNone
-refused_selects_none k events w n now line tag answers turn v is h awake asks e met unsaid = by (line_none now line tag answers turn h awake asks e unsaid)
+refused_selects_none k events w n now line whole tag answers turn v is h came asks e met unsaid = by (text_none (without_begun now) whole tag answers turn h asks (sym (whole_turn now line whole answers came) ∙ e) unsaid)
   where
-    by : (turn.standing.selected ≡ None) ⊎ Kept now turn → (turn.standing.selected ≡ None) ⊎ (turn.standing.ended ≡ true)
+    by : (turn.standing.selected ≡ None) ⊎ Kept (without_begun now) turn → (turn.standing.selected ≡ None) ⊎ (turn.standing.ended ≡ true)
     by (inl none) = inl none
-    by (inr kept) = inr (kept_ends k events w n now turn v is kept met)
+    by (inr kept) = inr (kept_ends k events w n (without_begun now) turn v is kept met)

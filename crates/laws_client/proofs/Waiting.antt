@@ -1,5 +1,5 @@
 -- What a session knows of the messages that its client appends: it changes where an exchange waits, and by what it waits for.
-use Rattle.std.proofs.Common.{◌≡◌, ◌⊎◌, inl, inr, ℕ, zero, suc, ◌+◌, Bool, true, false, List, [], ◌∷◌, length, refl, subst, Option, Some, None, ◌++◌}
+use Rattle.std.proofs.Common.{◌≡◌, ◌⊎◌, inl, inr, ℕ, zero, suc, ◌+◌, Bool, true, false, List, [], ◌∷◌, length, refl, subst, Option, Some, None, ◌++◌, take}
 use Rattle.std.specs.Prelude.{nat_le, nat_lt, ◌==◌, if◌then◌else◌}
 use Rattle.std.specs.List.{list_any}
 use Rattle.std.specs.Option.{option_map}
@@ -24,8 +24,8 @@ use Rattle.imap_session.specs.declared.standing.After.TheVariants.{Go, Bye}
 use Rattle.imap_session.specs.declared.standing.After.TheVariants as afters
 use Rattle.imap_session.specs.declared.standing.Selected.{Selected}
 use Rattle.imap_session.specs.Exchange as ex
-use Rattle.imap_session.specs.Exchange.{Answer, PendingLiteral, Asked, Call, Dropped, Entered, Looked, Found, Counted, Altered, Expunged, Fed, Left, Refused, Starved, Exchange, Folder, ForDone, ForLiteral, ForNothing, ForVerdict, Mailing, Standing, Turn, Unasked, Waiting, bye, closed, having, played, refusal_after, saying, text_before, unkept, waiting, where_long, refused}
-use Rattle.imap_session.specs.Commands.{appending, asking, closing, coming, completed, counting, entering, expunge_set, fetch_messages, fetching, folder_of, if_writable, is_over, last_number, messages_done, most_unasked, notice, noticing, nowhere, number_named, on_chosen, on_command, on_found, on_idle_line, on_rest, on_text, on_verdict, over, says, showing, store_messages, storing, telling_recent, unlimited, wanting, wanting_for, wrong_state, entered_text, logged_in, login_completed, logs_in_as, on_line, found_in, search_done, search_known, search_messages, searching}
+use Rattle.imap_session.specs.Exchange.{Answer, PendingLiteral, Asked, Call, Dropped, Entered, Looked, Found, Counted, Altered, Expunged, Fed, Left, Refused, Starved, Exchange, Folder, ForDone, ForLiteral, ForNothing, ForVerdict, Mailing, Standing, Turn, Unasked, Waiting, bye, closed, having, played, refusal_after, saying, text_before, unkept, waiting, where_long, refused, Argument, Message, Response, Purpose, nameless}
+use Rattle.imap_session.specs.Commands.{appending, asking, closing, coming, completed, counting, entering, expunge_set, fetch_messages, fetching, folder_of, if_writable, is_over, last_number, messages_done, most_unasked, notice, noticing, nowhere, number_named, on_chosen, on_command, on_found, on_idle_line, on_rest, on_text, on_verdict, over, says, showing, store_messages, storing, telling_recent, unlimited, wanting, wanting_for, wrong_state, entered_text, logged_in, logs_in_as, on_line, found_in, search_done, search_known, search_messages, searching, awaiting_argument, comes_unasked, flags_for, mailbox_for, awaiting_response, given_up, most_line}
 use Rattle.imap_session.specs.declared.texts.ResponseText.TheVariants as texts
 use Rattle.imap_session.specs.Texts.{response_text}
 use Rattle.imap_session.specs.declared.standing.Profile.{Profile}
@@ -34,6 +34,9 @@ use Rattle.laws_client.proofs.Barred.{line_case}
 use Rattle.imap_grammar.specs.declared.command.Search.{Search}
 use Rattle.imap_grammar.specs.declared.view.Named.{Named}
 use Rattle.imap_grammar.specs.Keys.{all_messages}
+use Rattle.imap_session.specs.declared.texts.ResponseText.{ResponseText}
+use Rattle.imap_grammar.specs.declared.command.Literal.{Literal}
+use Rattle.imap_grammar.specs.Literals.{announced}
 
 -- ---- an exchange
 
@@ -54,12 +57,12 @@ WaitsAs A (ex.Leave remove x) = WaitsAs A x
 
 -- who waits for a literal that wasn't asked for may drop its bytes
 abbrev pub Drops : (Waiting → Type 0) → Type 0
-Drops A = (mailbox : Option ℕ) (flags : Flags) (size : ℕ) → A (ForLiteral Unasked purpose size) → A (ForLiteral Dropped purpose size)
+Drops A = (purpose : Purpose) (size : ℕ) → A (ForLiteral Unasked purpose size) → A (ForLiteral Dropped (nameless purpose) size)
 
 -- what is known of messages where it waits so
 abbrev pub waiting_mail : List ℕ → Waiting → Mailing → Mailing
 waiting_mail tag ForDone m = m
-waiting_mail tag (ForLiteral coming purpose size) m = record m { begun = Some (record { tag = tag; mailbox = mailbox; flags = flags; size = size; due = size; text = text_before coming }) }
+waiting_mail tag (ForLiteral coming purpose size) m = record m { begun = Some (record { tag = tag; purpose = purpose; size = size; due = size; text = text_before coming }) }
 waiting_mail tag (ForVerdict mailbox flags text) m = record m { number = m.number + 1; sent = Some (record { tag = tag; append = record { message = m.number; mailbox = mailbox; text = text; flags = flags } }) }
 waiting_mail tag ForNothing m = m
 
@@ -109,7 +112,7 @@ unkept_mail A drops tag ForDone now zero p = long_mail A tag now.mailing (refuse
 unkept_mail A drops tag ForDone now (suc n) p = tt
 unkept_mail A drops tag (ForLiteral Asked purpose size) now zero p = long_mail A tag now.mailing (refused tag now NoMemory) (closed_mail A tag now (refusal_after NoMemory))
 unkept_mail A drops tag (ForLiteral Asked purpose size) now (suc n) p = tt
-unkept_mail A drops tag (ForLiteral Unasked purpose size) now zero p = inr (ForLiteral Dropped purpose size, drops mailbox flags size p, refl)
+unkept_mail A drops tag (ForLiteral Unasked purpose size) now zero p = inr (ForLiteral Dropped (nameless purpose) size, drops purpose size p, refl)
 unkept_mail A drops tag (ForLiteral Unasked purpose size) now (suc zero) p = long_mail A tag now.mailing _ (inl refl)
 unkept_mail A drops tag (ForLiteral Unasked purpose size) now (suc (suc n)) p = tt
 unkept_mail A drops tag (ForLiteral Dropped purpose size) now zero p = tt
@@ -313,12 +316,12 @@ in_storing A store view done p (uid ∷ uids) gone =
 -- an APPEND waits for the literal that it announced, for the mailbox that it named
 abbrev pub ForItsLiteral : Option ℕ → Append → Waiting → Type 0
 ForItsLiteral found append (ForLiteral Dropped purpose size) = Unit {0}
-ForItsLiteral found append (ForLiteral coming purpose size) = (mailbox ≡ found) × (flags ≡ append.flags) × (size ≡ append.literal.size)
+ForItsLiteral found append (ForLiteral coming purpose size) = (purpose ≡ Message found append.flags) × (size ≡ append.literal.size)
 ForItsLiteral found append ForNothing = Unit {0}
 ForItsLiteral found append w = ⊥
 
 literal_drops : (found : Option ℕ) (append : Append) → Drops (ForItsLiteral found append)
-literal_drops found append mailbox flags size p = tt
+literal_drops found append purpose size p = tt
 
 pub append_waits : (most : Option ℕ) (folders : List Folder) (a : Append) → WaitsAs (ForItsLiteral (number_named a.name folders) a) (appending most folders a)
 append_waits most folders a = by (number_named a.name folders)
@@ -329,10 +332,10 @@ append_waits most folders a = by (number_named a.name folders)
 
     by : (found : Option ℕ) → WaitsAs (ForItsLiteral found a) (if a.literal.waits then wanting (on_found (λ mailbox. if is_over most a.literal.size then over most else asking mailbox a.flags a.literal.size) nowhere found)
         else (if nat_lt most_unasked a.literal.size then ex.Wait (bye (response_text texts.LiteralTooBig)) ForNothing else coming found a.flags a.literal.size))
-    by None = in_either (ForItsLiteral None a) a.literal.waits _ _ tt (in_either (ForItsLiteral None a) (nat_lt most_unasked a.literal.size) _ _ tt (refl, refl, refl))
+    by None = in_either (ForItsLiteral None a) a.literal.waits _ _ tt (in_either (ForItsLiteral None a) (nat_lt most_unasked a.literal.size) _ _ tt (refl, refl))
     by (Some m) =
-        in_either (ForItsLiteral (Some m) a) a.literal.waits _ _ (in_either (ForItsLiteral (Some m) a) (is_over most a.literal.size) (over most) _ (over_waits (ForItsLiteral (Some m) a) most) (refl, refl, refl))
-        (in_either (ForItsLiteral (Some m) a) (nat_lt most_unasked a.literal.size) _ _ tt (refl, refl, refl))
+        in_either (ForItsLiteral (Some m) a) a.literal.waits _ _ (in_either (ForItsLiteral (Some m) a) (is_over most a.literal.size) (over most) _ (over_waits (ForItsLiteral (Some m) a) most) (refl, refl))
+        (in_either (ForItsLiteral (Some m) a) (nat_lt most_unasked a.literal.size) _ _ tt (refl, refl))
 
 -- an IDLE waits for DONE, and nothing else waits
 abbrev pub ForItsDone : Waiting → Type 0
@@ -353,7 +356,7 @@ command_waits now commands.Noop other = in_showing ForItsDone now.selected (comp
 command_waits now commands.Logout other = tt
 command_waits now commands.Idle other = tt
 command_waits now (commands.Login user password) other = tt
-command_waits now commands.Authenticate other = tt
+command_waits now (commands.Authenticate a) other = tt
 command_waits now commands.StartTls other = tt
 command_waits now (commands.Select name) other =
     in_closing ForItsDone now.selected _ (in_found ForItsDone (entering now.profile false) (says (response_text texts.NoSuchMailbox)) (λ (f : Folder) opening. in_recent ForItsDone now.profile (says (response_text (entered_text false))) tt) tt (folder_of name now.folders))
@@ -395,7 +398,7 @@ done_mail tag m next (inr (ForLiteral coming purpose size, p, e)) = absurd p
 done_mail tag m next (inr (ForVerdict mailbox flags text, p, e)) = absurd p
 
 done_drops : Drops ForItsDone
-done_drops mailbox flags size p = absurd p
+done_drops purpose size p = absurd p
 
 some_mail : (A : Waiting → Type 0) (tag : List ℕ) (m : Mailing) (o : Option Turn) (turn : Turn) → TurnMail A tag m o → o ≡ Some turn → IsMail A tag m turn.standing.mailing
 some_mail A tag m o turn p e = subst (TurnMail A tag m) e p
@@ -410,16 +413,54 @@ refused_mail tag words now answers turn e = so_mail tag now (says words) answers
 
 pub other_mail : (tag : List ℕ) (now : Standing) (command : Command) (answers : List Answer) (turn : Turn) → IsNoAppend command → on_line (logs_in_as now.login command) now tag command answers ≡ Some turn → turn.standing.mailing ≡ now.mailing
 other_mail tag now command answers turn other e =
-    line_case (turn.standing.mailing ≡ now.mailing) now tag command answers turn (λ logs d. so_mail tag (logged_in now) login_completed answers turn tt d)
+    line_case (turn.standing.mailing ≡ now.mailing) now tag command answers turn (λ logs d. so_mail tag (logged_in now) (completed command) answers turn tt d)
     (λ text is d. refused_mail tag (response_text text) now answers turn d) (λ d. so_mail tag now (on_command now command) answers turn (command_waits now command other) d) e
 
 pub append_mail : (tag : List ℕ) (now : Standing) (append : Append) (answers : List Answer) (turn : Turn) → on_line (logs_in_as now.login (commands.Append append)) now tag (commands.Append append) answers ≡ Some turn
     → IsMail (ForItsLiteral (number_named append.name now.folders) append) tag now.mailing turn.standing.mailing
 append_mail tag now append answers turn e =
     let A : Waiting → Type 0 = ForItsLiteral (number_named append.name now.folders) append in
-    line_case (IsMail A tag now.mailing turn.standing.mailing) now tag (commands.Append append) answers turn (λ logs d. inl (so_mail tag (logged_in now) login_completed answers turn tt d))
+    line_case (IsMail A tag now.mailing turn.standing.mailing) now tag (commands.Append append) answers turn (λ logs d. inl (so_mail tag (logged_in now) (completed (commands.Append append)) answers turn tt d))
     (λ text is d. inl (refused_mail tag (response_text text) now answers turn d))
     (λ d. some_mail A tag now.mailing _ turn (played_mail A (literal_drops (number_named append.name now.folders) append) tag now (on_command now (commands.Append append)) answers (append_waits now.mailing.most now.folders append)) d) e
+
+-- ---- lines that aren't whole yet, and those that are given up
+
+-- it waits for the argument that it announces
+abbrev pub ForItsArgument : (line : List ℕ) → ℕ × Literal → Waiting → Type 0
+ForItsArgument line found (ForLiteral Dropped purpose size) = Unit {0}
+ForItsArgument line found (ForLiteral coming purpose size) = (purpose ≡ Argument (take found.0 line)) × (size ≡ found.1.size)
+ForItsArgument line found ForNothing = Unit {0}
+ForItsArgument line found w = ⊥
+
+argument_drops : (line : List ℕ) (found : ℕ × Literal) → Drops (ForItsArgument line found)
+argument_drops line found purpose size p = tt
+
+pub argument_mail : (tag : List ℕ) (now : Standing) (line : List ℕ) (found : ℕ × Literal) (answers : List Answer) (turn : Turn) → played tag now (awaiting_argument (take found.0 line) found.1) answers ≡ Some turn
+    → IsMail (ForItsArgument line found) tag now.mailing turn.standing.mailing
+argument_mail tag now line found answers turn e =
+    let A : Waiting → Type 0 = ForItsArgument line found in
+    let before : List ℕ = take found.0 line in
+    some_mail A tag now.mailing _ turn (played_mail A (argument_drops line found) tag now (awaiting_argument before found.1) answers
+    (in_either A found.1.waits _ _ (in_either A (nat_lt most_line (length before + found.1.size)) (says (response_text texts.LineTooLong)) _ tt (refl, refl))
+    (in_either A (nat_lt most_unasked found.1.size) (ex.Wait (bye (response_text texts.LiteralTooBig)) ForNothing) (ex.Wait [] (ForLiteral Unasked (Argument before) found.1.size)) tt (refl, refl)))) e
+
+-- or for the response that AUTHENTICATE asks for
+abbrev pub ForItsResponse : (line : List ℕ) → Waiting → Type 0
+ForItsResponse line (ForLiteral Dropped purpose size) = Unit {0}
+ForItsResponse line (ForLiteral coming purpose size) = (purpose ≡ Response line) × (size ≡ 0)
+ForItsResponse line w = ⊥
+
+response_drops : (line : List ℕ) → Drops (ForItsResponse line)
+response_drops line purpose size p = tt
+
+pub response_mail : (tag : List ℕ) (now : Standing) (line : List ℕ) (answers : List Answer) (turn : Turn) → played tag now (awaiting_response line) answers ≡ Some turn → IsMail (ForItsResponse line) tag now.mailing turn.standing.mailing
+response_mail tag now line answers turn e =
+    some_mail (ForItsResponse line) tag now.mailing _ turn (played_mail (ForItsResponse line) (response_drops line) tag now (awaiting_response line) answers (refl, refl)) e
+
+pub given_mail : (tag : List ℕ) (now : Standing) (rest : List ℕ) (told parting : ResponseText) (answers : List Answer) (turn : Turn) → played tag now (given_up rest told parting) answers ≡ Some turn → turn.standing.mailing ≡ now.mailing
+given_mail tag now rest told parting answers turn e =
+    so_mail tag now (given_up rest told parting) answers turn (in_either ForItsDone (comes_unasked (announced rest)) (ex.Wait (bye (response_text parting)) ForNothing) (says (response_text told)) tt tt) e
 
 -- ---- other lines, and verdicts
 
@@ -438,17 +479,17 @@ verdict_mail tag now selected mailbox verdict answers turn e = so_mail tag now (
 
 -- behind a literal it waits for the verdict on that message
 abbrev pub ForItsVerdict : PendingLiteral → Bool → Waiting → Type 0
-ForItsVerdict a empty (ForVerdict mailbox flags text) = (a.mailbox ≡ Some mailbox) × (flags ≡ a.flags) × (a.text ≡ Some text) × (empty ≡ true)
+ForItsVerdict a empty (ForVerdict mailbox flags text) = (mailbox_for a.purpose ≡ Some mailbox) × (flags ≡ flags_for a.purpose) × (a.text ≡ Some text) × (empty ≡ true)
 ForItsVerdict a empty w = ⊥
 
 verdict_drops : (a : PendingLiteral) (empty : Bool) → Drops (ForItsVerdict a empty)
-verdict_drops a empty mailbox flags size p = absurd p
+verdict_drops a empty purpose size p = absurd p
 
 over_so : (A : Waiting → Type 0) (most : Option ℕ) → WaitsAs A (over most)
 over_so A None = tt
 over_so A (Some most) = tt
 
-text_waits : (mailing : Mailing) (a : PendingLiteral) (empty : Bool) (text : List ℕ) (mailbox : ℕ) → a.mailbox ≡ Some mailbox → a.text ≡ Some text → empty ≡ true → WaitsAs (ForItsVerdict a empty) (on_text mailing a text mailbox)
+text_waits : (mailing : Mailing) (a : PendingLiteral) (empty : Bool) (text : List ℕ) (mailbox : ℕ) → (mailbox_for a.purpose) ≡ Some mailbox → a.text ≡ Some text → empty ≡ true → WaitsAs (ForItsVerdict a empty) (on_text mailing a text mailbox)
 text_waits mailing a empty text mailbox m t e =
     let A : Waiting → Type 0 = ForItsVerdict a empty in
     in_either A (is_over mailing.most a.size) (over mailing.most) _ (over_so A mailing.most)
@@ -458,15 +499,15 @@ text_waits mailing a empty text mailbox m t e =
 rest_waits : (mailing : Mailing) (a : PendingLiteral) (empty : Bool) → WaitsAs (ForItsVerdict a empty) (on_rest mailing a empty)
 rest_waits mailing a empty = by_text a.text refl
   where
-    by_mailbox : (text : List ℕ) → a.text ≡ Some text → empty ≡ true → (found : Option ℕ) → a.mailbox ≡ found → WaitsAs (ForItsVerdict a empty) (on_found (on_text mailing a text) nowhere found)
+    by_mailbox : (text : List ℕ) → a.text ≡ Some text → empty ≡ true → (found : Option ℕ) → (mailbox_for a.purpose) ≡ found → WaitsAs (ForItsVerdict a empty) (on_found (on_text mailing a text) nowhere found)
     by_mailbox text t e None m = tt
     by_mailbox text t e (Some mailbox) m = text_waits mailing a empty text mailbox m t e
 
-    by_empty : (text : List ℕ) → a.text ≡ Some text → (b : Bool) → empty ≡ b → WaitsAs (ForItsVerdict a empty) (if b then on_found (on_text mailing a text) nowhere a.mailbox else says (response_text texts.InvalidArguments))
-    by_empty text t true e = by_mailbox text t e a.mailbox refl
+    by_empty : (text : List ℕ) → a.text ≡ Some text → (b : Bool) → empty ≡ b → WaitsAs (ForItsVerdict a empty) (if b then on_found (on_text mailing a text) nowhere (mailbox_for a.purpose) else says (response_text texts.InvalidArguments))
+    by_empty text t true e = by_mailbox text t e (mailbox_for a.purpose) refl
     by_empty text t false e = tt
 
-    by_text : (o : Option (List ℕ)) → a.text ≡ o → WaitsAs (ForItsVerdict a empty) (on_found (λ text. if empty then on_found (on_text mailing a text) nowhere a.mailbox else says (response_text texts.InvalidArguments)) (says (response_text texts.OutOfMemory)) o)
+    by_text : (o : Option (List ℕ)) → a.text ≡ o → WaitsAs (ForItsVerdict a empty) (on_found (λ text. if empty then on_found (on_text mailing a text) nowhere (mailbox_for a.purpose) else says (response_text texts.InvalidArguments)) (says (response_text texts.OutOfMemory)) o)
     by_text None t = tt
     by_text (Some text) t = by_empty text t empty refl
 

@@ -11,10 +11,12 @@ use Rattle.imap_grammar.specs.declared.command.Command.TheVariants as commands
 use Rattle.imap_grammar.specs.declared.command.ImapFault.{ImapFault}
 use Rattle.imap_grammar.specs.declared.command.ImapFault.TheVariants.{NoTag, Unknown, LeftOut, Arguments}
 use Rattle.change_ring.specs.declared.change.Flags.{Flags}
+use Rattle.imap_session.specs.declared.texts.ResponseText.{ResponseText}
 use Rattle.imap_session.specs.declared.texts.ResponseText.TheVariants as texts
 use Rattle.imap_session.specs.Exchange.{Answer, Argument, Exchange, Message, PendingLiteral, Purpose, Response, Standing, Turn, played}
-use Rattle.imap_session.specs.Commands.{awaiting_response, fault_tag, given_up, lacks_literal, lacks_part, literal_in, logs_in_as, most_line, on_behind, on_idle_line, on_line, on_part, on_read, on_rest, on_rest_of, on_text_line, response_in, turn_behind, turn_of, turn_while, wants_response, without_begun}
-use Rattle.imap_session.proofs.Parts.{IsPart, argument_part, challenge_part, given_part}
+use Rattle.imap_grammar.specs.declared.command.Authenticate.{Authenticate}
+use Rattle.imap_session.specs.Commands.{awaiting_argument, awaiting_response, fault_tag, given_up, lacks_literal, lacks_part, literal_in, logs_in_as, most_line, on_behind, on_idle_line, on_line, on_part, on_read, on_rest, on_rest_of, on_text_line, response_in, turn_behind, turn_of, turn_while, wants_response, without_begun}
+use Rattle.imap_session.proofs.Parts.{IsPart, argument_part, challenge_part, given_part, is_parting, is_told}
 use Rattle.imap_session.specs.declared.standing.Profile.{Profile}
 use Rattle.imap_session.specs.declared.standing.Profile.TheVariants.{Standard, Compatible}
 use Rattle.laws_client.proofs.Tags.{TaggedOf}
@@ -26,21 +28,21 @@ bare : (now : Standing) → now.mailing.begun ≡ None → now.idling ≡ None �
 bare now b i = ap₂ (λ (begun : Option PendingLiteral) (idling : Option (List ℕ)). record now { idling = idling; mailing = record now.mailing { begun = begun } }) (sym b) (sym i)
 
 -- What holds of the answer to a line that ends an IDLE, or stands behind a message, or is given up, and of each that came as a command, holds of the answer to a line.
-pub turn_has : (Q : Option (List ℕ) → Option Turn → Type 0) (now : Standing) (line : List ℕ) (answers : List Answer)
+pub turn_given : (Q : Option (List ℕ) → Option Turn → Type 0) (now : Standing) (line : List ℕ) (answers : List Answer)
     → ((tag : List ℕ) → now.mailing.begun ≡ None → now.idling ≡ Some tag → Q None (played tag (record now { idling = None }) (on_idle_line now.selected line) answers))
     → ((a : PendingLiteral) (mailbox : Option ℕ) (flags : Flags) → now.mailing.begun ≡ Some a → a.purpose ≡ Message mailbox flags → Q None (played a.tag (without_begun now) (on_rest now.mailing a (length line == 0)) answers))
-    → ((a : PendingLiteral) (x : Exchange) → now.mailing.begun ≡ Some a → IsPart x → Q None (played a.tag (without_begun now) x answers))
+    → ((a : PendingLiteral) (told parting : ResponseText) → now.mailing.begun ≡ Some a → is_told told ≡ true → is_parting parting ≡ true → Q None (played a.tag (without_begun now) (given_up line told parting) answers))
     → ((whole : List ℕ) → whole_line now line ≡ Some whole → Q (Some whole) (on_text_line (without_begun now) whole answers))
     → Q (whole_line now line) (turn_of now line answers)
-turn_has Q now line answers idles message part said = behind now.mailing.begun refl
+turn_given Q now line answers idles message given said = behind now.mailing.begun refl
   where
     short : (a : PendingLiteral) → now.mailing.begun ≡ Some a → (whole : List ℕ) (long : Bool) → whole_line now line ≡ (if long then None else Some whole)
         → Q (if long then None else Some whole) (if long then played a.tag (without_begun now) (given_up line texts.LineTooLong texts.LiteralTooBig) answers else on_text_line (without_begun now) whole answers)
-    short a is whole true e = part a _ is (given_part line texts.LineTooLong texts.LiteralTooBig refl refl)
+    short a is whole true e = given a texts.LineTooLong texts.LiteralTooBig is refl refl
     short a is whole false e = said whole e
 
     joined : (a : PendingLiteral) → now.mailing.begun ≡ Some a → (text : Option (List ℕ)) → whole_line now line ≡ if_kept text → Q (if_kept text) (on_behind a.tag (without_begun now) text line answers)
-    joined a is None e = part a _ is (given_part line texts.OutOfMemory texts.ByeOutOfMemory refl refl)
+    joined a is None e = given a texts.OutOfMemory texts.ByeOutOfMemory is refl refl
     joined a is (Some whole) e = short a is whole (nat_lt most_line (length whole)) e
 
     purposed : (a : PendingLiteral) → now.mailing.begun ≡ Some a → (purpose : Purpose) → a.purpose ≡ purpose → whole_line now line ≡ whole_behind purpose a.text line → Q (whole_behind purpose a.text line) (on_rest_of purpose a now line answers)
@@ -57,6 +59,16 @@ turn_has Q now line answers idles message part said = behind now.mailing.begun r
     behind : (begun : Option PendingLiteral) → now.mailing.begun ≡ begun → Q (whole_in begun now.idling line) (turn_behind begun now line answers)
     behind None b = while b now.idling refl
     behind (Some a) b = purposed a b a.purpose refl (ap (λ (o : Option PendingLiteral). whole_in o now.idling line) b)
+
+-- the same, where it doesn't matter how a line is given up
+pub turn_has : (Q : Option (List ℕ) → Option Turn → Type 0) (now : Standing) (line : List ℕ) (answers : List Answer)
+    → ((tag : List ℕ) → now.mailing.begun ≡ None → now.idling ≡ Some tag → Q None (played tag (record now { idling = None }) (on_idle_line now.selected line) answers))
+    → ((a : PendingLiteral) (mailbox : Option ℕ) (flags : Flags) → now.mailing.begun ≡ Some a → a.purpose ≡ Message mailbox flags → Q None (played a.tag (without_begun now) (on_rest now.mailing a (length line == 0)) answers))
+    → ((a : PendingLiteral) (x : Exchange) → now.mailing.begun ≡ Some a → IsPart x → Q None (played a.tag (without_begun now) x answers))
+    → ((whole : List ℕ) → whole_line now line ≡ Some whole → Q (Some whole) (on_text_line (without_begun now) whole answers))
+    → Q (whole_line now line) (turn_of now line answers)
+turn_has Q now line answers idles message part said =
+    turn_given Q now line answers idles message (λ a told parting b t p. part a (given_up line told parting) b (given_part line told parting t p)) said
 
 -- what came as a command is answered as such, by the session as it stands then
 pub whole_turn : (now : Standing) (line whole : List ℕ) (answers : List Answer) → whole_line now line ≡ Some whole → turn_of now line answers ≡ on_text_line (without_begun now) whole answers
@@ -118,6 +130,35 @@ text_has P Q now line answers t part whole = by (read line) t part
     by : (r : Result (List ℕ × Command) ImapFault) → TaggedOf P r → ((tag : List ℕ) (x : Exchange) → P tag → IsPart x → IsUnfinished now.login r → Q (played tag now x answers)) → Q (on_part (lacks_part now.profile now.login line r) now line answers)
     by (Ok said) t part = response (wants_response now.login said.1) said.0 t (λ waits x is. part said.0 x t is waits)
     by (Err fault) t part = in_profile now.profile fault (fault_tagged P fault t) (λ tag x tagged is. part tag x tagged is tt)
+
+-- the same, by what is awaited
+pub text_awaits : (Q : Option Turn → Type 0) (now : Standing) (line : List ℕ) (answers : List Answer)
+    → ((tag : List ℕ) (found : ℕ × Literal) → announced line ≡ Some found → Q (played tag now (awaiting_argument (take found.0 line) found.1) answers))
+    → ((tag : List ℕ) (a : Authenticate) → read line ≡ Ok (tag, commands.Authenticate a) → Q (played tag now (awaiting_response line) answers)) → Q (on_read now (read line) answers) → Q (on_text_line now line answers)
+text_awaits Q now line answers argument response whole = by (read line) response
+  where
+    literal : (tag : Option (List ℕ)) (found : Option (ℕ × Literal)) → announced line ≡ found → Q (on_part (lacks_literal line tag found) now line answers)
+    literal None found e = whole
+    literal (Some tag) None e = whole
+    literal (Some tag) (Some found) e = argument tag found e
+
+    in_profile : (profile : Profile) (fault : ImapFault) → Q (on_part (literal_in profile line fault) now line answers)
+    in_profile Standard fault = whole
+    in_profile Compatible fault = literal (fault_tag fault) (announced line) refl
+
+    waits : (b : Bool) (tag : List ℕ) → (b ≡ true → Q (played tag now (awaiting_response line) answers)) → Q (on_part (if b then Some (tag, awaiting_response line) else None) now line answers)
+    waits true tag r = r refl
+    waits false tag r = whole
+
+    logs_in : (login : Option (List ℕ)) (said : List ℕ × Command) → ((tag : List ℕ) (a : Authenticate) → ◌≡◌ {A = Result (List ℕ × Command) ImapFault} (Ok said) (Ok (tag, commands.Authenticate a)) → Q (played tag now (awaiting_response line) answers))
+        → wants_response login said.1 ≡ true → Q (played said.0 now (awaiting_response line) answers)
+    logs_in None said r e = absurd (false≢true e)
+    logs_in (Some user) (tag, commands.Authenticate a) r e = r tag a refl
+    logs_in (Some user) (tag, _) r e = absurd (false≢true e)
+
+    by : (r : Result (List ℕ × Command) ImapFault) → ((tag : List ℕ) (a : Authenticate) → r ≡ Ok (tag, commands.Authenticate a) → Q (played tag now (awaiting_response line) answers)) → Q (on_part (lacks_part now.profile now.login line r) now line answers)
+    by (Ok said) response = waits (wants_response now.login said.1) said.0 (logs_in now.login said response)
+    by (Err fault) response = in_profile now.profile fault
 
 -- it asks for no mailbox, and leaves none
 pub unfinished_asks : (login : Option (List ℕ)) (r : Result (List ℕ × Command) ImapFault) → IsUnfinished login r → asked r ≡ Neither

@@ -32,7 +32,7 @@ use Rattle.laws_client.specs.Views.{messages_of, view_of}
 use Rattle.laws_client.proofs.RecordCurrent.{fed_or_refused}
 use Rattle.laws_client.proofs.RecordEntering.{mapped, only_done, only_refused}
 use Rattle.laws_client.proofs.LastLines.{Apart, IsWord, Spares, TurnFine, apart_tells_none, refusal_apart, silence_tells_none, tagged_apart}
-use Rattle.laws_client.proofs.LastRests.{long_line_apart, no_apart, rest_fine}
+use Rattle.laws_client.proofs.LastRests.{long_line_apart, no_apart, part_fine, rest_fine}
 use Rattle.laws_client.proofs.LastTurns.{IsFine, idle_fine}
 use Rattle.laws_client.proofs.Living.{hears_last, lives_known}
 use Rattle.laws_client.proofs.Moved.{Calls, short_met}
@@ -42,6 +42,8 @@ use Rattle.laws_client.proofs.RecordWorlds.{sound_always}
 use Rattle.imap_session.specs.declared.texts.ResponseText.TheVariants as texts
 use Rattle.imap_session.specs.Texts.{response_text}
 use Rattle.imap_grammar.specs.declared.command.Verb.TheVariants as verbs
+use Rattle.laws_client.specs.Commands.{whole_line}
+use Rattle.laws_client.proofs.WholeLines.{turn_has}
 
 -- ---- words that say OK
 
@@ -119,25 +121,17 @@ verdict_current k n mailbox (verdicts.Refused why) tag t selected now w answers 
 
 -- a line that came to no command
 kept_current : (k : Config) (n : ℕ) (now : Standing) (line : List ℕ) (selected : Selected) (w : World) (answers : List Answer) (turn : Turn) (v : World) → Kept k w → AreTagsOf IsWord now → now.selected ≡ Some selected
-    → (tag : List ℕ) → kept_tag now ≡ Some tag → turn_of now line answers ≡ Some turn → Met (Calls k n) w turn.events v → SaysOk turn.bytes → IsCurrent v n
-kept_current k n now line selected w answers turn v K t there tag kept e met ok = behind now.mailing.begun refl
+    → whole_line now line ≡ None → turn_of now line answers ≡ Some turn → Met (Calls k n) w turn.events v → SaysOk turn.bytes → IsCurrent v n
+kept_current k n now line selected w answers turn v K t there none e met ok =
+    turn_has (λ whole o. whole ≡ None → o ≡ Some turn → IsCurrent v n) now line answers
+    (λ tag b i h d. idle_line_current k n tag line selected (record now { idling = None }) w answers turn v K (subst (λ (o : Option (List ℕ)). IfSome o IsWord) i t.0)
+    (subst (λ (o : Option Selected). played tag (record now { idling = None }) (on_idle_line o line) answers ≡ Some turn) there d) met ok)
+    (λ a mailbox flags b p h d. absurd (never_turn _ turn (rest_fine starts_ok ok_spares now.mailing a (length line == 0) a.tag (begun_word a b) (without_begun now) answers) d ok))
+    (λ a x b part h d. absurd (never_turn _ turn (part_fine starts_ok ok_spares x part a.tag (begun_word a b) (without_begun now) answers) d ok))
+    (λ whole w h d. absurd (none-some whole (sym h))) none e
   where
-    while : (idling : Option (List ℕ)) → now.idling ≡ idling → now.mailing.begun ≡ None → IsCurrent v n
-    while None is none =
-        absurd (none-some tag (sym is ∙ ap (λ (b : Option PendingLiteral). kept_behind b now.idling) (sym none) ∙ kept))
-    while (Some i) is none =
-        let first : turn_while now.idling now line answers ≡ Some turn = subst (λ (o : Option PendingLiteral). turn_behind o now line answers ≡ Some turn) none e in
-        let second : turn_while (Some i) now line answers ≡ Some turn = subst (λ (o : Option (List ℕ)). turn_while o now line answers ≡ Some turn) is first in
-        let third : played i (record now { idling = None }) (on_idle_line (Some selected) line) answers ≡ Some turn =
-        subst (λ (o : Option Selected). played i (record now { idling = None }) (on_idle_line o line) answers ≡ Some turn) there second in
-        idle_line_current k n i line selected (record now { idling = None }) w answers turn v K (subst (λ (o : Option (List ℕ)). IfSome o IsWord) is t.0) third met ok
-
-    behind : (begun : Option PendingLiteral) → now.mailing.begun ≡ begun → IsCurrent v n
-    behind None is = while now.idling refl is
-    behind (Some a) is =
-        let first : turn_behind (Some a) now line answers ≡ Some turn = subst (λ (o : Option PendingLiteral). turn_behind o now line answers ≡ Some turn) is e in
-        let word : IsWord a.tag = subst (λ (o : Option PendingLiteral). IfSome o (λ (x : PendingLiteral). IsWord x.tag)) is t.1 in
-        absurd (never_turn _ turn (rest_fine starts_ok ok_spares now.mailing a (length line == 0) a.tag word (without_begun now) answers) first ok)
+    begun_word : (a : PendingLiteral) → now.mailing.begun ≡ Some a → IsWord a.tag
+    begun_word a b = subst (λ (o : Option PendingLiteral). IfSome o (λ (x : PendingLiteral). IsWord x.tag)) b t.1
 
 is_words : Told → List ℕ → Type 0
 is_words (Words bytes) b = bytes ≡ b
@@ -147,12 +141,12 @@ is_words (Answer_to line bytes) b = ⊥
 words_current : (k : Config) (n : ℕ) (now : Standing) (happening : Happening) (selected : Selected) (w : World) (turn : Turn) (v : World) (bytes : List ℕ) → Kept k w → AreTagsOf IsWord now → now.selected ≡ Some selected
     → told_of now happening turn.bytes ≡ Words bytes → leads_to now happening ≡ Some turn → Met (Calls k n) w turn.events v → SaysOk turn.bytes → IsCurrent v n
 unfolding is_words
-words_current k n now (Line line answers) selected w turn v bytes K t there told e met ok = by (kept_tag now) refl
+words_current k n now (Line line answers) selected w turn v bytes K t there told e met ok = by (whole_line now line) refl
   where
-    by : (o : Option (List ℕ)) → kept_tag now ≡ o → IsCurrent v n
-    by None is =
-        absurd (let x : is_words (Answer_to line turn.bytes) bytes = subst (λ (one : Told). is_words one bytes) (sym told ∙ ap (λ (o : Option (List ℕ)). told_line o line turn.bytes) is) refl in x)
-    by (Some tag) is = kept_current k n now line selected w answers turn v K t there tag is e met ok
+    by : (o : Option (List ℕ)) → whole_line now line ≡ o → IsCurrent v n
+    by (Some whole) is =
+        absurd (let x : is_words (Answer_to whole turn.bytes) bytes = subst (λ (one : Told). is_words one bytes) (sym told ∙ ap (λ (o : Option (List ℕ)). told_line o turn.bytes) is) refl in x)
+    by None is = kept_current k n now line selected w answers turn v K t there is e met ok
 words_current k n now LongLine selected w turn v bytes K t there told e met ok =
     absurd (never turn.bytes (subst (λ (x : Turn). Apart starts_ok x.bytes) (ap (the_turn turn) e) (long_line_apart starts_ok ok_spares now t)) ok)
 words_current k n now (Turned answers) selected w turn v bytes K t there told e met ok = absurd (never_turn _ turn (idle_fine starts_ok now.selected (is_idling now) now answers) e ok)
